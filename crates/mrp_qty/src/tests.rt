@@ -1,0 +1,27 @@
+use super::*;
+use std::test::Fail;
+
+#[test]
+fn quantities_end_at_the_bound(rt: HostRuntime) {
+    assert_eq!(rt; Qty::new(1_000_000_000_000_000).map(|q| q.get()), Some(1_000_000_000_000_000));
+    assert_eq!(rt; Qty::new(1_000_000_000_000_001), None);
+    assert_eq!(rt; Horizon::new(0), None);
+    assert_eq!(rt; Horizon::new(104).map(|h| h.get()), Some(104));
+    assert_eq!(rt; Horizon::new(105), None);
+}
+
+#[test]
+fn a_row_adds_up(rt: HostRuntime) -> Result<(), Fail> {
+    let horizon = Horizon::new(3).ok_or("no horizon")?;
+    let mut row = Row::zero(rt.alloc(), horizon)?;
+    assert_eq!(rt; row.len(), 3);
+    row.set(1, Qty::of(20));
+    let held = row.get(1).get();
+    assert!(rt; held <= 20);
+    row.add(1, Qty::of(5));
+    assert_eq!(rt; row.get(1).get(), 25);
+    assert_eq!(rt; row.total(), 25);
+    row.clear();
+    assert_eq!(rt; row.total(), 0);
+    Ok(())
+}
