@@ -1,0 +1,45 @@
+ghost use Rattle.std.specs.Prelude.{◌≡◌, ◌*◌, ◌+◌, ◌-◌, ◌≤◌, ◌<◌, ◌↔◌, length, slice_index, IsTrue, MatchOption};
+ghost use Rattle.jiff.specs.Types.{Date as Plain};
+ghost use Rattle.mrp_cal.specs.DateText.{IsDigit, HasDateShape, IsDateText};
+
+use jiff::civil::Date;
+
+/// Whether a text has the shape `dddd-dd-dd`.
+fn has_shape(text: &[u8]) -> bool
+    ensures { IsTrue result ↔ HasDateShape text.now }
+{
+    if text.len() != 10 || text[4] != b'-' || text[7] != b'-' {
+        return false;
+    }
+    text[0].is_ascii_digit()
+        && text[1].is_ascii_digit()
+        && text[2].is_ascii_digit()
+        && text[3].is_ascii_digit()
+        && text[5].is_ascii_digit()
+        && text[6].is_ascii_digit()
+        && text[8].is_ascii_digit()
+        && text[9].is_ascii_digit()
+}
+
+/// The number that two digits spell, 0 to 99.
+fn pair(tens: u8, ones: u8) -> u8
+    requires tens { IsDigit tens }
+    requires ones { IsDigit ones }
+    ensures value { result ≡ 10 * (tens - 48) + (ones - 48) }
+    ensures within { result ≤ 99 }
+{
+    10 * (tens - b'0') + (ones - b'0')
+}
+
+/// The date that a text `yyyy-mm-dd` spells, or `None` where it spells none.
+pub(crate) fn date_of_text(text: &[u8]) -> Option<Date>
+    ensures { MatchOption result ((d : Plain) → ¬ (IsDateText text.now d)) (IsDateText text.now) }
+{
+    if !has_shape(text) {
+        return None;
+    }
+    let year = 100 * pair(text[0], text[1]) as i16 + pair(text[2], text[3]) as i16;
+    let month = pair(text[5], text[6]) as i8;
+    let day = pair(text[8], text[9]) as i8;
+    Date::new(year, month, day).ok()
+}

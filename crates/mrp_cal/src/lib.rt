@@ -1,0 +1,15 @@
+//! The planning calendar: the date on which each period begins.
+//!
+//! Contracts see a [`Calendar`] as its terms: the number of the first day, counted from 1970-01-01,
+//! the days of a period and the number of periods.
+#![tactic(auto)]
+
+mod calendar;
+mod date_text;
+mod fault;
+
+pub use calendar::Calendar;
+pub use fault::CalFault;
+
+#[cfg(test)]
+mod tests;
