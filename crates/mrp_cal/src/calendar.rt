@@ -1,5 +1,6 @@
-ghost use Rattle.std.specs.Prelude.{◌≡◌, ◌<◌, IfOk, IfErr};
-ghost use Rattle.jiff.specs.Words.{epoch_day};
+ghost use Rattle.std.specs.Prelude.{◌≡◌, ◌<◌, ◌^◌, pos, ◌+ℤ◌, ◌<ℤ◌, IfOk, IfErr, IfSome, MatchOption};
+ghost use Rattle.jiff.specs.Words.{epoch_day, IsEpochDay};
+ghost use Rattle.mrp_cal.specs.DateText.{SpellsDay};
 ghost use Rattle.mrp_cal.specs.Calendar.{IsCalendar, IsCalendarFrom, IsRefused, first_day};
 
 use crate::{CalFault, date_text};
@@ -7,8 +8,8 @@ use jiff::civil::Date;
 use mrp_qty::Horizon;
 use std::marker::Model;
 
-/// The day number of 2199-12-31, the last day that a calendar may have.
-const LAST_DAY: i64 = 84_005;
+/// The days from 1970-01-01 to 2199-12-31, the last that a calendar may have, both included.
+const ALL_DAYS: u64 = 84_006;
 
 /// The days of a plan: a first day, and periods of as many days each.
 #[derive(Debug, Drop)]
@@ -30,6 +31,27 @@ impl Model for Calendar {
     ghost invariant = { λ c. IsCalendar (record { first = epoch_day c.first; days = c.days; periods = c.horizon }) };
 }
 
+/// How many days a date is after 1970-01-01, or `None` before it.
+fn day_number(date: Date) -> Option<u64>
+    ensures number { MatchOption result (epoch_day date <ℤ pos 0) (λ n. epoch_day date ≡ pos n) }
+    ensures within { IfSome result (λ n. n < 2 ^ 32) }
+{
+    let day = date.to_plain().to_unix_epoch_day();
+    if day < 0 {
+        return None;
+    }
+    Some(day as u64)
+}
+
+/// The date that many days later, which is one that the library has.
+fn date_after(date: Date, days: u64) -> Date
+    requires short { days < 2 ^ 32 }
+    requires within { IsEpochDay (epoch_day date +ℤ pos days) }
+    ensures { epoch_day result ≡ epoch_day date +ℤ pos days }
+{
+    Date::from_plain(date.to_plain().checked_add(days as i64).unwrap())
+}
+
 impl Calendar {
     /// The calendar of `horizon` periods of `days` days each (1 to 31), the first of which begins on
     /// `first`, a date as `yyyy-mm-dd`.
@@ -49,14 +71,13 @@ impl Calendar {
         let Some(first) = date_text::date_of_text(first.as_bytes()) else {
             return Err(CalFault::BadDate);
         };
-        let day = first.to_plain().to_unix_epoch_day() as i64;
-        if day < 0 {
+        let Some(number) = day_number(first) else {
             return Err(CalFault::BadDate);
-        }
+        };
         if days < 1 || days > 31 {
             return Err(CalFault::DaysOutOfRange);
         }
-        if day + (horizon.get() * days) as i64 - 1 > LAST_DAY {
+        if number + horizon.get() * days > ALL_DAYS {
             return Err(CalFault::PastEnd);
         }
         Ok(Calendar {
@@ -71,8 +92,16 @@ impl Calendar {
         requires { t < self.now.periods }
         ensures { epoch_day result ≡ first_day self.now t }
     {
-        let later = t as i64 * self.days as i64;
-        Date::from_plain(self.first.to_plain().checked_add(later).unwrap())
+        date_after(self.first, t as u64 * self.days)
+    }
+
+    /// The text `yyyy-mm-dd` of the date on which period `t` begins, `t` being below the number of
+    /// periods.
+    pub fn text(&self, t: usize) -> [u8; 10]
+        requires { t < self.now.periods }
+        ensures { SpellsDay result (first_day self.now t) }
+    {
+        date_text::text_of_date(self.date(t))
     }
 
     /// The days of a period, 1 to 31.

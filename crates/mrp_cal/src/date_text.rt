@@ -1,5 +1,6 @@
-ghost use Rattle.std.specs.Prelude.{◌≡◌, ◌*◌, ◌+◌, ◌-◌, ◌≤◌, ◌<◌, ◌↔◌, length, slice_index, IsTrue, MatchOption};
+ghost use Rattle.std.specs.Prelude.{◌≡◌, ◌*◌, ◌+◌, ◌-◌, ◌≤◌, ◌↔◌, pos, ◌≤ℤ◌, length, slice_index, IsTrue, MatchOption};
 ghost use Rattle.jiff.specs.Types.{Date as Plain};
+ghost use Rattle.jiff.specs.Words.{epoch_day};
 ghost use Rattle.mrp_cal.specs.DateText.{IsDigit, HasDateShape, IsDateText};
 
 use jiff::civil::Date;
@@ -42,4 +43,34 @@ pub(crate) fn date_of_text(text: &[u8]) -> Option<Date>
     let month = pair(text[5], text[6]) as i8;
     let day = pair(text[8], text[9]) as i8;
     Date::new(year, month, day).ok()
+}
+
+/// The byte of a digit, 0 to 9.
+fn digit_byte(digit: u16) -> u8
+    requires { digit ≤ 9 }
+    ensures { result ≡ 48 + digit }
+{
+    b'0' + digit as u8
+}
+
+/// The text `yyyy-mm-dd` of a date from 1970-01-01 on.
+pub(crate) fn text_of_date(date: Date) -> [u8; 10]
+    requires { pos 0 ≤ℤ epoch_day date }
+    ensures { IsDateText result date }
+{
+    let year = date.year() as u16;
+    let month = date.month() as u16;
+    let day = date.day() as u16;
+    [
+        digit_byte(year / 1000),
+        digit_byte(year / 100 % 10),
+        digit_byte(year / 10 % 10),
+        digit_byte(year % 10),
+        b'-',
+        digit_byte(month / 10),
+        digit_byte(month % 10),
+        b'-',
+        digit_byte(day / 10),
+        digit_byte(day % 10),
+    ]
 }

@@ -35,3 +35,18 @@ fn calendars_end_with_2199(rt: HostRuntime) {
     assert_eq!(rt; refused("2199-12-31", 1, 2), Some(CalFault::PastEnd));
     assert_eq!(rt; refused("2200-01-01", 1, 1), Some(CalFault::PastEnd));
 }
+
+#[test]
+fn periods_begin_on_their_dates(rt: HostRuntime) -> Result<(), Fail> {
+    let horizon = Horizon::new(3).ok_or("no horizon")?;
+    let Ok(calendar) = Calendar::new("2028-02-28", 1, horizon) else {
+        return Err("no calendar".into());
+    };
+    assert_eq!(rt; calendar.days(), 1);
+    assert_eq!(rt; calendar.horizon().get(), 3);
+    assert_eq!(rt; calendar.text(0), *b"2028-02-28");
+    assert_eq!(rt; calendar.text(1), *b"2028-02-29");
+    assert_eq!(rt; calendar.text(2), *b"2028-03-01");
+    assert_eq!(rt; calendar.date(2).day(), 1);
+    Ok(())
+}
