@@ -1,1 +1,2 @@
-mod LastDate
+pub mod Calendars
+pub mod Digits

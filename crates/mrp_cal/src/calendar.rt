@@ -1,7 +1,7 @@
-ghost use Rattle.std.specs.Prelude.{◌≡◌, ◌<◌, ◌^◌, pos, ◌+ℤ◌, ◌<ℤ◌, IfOk, IfErr, IfSome, MatchOption};
+ghost use Rattle.std.specs.Prelude.{◌≡◌, ◌<◌, ◌^◌, pos, ◌+ℤ◌, ◌<ℤ◌, ◌≤ℤ◌, IfOk, IfErr, IfSome, MatchOption};
 ghost use Rattle.jiff.specs.Words.{epoch_day, IsEpochDay};
 ghost use Rattle.mrp_cal.specs.DateText.{SpellsDay};
-ghost use Rattle.mrp_cal.specs.Calendar.{IsCalendar, IsCalendarFrom, IsRefused, first_day};
+ghost use Rattle.mrp_cal.specs.Calendar.{IsCalendar, IsCalendarFrom, IsRefused, first_day, last_date};
 
 use crate::{CalFault, date_text};
 use jiff::civil::Date;
@@ -90,7 +90,9 @@ impl Calendar {
     /// The date on which period `t` begins, `t` being below the number of periods.
     pub fn date(&self, t: usize) -> Date
         requires { t < self.now.periods }
-        ensures { epoch_day result ≡ first_day self.now t }
+        ensures value { epoch_day result ≡ first_day self.now t }
+        ensures since { pos 0 ≤ℤ epoch_day result }
+        ensures until { epoch_day result ≤ℤ epoch_day last_date }
     {
         date_after(self.first, t as u64 * self.days)
     }

@@ -1,7 +1,7 @@
 ghost use Rattle.std.specs.Prelude.{◌≡◌, ◌*◌, ◌+◌, ◌-◌, ◌≤◌, ◌↔◌, pos, ◌≤ℤ◌, length, slice_index, IsTrue, MatchOption};
 ghost use Rattle.jiff.specs.Types.{Date as Plain};
 ghost use Rattle.jiff.specs.Words.{epoch_day};
-ghost use Rattle.mrp_cal.specs.DateText.{IsDigit, HasDateShape, IsDateText};
+ghost use Rattle.mrp_cal.specs.DateText.{IsDigit, HasDateShape, IsDateText, date_text};
 
 use jiff::civil::Date;
 
@@ -53,14 +53,13 @@ fn digit_byte(digit: u16) -> u8
     b'0' + digit as u8
 }
 
-/// The text `yyyy-mm-dd` of a date from 1970-01-01 on.
-pub(crate) fn text_of_date(date: Date) -> [u8; 10]
-    requires { pos 0 ≤ℤ epoch_day date }
-    ensures { IsDateText result date }
+/// The ten bytes of a year up to 9999, a month and a day up to 99.
+fn ten_bytes(year: u16, month: u16, day: u16) -> [u8; 10]
+    requires year { year ≤ 9999 }
+    requires month { month ≤ 99 }
+    requires day { day ≤ 99 }
+    ensures { result ≡ date_text year month day }
 {
-    let year = date.year() as u16;
-    let month = date.month() as u16;
-    let day = date.day() as u16;
     [
         digit_byte(year / 1000),
         digit_byte(year / 100 % 10),
@@ -73,4 +72,13 @@ pub(crate) fn text_of_date(date: Date) -> [u8; 10]
         digit_byte(day / 10),
         digit_byte(day % 10),
     ]
+}
+
+/// The text `yyyy-mm-dd` of a date from 1970-01-01 on.
+pub(crate) fn text_of_date(date: Date) -> [u8; 10]
+    requires { pos 0 ≤ℤ epoch_day date }
+    ensures { IsDateText result date }
+{
+    let date = date.to_plain();
+    ten_bytes(date.year.unsigned_abs(), date.month as u16, date.day as u16)
 }

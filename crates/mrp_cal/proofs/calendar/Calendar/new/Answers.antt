@@ -1,8 +1,7 @@
-use Rattle.std.proofs.Common.{◌≡◌, ◌≤◌, ◌⊎◌, inl, inr, List, ℕ, refl, arith}
+use Rattle.std.proofs.Common.{◌≡◌, inl, inr, List, ℕ, refl, arith}
 use Rattle.jiff.specs.Types.{Date}
 use Rattle.jiff.specs.Words.{epoch_day}
-use Rattle.mrp_cal.specs.Calendar.{IsStartText, IsCalendar}
-use Rattle.mrp_cal.specs.DateText.{IsDateText, SpellsDay}
+use Rattle.mrp_cal.specs.DateText.{IsDateText}
 use Rattle.mrp_cal.proofs.Calendars.{ends_after, ends_by, not_before}
 use Rattle.mrp_cal.proofs.calendar.Calendar.new.Goals as goal
 
