@@ -1,3 +1,5 @@
 pub mod Lot
 pub mod LotLaws
 pub mod One
+pub mod OneLaws
+pub mod RangeLaws

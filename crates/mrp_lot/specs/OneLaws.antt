@@ -1,0 +1,184 @@
+-- Laws of the plan of one pair.
+use Rattle.std.specs.Prelude.{◌≡◌, ℕ, ◌+◌, ◌-◌, ◌≤◌, ◌<◌, ◌==◌, if◌then◌else◌, min, max, List, length, sum, sum_by, take, drop, slice_index, zero, suc}
+use Rattle.std.specs.List.{range_with_len}
+use Rattle.std.proofs.Common.{arith, sym, refl, ◌∙◌, ap, subst, add-one, eqb-true, eq-eqb}
+use Rattle.std.proofs.lemmas.Bool.{cond_both, false≢true}
+use Rattle.std.proofs.lemmas.List.Sums.{sum_by-take-le, sum_by-take-drop}
+use Rattle.mrp_lot.specs.declared.rule.Rule.{Rule}
+use Rattle.mrp_lot.specs.declared.rule.Rule.TheVariants.{LotForLot, Fixed, Periods, MinMultiple}
+use Rattle.mrp_lot.specs.declared.params.PairParams.{PairParams}
+use Rattle.mrp_lot.specs.Lot.{IsRule, rule_quantities, periods_covered, lot_of}
+use Rattle.mrp_lot.specs.LotLaws.{least_multiple-le, least_multiple-lt}
+use Rattle.mrp_lot.specs.RangeLaws.{sum_take-suc, sum_drop_take-one, sum_by-range-suc, moved_sum}
+use Rattle.mrp_lot.specs.One.{need_over, greatest_need, net_after, order_after, available_after, balance_before, order_at, release_at, IsWithin}
+
+-- the definitions, opened a step
+pub greatest_need-suc : (pair : PairParams) (incoming gross : List ℕ) (before t n : ℕ)
+    → greatest_need pair incoming gross before t (suc n) ≡ max (greatest_need pair incoming gross before t n) (need_over pair incoming gross before t (suc n))
+unfolding greatest_need
+greatest_need-suc pair incoming gross before t n = refl
+
+pub greatest_need-zero : (pair : PairParams) (incoming gross : List ℕ) (before t : ℕ) → greatest_need pair incoming gross before t zero ≡ 0
+unfolding greatest_need
+greatest_need-zero pair incoming gross before t = refl
+
+pub balance_before-zero : (pair : PairParams) (incoming gross : List ℕ) → balance_before pair incoming gross zero ≡ pair.on_hand
+unfolding balance_before
+balance_before-zero pair incoming gross = refl
+
+pub balance_before-suc : (pair : PairParams) (incoming gross : List ℕ) (t : ℕ)
+    → balance_before pair incoming gross (suc t) ≡ available_after pair incoming gross (balance_before pair incoming gross t) t
+unfolding balance_before
+balance_before-suc pair incoming gross t = refl
+
+pub order_at-is : (pair : PairParams) (incoming gross : List ℕ) (t : ℕ)
+    → order_at pair incoming gross t ≡ order_after pair incoming gross (balance_before pair incoming gross t) t
+unfolding order_at
+order_at-is pair incoming gross t = refl
+
+-- what a lot rule orders, between the net requirement and the greatest one with the rule's quantities
+pub lot-ge : (rule : Rule) (net span : ℕ) → IsRule rule → net ≤ span → net ≤ lot_of rule net span
+lot-ge LotForLot net span is h = omega arith
+lot-ge (Fixed q) net span is h = least_multiple-le net q is.0
+lot-ge (Periods k) net span is h = h
+lot-ge (MinMultiple m k) net span is h = omega (arith, least_multiple-le (max net m) k is.1.0)
+
+pub lot-le : (rule : Rule) (net span : ℕ) → IsRule rule → net ≤ span → lot_of rule net span ≤ span + rule_quantities rule
+lot-le LotForLot net span is h = omega arith
+lot-le (Fixed q) net span is h = omega (arith, least_multiple-lt net q is.0)
+lot-le (Periods k) net span is h = omega arith
+lot-le (MinMultiple m k) net span is h = omega (arith, least_multiple-lt (max net m) k is.1.0)
+
+pub covers_one : (rule : Rule) → IsRule rule → 1 ≤ periods_covered rule
+covers_one LotForLot is = omega arith
+covers_one (Fixed q) is = omega arith
+covers_one (Periods k) is = is.0
+covers_one (MinMultiple m k) is = omega arith
+
+-- an order that is placed only for a net requirement
+order_placed-ge : (net ordered : ℕ) → net ≤ ordered → net ≤ (if net == 0 then 0 else ordered)
+order_placed-ge net ordered h =
+    cond_both (net == 0) 0 ordered (λ v. net ≤ v) (λ e. let none : net ≡ 0 = eqb-true net 0 e in omega arith) (λ e. h)
+
+order_placed-le : (net ordered bound : ℕ) → (0 < net → ordered ≤ bound) → (if net == 0 then 0 else ordered) ≤ bound
+order_placed-le net ordered bound h =
+    cond_both (net == 0) 0 ordered (λ v. v ≤ bound) (λ e. omega arith)
+    (λ e. h (let some : net ≡ 0 → ⊥ = λ z. false≢true (sym e ∙ eq-eqb net 0 z) in omega arith))
+
+-- the greatest need is no less than the first period's, and no more than that of all periods
+pub greatest_need-ge : (pair : PairParams) (incoming gross : List ℕ) (before t n : ℕ) → 1 ≤ n
+    → net_after pair incoming gross before t ≤ greatest_need pair incoming gross before t n
+greatest_need-ge pair incoming gross before t zero some = absurd (omega arith)
+greatest_need-ge pair incoming gross before t (suc zero) some =
+    omega (arith, greatest_need-suc pair incoming gross before t zero, sum_drop_take-one gross t, sum_drop_take-one incoming t)
+greatest_need-ge pair incoming gross before t (suc (suc n)) some =
+    omega (arith, greatest_need-suc pair incoming gross before t (suc n), greatest_need-ge pair incoming gross before t (suc n) (omega arith))
+
+pub greatest_need-le : (pair : PairParams) (incoming gross : List ℕ) (before t n : ℕ)
+    → greatest_need pair incoming gross before t n ≤ (pair.safety + sum (drop t gross)) - before
+greatest_need-le pair incoming gross before t zero = omega (arith, greatest_need-zero pair incoming gross before t)
+greatest_need-le pair incoming gross before t (suc n) =
+    omega (
+      arith,
+      greatest_need-suc pair incoming gross before t n,
+      greatest_need-le pair incoming gross before t n,
+      sum_by-take-le (λ (x : ℕ). x) (drop t gross) (suc n),
+    )
+
+-- an order covers the net requirement
+pub order_after-ge : (pair : PairParams) (incoming gross : List ℕ) (before t : ℕ) → IsRule pair.rule → t < length gross
+    → net_after pair incoming gross before t ≤ order_after pair incoming gross before t
+order_after-ge pair incoming gross before t is within =
+    let n = min (periods_covered pair.rule) (length gross - t) in
+    let span = greatest_need-ge pair incoming gross before t n (omega (arith, covers_one pair.rule is)) in
+    order_placed-ge _ _ (lot-ge pair.rule (net_after pair incoming gross before t) (greatest_need pair incoming gross before t n) is span)
+
+-- with the balance before it, no more than safety, the rule's quantities and the gross requirements from there on
+pub order_after-le : (pair : PairParams) (incoming gross : List ℕ) (before t : ℕ) → IsRule pair.rule → t < length gross
+    → order_after pair incoming gross before t ≤ (pair.safety + rule_quantities pair.rule + sum (drop t gross)) - before
+order_after-le pair incoming gross before t is within =
+    let n = min (periods_covered pair.rule) (length gross - t) in
+    let span = greatest_need-ge pair incoming gross before t n (omega (arith, covers_one pair.rule is)) in
+    let most = greatest_need-le pair incoming gross before t n in
+    let ordered = lot-le pair.rule (net_after pair incoming gross before t) (greatest_need pair incoming gross before t n) is span in
+    order_placed-le (net_after pair incoming gross before t) _ _ (λ some. omega (arith, span, most, ordered))
+
+-- nothing is cut off: the balance and what comes in and is ordered cover safety and the gross requirement
+pub order_covers : (pair : PairParams) (incoming gross : List ℕ) (t : ℕ) → IsWithin pair incoming gross → t < length gross
+    → pair.safety + slice_index gross t ≤ balance_before pair incoming gross t + slice_index incoming t + order_at pair incoming gross t
+order_covers pair incoming gross t is within =
+    omega (arith, order_after-ge pair incoming gross (balance_before pair incoming gross t) t is.rule within, order_at-is pair incoming gross t)
+
+pub balance_before-next : (pair : PairParams) (incoming gross : List ℕ) (t : ℕ) → IsWithin pair incoming gross → t < length gross
+    → balance_before pair incoming gross (suc t) + slice_index gross t ≡ balance_before pair incoming gross t + slice_index incoming t + order_at pair incoming gross t
+balance_before-next pair incoming gross t is within =
+    omega (arith, order_covers pair incoming gross t is within, balance_before-suc pair incoming gross t, order_at-is pair incoming gross t)
+
+-- the projected available is never below safety
+pub safety-le-balance_before : (pair : PairParams) (incoming gross : List ℕ) (t : ℕ) → IsWithin pair incoming gross → t < length gross
+    → pair.safety ≤ balance_before pair incoming gross (suc t)
+safety-le-balance_before pair incoming gross t is within =
+    omega (arith, order_covers pair incoming gross t is within, balance_before-next pair incoming gross t is within)
+
+-- what was there and came in and was ordered is there still or was required
+pub balance_before-sum : (pair : PairParams) (incoming gross : List ℕ) (t : ℕ) → IsWithin pair incoming gross → t ≤ length gross
+    → balance_before pair incoming gross t + sum (take t gross) ≡ pair.on_hand + sum (take t incoming) + sum_by (order_at pair incoming gross) (range_with_len 0 t)
+balance_before-sum pair incoming gross zero is within = omega (arith, balance_before-zero pair incoming gross)
+balance_before-sum pair incoming gross (suc t) is within =
+    omega (
+      arith,
+      balance_before-next pair incoming gross t is (omega arith),
+      balance_before-sum pair incoming gross t is (omega arith),
+      sum_take-suc gross t,
+      sum_take-suc incoming t,
+      sum_by-range-suc (order_at pair incoming gross) t,
+    )
+
+-- the orders together are at most safety, the rule's quantities and all gross requirements
+pub orders-le : (pair : PairParams) (incoming gross : List ℕ) (t : ℕ) → IsWithin pair incoming gross → t ≤ length gross
+    → sum_by (order_at pair incoming gross) (range_with_len 0 t) ≤ pair.safety + rule_quantities pair.rule + sum gross
+orders-le pair incoming gross zero is within = omega arith
+orders-le pair incoming gross (suc t) is within =
+    let before = balance_before pair incoming gross t in
+    omega (
+      arith,
+      orders-le pair incoming gross t is (omega arith),
+      balance_before-sum pair incoming gross t is (omega arith),
+      order_after-le pair incoming gross before t is.rule (omega arith),
+      order_at-is pair incoming gross t,
+      sum_by-range-suc (order_at pair incoming gross) t,
+      sum_by-take-drop (λ (x : ℕ). x) gross t,
+    )
+
+-- no balance is above all quantities together
+pub balance_before-le : (pair : PairParams) (incoming gross : List ℕ) (t : ℕ) → IsWithin pair incoming gross → t ≤ length gross
+    → balance_before pair incoming gross t ≤ pair.on_hand + sum incoming + sum gross + pair.safety + rule_quantities pair.rule
+balance_before-le pair incoming gross t is within =
+    omega (
+      arith,
+      balance_before-sum pair incoming gross t is within,
+      orders-le pair incoming gross t is within,
+      sum_by-take-le (λ (x : ℕ). x) incoming t,
+    )
+
+-- what is ordered is released
+pub releases-sum : (pair : PairParams) (incoming gross : List ℕ)
+    → sum_by (release_at pair incoming gross) (range_with_len 0 (length gross)) ≡ sum_by (order_at pair incoming gross) (range_with_len 0 (length gross))
+unfolding release_at
+releases-sum pair incoming gross = moved_sum (order_at pair incoming gross) (λ t. t - pair.lead) (length gross) (λ k h. omega arith)
+
+pub releases-le : (pair : PairParams) (incoming gross : List ℕ) → IsWithin pair incoming gross
+    → sum_by (release_at pair incoming gross) (range_with_len 0 (length gross)) ≤ pair.safety + rule_quantities pair.rule + sum gross
+releases-le pair incoming gross is = omega (arith, releases-sum pair incoming gross, orders-le pair incoming gross (length gross) is (omega arith))
+
+-- the same at n + 1, as a loop counts
+pub greatest_need-more : (pair : PairParams) (incoming gross : List ℕ) (before t n : ℕ)
+    → greatest_need pair incoming gross before t (n + 1) ≡ max (greatest_need pair incoming gross before t n) ((pair.safety + sum (take (n + 1) (drop t gross))) - (before + sum (take (n + 1) (drop t incoming))))
+greatest_need-more pair incoming gross before t n =
+    subst (λ (m : ℕ). greatest_need pair incoming gross before t m ≡ max (greatest_need pair incoming gross before t n) (need_over pair incoming gross before t m))
+    (sym (add-one n)) (greatest_need-suc pair incoming gross before t n)
+
+pub balance_before-more : (pair : PairParams) (incoming gross : List ℕ) (t : ℕ)
+    → balance_before pair incoming gross (t + 1) ≡ available_after pair incoming gross (balance_before pair incoming gross t) t
+balance_before-more pair incoming gross t =
+    ap (λ (m : ℕ). balance_before pair incoming gross m) (add-one t) ∙ balance_before-suc pair incoming gross t

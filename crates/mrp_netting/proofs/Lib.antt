@@ -1,0 +1,4 @@
+pub mod Balances
+pub mod Lates
+pub mod Plans
+pub mod Releases

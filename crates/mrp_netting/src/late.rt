@@ -1,0 +1,23 @@
+ghost use Rattle.std.specs.Prelude.{◌≡◌, ◌≤◌, length, vec_capacity};
+ghost use Rattle.mrp_qty.specs.declared.horizon.TheConstants.{LONGEST};
+ghost use Rattle.mrp_netting.specs.Plan.{late_periods};
+
+use mrp_qty::Qty;
+
+/// Writes into `late` the periods whose order is due within the lead time, by rising period.
+///
+/// There are at most 104 orders, and `late` has room for as many periods.
+pub fn note_late(lead: u64, order: &[Qty], late: &mut Vec<u8>)
+    requires short { length order.now ≤ LONGEST }
+    requires room { length order.now ≤ vec_capacity late.old }
+    ensures periods { late.new.items ≡ late_periods lead order.now (length order.now) }
+    ensures room { vec_capacity late.old ≤ vec_capacity late.new }
+{
+    late.clear();
+    let end = order.len().min(lead as usize);
+    for t in 0..end {
+        if order[t].get() > 0 {
+            let _ = late.push(t as u8);
+        }
+    }
+}

@@ -1,0 +1,19 @@
+//! The plan of one pair: what is netted, ordered and released, period by period, where the gross
+//! requirements and the scheduled receipts are given.
+//!
+//! [`plan_pair`] writes the rows of material requirements planning (gross requirements, scheduled
+//! receipts, planned order receipts, planned order releases, projected available) into a
+//! [`PairPlan`], which is used again from pair to pair. Contracts see a [`PairPlan`] as its five rows
+//! and the list of its late orders.
+#![tactic(auto)]
+
+mod late;
+mod netting;
+mod plan;
+mod release;
+
+pub use mrp_lot::{Late, PairParams};
+pub use plan::{PairPlan, plan_pair};
+
+#[cfg(test)]
+mod tests;

@@ -1,0 +1,170 @@
+ghost use Rattle.std.specs.Prelude.{◌≡◌, ◌<◌, ◌≤◌, length, IfOk, slice_index_or, vec_capacity};
+ghost use Rattle.mrp_lot.specs.One.{PlanRows, one, IsWithin};
+ghost use Rattle.mrp_netting.specs.Plan.{AreRows, nothing_planned, late_orders, AreLate};
+
+use crate::late::note_late;
+use crate::netting::plan_orders;
+use crate::release::plan_releases;
+use mrp_lot::{Late, PairParams};
+use mrp_qty::{Horizon, Memory, Row};
+use std::alloc::Global;
+use std::marker::Model;
+
+/// The plan of one pair: five rows of one horizon, and the late orders.
+#[derive(Debug, Drop)]
+pub struct PairPlan {
+    gross: Row,
+    incoming: Row,
+    order: Row,
+    release: Row,
+    available: Row,
+    lead: u64,
+    late: Vec<u8>,
+}
+
+impl Model for PairPlan {
+    ghost Value = { PlanRows };
+
+    ghost view = { λ p. record { gross = p.gross; incoming = p.incoming; order = p.order; release = p.release; available = p.available; late = late_orders p.lead p.order p.late.items } };
+
+    ghost invariant = { λ p. (length p.incoming ≡ length p.gross) × (length p.order ≡ length p.gross) × (length p.release ≡ length p.gross) × (length p.available ≡ length p.gross) × (length p.gross ≤ vec_capacity p.late) × AreLate p.lead p.order p.late.items };
+}
+
+impl PairPlan {
+    /// A plan of zeros with no late order, and with room for one a period.
+    ///
+    /// # Errors
+    ///
+    /// [`Memory`] where the room for it is refused.
+    pub fn new(alloc: Global, horizon: Horizon) -> Result<PairPlan, Memory>
+        ensures { IfOk result (λ plan. plan ≡ nothing_planned horizon) }
+    {
+        let gross = Row::zero(alloc, horizon)?;
+        let incoming = Row::zero(alloc, horizon)?;
+        let order = Row::zero(alloc, horizon)?;
+        let release = Row::zero(alloc, horizon)?;
+        let available = Row::zero(alloc, horizon)?;
+        let late = Vec::with_capacity(alloc, horizon.get() as usize)?;
+        Ok(PairPlan {
+            gross,
+            incoming,
+            order,
+            release,
+            available,
+            lead: 0,
+            late,
+        })
+    }
+
+    /// How many periods are planned, 1 to 104. All five rows have as many.
+    pub fn len(&self) -> usize
+        ensures value { result ≡ length self.now.gross }
+        ensures rows { AreRows self.now }
+    {
+        let _incoming = self.incoming.len();
+        let _order = self.order.len();
+        let _release = self.release.len();
+        let _available = self.available.len();
+        self.gross.len()
+    }
+
+    /// Gross requirements: what is needed in each period.
+    pub fn gross(&self) -> &Row
+        ensures { result.now ≡ self.now.gross }
+    {
+        &self.gross
+    }
+
+    /// Scheduled receipts: what comes in from orders that are open already.
+    pub fn incoming(&self) -> &Row
+        ensures { result.now ≡ self.now.incoming }
+    {
+        &self.incoming
+    }
+
+    /// Planned order receipts, by the period in which they are due.
+    pub fn order(&self) -> &Row
+        ensures { result.now ≡ self.now.order }
+    {
+        &self.order
+    }
+
+    /// Planned order releases: the orders a lead time earlier, the late ones in period 0.
+    pub fn release(&self) -> &Row
+        ensures { result.now ≡ self.now.release }
+    {
+        &self.release
+    }
+
+    /// Projected available: the stock after each period, never below safety.
+    pub fn available(&self) -> &Row
+        ensures { result.now ≡ self.now.available }
+    {
+        &self.available
+    }
+
+    /// How many orders are late.
+    pub fn late_count(&self) -> usize
+        ensures { result ≡ length self.now.late }
+    {
+        self.late.len()
+    }
+
+    /// The late order number `i`, from 0 and below [`late_count`](PairPlan::late_count), by rising
+    /// period.
+    pub fn late(&self, i: usize) -> Late
+        requires { i < length self.now.late }
+        ensures { result ≡ slice_index_or self.now.late i result }
+    {
+        let period = self.late[i];
+        Late {
+            period: period as usize,
+            quantity: self.order.get(period as usize),
+            by: self.lead - period as u64,
+        }
+    }
+
+    /// A plan of its own that says the same.
+    ///
+    /// # Errors
+    ///
+    /// [`Memory`] where the room for it is refused.
+    pub fn copy(&self, alloc: Global) -> Result<PairPlan, Memory>
+        ensures { IfOk result (λ plan. plan ≡ self.now) }
+    {
+        let horizon = Horizon::new(self.gross.len() as u64).unwrap();
+        let mut copy = PairPlan::new(alloc, horizon)?;
+        copy.gross.copy_from(&self.gross);
+        copy.incoming.copy_from(&self.incoming);
+        copy.order.copy_from(&self.order);
+        copy.release.copy_from(&self.release);
+        copy.available.copy_from(&self.available);
+        copy.lead = self.lead;
+        copy.late.extend_from_slice(self.late.as_slice())?;
+        Ok(copy)
+    }
+}
+
+/// Plans one pair: writes into `into` the rows and the late orders that follow from `params`, the
+/// scheduled receipts and the gross requirements, whatever `into` held.
+///
+/// The three horizons are equal. On hand, safety stock, the rule's quantities, all receipts and all
+/// gross requirements together are at most 10^15 pieces. Nothing is allocated.
+pub fn plan_pair(params: &PairParams, incoming: &Row, gross: &Row, into: &mut PairPlan)
+    requires within { IsWithin params.now incoming.now gross.now }
+    requires room { length into.old.gross ≡ length gross.now }
+    ensures { into.new ≡ one params.now incoming.now gross.now }
+{
+    into.gross.copy_from(gross);
+    into.incoming.copy_from(incoming);
+    plan_orders(
+        params,
+        incoming.as_slice(),
+        gross.as_slice(),
+        &mut into.order,
+        &mut into.available,
+    );
+    plan_releases(params.lead, into.order.as_slice(), &mut into.release);
+    note_late(params.lead, into.order.as_slice(), &mut into.late);
+    into.lead = params.lead;
+}
