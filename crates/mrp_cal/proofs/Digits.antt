@@ -1,17 +1,27 @@
 -- The digits of the text of a date.
 use Rattle.std.proofs.Common.{◌≡◌, ℕ, ◌+◌, ◌-◌, ◌*◌, ◌/◌, ◌%◌, ◌≤◌, inl, ℤ, pos, negsuc, ◌≤ℤ◌, ◌<ℤ◌, unsigned_abs, refl, ap, arith, rules}
 use Rattle.std.proofs.lemmas.Int.{by_lt_z}
+use Rattle.std.specs.Int.{IsInRange}
 use Rattle.jiff.specs.Types.{Date}
-use Rattle.jiff.specs.Words.{days_in_month, epoch_day}
+use Rattle.jiff.specs.Words.{IsYear, days_in_month, epoch_day}
 use Rattle.jiff.proofs.OnLiterals.{jiff_on_literals}
 use Rattle.jiff.proofs.SpanFacts.{signed_arith}
 use Rattle.jiff.proofs.Family.{epoch_day-lt}
 use Rattle.mrp_cal.specs.DateText.{IsDateText, IsDigit, date_text}
 
-day_zero : Date
-day_zero = record { year = pos 1970; month = 1; day = 1; year_in = search rules; month_in = search rules; day_in = search rules }
+pub year_in : IsYear (pos 1970)
+year_in = search rules
 
-epoch_day-day_zero : epoch_day day_zero ≡ pos 0
+pub month_in : IsInRange 1 12 1
+month_in = search rules
+
+pub day_in : IsInRange 1 (days_in_month (pos 1970) 1) 1
+day_in = search rules
+
+unfoldable pub day_zero : Date
+day_zero = record { year = pos 1970; month = 1; day = 1; year_in = year_in; month_in = month_in; day_in = day_in }
+
+pub epoch_day-day_zero : epoch_day day_zero ≡ pos 0
 unfolding jiff_on_literals day_zero
 epoch_day-day_zero = refl
 

@@ -1,2 +1,3 @@
 pub mod Calendars
+pub mod Days
 pub mod Digits

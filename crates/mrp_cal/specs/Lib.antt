@@ -1,2 +1,3 @@
 pub mod Calendar
 pub mod DateText
+pub mod Days

@@ -1,6 +1,7 @@
 ghost use Rattle.std.specs.Prelude.{◌≡◌, ◌<◌, ◌^◌, pos, ◌+ℤ◌, ◌<ℤ◌, ◌≤ℤ◌, IfOk, IfErr, IfSome, MatchOption};
 ghost use Rattle.jiff.specs.Words.{epoch_day, IsEpochDay};
 ghost use Rattle.mrp_cal.specs.DateText.{SpellsDay};
+ghost use Rattle.mrp_cal.specs.Days.{day_text};
 ghost use Rattle.mrp_cal.specs.Calendar.{IsCalendar, IsCalendarFrom, IsRefused, first_day, last_date};
 
 use crate::{CalFault, date_text};
@@ -101,7 +102,8 @@ impl Calendar {
     /// periods.
     pub fn text(&self, t: usize) -> [u8; 10]
         requires { t < self.now.periods }
-        ensures { SpellsDay result (first_day self.now t) }
+        ensures value { result ≡ day_text (first_day self.now t) }
+        ensures spells { SpellsDay result (first_day self.now t) }
     {
         date_text::text_of_date(self.date(t))
     }

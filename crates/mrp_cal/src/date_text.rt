@@ -1,4 +1,4 @@
-ghost use Rattle.std.specs.Prelude.{◌≡◌, ◌*◌, ◌+◌, ◌-◌, ◌≤◌, ◌↔◌, pos, ◌≤ℤ◌, length, slice_index, IsTrue, MatchOption};
+ghost use Rattle.std.specs.Prelude.{◌≡◌, ◌*◌, ◌+◌, ◌-◌, ◌≤◌, ◌↔◌, pos, ◌≤ℤ◌, unsigned_abs, length, slice_index, IsTrue, MatchOption};
 ghost use Rattle.jiff.specs.Types.{Date as Plain};
 ghost use Rattle.jiff.specs.Words.{epoch_day};
 ghost use Rattle.mrp_cal.specs.DateText.{IsDigit, HasDateShape, IsDateText, date_text};
@@ -77,7 +77,8 @@ fn ten_bytes(year: u16, month: u16, day: u16) -> [u8; 10]
 /// The text `yyyy-mm-dd` of a date from 1970-01-01 on.
 pub(crate) fn text_of_date(date: Date) -> [u8; 10]
     requires { pos 0 ≤ℤ epoch_day date }
-    ensures { IsDateText result date }
+    ensures bytes { result ≡ date_text (unsigned_abs date.year) date.month date.day }
+    ensures spells { IsDateText result date }
 {
     let date = date.to_plain();
     ten_bytes(date.year.unsigned_abs(), date.month as u16, date.day as u16)

@@ -3,7 +3,7 @@ use Rattle.std.proofs.lemmas.Int.{to_z-of_z}
 use Rattle.jiff.specs.Types.{Date}
 use Rattle.jiff.specs.Words.{epoch_day}
 use Rattle.jiff.proofs.SpanFacts.{signed_arith}
-use Rattle.mrp_cal.specs.DateText.{IsDateText}
+use Rattle.mrp_cal.specs.DateText.{IsDateText, date_text}
 use Rattle.mrp_cal.proofs.Digits.{year_not_negative, not_negative, text_spells}
 use Rattle.mrp_cal.proofs.date_text.text_of_date.Goals as goal
 
@@ -12,8 +12,14 @@ year_kept date =
     let fits : FitsSigned w16 date.year = omega (arith, signed_arith, date.year_in) in
     rw to_z-of_z refl
 
-pub returns : goal.returns
-returns c =
+pub returns-clause-bytes : goal.returns-clause-bytes
+returns-clause-bytes c =
+    let Bytes : Date → Type 0 = λ d. c.ten_bytes.result ≡ date_text (unsigned_abs d.year) d.month d.day in
+    let year = c.unsigned_abs.ensures.value ∙ year_kept c.to_plain-date.result in
+    subst Bytes c.to_plain-date.ensures (rw (c.ten_bytes.ensures, year) refl)
+
+pub returns-clause-spells : goal.returns-clause-spells
+returns-clause-spells c =
     let date = c.to_plain-date.result in
     let Since : Date → Type 0 = λ d. pos 0 ≤ℤ epoch_day d in
     let since = subst Since (sym c.to_plain-date.ensures) c.requires in

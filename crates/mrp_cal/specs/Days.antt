@@ -1,0 +1,27 @@
+-- The calendar day by day: the date that each day from 1970-01-01 on has, and its text.
+use Rattle.std.specs.Prelude.{ℕ, zero, suc, ◌+◌, nat_lt, if◌then◌else◌, List, ℤ, pos, unsigned_abs}
+use Rattle.jiff.specs.Words.{days_in_month}
+use Rattle.mrp_cal.specs.DateText.{date_text}
+
+-- a month from 1, and a day of the month from 1
+pub record Parts : Type 0 where
+  pub year : ℕ
+  pub month : ℕ
+  pub day : ℕ
+
+-- the day after: the next of the month, or else the first of the next month, or else of the next year
+abbrev pub next_day : Parts → Parts
+next_day p =
+    if nat_lt p.day (days_in_month (pos p.year) p.month) then
+    record { year = p.year; month = p.month; day = p.day + 1 }
+    else (if nat_lt p.month 12 then record { year = p.year; month = p.month + 1; day = 1 }
+    else record { year = p.year + 1; month = 1; day = 1 })
+
+-- the date so many days after 1970-01-01
+unfoldable pub date_at : ℕ → Parts
+date_at zero = record { year = 1970; month = 1; day = 1 }
+date_at (suc n) = next_day (date_at n)
+
+-- the text of the date that a day from 1970-01-01 on has
+abbrev pub day_text : ℤ → List ℕ
+day_text day = let p = date_at (unsigned_abs day) in date_text p.year p.month p.day
