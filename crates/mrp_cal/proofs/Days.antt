@@ -1,16 +1,16 @@
 -- The dates that the calendar has day by day are those of the day numbers.
-use Rattle.std.proofs.Common.{◌≡◌, ℕ, zero, suc, ◌+◌, ◌<◌, ◌≤◌, nat_lt, cond, Bool, true, false, inl, ℤ, pos, ◌+ℤ◌, ◌≤ℤ◌, ◌<ℤ◌, unsigned_abs, refl, subst, sym, ap, ◌∙◌, arith}
+use Rattle.std.proofs.Common.{◌≡◌, ℕ, zero, suc, ◌+◌, ◌<◌, ◌≤◌, nat_lt, cond, List, Bool, true, false, inl, ℤ, pos, ◌+ℤ◌, ◌≤ℤ◌, ◌<ℤ◌, unsigned_abs, refl, subst, sym, ap, ◌∙◌, arith}
 use Rattle.std.proofs.lemmas.Bool.{ltb-true, ltb-false}
 use Rattle.std.proofs.lemmas.Int.{by_lt_z}
 use Rattle.jiff.specs.Types.{Date}
 use Rattle.jiff.specs.Words.{days_in_month, epoch_day}
 use Rattle.jiff.proofs.SpanFacts.{signed_arith}
-use Rattle.jiff.proofs.Family.{epoch_day-lt, epoch_day_injective, days_from_civil-day, days_from_civil-next_month, days_from_civil-next_year}
+use Rattle.jiff.proofs.Family.{epoch_day-lt, epoch_day_injective, epoch_day_same, days_from_civil-day, days_from_civil-next_month, days_from_civil-next_year}
 use Rattle.mrp_cal.specs.Calendar.{last_date}
-use Rattle.mrp_cal.specs.DateText.{date_text}
+use Rattle.mrp_cal.specs.DateText.{SpellsDay, date_text}
 use Rattle.mrp_cal.specs.Days.{Parts, date_at, day_text}
 use Rattle.mrp_cal.proofs.Calendars.{epoch_day-last_date}
-use Rattle.mrp_cal.proofs.Digits.{day_zero, epoch_day-day_zero, not_negative}
+use Rattle.mrp_cal.proofs.Digits.{day_zero, epoch_day-day_zero, not_negative, text_spells}
 
 pub record HasParts (date : Date) (p : Parts) (n : ℕ) : Type 0 where
   pub year : date.year ≡ pos p.year
@@ -106,3 +106,21 @@ date_text-day_text date day number since until =
     let by : unsigned_abs day ≤ 84005 = omega (arith, signed_arith, whole, last) in
     let parts = parts_at date _ whole by in
     same_text _ _ _ _ _ _ (ap unsigned_abs parts.year) parts.month parts.day
+
+-- a text spells one day at most
+pub one_day : (text : List ℕ) (a b : ℤ) → SpellsDay text a → SpellsDay text b → a ≡ b
+one_day text a b h k =
+    let p = h.1.parts in
+    let q = k.1.parts in
+    let month : h.0.month ≡ k.0.month = omega (arith, signed_arith, p.1, q.1) in
+    let day : h.0.day ≡ k.0.day = omega (arith, signed_arith, p.2, q.2) in
+    sym h.2 ∙ epoch_day_same h.0 k.0 (p.0 ∙ sym q.0) month day ∙ k.2
+
+-- and the text of a day spells it
+pub spells_day : (day : ℤ) → pos 0 ≤ℤ day → day ≤ℤ epoch_day last_date → SpellsDay (day_text day) day
+spells_day day since until =
+    let last = rw epoch_day-last_date at until in
+    let whole : day ≡ pos (unsigned_abs day) = not_negative day since in
+    let by : unsigned_abs day ≤ 84005 = omega (arith, signed_arith, whole, last) in
+    let on = date_on (unsigned_abs day) by in
+    (on.0, text_spells on.0 _ _ _ on.1.year on.1.month on.1.day, on.1.number ∙ sym whole)

@@ -1,0 +1,16 @@
+//! Laws about dates and their texts, each the contract of a function that does nothing.
+ghost use Rattle.std.specs.Prelude.{◌≡◌, ℕ, List, ℤ, pos, ◌≤ℤ◌};
+ghost use Rattle.jiff.specs.Words.{epoch_day};
+ghost use Rattle.mrp_cal.specs.Calendar.{last_date};
+ghost use Rattle.mrp_cal.specs.DateText.{SpellsDay};
+ghost use Rattle.mrp_cal.specs.Days.{day_text};
+
+/// A text spells one day at most.
+pub fn a_text_spells_one_day()
+    ensures { (text : List ℕ) (a b : ℤ) → SpellsDay text a → SpellsDay text b → a ≡ b }
+{}
+
+/// The text of each day from 1970-01-01 to 2199-12-31 spells that day.
+pub fn the_text_of_a_day_spells_it()
+    ensures { (day : ℤ) → pos 0 ≤ℤ day → day ≤ℤ epoch_day last_date → SpellsDay (day_text day) day }
+{}
