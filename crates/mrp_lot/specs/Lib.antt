@@ -3,3 +3,5 @@ pub mod LotLaws
 pub mod One
 pub mod OneLaws
 pub mod RangeLaws
+pub mod Rules
+pub mod RulesLaws

@@ -1,16 +1,19 @@
 -- Laws of the plan of one pair.
-use Rattle.std.specs.Prelude.{◌≡◌, ℕ, ◌+◌, ◌-◌, ◌≤◌, ◌<◌, ◌==◌, if◌then◌else◌, min, max, List, length, sum, sum_by, take, drop, slice_index, zero, suc}
+use Rattle.std.specs.Prelude.{◌≡◌, ℕ, ◌+◌, ◌-◌, ◌≤◌, ◌<◌, ◌==◌, if◌then◌else◌, min, max, All, List, length, map, get_or, sum, sum_by, take, drop, slice_index, zero, suc}
 use Rattle.std.specs.List.{range_with_len}
 use Rattle.std.proofs.Common.{arith, sym, refl, ◌∙◌, ap, subst, add-one, eqb-true, eq-eqb}
 use Rattle.std.proofs.lemmas.Bool.{cond_both, false≢true}
-use Rattle.std.proofs.lemmas.List.Sums.{sum_by-take-le, sum_by-take-drop}
+use Rattle.std.proofs.lemmas.List.FromFn.{length-range_with_len, get_or-range_with_len, length-map-range_with_len, get_or-map-range_with_len}
+use Rattle.std.proofs.lemmas.List.Sums.{sum_by-take-le, sum_by-take-drop, sum-map, get_or-le-sum_by}
+use Rattle.mrp_qty.specs.declared.quantity.TheConstants.{MOST}
 use Rattle.mrp_lot.specs.declared.rule.Rule.{Rule}
 use Rattle.mrp_lot.specs.declared.rule.Rule.TheVariants.{LotForLot, Fixed, Periods, MinMultiple}
 use Rattle.mrp_lot.specs.declared.params.PairParams.{PairParams}
 use Rattle.mrp_lot.specs.Lot.{IsRule, rule_quantities, periods_covered, lot_of}
 use Rattle.mrp_lot.specs.LotLaws.{least_multiple-le, least_multiple-lt}
 use Rattle.mrp_lot.specs.RangeLaws.{sum_take-suc, sum_drop_take-one, sum_by-range-suc, moved_sum}
-use Rattle.mrp_lot.specs.One.{need_over, greatest_need, net_after, order_after, available_after, balance_before, order_at, release_at, IsWithin}
+use Rattle.mrp_lot.specs.One.{need_over, greatest_need, net_after, order_after, available_after, balance_before, order_at, release_at, one, IsWithin}
+use Rattle.mrp_lot.specs.Rules.{OrdersAreReleased, ReleasesAreBounded, AvailableCoversSafety, RowsStayWithin}
 
 -- the definitions, opened a step
 pub greatest_need-suc : (pair : PairParams) (incoming gross : List ℕ) (before t n : ℕ)
@@ -182,3 +185,71 @@ pub balance_before-more : (pair : PairParams) (incoming gross : List ℕ) (t : �
     → balance_before pair incoming gross (t + 1) ≡ available_after pair incoming gross (balance_before pair incoming gross t) t
 balance_before-more pair incoming gross t =
     ap (λ (m : ℕ). balance_before pair incoming gross m) (add-one t) ∙ balance_before-suc pair incoming gross t
+
+-- the rows of the plan, by period and as a whole
+pub one-order : (pair : PairParams) (incoming gross : List ℕ) → (one pair incoming gross).order ≡ map (order_at pair incoming gross) (range_with_len 0 (length gross))
+unfolding one
+one-order pair incoming gross = refl
+
+pub one-release : (pair : PairParams) (incoming gross : List ℕ) → (one pair incoming gross).release ≡ map (release_at pair incoming gross) (range_with_len 0 (length gross))
+unfolding one
+one-release pair incoming gross = refl
+
+pub one-available : (pair : PairParams) (incoming gross : List ℕ)
+    → (one pair incoming gross).available ≡ map (λ t. balance_before pair incoming gross (suc t)) (range_with_len 0 (length gross))
+unfolding one
+one-available pair incoming gross = refl
+
+pub one-gross : (pair : PairParams) (incoming gross : List ℕ) → (one pair incoming gross).gross ≡ gross
+unfolding one
+one-gross pair incoming gross = refl
+
+pub one-incoming : (pair : PairParams) (incoming gross : List ℕ) → (one pair incoming gross).incoming ≡ incoming
+unfolding one
+one-incoming pair incoming gross = refl
+
+pub one-release_sum : OrdersAreReleased
+one-release_sum pair incoming gross =
+    ap sum (one-release pair incoming gross) ∙ sum-map (release_at pair incoming gross) (range_with_len 0 (length gross)) ∙ releases-sum pair incoming gross
+    ∙ sym (sum-map (order_at pair incoming gross) (range_with_len 0 (length gross))) ∙ sym (ap sum (one-order pair incoming gross))
+
+-- the releases of the plan together
+pub one-release_sum-le : ReleasesAreBounded
+one-release_sum-le pair incoming gross is =
+    omega (
+      arith,
+      ap sum (one-release pair incoming gross),
+      sum-map (release_at pair incoming gross) (range_with_len 0 (length gross)),
+      releases-le pair incoming gross is,
+    )
+
+-- what holds of each period holds of each element of the row
+all_periods : (P : ℕ → Type 0) (f : ℕ → ℕ) (n : ℕ) (row : List ℕ) → row ≡ map f (range_with_len 0 n) → ((k : ℕ) → k < n → P (f k)) → All P row
+all_periods P f n row e each k d h =
+    let len : length row ≡ n = ap length e ∙ length-map-range_with_len f 0 n in
+    let below : k < n = omega arith in
+    let read : get_or row k d ≡ f k = ap (λ (xs : List ℕ). get_or xs k d) e ∙ get_or-map-range_with_len f 0 n k k d below (omega arith) in
+    subst P (sym read) (each k below)
+
+pub one-available-ge : AvailableCoversSafety
+one-available-ge pair incoming gross is =
+    all_periods (λ stock. pair.safety ≤ stock) (λ t. balance_before pair incoming gross (suc t)) (length gross) _ (one-available pair incoming gross)
+    (λ t h. safety-le-balance_before pair incoming gross t is h)
+
+sum_range-ge : (f : ℕ → ℕ) (n k : ℕ) → k < n → f k ≤ sum_by f (range_with_len 0 n)
+sum_range-ge f n k h =
+    let part = get_or-le-sum_by f (range_with_len 0 n) k 0 (omega (arith, length-range_with_len 0 n)) in
+    let at = ap f (get_or-range_with_len 0 n k 0 h) in
+    let same : f (0 + k) ≡ f k = ap f (omega arith) in
+    omega (arith, part, at, same)
+
+pub one-within : RowsStayWithin
+one-within pair incoming gross is =
+    let n = length gross in (
+      all_periods (λ q. q ≤ MOST) (order_at pair incoming gross) n _ (one-order pair incoming gross)
+          (λ t h. omega (arith, sum_range-ge (order_at pair incoming gross) n t h, orders-le pair incoming gross n is (omega arith), is.total)),
+      all_periods (λ q. q ≤ MOST) (release_at pair incoming gross) n _ (one-release pair incoming gross)
+          (λ t h. omega (arith, sum_range-ge (release_at pair incoming gross) n t h, releases-le pair incoming gross is, is.total)),
+      all_periods (λ q. q ≤ MOST) (λ t. balance_before pair incoming gross (suc t)) n _ (one-available pair incoming gross)
+          (λ t h. omega (arith, balance_before-le pair incoming gross (suc t) is (omega arith), is.total)),
+    )

@@ -4,10 +4,18 @@
 //! one pair](PairParams) period by period in the terms of material requirements planning.
 #![tactic(auto)]
 
+mod laws;
 mod params;
 mod rule;
 mod sizing;
 
+pub use laws::{
+    available_covers_safety, fixed_is_least, lot_covers, min_multiple_is_least,
+    orders_are_released, releases_are_bounded, rows_stay_within, rules_have_one_plan,
+};
 pub use params::{Late, PairParams};
 pub use rule::{LONGEST_LEAD, MOST_IN_RULE, Rule};
 pub use sizing::lot;
+
+#[cfg(test)]
+mod tests;

@@ -1,0 +1,5 @@
+use Rattle.mrp_lot.specs.RulesLaws.{lot-covers}
+use Rattle.mrp_lot.proofs.laws.lot_covers.Goals as goal
+
+pub returns : goal.returns
+returns c = lot-covers

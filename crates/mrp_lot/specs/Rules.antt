@@ -1,0 +1,89 @@
+-- A second reading of a pair's plan: the rules as equations, period by period, among rows that are
+-- given, with the balance before a period read off the projected available.
+use Rattle.std.specs.Prelude.{◌≡◌, ℕ, ◌+◌, ◌-◌, ◌*◌, ◌≤◌, ◌<◌, ◌&&◌, ◌==◌, nat_lt, if◌then◌else◌, max, List, length, sum, sum_by, filter_map, slice_index, All, Option, Some, None, zero, suc}
+use Rattle.std.specs.List.{range_with_len}
+use Rattle.mrp_qty.specs.declared.quantity.TheConstants.{MOST}
+use Rattle.mrp_lot.specs.declared.rule.Rule.{Rule}
+use Rattle.mrp_lot.specs.declared.rule.Rule.TheVariants.{Fixed, MinMultiple}
+use Rattle.mrp_lot.specs.declared.params.PairParams.{PairParams}
+use Rattle.mrp_lot.specs.declared.params.Late.{Late}
+use Rattle.mrp_lot.specs.Lot.{IsRule, rule_quantities, lot_of}
+use Rattle.mrp_lot.specs.One.{PlanRows, one, order_after, IsWithin}
+
+-- on hand before period 0, then the projected available
+abbrev pub balance_in : PairParams → PlanRows → ℕ → ℕ
+balance_in pair rows zero = pair.on_hand
+balance_in pair rows (suc t) = slice_index rows.available t
+
+-- the order of period t, where it is due within the lead time
+abbrev pub late_in : PairParams → PlanRows → ℕ → Option Late
+late_in pair rows t =
+    let quantity = slice_index rows.order t in
+    if nat_lt t pair.lead && nat_lt 0 quantity then Some (record { period = t; quantity = quantity; by = pair.lead - t }) else None
+
+pub record FollowsRules (pair : PairParams) (rows : PlanRows) : Type 0 where
+  pub incoming_len : length rows.incoming ≡ length rows.gross
+  pub order_len : length rows.order ≡ length rows.gross
+  pub release_len : length rows.release ≡ length rows.gross
+  pub available_len : length rows.available ≡ length rows.gross
+  -- what the lot rule orders for the net requirement
+  pub order : (t : ℕ) → t < length rows.gross
+      → slice_index rows.order t ≡ order_after pair rows.incoming rows.gross (balance_in pair rows t) t
+  -- what was there, comes in and is ordered is required or stays
+  pub available : (t : ℕ) → t < length rows.gross
+      → slice_index rows.available t + slice_index rows.gross t ≡ balance_in pair rows t + slice_index rows.incoming t + slice_index rows.order t
+  -- orders are released a lead time before they are due, at the earliest in period 0
+  pub release : (u : ℕ) → u < length rows.gross
+      → slice_index rows.release u ≡ sum_by (λ t. if (t - pair.lead) == u then slice_index rows.order t else 0) (range_with_len 0 (length rows.gross))
+  pub late : rows.late ≡ filter_map (late_in pair rows) (range_with_len 0 (length rows.gross))
+
+-- an order that is a multiple of q and not below n, where no smaller multiple is
+pub record IsLeastMultiple (q n ordered : ℕ) : Type 0 where
+  pub multiple : (lots : ℕ) × (ordered ≡ q * lots)
+  pub covers : n ≤ ordered
+  pub least : (lots : ℕ) → n ≤ q * lots → ordered ≤ q * lots
+
+-- a fixed quantity orders as few lots as cover the net requirement
+abbrev pub FixedIsLeast : Type 0
+FixedIsLeast = (quantity net span : ℕ) → 1 ≤ quantity → IsLeastMultiple quantity net (lot_of (Fixed quantity) net span)
+
+-- a minimum and a multiple order the least multiple below neither
+abbrev pub MinMultipleIsLeast : Type 0
+MinMultipleIsLeast = (minimum multiple net span : ℕ) → 1 ≤ multiple → IsLeastMultiple multiple (max net minimum) (lot_of (MinMultiple minimum multiple) net span)
+
+-- either is below the net requirement and the rule's quantities together
+abbrev pub FixedIsSmall : Type 0
+FixedIsSmall = (quantity net span : ℕ) → 1 ≤ quantity → lot_of (Fixed quantity) net span < net + rule_quantities (Fixed quantity)
+
+abbrev pub MinMultipleIsSmall : Type 0
+MinMultipleIsSmall = (minimum multiple net span : ℕ) → 1 ≤ multiple
+    → lot_of (MinMultiple minimum multiple) net span < net + rule_quantities (MinMultiple minimum multiple)
+
+-- any order covers the net requirement, where the span does
+abbrev pub LotCovers : Type 0
+LotCovers = (rule : Rule) (net span : ℕ) → IsRule rule → net ≤ span → net ≤ lot_of rule net span
+
+abbrev pub AvailableCoversSafety : Type 0
+AvailableCoversSafety = (pair : PairParams) (incoming gross : List ℕ) → IsWithin pair incoming gross
+    → All (λ stock. pair.safety ≤ stock) (one pair incoming gross).available
+
+abbrev pub OrdersAreReleased : Type 0
+OrdersAreReleased = (pair : PairParams) (incoming gross : List ℕ) → sum (one pair incoming gross).release ≡ sum (one pair incoming gross).order
+
+abbrev pub ReleasesAreBounded : Type 0
+ReleasesAreBounded = (pair : PairParams) (incoming gross : List ℕ) → IsWithin pair incoming gross
+    → sum (one pair incoming gross).release ≤ pair.safety + rule_quantities pair.rule + sum gross
+
+abbrev pub RowsStayWithin : Type 0
+RowsStayWithin = (pair : PairParams) (incoming gross : List ℕ) → IsWithin pair incoming gross
+    → All (λ quantity. quantity ≤ MOST) (one pair incoming gross).order × All (λ quantity. quantity ≤ MOST) (one pair incoming gross).release
+    × All (λ quantity. quantity ≤ MOST) (one pair incoming gross).available
+
+-- the plan follows the rules
+abbrev pub PlanFollowsRules : Type 0
+PlanFollowsRules = (pair : PairParams) (incoming gross : List ℕ) → IsWithin pair incoming gross → FollowsRules pair (one pair incoming gross)
+
+-- and nothing else does
+abbrev pub RulesHaveOnePlan : Type 0
+RulesHaveOnePlan = (pair : PairParams) (rows : PlanRows) → IsWithin pair rows.incoming rows.gross → FollowsRules pair rows
+    → rows ≡ one pair rows.incoming rows.gross

@@ -1,0 +1,49 @@
+//! Laws of the lot rules and of the plan of one pair. Each is the contract of a function that does
+//! nothing.
+
+ghost use Rattle.mrp_lot.specs.Rules.{FixedIsLeast, MinMultipleIsLeast, FixedIsSmall, MinMultipleIsSmall, LotCovers, AvailableCoversSafety, OrdersAreReleased, ReleasesAreBounded, RowsStayWithin, PlanFollowsRules, RulesHaveOnePlan};
+
+/// A fixed quantity orders as few lots as cover the net requirement.
+pub fn fixed_is_least()
+    ensures least { FixedIsLeast }
+    ensures small { FixedIsSmall }
+{}
+
+/// A minimum and a multiple order the least multiple that is below neither the net requirement nor
+/// the minimum.
+pub fn min_multiple_is_least()
+    ensures least { MinMultipleIsLeast }
+    ensures small { MinMultipleIsSmall }
+{}
+
+/// Whatever the rule, an order covers the net requirement.
+pub fn lot_covers()
+    ensures { LotCovers }
+{}
+
+/// The projected available of a plan is never below safety stock.
+pub fn available_covers_safety()
+    ensures { AvailableCoversSafety }
+{}
+
+/// Over all periods a plan releases what it orders.
+pub fn orders_are_released()
+    ensures { OrdersAreReleased }
+{}
+
+/// All releases of a plan together are at most safety stock, the rule's quantities and all gross
+/// requirements.
+pub fn releases_are_bounded()
+    ensures { ReleasesAreBounded }
+{}
+
+/// No order, release or projected available of a plan is above 10^15 pieces.
+pub fn rows_stay_within()
+    ensures { RowsStayWithin }
+{}
+
+/// The plan follows the rules period by period, and rows that follow them are the plan.
+pub fn rules_have_one_plan()
+    ensures follows { PlanFollowsRules }
+    ensures only { RulesHaveOnePlan }
+{}
