@@ -1,0 +1,40 @@
+-- Sums of what edges ask.
+use Rattle.std.proofs.Common.{◌≡◌, ℕ, ◌+◌, ◌*◌, ◌<◌, ◌≤◌, List, [], ◌∷◌, length, sum, slice_index, slice_index_or, suc, arith, ap, ◌∙◌}
+use Rattle.std.proofs.lemmas.List.{get_or_default}
+use Rattle.std.proofs.lemmas.List.Sums.{sum_by-cons}
+use Rattle.std.proofs.Math.Nat.{mul-le-mul_left}
+use Rattle.mrp_lot.specs.One.{PlanRows}
+use Rattle.mrp_net.specs.Plan.{rows_at, no_rows}
+use Rattle.mrp_net.specs.Edges.{edge_need, part}
+use Rattle.mrp_net.specs.declared.edge.Edge.{Edge}
+
+-- a part is no more than the whole
+pub part-le : (e : Edge) (release : ℕ) → e.high ≤ 1000 → part e release ≤ release
+part-le e release whole =
+    let grows : release * e.high ≤ release * 1000 = mul-le-mul_left release whole in
+    omega (arith, grows)
+
+pub edge_need-le : (e : Edge) (release : ℕ) → e.high ≤ 1000 → edge_need e release ≤ e.per * release
+edge_need-le e release whole = mul-le-mul_left e.per (part-le e release whole)
+
+-- a row that grew by no more than so many times another row in each period did so in all
+pub sum-le_each : (before after row : List ℕ) (per : ℕ) → length after ≡ length before → length row ≡ length before
+    → ((t : ℕ) → t < length before → slice_index after t ≤ slice_index before t + per * slice_index row t)
+    → sum after ≤ sum before + per * sum row
+sum-le_each [] [] [] per size same each = omega arith
+sum-le_each [] [] (r ∷ row) per size same each = omega arith
+sum-le_each [] (a ∷ after) row per size same each = let bad : suc (length after) ≡ 0 = size in absurd (omega (arith, bad))
+sum-le_each (b ∷ before) [] row per size same each = let bad : 0 ≡ suc (length before) = size in absurd (omega (arith, bad))
+sum-le_each (b ∷ before) (a ∷ after) [] per size same each = let bad : 0 ≡ suc (length before) = same in absurd (omega (arith, bad))
+sum-le_each (b ∷ before) (a ∷ after) (r ∷ row) per size same each =
+    let here : a ≤ b + per * r = each 0 (omega arith) in
+    let rest = sum-le_each before after row per (omega arith) (omega arith) (λ t h. each (suc t) (omega arith)) in
+    omega (arith, here, rest, sum_by-cons (λ (x : ℕ). x) b before, sum_by-cons (λ (x : ℕ). x) a after, ap (λ (x : ℕ). per * x) (sum_by-cons (λ (x : ℕ). x) r row))
+
+-- what a look-up past the edges reads
+abbrev pub no_edge : Edge
+no_edge = record { demander = record { 0 = 0 }; pair = record { 0 = 0 }; per = 0; low = 0; high = 0 }
+
+-- an element that was read is the rows of its pair
+pub rows_at_read : (table : List PlanRows) (x : ℕ) (rows : PlanRows) → x < length table → rows ≡ slice_index_or table x rows → rows ≡ rows_at table x
+rows_at_read table x rows within is = is ∙ get_or_default table x rows no_rows within

@@ -1,0 +1,5 @@
+pub mod Asked
+pub mod Orders
+pub mod Pegs
+pub mod Periods
+pub mod Planning

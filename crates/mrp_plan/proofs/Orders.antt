@@ -1,0 +1,55 @@
+-- What a planning order says of the places in it.
+use Rattle.std.proofs.Common.{◌≡◌, ℕ, ◌<◌, ◌==◌, List, length, slice_index, slice_index_or, take, arith, sym, ◌∙◌, ⊎_elim, eq-eqb, ne_eqb}
+use Rattle.std.specs.List.{range_with_len, Contains}
+use Rattle.std.proofs.lemmas.Bool.{cases_eq, eqb-false}
+use Rattle.std.proofs.lemmas.List.{get_or_default, get_or-take, length-take}
+use Rattle.std.proofs.lemmas.List.FromFn.{get_or-range_with_len, length-range_with_len}
+use Rattle.std.proofs.lemmas.List.Sorted.{All-permutation, Contains-permutation}
+use Rattle.std.proofs.lemmas.Map.Keys.{apart_from_distinct, IsDistinct-IsPermutation, IsDistinct-from_apart}
+use Rattle.mrp_tables.specs.Table.{Table}
+use Rattle.mrp_net.specs.Edges.{demanders}
+use Rattle.mrp_loops.specs.Sized.{IsPlanningOrder}
+use Rattle.mrp_plan.proofs.Asked.{no_edge}
+
+flips : (x y : ℕ) → (x == y) ≡ (y == x)
+flips x y =
+    ⊎_elim
+    (λ (e : x ≡ y). eq-eqb x y e ∙ sym (eq-eqb y x (sym e)))
+    (λ (ne : x ≡ y → ⊥). ne_eqb x y ne ∙ sym (ne_eqb y x (λ (e : y ≡ x). ne (sym e))))
+    (cases_eq x y)
+
+range_at : (n i d : ℕ) → i < n → slice_index_or (range_with_len 0 n) i d ≡ i
+range_at n i d within = omega (arith, get_or-range_with_len 0 n i d within)
+
+-- a pair stands in one place
+pub places_apart : (N : Table) (order : List ℕ) → IsPlanningOrder N order → (i j : ℕ) → i < j → j < length order → slice_index order i ≡ slice_index order j → ⊥
+places_apart N order is i j below within same =
+    let n = length N.pairs in
+    let size = length-range_with_len 0 n in
+    let apart = IsDistinct-from_apart (λ (x y : ℕ). x == y) (range_with_len 0 n)
+    (λ a b d less high. ne_eqb _ _ (λ (e : slice_index_or (range_with_len 0 n) a d ≡ slice_index_or (range_with_len 0 n) b d).
+    omega (arith, e, range_at n a d (omega (arith, size)), range_at n b d (omega (arith, size))))) in
+    eqb-false _ _ (apart_from_distinct (λ (x y : ℕ). x == y) order i j 0 (IsDistinct-IsPermutation (λ (x y : ℕ). x == y) flips (range_with_len 0 n) order is.all apart) below within) same
+
+-- each place has a pair of the table
+pub place_in_table : (N : Table) (order : List ℕ) → IsPlanningOrder N order → (k : ℕ) → k < length order → slice_index order k < length N.pairs
+place_in_table N order is k within =
+    All-permutation (λ (x : ℕ). x < length N.pairs) (range_with_len 0 (length N.pairs)) order is.all
+    (λ i d h. let here : i < length N.pairs = omega (arith, length-range_with_len 0 (length N.pairs)) in omega (arith, range_at (length N.pairs) i d here)) k 0 within
+
+-- each pair of the table has a place
+pub place_of : (N : Table) (order : List ℕ) → IsPlanningOrder N order → (x : ℕ) → x < length N.pairs → (k : ℕ) × (k < length order) × (slice_index order k ≡ x)
+place_of N order is x within =
+    let in_range : Contains (range_with_len 0 (length N.pairs)) x = (x, omega (arith, length-range_with_len 0 (length N.pairs)), range_at (length N.pairs) x x within) in
+    let found = Contains-permutation (range_with_len 0 (length N.pairs)) order x is.all in_range in
+    (found.0, found.1, get_or_default order found.0 0 x found.1 ∙ found.2)
+
+-- the demander of an edge has a place before its pair
+pub demander_before : (N : Table) (order : List ℕ) → IsPlanningOrder N order → (k : ℕ) → k < length order → (i : ℕ) → i < length (demanders N (slice_index order k))
+    → (j : ℕ) × (j < k) × (slice_index order j ≡ (slice_index_or (demanders N (slice_index order k)) i no_edge).demander.0)
+demander_before N order is k within i edge =
+    let found = is.demanders_first k within i no_edge edge in
+    let size = length-take k order in
+    let early : found.0 < k = omega (arith, found.1, size) in
+    let d = (slice_index_or (demanders N (slice_index order k)) i no_edge).demander.0 in
+    (found.0, early, sym (get_or-take k order found.0 0 early) ∙ get_or_default (take k order) found.0 0 d found.1 ∙ found.2)

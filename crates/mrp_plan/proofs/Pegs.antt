@@ -1,0 +1,53 @@
+-- What a plan that fits says of a pair's gross requirement and of its demanders' releases.
+use Rattle.std.proofs.Common.{◌≡◌, ℕ, ◌<◌, ◌≤◌, List, length, slice_index, slice_index_or, arith, ap, ◌∙◌, sym}
+use Rattle.std.specs.List.{All}
+use Rattle.std.proofs.lemmas.List.{get_or_default}
+use Rattle.std.proofs.lemmas.List.FromFn.{get_or-map-range_with_len}
+use Rattle.std.proofs.lemmas.List.Sums.{get_or-le-sum_by}
+use Rattle.mrp_qty.specs.declared.quantity.TheConstants.{MOST}
+use Rattle.mrp_lot.specs.One.{PlanRows}
+use Rattle.mrp_tables.specs.Table.{Table, IsPair, horizon}
+use Rattle.mrp_net.specs.Edges.{demanders, edge_need, IsEdge}
+use Rattle.mrp_net.specs.Sums.{row_of}
+use Rattle.mrp_net.specs.Plan.{rows_at, gross, Fits}
+use Rattle.mrp_net.specs.declared.edge.Edge.{Edge}
+use Rattle.mrp_plan.specs.Peg.{IsPeggable}
+use Rattle.mrp_plan.proofs.Asked.{no_edge}
+use Rattle.mrp_plan.proofs.Planning.{one-gross, pair_plan-release}
+
+pub fitting_gross : (N : Table) (table : List PlanRows) (x : ℕ) → Fits N table → IsPair N x → (rows_at table x).gross ≡ row_of N (gross N table x)
+fitting_gross N table x fits in_table = ap (λ (r : PlanRows). r.gross) (fits.rows x in_table) ∙ one-gross N table x
+
+pub fitting_release : (N : Table) (table : List PlanRows) (x : ℕ) → Fits N table → IsPair N x → length (rows_at table x).release ≡ horizon N
+fitting_release N table x fits in_table = ap (λ (r : PlanRows). length r.release) (fits.rows x in_table) ∙ pair_plan-release N table x
+
+-- what an edge asks is within the gross requirement
+pub term_within : (N : Table) (table : List PlanRows) (x t i : ℕ) → Fits N table → IsPair N x → t < horizon N → i < length (demanders N x)
+    → edge_need (slice_index_or (demanders N x) i no_edge) (slice_index (rows_at table (slice_index_or (demanders N x) i no_edge).demander.0).release t) ≤ slice_index (rows_at table x).gross t
+term_within N table x t i fits in_table within edge =
+    let at : slice_index (row_of N (gross N table x)) t ≡ gross N table x t = get_or-map-range_with_len (gross N table x) 0 (horizon N) t t 0 within (omega arith) in
+    omega (
+      arith,
+      at,
+      ap (λ (r : List ℕ). slice_index r t) (fitting_gross N table x fits in_table),
+      get_or-le-sum_by (λ (e : Edge). edge_need e (slice_index (rows_at table e.demander.0).release t)) (demanders N x) i no_edge edge,
+    )
+
+-- each edge to the pair can be pegged
+pub peggable : (N : Table) (table : List PlanRows) (x t : ℕ) (edges : List Edge) → Fits N table → IsPair N x → t < horizon N → slice_index (rows_at table x).gross t ≤ MOST
+    → edges ≡ demanders N x → All (IsEdge N) edges → All (IsPeggable N table t) edges
+peggable N table x t edges fits in_table within quantity are all i d h =
+    let e = slice_index_or edges i d in
+    let is_edge = all i d h in
+    let in_demanders : i < length (demanders N x) = omega (arith, h, ap (λ (es : List Edge). length es) are) in
+    let read : slice_index_or (demanders N x) i no_edge ≡ e = get_or_default (demanders N x) i no_edge d in_demanders ∙ ap (λ (es : List Edge). slice_index_or es i d) (sym are) in
+    record {
+      edge = is_edge;
+      period = omega (arith, within, fitting_release N table e.demander.0 fits is_edge.demander);
+      within = omega (
+        arith,
+        quantity,
+        term_within N table x t i fits in_table within in_demanders,
+        ap (λ (f : Edge). edge_need f (slice_index (rows_at table f.demander.0).release t)) read,
+      );
+    }

@@ -1,0 +1,84 @@
+-- Sums of rows by period: no period, and not all periods together, have more than all rows.
+use Rattle.std.proofs.Common.{◌≡◌, ℕ, ◌+◌, ◌<◌, ◌≤◌, ◌==◌, ◌&&◌, if◌then◌else◌, Bool, true, false, List, [], ◌∷◌, sum, sum_by, slice_index, zero, suc, arith, refl, ap, ⊎_elim, eq-eqb, ne_eqb}
+use Rattle.std.specs.List.{range_with_len}
+use Rattle.std.proofs.lemmas.Bool.{cases_eq, cond-true, cond-false}
+use Rattle.std.proofs.lemmas.List.FromFn.{get_or-range_with_len, length-range_with_len}
+use Rattle.std.proofs.lemmas.List.Sums.{sum_by-cons, get_or-le-sum_by, sum-map}
+use Rattle.mrp_lot.specs.RangeLaws.{sum_by-range-suc, sum_by-add, sum_by-none, sum_by-ext}
+use Rattle.mrp_tables.specs.Table.{Table, horizon}
+use Rattle.mrp_tables.specs.declared.rows.DemandRow.{DemandRow}
+use Rattle.mrp_tables.specs.declared.rows.ReceiptRow.{ReceiptRow}
+use Rattle.mrp_tables.specs.declared.rows.ShipRow.{ShipRow}
+use Rattle.mrp_net.specs.Sums.{demand, demand_total, incoming, received, received_total, shipped, shipped_total, row_of}
+
+-- one amount, in its period, counts once at the most
+placed_past : (v p n : ℕ) → n ≤ p → sum_by (λ t. if p == t then v else 0) (range_with_len 0 n) ≡ 0
+placed_past v p zero past = refl
+placed_past v p (suc n) past =
+    let miss = cond-false (p == n) v 0 (ne_eqb p n (omega arith)) in
+    omega (arith, sum_by-range-suc (λ t. if p == t then v else 0) n, placed_past v p n (omega arith), miss)
+
+placed-le : (v p n : ℕ) → sum_by (λ t. if p == t then v else 0) (range_with_len 0 n) ≤ v
+placed-le v p zero = omega arith
+placed-le v p (suc n) =
+    ⊎_elim
+    (λ (e : p ≡ n).
+    let hit = cond-true (p == n) v 0 (eq-eqb p n e) in
+    omega (arith, sum_by-range-suc (λ t. if p == t then v else 0) n, placed_past v p n (omega arith), hit))
+    (λ (ne : p ≡ n → ⊥).
+    let miss = cond-false (p == n) v 0 (ne_eqb p n ne) in
+    omega (arith, sum_by-range-suc (λ t. if p == t then v else 0) n, placed-le v p n, miss))
+    (cases_eq p n)
+
+-- an amount that counts only where a test holds
+tested-le : (b : Bool) (v p n : ℕ) → sum_by (λ t. if b && (p == t) then v else 0) (range_with_len 0 n) ≤ (if b then v else 0)
+tested-le true v p n = placed-le v p n
+tested-le false v p n = omega (arith, sum_by-none (range_with_len 0 n))
+
+-- rows by period, over the first n periods, against all rows
+pub periods-le : {X : Type 0} (test : X → Bool) (period quantity : X → ℕ) (n : ℕ) (rows : List X)
+    → sum_by (λ t. sum_by (λ r. if test r && (period r == t) then quantity r else 0) rows) (range_with_len 0 n) ≤ sum_by (λ r. if test r then quantity r else 0) rows
+periods-le test period quantity n [] = omega (arith, sum_by-none (range_with_len 0 n))
+periods-le test period quantity n (r ∷ rows) =
+    omega (
+      arith,
+      sum_by-ext (λ t. sum_by (λ r. if test r && (period r == t) then quantity r else 0) (r ∷ rows))
+          (λ t. (if test r && (period r == t) then quantity r else 0) + sum_by (λ r. if test r && (period r == t) then quantity r else 0) rows) (range_with_len 0 n)
+          (λ t. sum_by-cons (λ r. if test r && (period r == t) then quantity r else 0) r rows),
+      sum_by-add (λ t. if test r && (period r == t) then quantity r else 0) (λ t. sum_by (λ r. if test r && (period r == t) then quantity r else 0) rows) (range_with_len 0 n),
+      tested-le (test r) (quantity r) (period r) n,
+      periods-le test period quantity n rows,
+      sum_by-cons (λ r. if test r then quantity r else 0) r rows,
+    )
+
+-- one period is within the sum of all
+pub period-le : (amount : ℕ → ℕ) (n t : ℕ) → t < n → amount t ≤ sum_by amount (range_with_len 0 n)
+period-le amount n t within =
+    let at : slice_index (range_with_len 0 n) t ≡ t = omega (arith, get_or-range_with_len 0 n t 0 within) in
+    omega (arith, get_or-le-sum_by amount (range_with_len 0 n) t 0 (omega (arith, length-range_with_len 0 n)), ap amount at)
+
+pub demands-le : (N : Table) (x : ℕ) → sum (row_of N (demand N x)) ≤ demand_total N x
+demands-le N x =
+    omega (
+      arith,
+      sum-map (demand N x) (range_with_len 0 (horizon N)),
+      periods-le (λ (d : DemandRow). d.pair.0 == x) (λ (d : DemandRow). d.period) (λ (d : DemandRow). d.quantity) (horizon N) N.demands,
+    )
+
+pub incomings-le : (N : Table) (x : ℕ) → sum (row_of N (incoming N x)) ≤ received_total N x + shipped_total N x
+incomings-le N x =
+    omega (
+      arith,
+      sum-map (incoming N x) (range_with_len 0 (horizon N)),
+      sum_by-add (received N x) (shipped N x) (range_with_len 0 (horizon N)),
+      periods-le (λ (r : ReceiptRow). r.pair.0 == x) (λ (r : ReceiptRow). r.period) (λ (r : ReceiptRow). r.quantity) (horizon N) N.receipts,
+      periods-le (λ (s : ShipRow). s.pair.0 == x) (λ (s : ShipRow). s.period) (λ (s : ShipRow). s.quantity) (horizon N) N.ships,
+    )
+
+pub demand-le : (N : Table) (x t : ℕ) → t < horizon N → demand N x t ≤ demand_total N x
+demand-le N x t within =
+    omega (arith, demands-le N x, sum-map (demand N x) (range_with_len 0 (horizon N)), period-le (demand N x) (horizon N) t within)
+
+pub incoming-le : (N : Table) (x t : ℕ) → t < horizon N → incoming N x t ≤ received_total N x + shipped_total N x
+incoming-le N x t within =
+    omega (arith, incomings-le N x, sum-map (incoming N x) (range_with_len 0 (horizon N)), period-le (incoming N x) (horizon N) t within)

@@ -1,0 +1,201 @@
+-- One more pair is planned.
+use Rattle.std.proofs.Common.{◌≡◌, ℕ, ◌+◌, ◌*◌, ◌<◌, ◌≤◌, ◌≢◌, List, [], ◌∷◌, length, sum, sum_by, slice_index, slice_index_or, slice_set, suc, arith, refl, ap, sym, ◌∙◌, ⊎_elim, subst}
+use Rattle.std.specs.List.{range_with_len}
+use Rattle.std.proofs.lemmas.Bool.{cases_eq}
+use Rattle.std.proofs.lemmas.List.{get_or_default, get_or-set_same, get_or-set_other, length-set}
+use Rattle.std.proofs.lemmas.List.FromFn.{fill_by_all, get_or-map-range_with_len, length-map-range_with_len}
+use Rattle.std.proofs.lemmas.List.Sums.{sum_by-cons, sum-map}
+use Rattle.std.proofs.Math.Nat.{mul-le-mul_left}
+use Rattle.mrp_lot.specs.Lot.{rule_quantities}
+use Rattle.mrp_lot.specs.One.{PlanRows, IsWithin, one, release_at}
+use Rattle.mrp_lot.specs.OneLaws.{releases-le}
+use Rattle.mrp_lot.specs.RangeLaws.{map-range-same}
+use Rattle.mrp_tables.specs.Table.{Table, IsTable, horizon}
+use Rattle.mrp_net.specs.Edges.{demanders, edge_need}
+use Rattle.mrp_net.specs.Sums.{demand, demand_total, incoming, params_at, pair_at, row_of, no_pair}
+use Rattle.mrp_net.specs.Plan.{rows_at, no_rows, gross, pair_plan, Fits}
+use Rattle.mrp_net.specs.declared.edge.Edge.{Edge}
+use Rattle.mrp_loops.specs.Need.{AreNeeds, AreWithin}
+use Rattle.mrp_loops.specs.Sized.{IsPlanningOrder}
+use Rattle.mrp_plan.specs.Explosion.{asked, asked_total}
+use Rattle.mrp_plan.specs.Progress.{CanPlan, IsPlannedTo}
+use Rattle.mrp_plan.proofs.Periods.{incomings-le}
+use Rattle.mrp_plan.proofs.Asked.{no_edge}
+use Rattle.mrp_plan.proofs.Orders.{places_apart, place_in_table, place_of, demander_before}
+
+-- sums of terms that are the same, or not greater, at each element
+sum_by-same_all : {X : Type 0} (f g : X → ℕ) (d : X) (xs : List X) → ((i : ℕ) → i < length xs → f (slice_index_or xs i d) ≡ g (slice_index_or xs i d)) → sum_by f xs ≡ sum_by g xs
+sum_by-same_all f g d [] same = refl
+sum_by-same_all f g d (x ∷ xs) same =
+    let here : f x ≡ g x = same 0 (omega arith) in
+    omega (arith, here, sum_by-cons f x xs, sum_by-cons g x xs, sum_by-same_all f g d xs (λ i h. same (suc i) (omega arith)))
+
+sum_by-le_all : {X : Type 0} (f g : X → ℕ) (d : X) (xs : List X) → ((i : ℕ) → i < length xs → f (slice_index_or xs i d) ≤ g (slice_index_or xs i d)) → sum_by f xs ≤ sum_by g xs
+sum_by-le_all f g d [] less = omega arith
+sum_by-le_all f g d (x ∷ xs) less =
+    let here : f x ≤ g x = less 0 (omega arith) in
+    omega (arith, here, sum_by-cons f x xs, sum_by-cons g x xs, sum_by-le_all f g d xs (λ i h. less (suc i) (omega arith)))
+
+-- the plan of a pair looks at the releases of its demanders alone
+pub pair_plan-same : (N : Table) (old new : List PlanRows) (x : ℕ)
+    → ((i : ℕ) → i < length (demanders N x) → rows_at new (slice_index_or (demanders N x) i no_edge).demander.0 ≡ rows_at old (slice_index_or (demanders N x) i no_edge).demander.0)
+    → pair_plan N new x ≡ pair_plan N old x
+pair_plan-same N old new x same =
+    let asks = λ (t : ℕ) (i : ℕ) (h : i < length (demanders N x)).
+    ap (λ (r : PlanRows). edge_need (slice_index_or (demanders N x) i no_edge) (slice_index r.release t)) (same i h) in
+    let each = λ (t : ℕ) (h : t < horizon N).
+    ap (λ (s : ℕ). demand N x t + s)
+    (sum_by-same_all (λ (e : Edge). edge_need e (slice_index (rows_at new e.demander.0).release t)) (λ (e : Edge). edge_need e (slice_index (rows_at old e.demander.0).release t)) no_edge (demanders N x) (asks t)) in
+    ap (one (params_at N x) (row_of N (incoming N x))) (map-range-same (gross N new x) (gross N old x) (horizon N) each)
+
+-- the plan of a pair has a release for each period, and its gross requirements
+pub pair_plan-release : (N : Table) (table : List PlanRows) (x : ℕ) → length (pair_plan N table x).release ≡ horizon N
+unfolding one
+pair_plan-release N table x =
+    length-map-range_with_len (release_at (params_at N x) (row_of N (incoming N x)) (row_of N (gross N table x))) 0 (length (row_of N (gross N table x)))
+    ∙ length-map-range_with_len (gross N table x) 0 (horizon N)
+
+pub one-gross : (N : Table) (table : List PlanRows) (x : ℕ) → (pair_plan N table x).gross ≡ row_of N (gross N table x)
+unfolding one
+one-gross N table x = refl
+
+-- its releases together are within what safety, the rule and the gross requirements ask
+pub pair_plan-releases : (N : Table) (table : List PlanRows) (x : ℕ) → IsWithin (params_at N x) (row_of N (incoming N x)) (row_of N (gross N table x))
+    → sum (pair_plan N table x).release ≤ (pair_at N x).safety + rule_quantities (pair_at N x).rule + sum (row_of N (gross N table x))
+unfolding one
+pair_plan-releases N table x is =
+    omega (
+      arith,
+      releases-le (params_at N x) (row_of N (incoming N x)) (row_of N (gross N table x)) is,
+      sum-map (release_at (params_at N x) (row_of N (incoming N x)) (row_of N (gross N table x))) (range_with_len 0 (length (row_of N (gross N table x)))),
+    )
+
+-- what the demanders ask is within what they need
+pub asked_total-le : (N : Table) (needs order : List ℕ) (k : ℕ) (table : List PlanRows) → IsPlanningOrder N order → k < length order → IsPlannedTo N needs order k table
+    → asked_total table (demanders N (slice_index order k)) ≤ sum_by (λ e. e.per * slice_index needs e.demander.0) (demanders N (slice_index order k))
+asked_total-le N needs order k table is within planned =
+    let x = slice_index order k in
+    sum_by-le_all (λ (e : Edge). e.per * sum (rows_at table e.demander.0).release) (λ (e : Edge). e.per * slice_index needs e.demander.0) no_edge (demanders N x)
+    (λ i h.
+    let e = slice_index_or (demanders N x) i no_edge in
+    let before = demander_before N order is k within i h in
+    let own = planned.releases before.0 before.1 in
+    let P : ℕ → Type 0 = λ y. sum (rows_at table y).release ≤ slice_index needs y in
+    mul-le-mul_left e.per (subst P before.2 own))
+
+-- the demander of an edge to the next pair has a row of releases
+pub demander_release : (N : Table) (needs order : List ℕ) (k : ℕ) (table : List PlanRows) → IsPlanningOrder N order → k < length order → IsPlannedTo N needs order k table
+    → (i : ℕ) → i < length (demanders N (slice_index order k)) → length (rows_at table (slice_index_or (demanders N (slice_index order k)) i no_edge).demander.0).release ≡ horizon N
+demander_release N needs order k table is within planned i h =
+    let before = demander_before N order is k within i h in
+    let P : ℕ → Type 0 = λ y. length (rows_at table y).release ≡ horizon N in
+    subst P before.2 (ap (λ (r : PlanRows). length r.release) (planned.rows before.0 before.1) ∙ pair_plan-release N table (slice_index order before.0))
+
+-- a row has a quantity for each period
+pub length-row_of : (N : Table) (amount : ℕ → ℕ) → length (row_of N amount) ≡ horizon N
+length-row_of N amount = length-map-range_with_len amount 0 (horizon N)
+
+-- the rows of a pair that can be planned are within the bound
+pub is_within : (N : Table) (table : List PlanRows) (x : ℕ) (row : List ℕ) → CanPlan N table x → length row ≡ horizon N
+    → sum row ≤ demand_total N x + asked_total table (demanders N x) → IsWithin (params_at N x) (row_of N (incoming N x)) row
+is_within N table x row can size total =
+    let own = can.is_table.read.pairs x no_pair can.in_table in
+    record {
+      rule = own.rule;
+      lead = own.lead;
+      periods = length-row_of N (incoming N x) ∙ sym size;
+      total = omega (arith, total, incomings-le N x, can.within);
+    }
+
+-- demand rows and what the demanders ask are the gross requirements
+pub gross_row : (N : Table) (table : List PlanRows) (x : ℕ) (row : List ℕ) → length row ≡ length (row_of N (demand N x))
+    → ((t : ℕ) → t < length (row_of N (demand N x)) → slice_index row t ≡ slice_index (row_of N (demand N x)) t + asked table (demanders N x) t)
+    → row ≡ row_of N (gross N table x)
+gross_row N table x row size each =
+    let periods = length-row_of N (demand N x) in
+    fill_by_all (gross N table x) row (horizon N) 0 (size ∙ periods)
+    (λ t h.
+    let own : slice_index (row_of N (demand N x)) t ≡ demand N x t = get_or-map-range_with_len (demand N x) 0 (horizon N) t t 0 h (omega arith) in
+    omega (arith, own, each t (omega (arith, periods))))
+
+-- the pair at place k can be planned
+pub can_plan : (N : Table) (needs order : List ℕ) (k : ℕ) (table : List PlanRows) → IsTable N → AreNeeds N needs → AreWithin N needs → IsPlanningOrder N order → k < length order
+    → IsPlannedTo N needs order k table → CanPlan N table (slice_index order k)
+can_plan N needs order k table tables are_needs are_within is within planned =
+    let x = slice_index order k in
+    let in_table = place_in_table N order is k within in
+    record {
+      is_table = tables;
+      in_table = in_table;
+      size = planned.size;
+      room = planned.rooms x in_table;
+      releases = λ i d h.
+          let read : slice_index_or (demanders N x) i no_edge ≡ slice_index_or (demanders N x) i d = get_or_default (demanders N x) i no_edge d h in
+          ap (λ (e : Edge). length (rows_at table e.demander.0).release) (sym read) ∙ demander_release N needs order k table is within planned i h;
+      within = omega (arith, are_within x in_table, are_needs.need x in_table, asked_total-le N needs order k table is within planned);
+    }
+
+-- with its plan kept, one more pair is planned
+pub IsPlannedTo-more : (N : Table) (needs order : List ℕ) (k : ℕ) (table : List PlanRows) (rows : PlanRows) → IsPlanningOrder N order → k < length order → IsPlannedTo N needs order k table
+    → rows ≡ pair_plan N table (slice_index order k) → sum rows.release ≤ slice_index needs (slice_index order k)
+    → IsPlannedTo N needs order (k + 1) (slice_set table (slice_index order k) rows)
+IsPlannedTo-more N needs order k table rows is within planned plan releases =
+    let x = slice_index order k in
+    let new = slice_set table x rows in
+    let room : length (pair_plan N table x).gross ≡ horizon N = ap (λ (r : List ℕ). length r) (one-gross N table x) ∙ length-row_of N (gross N table x) in
+    let in_table : x < length table = omega (arith, place_in_table N order is k within, planned.size) in
+    let at_x : rows_at new x ≡ rows = get_or-set_same table x rows no_rows in_table in
+    let elsewhere = λ (y : ℕ) (ne : y ≢ x). let e : rows_at new y ≡ rows_at table y = get_or-set_other table x y rows no_rows ne in e in
+    let earlier = λ (j : ℕ) (h : j < k). elsewhere (slice_index order j) (places_apart N order is j k h within) in
+    let demanders_stay = λ (j : ℕ) (h : j ≤ k) (i : ℕ) (edge : i < length (demanders N (slice_index order j))).
+    let before = demander_before N order is j (omega arith) i edge in
+    let P : ℕ → Type 0 = λ y. rows_at new y ≡ rows_at table y in
+    subst P before.2 (earlier before.0 (omega (arith, before.1))) in
+    let stays = λ (j : ℕ) (h : j ≤ k). pair_plan-same N table new (slice_index order j) (demanders_stay j h) in
+    record {
+      size = length-set table x rows ∙ planned.size;
+      rooms = λ y in_net.
+          ⊎_elim
+          (λ (e : y ≡ x). ap (λ (z : ℕ). length (rows_at new z).gross) e ∙ ap (λ (r : PlanRows). length r.gross) (at_x ∙ plan) ∙ room)
+          (λ (ne : y ≡ x → ⊥). ap (λ (r : PlanRows). length r.gross) (elsewhere y ne) ∙ planned.rooms y in_net)
+          (cases_eq y x);
+      rows = λ j h.
+          ⊎_elim
+          (λ (e : j ≡ k).
+          let here : rows_at new x ≡ pair_plan N new x = at_x ∙ plan ∙ sym (stays k (omega arith)) in
+          subst (λ (i : ℕ). rows_at new (slice_index order i) ≡ pair_plan N new (slice_index order i)) (sym e) here)
+          (λ (ne : j ≡ k → ⊥). let before : j < k = omega arith in earlier j before ∙ planned.rows j before ∙ sym (stays j (omega arith)))
+          (cases_eq j k);
+      releases = λ j h.
+          ⊎_elim
+          (λ (e : j ≡ k).
+          let here : sum (rows_at new x).release ≤ slice_index needs x = omega (arith, releases, ap (λ (r : PlanRows). sum r.release) at_x) in
+          subst (λ (i : ℕ). sum (rows_at new (slice_index order i)).release ≤ slice_index needs (slice_index order i)) (sym e) here)
+          (λ (ne : j ≡ k → ⊥).
+          let before : j < k = omega arith in
+          omega (arith, planned.releases j before, ap (λ (r : PlanRows). sum r.release) (earlier j before)))
+          (cases_eq j k);
+    }
+
+-- the same with the plan beside the plans so far
+pub next_planned : (N : Table) (needs order : List ℕ) (k : ℕ) (table : List PlanRows) → IsTable N → AreNeeds N needs → AreWithin N needs → IsPlanningOrder N order → k < length order
+    → IsPlannedTo N needs order k table
+    → sum (row_of N (gross N table (slice_index order k))) ≤ demand_total N (slice_index order k) + asked_total table (demanders N (slice_index order k))
+    → IsPlannedTo N needs order (k + 1) (slice_set table (slice_index order k) (pair_plan N table (slice_index order k)))
+next_planned N needs order k table tables are_needs are_within is within planned total =
+    let x = slice_index order k in
+    let can = can_plan N needs order k table tables are_needs are_within is within planned in
+    let g = row_of N (gross N table x) in
+    let rows_within = is_within N table x g can (length-row_of N (gross N table x)) total in
+    IsPlannedTo-more N needs order k table (pair_plan N table x) is within planned refl
+    (omega (arith, pair_plan-releases N table x rows_within, total, are_needs.need x can.in_table, asked_total-le N needs order k table is within planned))
+
+-- with all places of the order planned, the table fits
+pub all_planned : (N : Table) (needs order : List ℕ) (k : ℕ) (table : List PlanRows) → IsPlanningOrder N order → length order ≤ k → IsPlannedTo N needs order k table → Fits N table
+all_planned N needs order k table is whole planned = record {
+  size = planned.size;
+  rows = λ x in_table.
+      let place = place_of N order is x in_table in
+      let P : ℕ → Type 0 = λ y. rows_at table y ≡ pair_plan N table y in
+      subst P place.2 (planned.rows place.0 (omega (arith, place.1)));
+}

@@ -1,0 +1,48 @@
+use Rattle.std.proofs.Common.{◌≡◌, ◌*◌, slice_index, slice_index_or, sum, arith, ap, ◌∙◌}
+use Rattle.std.proofs.lemmas.List.Sums.{sum_by_more_le, sum_by_more}
+use Rattle.mrp_net.specs.Plan.{rows_at}
+use Rattle.mrp_net.specs.Edges.{edge_need}
+use Rattle.mrp_net.specs.declared.edge.Edge.{Edge}
+use Rattle.mrp_plan.proofs.Asked.{no_edge, rows_at_read}
+use Rattle.mrp_plan.proofs.explosion.explode_all.Goals as goal
+
+pub explode-requires-clause-within : goal.explode-requires-clause-within
+explode-requires-clause-within c =
+    let e = slice_index_or c.args.edges.now c.loop-edge.edge-index no_edge in
+    let can = c.requires.edges c.loop-edge.edge-index no_edge c.loop-edge-test.true in
+    let row : c.release.result.now ≡ (rows_at c.args.plans.now e.demander.0).release =
+    c.release.ensures ∙ ap (λ r. r.release) (rows_at_read c.args.plans.now e.demander.0 c.index-plans-edge.result can.demander c.index-plans-edge.is) in
+    let term = ap (λ r. e.per * sum r) row in
+    omega (
+      arith,
+      term,
+      c.loop-edge.invariant.total,
+      c.requires.within,
+      sum_by_more_le (λ (f : Edge). f.per * sum (rows_at c.args.plans.now f.demander.0).release) c.args.edges.now c.loop-edge.edge-index no_edge c.loop-edge-test.true,
+    )
+
+pub loop-edge-preserved : goal.loop-edge-preserved
+loop-edge-preserved c =
+    let e = slice_index_or c.args.edges.now c.loop-edge.edge-index no_edge in
+    let can = c.requires.edges c.loop-edge.edge-index no_edge c.loop-edge-test.true in
+    let row : c.release.result.now ≡ (rows_at c.args.plans.now e.demander.0).release =
+    c.release.ensures ∙ ap (λ r. r.release) (rows_at_read c.args.plans.now e.demander.0 c.index-plans-edge.result can.demander c.index-plans-edge.is) in
+    record {
+      size = omega arith;
+      each = λ t h.
+          omega (
+            arith,
+            c.explode.ensures.each t (omega arith),
+            c.loop-edge.invariant.each t (omega arith),
+            ap (λ r. edge_need e (slice_index r t)) row,
+            sum_by_more (λ (f : Edge). edge_need f (slice_index (rows_at c.args.plans.now f.demander.0).release t)) c.args.edges.now c.loop-edge.edge-index no_edge c.loop-edge-test.true,
+          );
+      total =
+          omega (
+            arith,
+            c.explode.ensures.total,
+            c.loop-edge.invariant.total,
+            ap (λ r. e.per * sum r) row,
+            sum_by_more (λ (f : Edge). f.per * sum (rows_at c.args.plans.now f.demander.0).release) c.args.edges.now c.loop-edge.edge-index no_edge c.loop-edge-test.true,
+          );
+    }

@@ -1,0 +1,34 @@
+use Rattle.std.proofs.Common.{◌≡◌, ◌<◌, ◌≤◌, ℕ, List, length, slice_index, arith, ap, ◌∙◌, sym, subst}
+use Rattle.mrp_qty.specs.declared.quantity.TheConstants.{MOST}
+use Rattle.mrp_lot.specs.One.{PlanRows}
+use Rattle.mrp_tables.specs.Table.{Table, IsPair, horizon}
+use Rattle.mrp_net.specs.Plan.{rows_at, gross, Fits}
+use Rattle.mrp_net.specs.Sums.{row_of}
+use Rattle.mrp_plan.proofs.Pegs.{fitting_gross, peggable}
+use Rattle.mrp_plan.proofs.Planning.{length-row_of}
+use Rattle.mrp_plan.proofs.pegging.peg.Goals as goal
+
+pub get-gross-requires : goal.get-gross-requires
+get-gross-requires c =
+    let N = c.args.net.now.network in
+    let row : c.gross.result.now ≡ row_of N (gross N c.args.plan.now c.args.x.0) =
+    c.gross.ensures ∙ ap (λ (r : PlanRows). r.gross) c.pair.ensures ∙ fitting_gross N c.args.plan.now c.args.x.0 c.requires.fits c.requires.pair in
+    omega (arith, c.requires.period, ap (λ (r : List ℕ). length r) row, length-row_of N (gross N c.args.plan.now c.args.x.0))
+
+pub push_edges-requires-clause-edges : goal.push_edges-requires-clause-edges
+push_edges-requires-clause-edges c =
+    let n = c.network-network.result.now in
+    let same = sym c.network-network.ensures.value in
+    let F : Table → Type 0 = λ m. Fits m c.args.plan.now in
+    let P : Table → Type 0 = λ m. IsPair m c.args.x.0 in
+    let T : Table → Type 0 = λ m. c.args.t < horizon m in
+    let quantity : slice_index (rows_at c.args.plan.now c.args.x.0).gross c.args.t ≤ MOST =
+    omega (
+      arith,
+      c.get-within.ensures.within,
+      c.get-within.ensures.value,
+      c.get-gross.ensures,
+      ap (λ (r : List ℕ). slice_index r c.args.t) (c.gross.ensures ∙ ap (λ (r : PlanRows). r.gross) c.pair.ensures),
+    ) in
+    peggable n c.args.plan.now c.args.x.0 c.args.t c.demanders.result.now (subst F same c.requires.fits) (subst P same c.requires.pair) (subst T same c.requires.period) quantity c.demanders.ensures.value
+    c.demanders.ensures.edges

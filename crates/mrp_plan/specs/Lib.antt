@@ -1,0 +1,3 @@
+pub mod Explosion
+pub mod Peg
+pub mod Progress

@@ -1,0 +1,11 @@
+//! The plan of a whole network: each pair planned after all of its demanders, and pegging.
+#![tactic(auto)]
+
+mod explosion;
+mod pegging;
+mod plan;
+mod terms;
+
+pub use pegging::peg;
+pub use plan::{Plan, plan_all};
+pub use terms::{PegSource, PegTerm};

@@ -1,0 +1,109 @@
+ghost use Rattle.std.specs.Prelude.{◌≡◌, ◌<◌, ◌≤◌, ◌++◌, ◌∷◌, [], ℕ, length, filter, map, All, IfOk, OnOk};
+ghost use Rattle.mrp_tables.specs.Table.{IsPair, horizon};
+ghost use Rattle.mrp_net.specs.Plan.{Fits};
+ghost use Rattle.mrp_plan.specs.Peg.{peg_terms, is_asked, IsPeggable, demand_term as demand_term_of, edge_term as edge_term_of};
+
+use crate::explosion::part_of;
+use crate::{PegSource, PegTerm, Plan};
+use mrp_loops::SizedNet;
+use mrp_net::{Edge, Network, PairNo};
+use mrp_qty::Memory;
+use std::alloc::Global;
+
+/// Which requirements the gross requirement of the pair in period `t` consists of: its demand rows
+/// first, then its demanders in table order, without terms of 0.
+///
+/// The plan is one that fits the network, and `t` is below the horizon.
+///
+/// # Errors
+///
+/// [`Memory`] where room for a term is refused.
+pub fn peg(
+    alloc: Global,
+    net: &SizedNet,
+    plan: &Plan,
+    x: PairNo,
+    t: usize,
+) -> Result<Vec<PegTerm>, Memory>
+    requires fits { Fits net.now.network plan.now }
+    requires pair { IsPair net.now.network x.0 }
+    requires period { t < horizon net.now.network }
+    ensures { let N = net.now.network in IfOk result (λ terms. terms.items ≡ peg_terms N plan.now x.0 t) }
+{
+    let network = net.network();
+    // Each term is within the gross requirement, which is a quantity.
+    let gross = plan.pair(x).gross().get(t);
+    let _within = gross.get();
+    let mut terms = Vec::new(alloc);
+    push_term(&mut terms, demand_term(network, x, t))?;
+    push_edges(&mut terms, network, plan, network.demanders(x), t)?;
+    Ok(terms)
+}
+
+/// Keeps what the edges ask in the period, in their order.
+fn push_edges(
+    terms: &mut Vec<PegTerm>,
+    network: &Network,
+    plan: &Plan,
+    edges: &[Edge],
+    t: usize,
+) -> Result<(), Memory>
+    requires size { length plan.now ≡ length network.now.pairs }
+    requires edges { All (IsPeggable network.now plan.now t) edges.now }
+    ensures { OnOk result (terms.new.items ≡
+        terms.old.items ++ filter is_asked (map (edge_term_of network.now plan.now t) edges.now)) }
+{
+    for edge in edges {
+        push_term(terms, edge_term(network, plan, edge, t))?;
+    }
+    Ok(())
+}
+
+/// The demand rows of the pair in the period.
+fn demand_term(network: &Network, x: PairNo, t: usize) -> PegTerm
+    requires pair { IsPair network.now x.0 }
+    requires period { t < horizon network.now }
+    ensures { result ≡ demand_term_of network.now x.0 t }
+{
+    let quantity = network.demand(x, t);
+    PegTerm {
+        source: PegSource::Demand,
+        pair: x,
+        release: quantity,
+        per: 1,
+        quantity,
+    }
+}
+
+/// What the edge asks in the period, by the release of its demander.
+fn edge_term(network: &Network, plan: &Plan, edge: &Edge, t: usize) -> PegTerm
+    requires size { length plan.now ≡ length network.now.pairs }
+    requires edge { IsPeggable network.now plan.now t edge.now }
+    ensures { result ≡ edge_term_of network.now plan.now t edge.now }
+{
+    let released = plan.pair(edge.demander).release().get(t);
+    let release = part_of(edge, released.get());
+    let demander = network.pair(edge.demander);
+    let source = if demander.plant.0 == network.pair(edge.pair).plant.0 {
+        PegSource::Bill
+    } else {
+        PegSource::Plant
+    };
+    PegTerm {
+        source,
+        pair: edge.demander,
+        release,
+        per: edge.per,
+        quantity: edge.per * release,
+    }
+}
+
+/// Keeps the term, unless it is 0.
+fn push_term(terms: &mut Vec<PegTerm>, term: PegTerm) -> Result<(), Memory>
+    ensures { OnOk result (terms.new.items ≡ terms.old.items ++ filter is_asked (term ∷ [])) }
+{
+    if term.quantity != 0 {
+        terms.push(term)?;
+    }
+    Ok(())
+}

@@ -1,0 +1,165 @@
+ghost use Rattle.std.specs.Prelude.{◌≡◌, ◌+◌, ◌<◌, ◌≤◌, ◌↔◌, ℕ, length, map, slice_set, sum, IfOk, IsTrue, All};
+ghost use Rattle.mrp_qty.specs.declared.quantity.TheConstants.{MOST};
+ghost use Rattle.mrp_lot.specs.One.{one};
+ghost use Rattle.mrp_tables.specs.Table.{IsPair, horizon};
+ghost use Rattle.mrp_net.specs.Edges.{demanders};
+ghost use Rattle.mrp_net.specs.Sums.{demand, demand_total, incoming, received_total, shipped_total, row_of};
+ghost use Rattle.mrp_net.specs.Plan.{Fits, gross, pair_plan, rows_at};
+ghost use Rattle.mrp_loops.specs.Sized.{IsSized, IsPlanningOrder};
+ghost use Rattle.mrp_plan.specs.Explosion.{asked_total};
+ghost use Rattle.mrp_plan.specs.Progress.{CanPlan, IsPlannedTo};
+
+use crate::explosion::explode_all;
+use mrp_loops::SizedNet;
+use mrp_net::{Network, PairNo};
+use mrp_netting::{PairPlan, plan_pair};
+use mrp_qty::{Horizon, Memory, Qty, Row};
+use std::alloc::Global;
+use std::marker::Model;
+
+/// The plans of all pairs of a network, in table order.
+#[derive(Drop)]
+pub struct Plan {
+    pairs: Vec<PairPlan>,
+}
+
+impl Model for Plan {
+    ghost use Rattle.std.specs.Prelude.{List};
+    ghost use Rattle.mrp_lot.specs.One.{PlanRows};
+
+    ghost Value = { List PlanRows };
+
+    ghost view = { λ p. p.pairs.items };
+}
+
+impl Plan {
+    /// The given plans: one for each pair of the network, in table order.
+    pub fn gather(net: &SizedNet, pairs: Vec<PairPlan>) -> Plan
+        requires { length pairs.items ≡ length net.now.network.pairs }
+        ensures { result ≡ pairs.items }
+    {
+        let _ = net;
+        Plan { pairs }
+    }
+
+    /// The plan of a pair of the network.
+    pub fn pair(&self, x: PairNo) -> &PairPlan
+        requires { x.0 < length self.now }
+        ensures { result.now ≡ rows_at self.now x.0 }
+    {
+        &self.pairs[x.0]
+    }
+}
+
+/// The plan of the whole network: each pair is planned once, after all of its demanders.
+///
+/// Linear in edges times periods; all room is taken before the first pair is planned.
+///
+/// # Errors
+///
+/// [`Memory`] where room for a plan is refused.
+pub fn plan_all(alloc: Global, net: &SizedNet) -> Result<Plan, Memory>
+    ensures { IfOk result (λ plan. Fits net.now.network plan) }
+{
+    let network = net.network();
+    let horizon = network.horizon();
+    let mut pairs = blank_plans(alloc, network.pairs(), horizon)?;
+    let mut incoming = Row::zero(alloc, horizon)?;
+    let mut gross = Row::zero(alloc, horizon)?;
+    let order = net.in_code_order();
+    for k in 0..order.len() {
+        plan_next(
+            net,
+            order,
+            k,
+            pairs.as_mut_slice(),
+            &mut incoming,
+            &mut gross,
+        );
+    }
+    Ok(Plan { pairs })
+}
+
+/// Room for that many plans.
+fn blank_plans(alloc: Global, count: usize, horizon: Horizon) -> Result<Vec<PairPlan>, Memory>
+    ensures size { IfOk result (λ plans. length plans.items ≡ count) }
+    ensures rooms { IfOk result (λ plans. All (λ plan. length plan.gross ≡ horizon) plans.items) }
+{
+    let mut plans = Vec::with_capacity(alloc, count)?;
+    for _ in 0..count {
+        plans.push(PairPlan::new(alloc, horizon)?)?;
+    }
+    Ok(plans)
+}
+
+/// Plans the pair at place `k` of the order, where those before it are planned. `incoming` and
+/// `gross` are room to work in.
+fn plan_next(
+    net: &SizedNet,
+    order: &[PairNo],
+    k: usize,
+    plans: &mut [PairPlan],
+    incoming: &mut Row,
+    gross: &mut Row,
+)
+    requires sized { IsSized net.now }
+    requires order { IsPlanningOrder net.now.network (map (λ x. x.0) order.now) }
+    requires place { k < length order.now }
+    requires before { IsPlannedTo net.now.network net.now.needs (map (λ x. x.0) order.now) k plans.old }
+    requires incoming_room { length incoming.old ≡ horizon net.now.network }
+    requires gross_room { length gross.old ≡ horizon net.now.network }
+    ensures after { IsPlannedTo net.now.network net.now.needs (map (λ x. x.0) order.now) (k + 1) plans.new }
+    ensures incoming_room { length incoming.new ≡ horizon net.now.network }
+    ensures gross_room { length gross.new ≡ horizon net.now.network }
+{
+    plan_one(net.network(), order[k], plans, incoming, gross);
+}
+
+/// Plans one pair beside the plans of its demanders. `incoming_row` and `gross_row` are room to work in.
+fn plan_one(
+    network: &Network,
+    x: PairNo,
+    plans: &mut [PairPlan],
+    incoming_row: &mut Row,
+    gross_row: &mut Row,
+)
+    requires can { CanPlan network.now plans.old x.0 }
+    requires incoming_room { length incoming_row.old ≡ horizon network.now }
+    requires gross_room { length gross_row.old ≡ horizon network.now }
+    ensures planned { plans.new ≡ slice_set plans.old x.0 (pair_plan network.now plans.old x.0) }
+    ensures total { sum (row_of network.now (gross network.now plans.old x.0)) ≤
+        demand_total network.now x.0 + asked_total plans.old (demanders network.now x.0) }
+    ensures incoming_room { length incoming_row.new ≡ horizon network.now }
+    ensures gross_room { length gross_row.new ≡ horizon network.now }
+{
+    fill_incoming(network, x, incoming_row);
+    fill_demand(network, x, gross_row);
+    explode_all(network.demanders(x), plans, gross_row);
+    let params = network.pair(x).params();
+    let plan = &mut plans[x.0];
+    plan_pair(&params, incoming_row, gross_row, plan);
+}
+
+/// Writes what comes in for the pair.
+fn fill_incoming(network: &Network, x: PairNo, row: &mut Row)
+    requires pair { IsPair network.now x.0 }
+    requires periods { length row.old ≡ horizon network.now }
+    requires within { received_total network.now x.0 + shipped_total network.now x.0 ≤ MOST }
+    ensures { row.new ≡ row_of network.now (incoming network.now x.0) }
+{
+    for t in 0..row.len() {
+        row.set(t, Qty::of(network.incoming(x, t)));
+    }
+}
+
+/// Writes the demand rows of the pair.
+fn fill_demand(network: &Network, x: PairNo, row: &mut Row)
+    requires pair { IsPair network.now x.0 }
+    requires periods { length row.old ≡ horizon network.now }
+    requires within { demand_total network.now x.0 ≤ MOST }
+    ensures { row.new ≡ row_of network.now (demand network.now x.0) }
+{
+    for t in 0..row.len() {
+        row.set(t, Qty::of(network.demand(x, t)));
+    }
+}
