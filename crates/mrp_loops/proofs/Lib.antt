@@ -1,0 +1,10 @@
+pub mod Members
+pub mod Counts
+pub mod Edges
+pub mod Taken
+pub mod Steps
+pub mod Codes
+pub mod Rings
+pub mod Ranks
+pub mod Planning
+pub mod Needed

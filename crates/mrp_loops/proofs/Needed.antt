@@ -1,0 +1,116 @@
+-- The needs, found in an order in which demanders come first.
+use Rattle.std.proofs.Common.{◌≡◌, ◌≢◌, ℕ, suc, ◌+◌, ◌*◌, ◌<◌, ◌≤◌, ◌==◌, true, inl, inr, ⊎_elim, List, [], ◌∷◌, length, get_or, set, take, min, refl, sym, ap, subst, ◌∙◌, arith, slice_index, sum_by, length-set}
+use Rattle.std.proofs.lemmas.Bool.{eqb-true, cases_eq, or_cases, true≢false}
+use Rattle.std.proofs.lemmas.List.{get_or-take, get_or_default, length-take, get_or-set_same, get_or-set_other}
+use Rattle.std.proofs.lemmas.List.Sums.{sum_by-cons}
+use Rattle.mrp_qty.specs.declared.quantity.TheConstants.{MOST}
+use Rattle.mrp_lot.specs.Lot.{rule_quantities}
+use Rattle.mrp_tables.specs.Table.{Table, IsPair}
+use Rattle.mrp_tables.specs.declared.numbers.PairNo.{PairNo}
+use Rattle.mrp_net.specs.declared.edge.Edge.{Edge}
+use Rattle.mrp_net.specs.Edges.{demanders}
+use Rattle.mrp_net.specs.Sums.{pair_at, demand_total, supply}
+use Rattle.mrp_loops.specs.Need.{need_at, AreNeeds, AreWithin}
+use Rattle.mrp_loops.specs.Taking.{is_in}
+use Rattle.mrp_loops.specs.Order.{IsVisit, IsSolved}
+use Rattle.mrp_loops.proofs.Members.{In, Contains-from_in}
+
+sum_agree : {X : Type 0} (f g : X → ℕ) (xs : List X) → ((x : X) → In xs x → f x ≡ g x) → sum_by f xs ≡ sum_by g xs
+sum_agree f g [] each = refl
+sum_agree f g (x ∷ xs) each =
+    let ih = sum_agree f g xs (λ y h. each y (inr h)) in
+    omega (arith, sum_by-cons f x xs, sum_by-cons g x xs, each x (inl refl))
+
+-- a need looks at the needs of the demanders alone
+pub need_agrees : (N : Table) (a b : List ℕ) (x : ℕ) → ((e : Edge) → In (demanders N x) e → slice_index a e.demander.0 ≡ slice_index b e.demander.0) → need_at N a x ≡ need_at N b x
+need_agrees N a b x each =
+    let asked = sum_agree (λ (e : Edge). e.per * slice_index a e.demander.0) (λ (e : Edge). e.per * slice_index b e.demander.0) (demanders N x) (λ e h. ap (λ (n : ℕ). e.per * n) (each e h)) in
+    ap (λ (n : ℕ). demand_total N x + n + (pair_at N x).safety + rule_quantities (pair_at N x).rule) asked
+
+-- where a pair of a list stands
+pub place_in : (pairs : List PairNo) (x : ℕ) → is_in pairs x ≡ true → (k : ℕ) × (k < length pairs) × ((d : PairNo) → (get_or pairs k d).0 ≡ x)
+place_in [] x t = absurd (true≢false (sym t))
+place_in (z ∷ zs) x t = ⊎_elim
+    (λ here. (0, omega arith, λ d. eqb-true z.0 x here))
+    (λ later. let c = place_in zs x later in (suc c.0, omega arith, c.2))
+    (or_cases (z.0 == x) (is_in zs x) t)
+
+pub place_before : (order : List PairNo) (k x : ℕ) → is_in (take k order) x ≡ true → (j : ℕ) × (j < k) × (j < length order) × ((d : PairNo) → (get_or order j d).0 ≡ x)
+place_before order k x t =
+    let c = place_in (take k order) x t in
+    let low : c.0 < k = omega (arith, length-take k order, c.1) in
+    (c.0, low, omega (arith, length-take k order, c.1), λ d. ap (λ (z : PairNo). z.0) (sym (get_or-take k order c.0 d low)) ∙ c.2 d)
+
+module _ (N : Table) (order : List PairNo) (visit : IsVisit N order) where
+  -- a demander of the pair at k stands before k
+  pub demander_place : (k : ℕ) (d : PairNo) (e : Edge) → k < length order → In (demanders N (get_or order k d).0) e
+      → (j : ℕ) × (j < k) × (j < length order) × ((d : PairNo) → (get_or order j d).0 ≡ e.demander.0)
+  demander_place k d e l h = place_before order k e.demander.0 (visit.demanders_first k d e l (Contains-from_in (demanders N (get_or order k d).0) e h))
+
+  -- two lists that agree at the first k pairs give the pair at k, or before, one need
+  pub need_same : (a b : List ℕ) (k j : ℕ) (d : PairNo) → ((i : ℕ) (d : PairNo) → i < k → slice_index a (get_or order i d).0 ≡ slice_index b (get_or order i d).0)
+      → j ≤ k → j < length order → need_at N a (get_or order j d).0 ≡ need_at N b (get_or order j d).0
+  need_same a b k j d same jk jl = need_agrees N a b (get_or order j d).0 (λ e h.
+      let c = demander_place j d e jl h in
+      let at = c.3 d in
+      subst (λ (w : ℕ). slice_index a w ≡ slice_index b w) at (same c.0 d (omega (arith, c.1))))
+
+  -- one need more is found
+  pub solved_more : (k : ℕ) (needs needs' : List ℕ) (x : PairNo) (value : ℕ) → k < length order → (get_or order k x).0 ≡ x.0
+      → value ≡ need_at N needs x.0 → supply N x.0 + value ≤ MOST → needs' ≡ set needs x.0 value
+      → IsSolved N order k needs → IsSolved N order (k + 1) needs'
+  solved_more k needs needs' x value kl at is low eq s =
+      let pair : IsPair N x.0 = subst (λ (w : ℕ). IsPair N w) at (visit.pairs k x kl) in
+      let here : slice_index needs' x.0 ≡ value = ap (λ (q : List ℕ). slice_index q x.0) eq ∙ get_or-set_same needs x.0 value 0 (omega (arith, s.size)) in
+      let place : (d : PairNo) → (get_or order k d).0 ≡ x.0 = λ d. ap (λ (z : PairNo). z.0) (get_or_default order k d x kl) ∙ at in
+      let kept : (j : ℕ) (d : PairNo) → j < k → slice_index needs' (get_or order j d).0 ≡ slice_index needs (get_or order j d).0 = λ j d jk.
+      ap (λ (q : List ℕ). slice_index q (get_or order j d).0) eq
+      ∙ get_or-set_other needs x.0 (get_or order j d).0 value 0 (λ e. visit.apart j k d jk kl (e ∙ sym (place d))) in
+      record {
+        size = ap length eq ∙ (length-set needs x.0 value ∙ s.size);
+        solved = λ j d jk. ⊎_elim
+            (λ same.
+            let where_is : (get_or order j d).0 ≡ x.0 = ap (λ (i : ℕ). (get_or order i d).0) same ∙ place d in
+            let local = need_same needs' needs k k x kept (omega arith) kl in
+            let local' : need_at N needs' x.0 ≡ need_at N needs x.0 = subst (λ (w : ℕ). need_at N needs' w ≡ need_at N needs w) at local in
+            subst (λ (w : ℕ). slice_index needs' w ≡ need_at N needs' w) (sym where_is) (here ∙ (is ∙ sym local')))
+            (λ ne.
+            let ne' : j ≢ k = ne in
+            let before : j < k = omega arith in
+            kept j d before ∙ (s.solved j d before ∙ sym (need_same needs' needs k j d kept (omega arith) (omega arith))))
+            (cases_eq j k);
+        within = λ j d jk. ⊎_elim
+            (λ same.
+            let where_is : (get_or order j d).0 ≡ x.0 = ap (λ (i : ℕ). (get_or order i d).0) same ∙ place d in
+            subst (λ (w : ℕ). supply N w + slice_index needs' w ≤ MOST) (sym where_is) (omega arith))
+            (λ ne.
+            let ne' : j ≢ k = ne in
+            let before : j < k = omega arith in
+            omega (arith, kept j d before, s.within j d before))
+            (cases_eq j k);
+      }
+
+  pub solved_none : (needs : List ℕ) → length needs ≡ length N.pairs → IsSolved N order 0 needs
+  solved_none needs size = record { size = size; solved = λ j d l. absurd (omega arith); within = λ j d l. omega arith }
+
+  pub needs_from_solved : (k : ℕ) (needs : List ℕ) → length order ≤ k → IsSolved N order k needs → AreNeeds N needs
+  needs_from_solved k needs all s = record {
+    size = s.size;
+    need = λ x pair.
+        let no_pair : PairNo = record { 0 = 0 } in
+        let c = place_in order x (visit.every x pair) in
+        subst (λ (w : ℕ). slice_index needs w ≡ need_at N needs w) (c.2 no_pair) (s.solved c.0 no_pair (omega (arith, c.1)));
+  }
+
+  pub within_from_solved : (k : ℕ) (needs : List ℕ) → length order ≤ k → IsSolved N order k needs → AreWithin N needs
+  within_from_solved k needs all s x pair =
+      let no_pair : PairNo = record { 0 = 0 } in
+      let c = place_in order x (visit.every x pair) in
+      subst (λ (w : ℕ). supply N w + slice_index needs w ≤ MOST) (c.2 no_pair) (s.within c.0 no_pair (omega (arith, c.1)))
+
+-- a sum with a cap that stays below a bound below the cap is exact
+pub cap_exact : (cap most supply need s n t : ℕ) → most < cap → s ≡ min supply cap → n ≡ min need cap → t ≡ min (s + n) cap → t ≤ most → (n ≡ need) × (supply + n ≤ most)
+cap_exact cap most supply need s n t small es en et low = (omega arith, omega arith)
+
+pub cap_above : (cap most supply need s n t : ℕ) → most < cap → s ≡ min supply cap → n ≡ min need cap → t ≡ min (s + n) cap → most < t → most < supply + need
+cap_above cap most supply need s n t small es en et high = omega arith

@@ -1,0 +1,19 @@
+use Rattle.std.proofs.Common.{◌≡◌, ◌-◌, ◌<◌, ℕ, false, All, reverse, length, get_or, slice_index}
+use Rattle.mrp_tables.specs.Table.{IsPair}
+use Rattle.mrp_loops.specs.Taking.{is_in}
+use Rattle.mrp_loops.specs.Walk.{IsApart, Climbs}
+use Rattle.mrp_loops.proofs.walk.walk.Given as goal
+
+abbrev pub invariant-loop-visited : goal.invariant-loop-visited
+invariant-loop-visited l = record {
+  size : length l.visited.items ≡ length l.network.pairs;
+  seen : (y : ℕ) → IsPair l.network y → get_or l.visited.items y false ≡ is_in l.path.items y;
+  pairs : All (λ z. IsPair l.network z.0) l.path.items;
+  apart : IsApart l.path.items;
+  climbs : Climbs l.network l.x.0 (reverse l.path.items);
+  pair : IsPair l.network l.x.0;
+  left : 0 < slice_index l.left l.x.0;
+}
+
+abbrev pub decreases-loop-visited : goal.decreases-loop-visited
+decreases-loop-visited l = length l.network.pairs - length l.path.items

@@ -1,0 +1,11 @@
+-- What the faults of the loop check say.
+use Rattle.std.specs.Prelude.{map}
+use Rattle.mrp_tables.specs.Table.{Table}
+use Rattle.mrp_loops.specs.declared.loops.LoopFault.{LoopFault}
+use Rattle.mrp_loops.specs.declared.loops.LoopFault.TheVariants.{Loop, Memory}
+use Rattle.mrp_loops.specs.Loop.{IsLoopFound}
+
+-- the pairs are a loop; a refusal of memory says nothing of the network
+abbrev pub IsLoopFault : Table → LoopFault → Type 0
+IsLoopFault N (Loop pairs) = IsLoopFound N (map (λ x. x.0) pairs.items)
+IsLoopFault N Memory = Unit {0}

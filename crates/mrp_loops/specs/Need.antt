@@ -1,0 +1,22 @@
+-- What each pair may need over the whole horizon.
+use Rattle.std.specs.Prelude.{◌≡◌, ℕ, ◌+◌, ◌*◌, ◌≤◌, List, length, sum_by, slice_index}
+use Rattle.mrp_qty.specs.declared.quantity.TheConstants.{MOST}
+use Rattle.mrp_lot.specs.Lot.{rule_quantities}
+use Rattle.mrp_tables.specs.Table.{Table, IsPair}
+use Rattle.mrp_net.specs.Edges.{demanders}
+use Rattle.mrp_net.specs.Sums.{pair_at, demand_total, supply}
+
+-- need of a pair beside the needs of its demanders: its demand rows, what its demanders need of it,
+-- safety stock and the rule's quantities
+abbrev pub need_at : Table → List ℕ → ℕ → ℕ
+need_at N needs x =
+    demand_total N x + sum_by (λ e. e.per * slice_index needs e.demander.0) (demanders N x) + (pair_at N x).safety + rule_quantities (pair_at N x).rule
+
+-- the need of each pair
+pub record AreNeeds (N : Table) (needs : List ℕ) : Type 0 where
+  pub size : length needs ≡ length N.pairs
+  pub need : (x : ℕ) → IsPair N x → slice_index needs x ≡ need_at N needs x
+
+-- supply and need together stay within 10^15 at every pair
+abbrev pub AreWithin : Table → List ℕ → Type 0
+AreWithin N needs = (x : ℕ) → IsPair N x → supply N x + slice_index needs x ≤ MOST

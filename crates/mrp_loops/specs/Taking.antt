@@ -1,0 +1,56 @@
+-- How far the loop check has come: the pairs taken away, and what is known of those that are left.
+use Rattle.std.specs.Prelude.{◌≡◌, ℕ, ◌+◌, ◌<◌, ◌≤◌, ◌==◌, ◌++◌, ◌∷◌, [], Bool, true, not, List, length, count_by, slice_index, slice_index_or, All}
+use Rattle.std.specs.List.{list_any}
+use Rattle.mrp_tables.specs.Table.{Table, IsTable, IsPair}
+use Rattle.mrp_tables.specs.declared.numbers.PairNo.{PairNo}
+use Rattle.mrp_net.specs.declared.edge.Edge.{Edge}
+use Rattle.mrp_net.specs.Edges.{demanders}
+use Rattle.mrp_loops.specs.Loop.{HasEdge, HasChain}
+
+-- whether a pair is in the list
+abbrev pub is_in : List PairNo → ℕ → Bool
+is_in pairs x = list_any (λ z. z.0 == x) pairs
+
+-- how many edges to x come from pairs that aren't in the list
+unfoldable pub waiting : Table → List PairNo → ℕ → ℕ
+waiting N done x = count_by (λ e. not (is_in done e.demander.0)) (demanders N x)
+
+-- how many of the edges go to x
+unfoldable pub edges_to : List Edge → ℕ → ℕ
+edges_to es x = count_by (λ e. e.pair.0 == x) es
+
+-- counts, codes and queue, where the pairs of `done` are taken away but for the edges of `rest`
+pub record IsCounted (N : Table) (done : List PairNo) (rest : List Edge) (queue : List PairNo) (left codes : List ℕ) : Type 0 where
+  pub table : IsTable N
+  pub left_size : length left ≡ length N.pairs
+  pub codes_size : length codes ≡ length N.pairs
+  pub counts : (x : ℕ) → IsPair N x → slice_index left x ≡ waiting N done x + edges_to rest x
+  pub queued : (x : ℕ) → IsPair N x → is_in queue x ≡ (slice_index left x == 0)
+  pub pairs : All (λ z. IsPair N z.0) queue
+  pub once : (j k : ℕ) (d : PairNo) → j < k → k < length queue → (slice_index_or queue j d).0 ≡ (slice_index_or queue k d).0 → ⊥
+  pub chains : (x : ℕ) → IsPair N x → HasChain N x (slice_index codes x)
+  pub short : (x : ℕ) → IsPair N x → slice_index codes x ≤ length done
+
+-- every chain that ends in a pair of `done` is shorter than the code of each pair that it takes from
+pub record IsAbove (N : Table) (done : List PairNo) (codes : List ℕ) : Type 0 where
+  pub above : (y x m : ℕ) → is_in done y ≡ true → IsPair N x → HasEdge N y x → HasChain N y m → m < slice_index codes x
+
+-- the pairs of `done` are taken away
+pub record IsTaken (N : Table) (done queue : List PairNo) (left codes : List ℕ) : Type 0 where
+  pub counted : IsCounted N done [] queue left codes
+  pub above : IsAbove N done codes
+
+-- the pair y is being taken away: of its edges those of `passed` are passed, and those of `rest` aren't
+pub record IsPassing (N : Table) (done : List PairNo) (y : PairNo) (code : ℕ) (passed rest : List Edge) (queue : List PairNo) (left codes : List ℕ) : Type 0 where
+  pub counted : IsCounted N (done ++ y ∷ []) rest queue left codes
+  pub front : (others : List PairNo) × (queue ≡ (done ++ y ∷ []) ++ others)
+  pub above : IsAbove N done codes
+  pub raised : All (λ e. code ≤ slice_index codes e.pair.0) passed
+
+-- counts and queue of the pairs before x, where none is taken away
+pub record IsBegun (N : Table) (x : ℕ) (queue : List PairNo) (left : List ℕ) : Type 0 where
+  pub size : length left ≡ x
+  pub counts : (k : ℕ) → k < x → slice_index left k ≡ length (demanders N k)
+  pub queued : (k : ℕ) → k < x → is_in queue k ≡ (slice_index left k == 0)
+  pub pairs : All (λ z. z.0 < x) queue
+  pub once : (j k : ℕ) (d : PairNo) → j < k → k < length queue → (slice_index_or queue j d).0 ≡ (slice_index_or queue k d).0 → ⊥

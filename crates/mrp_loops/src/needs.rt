@@ -1,0 +1,50 @@
+ghost use Rattle.std.specs.Prelude.{◌≡◌, ◌-◌, ◌*◌, ◌^◌, min, length, sum_by, slice_index, All};
+ghost use Rattle.mrp_lot.specs.Lot.{rule_quantities};
+ghost use Rattle.mrp_tables.specs.Table.{IsPair};
+ghost use Rattle.mrp_net.specs.Edges.{IsEdge};
+ghost use Rattle.mrp_loops.specs.Need.{need_at};
+ghost use Rattle.mrp_tables.specs.Table.{Table};
+
+use mrp_lot::Rule;
+use mrp_net::{Edge, Network, PairNo};
+
+/// What the pair needs over the whole horizon where its demanders need `needs`, or 2^64 - 1 where
+/// that is more: its demand, what its demanders need of it, its safety stock and its rule's
+/// quantities.
+pub fn need(network: &Network, needs: &[u64], x: PairNo) -> u64
+    requires pair { IsPair network.now x.0 }
+    requires size { length needs.now ≡ length network.now.pairs }
+    ensures { result ≡ min (need_at network.now needs.now x.0) (2 ^ 64 - 1) }
+{
+    let row = network.pair(x);
+    let asked = asked_by(network, network.demanders(x), needs);
+    network
+        .demand_total(x)
+        .saturating_add(asked)
+        .saturating_add(row.safety.get())
+        .saturating_add(quantities_of(&row.rule))
+}
+
+/// What the demanders of a pair need of it, or 2^64 - 1 where that is more.
+fn asked_by(network: &Network, edges: &[Edge], needs: &[u64]) -> u64
+    requires edges { All (IsEdge network.now) edges.now }
+    requires size { length needs.now ≡ length network.now.pairs }
+    ensures { result ≡ min (sum_by (λ e. e.per * slice_index needs.now e.demander.0) edges.now) (2 ^ 64 - 1) }
+{
+    let mut asked: u64 = 0;
+    for edge in edges {
+        asked = asked.saturating_add(edge.per.saturating_mul(needs[edge.demander.0]));
+    }
+    asked
+}
+
+/// The rule's own quantities together, or 2^64 - 1 where they are more.
+fn quantities_of(rule: &Rule) -> u64
+    ensures { result ≡ min (rule_quantities rule.now) (2 ^ 64 - 1) }
+{
+    match *rule {
+        Rule::LotForLot | Rule::Periods(_) => 0,
+        Rule::Fixed(quantity) => quantity,
+        Rule::MinMultiple(least, multiple) => least.saturating_add(multiple),
+    }
+}

@@ -1,0 +1,144 @@
+ghost use Rattle.std.specs.Prelude.{◌≡◌, ◌<◌, ◌≤◌, ◌+◌, ℕ, length, IfOk, IfErr, OnOk, slice_index, map};
+ghost use Rattle.mrp_qty.specs.declared.quantity.TheConstants.{MOST};
+ghost use Rattle.mrp_loops.specs.declared.sized.BoundFault.TheVariants.{Memory};
+ghost use Rattle.mrp_tables.specs.Table.{IsPair};
+ghost use Rattle.mrp_net.specs.Sums.{supply};
+ghost use Rattle.mrp_loops.specs.Loop.{AreCodes};
+ghost use Rattle.mrp_loops.specs.Need.{AreNeeds, AreWithin};
+ghost use Rattle.mrp_loops.specs.Order.{IsVisit};
+ghost use Rattle.mrp_loops.specs.Sized.{Sized, IsSized, IsPlanningOrder};
+
+use crate::Levels;
+use crate::needs::need;
+use crate::order::by_code;
+use mrp_net::{Network, PairNo};
+use mrp_qty::MOST;
+use std::alloc::{AllocError, Global};
+use std::marker::Model;
+use thiserror::Error;
+
+/// Why a network is refused.
+#[derive(Debug, Drop, Error)]
+pub enum BoundFault {
+    /// The pair's supply is above 10^15 pieces; it is the first such pair in the table.
+    #[error("supply too large")]
+    SupplyTooLarge(PairNo),
+    /// The pair's supply and need together are above 10^15 pieces; it is the first such pair by
+    /// low-level code, and within a code the first in the table.
+    #[error("need too large")]
+    NeedTooLarge(PairNo),
+    /// Memory was refused.
+    #[error("memory")]
+    Memory,
+}
+
+impl From<mrp_qty::Memory> for BoundFault {
+    ghost from_gives = { λ _ e. e ≡ Memory };
+
+    fn from(_refusal: mrp_qty::Memory) -> BoundFault {
+        BoundFault::Memory
+    }
+}
+
+impl From<AllocError> for BoundFault {
+    ghost from_gives = { λ _ e. e ≡ Memory };
+
+    fn from(_refusal: AllocError) -> BoundFault {
+        BoundFault::Memory
+    }
+}
+
+/// A network without loops whose figures stay within the bound.
+#[derive(Drop)]
+pub struct SizedNet<'a> {
+    network: &'a Network,
+    levels: &'a Levels,
+    order: Vec<PairNo>,
+    needs: Vec<u64>,
+}
+
+impl<'a> Model for SizedNet<'a> {
+    ghost use Rattle.std.specs.Prelude.{map};
+    ghost use Rattle.mrp_loops.specs.Sized.{Sized, IsSized, IsPlanningOrder};
+
+    ghost Value = { Sized };
+
+    ghost view = { λ s. record { network = s.network.now; codes = s.levels.now; needs = s.needs.items } };
+
+    ghost invariant = { λ s. IsSized (record { network = s.network.now; codes = s.levels.now; needs = s.needs.items }) × IsPlanningOrder s.network.now (map (λ x. x.0) s.order.items) };
+}
+
+impl<'a> SizedNet<'a> {
+    /// The network.
+    pub fn network(&self) -> &'a Network
+        ensures value { result.now ≡ self.now.network }
+        ensures sized { IsSized self.now }
+    {
+        self.network
+    }
+
+    /// All pairs, by rising low-level code and within a code in table order.
+    pub fn in_code_order(&self) -> &[PairNo]
+        ensures { IsPlanningOrder self.now.network (map (λ x. x.0) result.now) }
+    {
+        self.order.as_slice()
+    }
+}
+
+/// The bound: a network whose figures stay at 10^15 pieces or below.
+///
+/// The supply of a pair is what it has without any order: on hand, receipts, shipments to it and its
+/// opening figures. Its need is its demand, what its demanders need of it, its safety stock and its
+/// rule's quantities. All supplies are tested before any need.
+///
+/// # Errors
+///
+/// [`BoundFault::SupplyTooLarge`] where a supply is above 10^15; [`BoundFault::NeedTooLarge`] where
+/// a supply and need together are; [`BoundFault::Memory`] where a growth was refused.
+pub fn bound<'a>(
+    alloc: Global,
+    network: &'a Network,
+    levels: &'a Levels,
+) -> Result<SizedNet<'a>, BoundFault>
+    requires { AreCodes network.now levels.now }
+    ensures sized { IfOk result (λ s. (s.network ≡ network.now) × (s.codes ≡ levels.now)) }
+{
+    test_supplies(network)?;
+    let order = by_code(alloc, levels, network.pairs())?;
+    let needs = test_needs(alloc, network, order.as_slice())?;
+    Ok(SizedNet {
+        network,
+        levels,
+        order,
+        needs,
+    })
+}
+
+/// Tests that each supply is within the bound.
+fn test_supplies(network: &Network) -> Result<(), BoundFault>
+    ensures within { OnOk result ((x : ℕ) → IsPair network.now x → supply network.now x ≤ MOST) }
+{
+    for x in 0..network.pairs() {
+        if network.supply(PairNo(x)) > MOST {
+            return Err(BoundFault::SupplyTooLarge(PairNo(x)));
+        }
+    }
+    Ok(())
+}
+
+/// The need of each pair; tests that supply and need together are within the bound.
+fn test_needs(alloc: Global, network: &Network, order: &[PairNo]) -> Result<Vec<u64>, BoundFault>
+    requires { IsVisit network.now order.now }
+    ensures needs { IfOk result (λ needs. AreNeeds network.now needs.items) }
+    ensures within { IfOk result (λ needs. AreWithin network.now needs.items) }
+{
+    let mut needs = vec![in alloc; 0; network.pairs()]?;
+    for x in order {
+        let need = need(network, needs.as_slice(), *x);
+        if network.supply(*x).saturating_add(need) > MOST {
+            return Err(BoundFault::NeedTooLarge(*x));
+        }
+        needs[x.0] = need;
+    }
+    Ok(needs)
+}
