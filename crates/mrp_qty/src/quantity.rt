@@ -33,7 +33,7 @@ impl Qty {
         ensures value { IfSome result (λ q. q ≡ pieces) }
     {
         if pieces <= MOST {
-            Some(Qty { pieces })
+            Some(Qty::of(pieces))
         } else {
             None
         }
@@ -60,7 +60,7 @@ impl fmt::Display for Qty {
     ghost output = { λ q. Some (decimal q) };
 
     fn fmt<W: fmt::Write>(&self, f: &mut fmt::Formatter<W>) -> fmt::Result {
-        let pieces = self.pieces;
+        let pieces = self.get();
         write!(f, "{pieces}")
     }
 }
