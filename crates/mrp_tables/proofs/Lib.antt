@@ -1,0 +1,5 @@
+pub mod Accept
+pub mod Grow
+pub mod Keys
+pub mod ResetRoom
+pub mod TurnCount

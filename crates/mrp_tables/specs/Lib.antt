@@ -1,0 +1,4 @@
+pub mod Rows
+pub mod Spelled
+pub mod Table
+pub mod Lists

@@ -1,0 +1,135 @@
+-- What is true of the rows while they are read.
+use Rattle.std.specs.Prelude.{◌≡◌, ℕ, ◌+◌, ◌*◌, ◌≤◌, ◌<◌, ◌∷◌, ◌++◌, [], List, length, map, count_by, if◌then◌else◌, IfSome, Bool, not, nat_lt}
+use Rattle.std.specs.List.{list_any}
+use Rattle.std.specs.Str.{bytes_eq}
+use Rattle.std.specs.String.{string_bytes}
+use Rattle.mrp_tables.specs.Table.{Table, IsRead, source_pair}
+use Rattle.mrp_tables.specs.declared.rows.TheConstants.{MOST_SOURCES_OF_PAIR}
+use Rattle.mrp_tables.specs.declared.rows.PairRow.{PairRow}
+use Rattle.mrp_tables.specs.declared.rows.SourceRow.{SourceRow}
+use Rattle.mrp_tables.specs.declared.rows.BillRow.{BillRow}
+use Rattle.mrp_tables.specs.declared.rows.DemandRow.{DemandRow}
+use Rattle.mrp_tables.specs.declared.rows.ReceiptRow.{ReceiptRow}
+use Rattle.mrp_tables.specs.declared.rows.ShipRow.{ShipRow}
+use Rattle.mrp_tables.specs.declared.rows.CumRow.{CumRow}
+use Rattle.mrp_tables.specs.declared.rows.ResetRow.{ResetRow}
+use Rattle.mrp_tables.specs.declared.row_lists.PairKey.{PairKey}
+use Rattle.mrp_tables.specs.declared.row_lists.RowLists.{RowLists}
+use Rattle.mrp_tables.specs.declared.draft.LaneKey.{LaneKey}
+use Rattle.mrp_tables.specs.declared.draft.Draft.{Draft}
+use Rattle.mrp_tables.specs.declared.draft.Lane.{Lane}
+use Rattle.mrp_tables.specs.declared.lanes.NamedLane.{NamedLane}
+
+-- the rows as contracts see them
+abbrev pub table_of : RowLists → Table
+table_of r = record {
+  calendar = r.calendar;
+  plants = map string_bytes r.plants.keys;
+  items = map string_bytes r.items.keys;
+  pairs = r.pairs.items;
+  sources = r.sources.items;
+  bills = r.bills.items;
+  demands = r.demands.items;
+  receipts = r.receipts.items;
+  ships = r.ships.items;
+  cums = r.cums.items;
+  resets = r.resets.items;
+}
+
+abbrev pub key_of : PairRow → PairKey
+key_of p = record { plant = p.plant; item = p.item }
+
+abbrev pub lane_of : SourceRow → LaneKey
+lane_of s = record { from = s.plant; pair = s.pair }
+
+-- the rows are in range, and the keys are those of the pairs in their order
+pub record AreRows (r : RowLists) : Type 0 where
+  pub read : IsRead (table_of r)
+  pub keys : r.pair_keys.keys ≡ map key_of r.pairs.items
+
+-- whether the pair behind a source has no row
+abbrev pub lacks_pair : Table → SourceRow → Bool
+lacks_pair N s = not (nat_lt (source_pair N s) (length N.pairs))
+
+-- the table with one row more
+abbrev pub with_plant : Table → List ℕ → Table
+with_plant N name = record N { plants = N.plants ++ name ∷ [] }
+
+-- the items with one that is new or not
+abbrev pub add_item : List (List ℕ) → List ℕ → List (List ℕ)
+add_item items name = if list_any (bytes_eq name) items then items else items ++ name ∷ []
+
+abbrev pub with_item : Table → List ℕ → Table
+with_item N name = record N { items = add_item N.items name }
+
+abbrev pub with_pair : Table → PairRow → Table
+with_pair N p = record N { pairs = N.pairs ++ p ∷ [] }
+
+abbrev pub with_source : Table → SourceRow → Table
+with_source N s = record N { sources = N.sources ++ s ∷ [] }
+
+abbrev pub with_bill : Table → BillRow → Table
+with_bill N b = record N { bills = N.bills ++ b ∷ [] }
+
+abbrev pub with_demand : Table → DemandRow → Table
+with_demand N d = record N { demands = N.demands ++ d ∷ [] }
+
+abbrev pub with_receipt : Table → ReceiptRow → Table
+with_receipt N r = record N { receipts = N.receipts ++ r ∷ [] }
+
+abbrev pub with_ship : Table → ShipRow → Table
+with_ship N s = record N { ships = N.ships ++ s ∷ [] }
+
+abbrev pub with_cum : Table → CumRow → Table
+with_cum N c = record N { cums = N.cums ++ c ∷ [] }
+
+abbrev pub with_reset : Table → ResetRow → Table
+with_reset N r = record N { resets = N.resets ++ r ∷ [] }
+
+-- how many rows of the text there are
+abbrev pub row_count : Table → ℕ
+row_count N =
+    1 + length N.plants + length N.pairs + length N.bills + length N.demands + length N.receipts + length N.ships + length N.cums + length N.resets
+
+-- the number of rows and what is known of the sources fit the rows read so far
+pub record Fits (N : Table) (keys : List LaneKey) (states : List Lane) : Type 0 where
+  pub lane_keys : keys ≡ map lane_of N.sources
+  pub lanes : length states ≡ length N.sources
+  pub sources : length N.sources ≤ MOST_SOURCES_OF_PAIR * length N.pairs
+  pub resets : length N.resets ≡ count_by (λ l. l.has_reset) states
+  pub items : length N.items ≤ length N.pairs
+
+-- the state of the reading fits the rows read so far
+pub record IsDraft (d : Draft) : Type 0 where
+  pub rows : AreRows d.lists
+  pub fits : Fits (table_of d.lists) d.lane_keys.keys d.lanes.items
+  pub count : d.rows ≡ row_count (table_of d.lists)
+
+-- one more row is kept, and not counted yet
+pub record AddsRow (old new : Draft) : Type 0 where
+  pub rows : AreRows new.lists
+  pub fits : Fits (table_of new.lists) new.lane_keys.keys new.lanes.items
+  pub counted : new.rows ≡ old.rows
+  pub count : row_count (table_of new.lists) ≡ row_count (table_of old.lists) + 1
+
+-- one source more of the pair that was added last
+pub record AddsSource (old new : Draft) : Type 0 where
+  pub rows : AreRows new.lists
+  pub fits : Fits (table_of new.lists) new.lane_keys.keys new.lanes.items
+  pub same : (row_count (table_of new.lists) ≡ row_count (table_of old.lists)) × (new.rows ≡ old.rows)
+  pub pairs : length new.lists.pairs.items ≡ length old.lists.pairs.items
+  pub sources : length new.lists.sources.items ≡ length old.lists.sources.items + 1
+
+-- so many sources more
+pub record AddsSources (old new : Draft) (count : ℕ) : Type 0 where
+  pub rows : AreRows new.lists
+  pub fits : Fits (table_of new.lists) new.lane_keys.keys new.lanes.items
+  pub same : (row_count (table_of new.lists) ≡ row_count (table_of old.lists)) × (new.rows ≡ old.rows)
+  pub pairs : length new.lists.pairs.items ≡ length old.lists.pairs.items
+  pub sources : length new.lists.sources.items ≡ length old.lists.sources.items + count
+
+-- what the names of a row on a lane stand for is there
+pub record IsNamedLane (d : Draft) (lane : NamedLane) : Type 0 where
+  pub from : IfSome lane.from (λ p. p.0 < length d.lists.plants.keys)
+  pub pair : IfSome lane.pair (λ x. x.0 < length d.lists.pairs.items)
+  pub place : IfSome lane.place (λ k. k < length d.lanes.items)

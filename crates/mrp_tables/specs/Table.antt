@@ -1,0 +1,132 @@
+-- A table as its rows say it, and what every accepted table says.
+use Rattle.std.specs.Prelude.{◌≡◌, ℕ, ◌≤◌, ◌<◌, ◌==◌, ◌&&◌, List, length, All, position, unwrap_or, option_map, slice_get}
+use Rattle.mrp_qty.specs.declared.quantity.TheConstants.{MOST}
+use Rattle.mrp_qty.specs.declared.horizon.TheConstants.{LONGEST}
+use Rattle.mrp_cal.specs.Calendar.{CalendarTerms}
+use Rattle.mrp_lot.specs.Lot.{IsRule}
+use Rattle.mrp_lot.specs.declared.rule.TheConstants.{LONGEST_LEAD}
+use Rattle.mrp_tables.specs.declared.rows.TheConstants.{MOST_BILLS, MOST_IN_ROW, MOST_OF_A_KIND, MOST_PAIRS, MOST_PER, MOST_PLANTS, MOST_SOURCES}
+use Rattle.mrp_tables.specs.declared.rows.BillRow.{BillRow}
+use Rattle.mrp_tables.specs.declared.rows.CumRow.{CumRow}
+use Rattle.mrp_tables.specs.declared.rows.DemandRow.{DemandRow}
+use Rattle.mrp_tables.specs.declared.rows.PairRow.{PairRow}
+use Rattle.mrp_tables.specs.declared.rows.ReceiptRow.{ReceiptRow}
+use Rattle.mrp_tables.specs.declared.rows.ResetRow.{ResetRow}
+use Rattle.mrp_tables.specs.declared.rows.ShipRow.{ShipRow}
+use Rattle.mrp_tables.specs.declared.rows.SourceRow.{SourceRow}
+
+-- The lists of rows, each in table order. A name is the list of its bytes; everywhere else a plant,
+-- an item or a pair is its place in its list.
+pub record Table : Type 0 where
+  pub calendar : CalendarTerms
+  pub plants : List (List ℕ)
+  pub items : List (List ℕ)
+  pub pairs : List PairRow
+  pub sources : List SourceRow
+  pub bills : List BillRow
+  pub demands : List DemandRow
+  pub receipts : List ReceiptRow
+  pub ships : List ShipRow
+  pub cums : List CumRow
+  pub resets : List ResetRow
+
+-- the number of periods
+abbrev pub horizon : Table → ℕ
+horizon N = N.calendar.periods
+
+-- the place of the pair of that plant and item, or past the end where there is none
+abbrev pub pair_no : Table → ℕ → ℕ → ℕ
+pair_no N plant item = unwrap_or (position (λ p. (p.plant.0 == plant) && (p.item.0 == item)) N.pairs) (length N.pairs)
+
+-- a pair of the table
+abbrev pub IsPair : Table → ℕ → Type 0
+IsPair N x = x < length N.pairs
+
+-- an amount of a row: at most 10^12 pieces
+abbrev pub IsAmount : ℕ → Type 0
+IsAmount quantity = quantity ≤ MOST_IN_ROW
+
+pub record IsPairRow (N : Table) (p : PairRow) : Type 0 where
+  pub plant : p.plant.0 < length N.plants
+  pub item : p.item.0 < length N.items
+  pub rule : IsRule p.rule
+  pub lead : p.lead ≤ LONGEST_LEAD
+  pub on_hand : IsAmount p.on_hand
+  pub safety : IsAmount p.safety
+
+pub record IsSourceRow (N : Table) (s : SourceRow) : Type 0 where
+  pub pair : IsPair N s.pair.0
+  pub plant : s.plant.0 < length N.plants
+  pub rises : s.low < s.high
+  pub ends : s.high ≤ 1000
+
+pub record IsBillRow (N : Table) (b : BillRow) : Type 0 where
+  pub parent : IsPair N b.parent.0
+  pub component : IsPair N b.component.0
+  pub some : 1 ≤ b.per
+  pub few : b.per ≤ MOST_PER
+
+pub record IsDemandRow (N : Table) (d : DemandRow) : Type 0 where
+  pub pair : IsPair N d.pair.0
+  pub period : d.period < horizon N
+  pub quantity : IsAmount d.quantity
+
+pub record IsReceiptRow (N : Table) (r : ReceiptRow) : Type 0 where
+  pub pair : IsPair N r.pair.0
+  pub period : r.period < horizon N
+  pub quantity : IsAmount r.quantity
+
+pub record IsShipRow (N : Table) (s : ShipRow) : Type 0 where
+  pub from : s.from.0 < length N.plants
+  pub pair : IsPair N s.pair.0
+  pub period : s.period < horizon N
+  pub quantity : IsAmount s.quantity
+
+pub record IsCumRow (N : Table) (c : CumRow) : Type 0 where
+  pub from : c.from.0 < length N.plants
+  pub pair : IsPair N c.pair.0
+  pub figure : c.figure ≤ MOST
+
+pub record IsResetRow (N : Table) (r : ResetRow) : Type 0 where
+  pub from : r.from.0 < length N.plants
+  pub pair : IsPair N r.pair.0
+  pub period : r.period < horizon N
+
+-- how many rows there are of each kind
+pub record IsLimited (N : Table) : Type 0 where
+  pub some_periods : 1 ≤ horizon N
+  pub periods : horizon N ≤ LONGEST
+  pub plants : length N.plants ≤ MOST_PLANTS
+  pub items : length N.items ≤ MOST_PAIRS
+  pub pairs : length N.pairs ≤ MOST_PAIRS
+  pub sources : length N.sources ≤ MOST_SOURCES
+  pub bills : length N.bills ≤ MOST_BILLS
+  pub demands : length N.demands ≤ MOST_OF_A_KIND
+  pub receipts : length N.receipts ≤ MOST_OF_A_KIND
+  pub ships : length N.ships ≤ MOST_OF_A_KIND
+  pub cums : length N.cums ≤ MOST_OF_A_KIND
+  pub resets : length N.resets ≤ MOST_SOURCES
+
+-- what the rows read so far say: each is in range and names what is there
+pub record IsRead (N : Table) : Type 0 where
+  pub limits : IsLimited N
+  pub pairs : All (IsPairRow N) N.pairs
+  pub sources : All (IsSourceRow N) N.sources
+  pub bills : All (IsBillRow N) N.bills
+  pub demands : All (IsDemandRow N) N.demands
+  pub receipts : All (IsReceiptRow N) N.receipts
+  pub ships : All (IsShipRow N) N.ships
+  pub cums : All (IsCumRow N) N.cums
+  pub resets : All (IsResetRow N) N.resets
+
+-- the pair that a source row takes from: the same item at the source's plant
+abbrev pub item_at : Table → ℕ → ℕ
+item_at N x = unwrap_or (option_map (λ p. p.item.0) (slice_get N.pairs x)) 0
+
+abbrev pub source_pair : Table → SourceRow → ℕ
+source_pair N s = pair_no N s.plant.0 (item_at N s.pair.0)
+
+-- what every accepted table says: the pair behind each source has a row too
+pub record IsTable (N : Table) : Type 0 where
+  pub read : IsRead N
+  pub source_pairs : All (λ s. IsPair N (source_pair N s)) N.sources

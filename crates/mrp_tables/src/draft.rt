@@ -1,0 +1,121 @@
+ghost use Rattle.std.specs.Prelude.{◌≡◌, ◌+◌, OnOk, IfOk};
+
+use crate::kind::Kind;
+use crate::row_lists::RowLists;
+use crate::spelled::{row_kind, spelled_run};
+use crate::{PairNo, PlantNo, TableFaultKind};
+use csv::StringRecord;
+use indexmap::IndexSet;
+use std::alloc::Global;
+
+/// A source of a pair by its plant and the pair.
+#[derive(Clone, Copy, Debug, PartialEq, Eq, Hash)]
+pub(crate) struct LaneKey {
+    pub(crate) from: PlantNo,
+    pub(crate) pair: PairNo,
+}
+
+/// A bill row by its parent and its component.
+#[derive(Clone, Copy, Debug, PartialEq, Eq, Hash)]
+pub(crate) struct BillKey {
+    pub(crate) parent: PairNo,
+    pub(crate) component: PairNo,
+}
+
+/// What the rows so far say of one source of a pair.
+#[derive(Clone, Copy, Debug)]
+pub(crate) struct Lane {
+    /// The number of its pair row.
+    pub(crate) row: u64,
+    /// The period of arrival of its last shipment, 0 without one.
+    pub(crate) last: usize,
+    /// Whether a shipment arrives before the one that stands above it.
+    pub(crate) falls: bool,
+    /// Whether it has a cumulative figure.
+    pub(crate) has_cum: bool,
+    /// Whether its figures start anew.
+    pub(crate) has_reset: bool,
+}
+
+/// A table while its rows are read.
+#[derive(Drop)]
+pub(crate) struct Draft {
+    pub(crate) lists: RowLists,
+    /// The sources in the order of their rows, and what is known of each.
+    pub(crate) lane_keys: IndexSet<LaneKey>,
+    pub(crate) lanes: Vec<Lane>,
+    pub(crate) bill_keys: IndexSet<BillKey>,
+    /// The kind of the last row, and how many rows there are.
+    pub(crate) last: Kind,
+    pub(crate) rows: u64,
+    /// The plants of the last row, which the next row often names again.
+    pub(crate) near: usize,
+    pub(crate) near_from: usize,
+}
+
+impl Draft {
+    ghost use Rattle.std.specs.Prelude.{◌≡◌, ◌+◌, ◌<◌, OnOk, IfOk};
+    ghost use Rattle.mrp_tables.specs.Lists.{IsDraft, AddsRow};
+
+    /// What a first row makes.
+    pub(crate) fn first(alloc: Global, row: &StringRecord) -> Result<Draft, TableFaultKind>
+        ensures draft { IfOk result IsDraft }
+        ensures rows { IfOk result (λ draft. draft.rows ≡ 1) }
+    {
+        if row_kind(row)? != Kind::Run {
+            return Err(TableFaultKind::KindOrder);
+        }
+        let calendar = spelled_run(row)?;
+        Ok(Draft {
+            lists: RowLists::new(alloc, calendar),
+            lane_keys: IndexSet::new(alloc),
+            lanes: Vec::new(alloc),
+            bill_keys: IndexSet::new(alloc),
+            last: Kind::Run,
+            rows: 1,
+            near: 0,
+            near_from: 0,
+        })
+    }
+
+    /// Adds one more row.
+    pub(crate) fn add(&mut self, alloc: Global, row: &StringRecord) -> Result<(), TableFaultKind>
+        requires draft { IsDraft self.old }
+        requires room { self.old.rows < 5000000 }
+        ensures draft { OnOk result (IsDraft self.new) }
+        ensures rows { OnOk result (self.new.rows ≡ self.old.rows + 1) }
+    {
+        let kind = row_kind(row)?;
+        if !kind.may_follow(self.last) {
+            return Err(TableFaultKind::KindOrder);
+        }
+        self.add_row(alloc, kind, row)?;
+        self.last = kind;
+        self.rows += 1;
+        Ok(())
+    }
+
+    /// Adds a row of that kind, which is not counted yet.
+    fn add_row(
+        &mut self,
+        alloc: Global,
+        kind: Kind,
+        row: &StringRecord,
+    ) -> Result<(), TableFaultKind>
+        requires draft { IsDraft self.old }
+        requires room { self.old.rows < 5000000 }
+        ensures adds { OnOk result (AddsRow self.old self.new) }
+    {
+        match kind {
+            Kind::Run => Err(TableFaultKind::KindOrder),
+            Kind::Plant => self.add_plant(alloc, row),
+            Kind::Pair => self.add_pair(alloc, row),
+            Kind::Bill => self.add_bill(row),
+            Kind::Demand => self.add_demand(row),
+            Kind::Receipt => self.add_receipt(row),
+            Kind::Ship => self.add_ship(row),
+            Kind::Cum => self.add_cum(row),
+            Kind::Reset => self.add_reset(row),
+        }
+    }
+}

@@ -1,0 +1,143 @@
+ghost use Rattle.std.specs.Prelude.{◌≡◌, ◌+◌, ◌≤◌, ◌<◌, MatchResult, IfOk, OnOk};
+ghost use Rattle.mrp_tables.specs.Lists.{IsDraft};
+
+use crate::draft::Draft;
+use crate::{Steps, TableFault, TableFaultKind, Tables};
+use csv::{ErrorKind, Reader, ReaderBuilder, StringRecord};
+use std::alloc::Global;
+use std::io::Read;
+use std::marker::Brand;
+use std::sync::ledger::{Blank, Ledger};
+
+/// The most turns of reading: a row of each kind up to its limit, and the end.
+pub const MAX_TURNS: u64 = 4_300_066;
+
+/// Reads a table. Each turn of reading is one step.
+///
+/// # Errors
+///
+/// The first fault of the first row that has one, as [`TableFaultKind`] says.
+pub fn read_tables<R: Read + Drop, L: Ledger>(
+    alloc: Global,
+    reader: R,
+    steps: &mut Steps<L>,
+) -> Result<Tables, TableFault>
+    ensures turns { steps.new ≤ steps.old + MAX_TURNS }
+{
+    let mut rows = ReaderBuilder::new()
+        .has_headers(false)
+        .flexible(true)
+        .from_reader(alloc, reader);
+    read_rows(alloc, &mut rows, steps)
+}
+
+/// Reads a table as [`read_tables`] does, and counts nothing.
+pub fn read_tables_uncounted<R: Read + Drop>(
+    alloc: Global,
+    reader: R,
+) -> Result<Tables, TableFault> {
+    read_with_blank::<R, Brand>(alloc, reader, Blank::new(1))
+}
+
+/// Reads a table and counts in the ledger of `blank`.
+fn read_with_blank<R: Read + Drop, L: Ledger>(
+    alloc: Global,
+    reader: R,
+    blank: Blank,
+) -> Result<Tables, TableFault>
+    requires name { blank.name ≡ L.name }
+    requires parts { blank.parts ≡ L.parts }
+    requires some { 0 < blank.parts }
+{
+    let mut steps: Steps<L> = Steps::new(blank);
+    read_tables(alloc, reader, &mut steps)
+}
+
+/// Reads all rows.
+fn read_rows<R: Read, L: Ledger>(
+    alloc: Global,
+    rows: &mut Reader<R>,
+    steps: &mut Steps<L>,
+) -> Result<Tables, TableFault>
+    ensures turns { steps.new ≤ steps.old + MAX_TURNS }
+{
+    let mut row = StringRecord::new(alloc);
+    steps.tick();
+    if !next_row(rows, &mut row, 1)? {
+        return Err(TableFault {
+            row: 0,
+            kind: TableFaultKind::Empty,
+        });
+    }
+    let mut draft = first_draft(alloc, &row)?;
+    read_rest(alloc, rows, &mut row, &mut draft, steps)?;
+    Tables::accept(draft)
+}
+
+/// What the first row makes.
+fn first_draft(alloc: Global, row: &StringRecord) -> Result<Draft, TableFault>
+    ensures draft { IfOk result IsDraft }
+    ensures rows { IfOk result (λ draft. draft.rows ≡ 1) }
+{
+    match Draft::first(alloc, row) {
+        Ok(draft) => Ok(draft),
+        Err(kind) => Err(TableFault { row: 1, kind }),
+    }
+}
+
+/// Reads the rows after the first.
+fn read_rest<R: Read, L: Ledger>(
+    alloc: Global,
+    rows: &mut Reader<R>,
+    row: &mut StringRecord,
+    draft: &mut Draft,
+    steps: &mut Steps<L>,
+) -> Result<(), TableFault>
+    requires draft { IsDraft draft.old }
+    requires first { draft.old.rows ≡ 1 }
+    ensures draft { OnOk result (IsDraft draft.new) }
+    ensures turns { steps.new + 1 ≤ steps.old + MAX_TURNS }
+{
+    for number in 2..MAX_TURNS + 1 {
+        steps.tick();
+        if !next_row(rows, row, number)? {
+            return Ok(());
+        }
+        at_row(number, draft.add(alloc, row))?;
+    }
+    unreachable!()
+}
+
+/// A fault with the row that has it.
+fn at_row<T: Drop>(row: u64, answer: Result<T, TableFaultKind>) -> Result<T, TableFault>
+    ensures same { MatchResult answer (λ value. result ≡ Ok value) (λ kind. result ≡ Err (record { row = row; kind = kind })) }
+{
+    match answer {
+        Ok(value) => Ok(value),
+        Err(kind) => Err(TableFault { row, kind }),
+    }
+}
+
+/// Reads the next row, if there is one.
+fn next_row<R: Read>(
+    rows: &mut Reader<R>,
+    row: &mut StringRecord,
+    number: u64,
+) -> Result<bool, TableFault> {
+    match rows.read_record(row) {
+        Ok(found) => Ok(found),
+        Err(error) => Err(TableFault {
+            row: number,
+            kind: read_fault(error.kind()),
+        }),
+    }
+}
+
+/// What an error of the reading is called.
+fn read_fault(error: &ErrorKind) -> TableFaultKind {
+    match error {
+        ErrorKind::Utf8 { .. } => TableFaultKind::NotUtf8,
+        ErrorKind::OutOfMemory => TableFaultKind::Memory,
+        _ => TableFaultKind::ReadFault,
+    }
+}

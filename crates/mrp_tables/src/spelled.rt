@@ -1,0 +1,200 @@
+ghost use Rattle.std.specs.Prelude.{◌≡◌, ◌≤◌, ◌<◌, IfOk};
+ghost use Rattle.mrp_qty.specs.declared.quantity.TheConstants.{MOST};
+ghost use Rattle.mrp_qty.specs.declared.horizon.TheConstants.{LONGEST};
+ghost use Rattle.mrp_tables.specs.declared.rows.TheConstants.{MOST_IN_ROW, MOST_PER};
+ghost use Rattle.mrp_tables.specs.Spelled.{IsSpelledPair};
+
+use crate::TableFaultKind;
+use crate::kind::{Kind, kind_of};
+use crate::rows::{MOST_IN_ROW, MOST_PER};
+use crate::spelling::{name, number, ranged};
+use crate::terms::{SpelledSupply, rule, supply};
+use csv::StringRecord;
+use mrp_cal::Calendar;
+use mrp_lot::{LONGEST_LEAD, Rule};
+use mrp_qty::{Horizon, LONGEST, MOST};
+use std::alloc::Global;
+
+/// How many fields a row has.
+const FIELDS: usize = 8;
+
+/// A field of a row, counted from 0; one that isn't there is empty.
+fn field(row: &StringRecord, i: usize) -> &str {
+    row.get(i).unwrap_or("")
+}
+
+/// Whether the fields from `used` on are empty.
+fn is_empty_from(row: &StringRecord, used: usize) -> bool {
+    (used..FIELDS).all(|i| field(row, i).is_empty())
+}
+
+/// The kind of a row that has the fields of its kind.
+pub(crate) fn row_kind(row: &StringRecord) -> Result<Kind, TableFaultKind> {
+    if row.len() != FIELDS {
+        return Err(TableFaultKind::FieldCount);
+    }
+    let kind = kind_of(field(row, 0)).ok_or(TableFaultKind::UnknownKind)?;
+    if is_empty_from(row, kind.used()) {
+        Ok(kind)
+    } else {
+        Err(TableFaultKind::FieldCount)
+    }
+}
+
+/// The calendar of a run row.
+pub(crate) fn spelled_run(row: &StringRecord) -> Result<Calendar, TableFaultKind>
+    ensures periods { IfOk result (λ calendar. (1 ≤ calendar.periods) × (calendar.periods ≤ LONGEST)) }
+{
+    let days = number(field(row, 2)).ok_or(TableFaultKind::BadNumber)?;
+    let periods = ranged(field(row, 3), 1, LONGEST)?;
+    let horizon = Horizon::new(periods).ok_or(TableFaultKind::BadNumber)?;
+    match Calendar::new(field(row, 1), days, horizon) {
+        Ok(calendar) => Ok(calendar),
+        Err(fault) => Err(TableFaultKind::CalendarFault(fault)),
+    }
+}
+
+/// The name of a plant row.
+pub(crate) fn spelled_plant(row: &StringRecord) -> Result<&str, TableFaultKind> {
+    name(field(row, 1))
+}
+
+/// A pair row.
+#[derive(Debug, Drop)]
+pub(crate) struct SpelledPair<'r> {
+    pub(crate) plant: &'r str,
+    pub(crate) item: &'r str,
+    pub(crate) supply: SpelledSupply<'r>,
+    pub(crate) rule: Rule,
+    pub(crate) lead: u64,
+    pub(crate) on_hand: u64,
+    pub(crate) safety: u64,
+}
+
+/// What a pair row spells.
+pub(crate) fn spelled_pair(
+    alloc: Global,
+    row: &StringRecord,
+) -> Result<SpelledPair<'_>, TableFaultKind>
+    ensures ranges { IfOk result IsSpelledPair }
+{
+    let plant = name(field(row, 1))?;
+    let item = name(field(row, 2))?;
+    let lead = ranged(field(row, 5), 0, LONGEST_LEAD)?;
+    let on_hand = ranged(field(row, 6), 0, MOST_IN_ROW)?;
+    let safety = ranged(field(row, 7), 0, MOST_IN_ROW)?;
+    let rule = rule(field(row, 4)).ok_or(TableFaultKind::BadRule)?;
+    let supply = supply(alloc, field(row, 3))?;
+    Ok(SpelledPair {
+        plant,
+        item,
+        supply,
+        rule,
+        lead,
+        on_hand,
+        safety,
+    })
+}
+
+/// A bill row.
+#[derive(Clone, Copy, Debug)]
+pub(crate) struct SpelledBill<'r> {
+    pub(crate) plant: &'r str,
+    pub(crate) parent: &'r str,
+    pub(crate) component: &'r str,
+    pub(crate) per: u64,
+}
+
+/// What a bill row spells.
+pub(crate) fn spelled_bill(row: &StringRecord) -> Result<SpelledBill<'_>, TableFaultKind>
+    ensures per { IfOk result (λ b. (1 ≤ b.per) × (b.per ≤ MOST_PER)) }
+{
+    let plant = name(field(row, 1))?;
+    let parent = name(field(row, 2))?;
+    let component = name(field(row, 3))?;
+    let per = ranged(field(row, 4), 1, MOST_PER)?;
+    Ok(SpelledBill {
+        plant,
+        parent,
+        component,
+        per,
+    })
+}
+
+/// A demand or a receipt row.
+#[derive(Clone, Copy, Debug)]
+pub(crate) struct SpelledAmount<'r> {
+    pub(crate) plant: &'r str,
+    pub(crate) item: &'r str,
+    pub(crate) period: usize,
+    pub(crate) quantity: u64,
+}
+
+/// What a demand or a receipt row spells.
+pub(crate) fn spelled_amount(
+    row: &StringRecord,
+    horizon: Horizon,
+) -> Result<SpelledAmount<'_>, TableFaultKind>
+    ensures ranges { IfOk result (λ a. (a.period < horizon) × (a.quantity ≤ MOST_IN_ROW)) }
+{
+    let plant = name(field(row, 1))?;
+    let item = name(field(row, 2))?;
+    let period = ranged(field(row, 3), 0, horizon.get() - 1)? as usize;
+    let quantity = ranged(field(row, 4), 1, MOST_IN_ROW)?;
+    Ok(SpelledAmount {
+        plant,
+        item,
+        period,
+        quantity,
+    })
+}
+
+/// The names of a row on what one plant ships to another.
+#[derive(Clone, Copy, Debug)]
+pub(crate) struct SpelledLane<'r> {
+    pub(crate) from: &'r str,
+    pub(crate) to: &'r str,
+    pub(crate) item: &'r str,
+}
+
+/// The names of a ship, cum or reset row.
+fn spelled_lane(row: &StringRecord) -> Result<SpelledLane<'_>, TableFaultKind> {
+    let from = name(field(row, 1))?;
+    let to = name(field(row, 2))?;
+    let item = name(field(row, 3))?;
+    Ok(SpelledLane { from, to, item })
+}
+
+/// What a ship row spells: its names, its period of arrival and its quantity.
+pub(crate) fn spelled_ship(
+    row: &StringRecord,
+    horizon: Horizon,
+) -> Result<(SpelledLane<'_>, usize, u64), TableFaultKind>
+    ensures ranges { IfOk result (λ s. (s.1 < horizon) × (s.2 ≤ MOST_IN_ROW)) }
+{
+    let lane = spelled_lane(row)?;
+    let period = ranged(field(row, 4), 0, horizon.get() - 1)? as usize;
+    let quantity = ranged(field(row, 5), 1, MOST_IN_ROW)?;
+    Ok((lane, period, quantity))
+}
+
+/// What a cum row spells: its names and its figure.
+pub(crate) fn spelled_cum(row: &StringRecord) -> Result<(SpelledLane<'_>, u64), TableFaultKind>
+    ensures figure { IfOk result (λ c. c.1 ≤ MOST) }
+{
+    let lane = spelled_lane(row)?;
+    let figure = ranged(field(row, 4), 0, MOST)?;
+    Ok((lane, figure))
+}
+
+/// What a reset row spells: its names and its period.
+pub(crate) fn spelled_reset(
+    row: &StringRecord,
+    horizon: Horizon,
+) -> Result<(SpelledLane<'_>, usize), TableFaultKind>
+    ensures period { IfOk result (λ r. r.1 < horizon) }
+{
+    let lane = spelled_lane(row)?;
+    let period = ranged(field(row, 4), 0, horizon.get() - 1)? as usize;
+    Ok((lane, period))
+}

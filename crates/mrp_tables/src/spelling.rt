@@ -1,0 +1,71 @@
+ghost use Rattle.std.specs.Prelude.{◌≡◌, ◌≤◌, IfOk, IfSome};
+
+use crate::TableFaultKind;
+
+/// Whether a byte may stand in a name.
+fn is_name_byte(byte: u8) -> bool {
+    byte.is_ascii_alphanumeric() || byte == b'-' || byte == b'_' || byte == b'.'
+}
+
+/// Whether each byte may stand in a name.
+fn has_name_bytes(text: &[u8]) -> bool {
+    text.iter().all(|byte| is_name_byte(*byte))
+}
+
+/// A name has 1 to 20 letters, digits, `-`, `_` and `.`.
+pub(crate) fn is_name(text: &str) -> bool {
+    1 <= text.len() && text.len() <= 20 && has_name_bytes(text.as_bytes())
+}
+
+/// The text itself, where it is a name.
+pub(crate) fn name(text: &str) -> Result<&str, TableFaultKind>
+    ensures same { IfOk result (λ found. found.now ≡ text.now) }
+{
+    if is_name(text) {
+        Ok(text)
+    } else {
+        Err(TableFaultKind::BadName)
+    }
+}
+
+/// Whether each byte is a digit.
+fn has_digits(text: &[u8]) -> bool {
+    text.iter().all(|byte| byte.is_ascii_digit())
+}
+
+/// A number is `0`, or 1 to 16 digits of which the first is not `0`.
+fn is_number(text: &str) -> bool {
+    let bytes = text.as_bytes();
+    if bytes.is_empty() || bytes.len() > 16 || (bytes[0] == b'0' && bytes.len() > 1) {
+        return false;
+    }
+    has_digits(bytes)
+}
+
+/// The number that a text spells.
+pub(crate) fn number(text: &str) -> Option<u64> {
+    if is_number(text) {
+        text.parse().ok()
+    } else {
+        None
+    }
+}
+
+/// The number that a text spells, where it is `low` to `high`.
+pub(crate) fn number_within(text: &str, low: u64, high: u64) -> Option<u64>
+    ensures within { IfSome result (λ n. (low ≤ n) × (n ≤ high)) }
+{
+    let value = number(text)?;
+    if low <= value && value <= high {
+        Some(value)
+    } else {
+        None
+    }
+}
+
+/// A number field of a row, `low` to `high`.
+pub(crate) fn ranged(text: &str, low: u64, high: u64) -> Result<u64, TableFaultKind>
+    ensures within { IfOk result (λ n. (low ≤ n) × (n ≤ high)) }
+{
+    number_within(text, low, high).ok_or(TableFaultKind::BadNumber)
+}

@@ -1,0 +1,114 @@
+use super::*;
+use mrp_cal::CalFault;
+use std::test::Fail;
+
+/// The row and the fault that a text is refused for, or `None` where it is a table.
+fn fault_of(rt: &HostRuntime, text: &[u8]) -> Option<(u64, TableFaultKind)> {
+    match read_tables_uncounted(rt.alloc(), text) {
+        Ok(_) => None,
+        Err(fault) => Some((fault.row, fault.kind)),
+    }
+}
+
+/// A bicycle with two wheels at one plant.
+const BICYCLE: &[u8] = b"run,2026-01-05,7,4,,,,
+plant,P1,,,,,,
+pair,P1,BIKE,make,lot,1,0,0
+pair,P1,WHEEL,buy,lot,1,0,0
+bill,P1,BIKE,WHEEL,2,,,
+demand,P1,BIKE,3,10,,,
+";
+
+#[test]
+fn a_bicycle_is_read(rt: HostRuntime) -> Result<(), Fail> {
+    let table = read_tables_uncounted(rt.alloc(), BICYCLE)?;
+    assert_eq!(rt; table.plants(), 1);
+    assert_eq!(rt; table.items(), 2);
+    assert_eq!(rt; table.horizon().get(), 4);
+    assert_eq!(rt; table.calendar().horizon().get(), 4);
+    assert_eq!(rt; table.bills().len(), 1);
+    assert_eq!(rt; table.bills()[0].per, 2);
+    assert_eq!(rt; table.demands().len(), 1);
+    assert_eq!(rt; table.demands()[0].period, 3);
+    assert_eq!(rt; table.receipts().len(), 0);
+    assert_eq!(rt; table.pairs().len(), 2);
+    assert_eq!(rt; table.pairs()[0].supply, Supply::Make);
+    assert_eq!(rt; table.pairs()[1].params().lead, 1);
+    let plant = table.find_plant("P1").ok_or("no plant")?;
+    let wheel = table.find_item("WHEEL").ok_or("no item")?;
+    assert_eq!(rt; table.plant_name(plant), "P1");
+    assert_eq!(rt; table.item_name(wheel), "WHEEL");
+    assert_eq!(rt; table.find_pair(plant, wheel), Some(PairNo(1)));
+    assert_eq!(rt; table.find_plant("P2"), None);
+    Ok(())
+}
+
+/// Two plants, of which one takes an item from the other.
+const FIRM: &[u8] = b"run,2026-01-05,7,4,,,,
+plant,A,,,,,,
+plant,B,,,,,,
+pair,A,X,from:B,lot,1,0,0
+pair,B,X,buy,lot,0,0,0
+demand,A,X,2,30,,,
+ship,B,A,X,2,8,,
+cum,B,A,X,100,,,
+reset,B,A,X,1,,,
+";
+
+#[test]
+fn a_firm_is_read(rt: HostRuntime) -> Result<(), Fail> {
+    let table = read_tables_uncounted(rt.alloc(), FIRM)?;
+    assert_eq!(rt; table.sources().len(), 1);
+    assert_eq!(rt; table.sources()[0].plant, PlantNo(1));
+    assert_eq!(rt; table.sources()[0].high, 1000);
+    assert_eq!(rt; table.ships().len(), 1);
+    assert_eq!(rt; table.ships()[0].quantity.get(), 8);
+    assert_eq!(rt; table.cums().len(), 1);
+    assert_eq!(rt; table.cums()[0].figure.get(), 100);
+    assert_eq!(rt; table.resets().len(), 1);
+    assert_eq!(rt; table.resets()[0].period, 1);
+    Ok(())
+}
+
+#[test]
+fn a_pair_may_have_three_sources(rt: HostRuntime) -> Result<(), Fail> {
+    let text: &[u8] = b"run,2026-01-05,7,1,,,,
+plant,A,,,,,,
+plant,B,,,,,,
+plant,C,,,,,,
+pair,A,X,from:B:600:C:400,lot,0,0,0
+pair,B,X,buy,fixed:50,0,0,0
+pair,C,X,buy,min:20:5,0,0,0
+";
+    let table = read_tables_uncounted(rt.alloc(), text)?;
+    assert_eq!(rt; table.sources().len(), 2);
+    assert_eq!(rt; table.sources()[0].high, 600);
+    assert_eq!(rt; table.sources()[1].low, 600);
+    assert_eq!(rt; table.sources()[1].high, 1000);
+    Ok(())
+}
+
+#[test]
+fn the_form_of_a_row_is_tested_first(rt: HostRuntime) {
+    assert_eq!(rt; fault_of(&rt, b""), Some((0, TableFaultKind::Empty)));
+    assert_eq!(rt;
+        fault_of(&rt, b"run,2026-01-05,7,4,,,,\nplant,\xff,,,,,,\n"),
+        Some((2, TableFaultKind::NotUtf8))
+    );
+    assert_eq!(rt;
+        fault_of(&rt, b"run,2026-01-05,7,4,,,,\nplant,A,,,,,,,\n"),
+        Some((2, TableFaultKind::FieldCount))
+    );
+    assert_eq!(rt;
+        fault_of(&rt, b"run,2026-01-05,7,4,,,,\nplant,A,B,,,,,\n"),
+        Some((2, TableFaultKind::FieldCount))
+    );
+    assert_eq!(rt;
+        fault_of(&rt, b"run,2026-01-05,7,4,,,,\nplants,A,,,,,,\n"),
+        Some((2, TableFaultKind::UnknownKind))
+    );
+    assert_eq!(rt;
+        fault_of(&rt, b"plant,A,,,,,,\n"),
+        Some((1, TableFaultKind::KindOrder))
+    );
+}
