@@ -1,0 +1,42 @@
+-- The edges join pairs of the table, however they are grouped.
+use Rattle.std.proofs.Common.{◌≡◌, ℕ, ◌+◌, ◌<◌, ◌≤◌, ◌++◌, eqb, List, length, get_or, map, slice_index, slice_range, refl, sym, ap, ◌∙◌, subst, arith}
+use Rattle.std.specs.List.{All, filter}
+use Rattle.std.proofs.lemmas.List.Elements.{All-append, All-map, All-filter}
+use Rattle.mrp_tables.specs.declared.rows.BillRow.{BillRow}
+use Rattle.mrp_tables.specs.declared.rows.SourceRow.{SourceRow}
+use Rattle.mrp_tables.specs.Table.{Table, IsTable, IsPair}
+use Rattle.mrp_net.specs.declared.edge.Edge.{Edge}
+use Rattle.mrp_net.specs.Edges.{bill_edge, source_edge, edges, demanders, suppliers, IsEdge}
+use Rattle.mrp_net.specs.Groups.{group, sorted_by, IsGrouped}
+use Rattle.mrp_net.specs.Built.{by_demander, by_pair, AreDemanders, AreSuppliers}
+use Rattle.mrp_net.proofs.Sorting.{filter-sorted_by, group-sorted_by, All-sorted_by, IsGrouped-slice}
+
+pub edges_join : (N : Table) → IsTable N → All (IsEdge N) (edges N)
+edges_join N is =
+    All-append (IsEdge N) (map bill_edge N.bills) (map (source_edge N) N.sources)
+    (All-map (IsEdge N) bill_edge N.bills (λ k d h. let row = is.read.bills k d h in record { demander = row.parent; pair = row.component; some = row.some; few = row.few; rises = omega arith; ends = omega arith }))
+    (All-map (IsEdge N) (source_edge N) N.sources (λ k d h. let row = is.read.sources k d h in record { demander = row.pair; pair = is.source_pairs k d h; some = omega arith; few = omega arith; rises = row.rises; ends = row.ends }))
+
+pub by_demander_joins : (N : Table) → All (IsEdge N) (edges N) → All (IsEdge N) (by_demander N)
+by_demander_joins N all = All-sorted_by (IsEdge N) (λ e. e.demander.0) (length N.pairs) (edges N) all
+
+pub by_pair_joins : (N : Table) → All (IsEdge N) (edges N) → All (IsEdge N) (by_pair N)
+by_pair_joins N all = All-sorted_by (IsEdge N) (λ e. e.pair.0) (length N.pairs) (by_demander N) (by_demander_joins N all)
+
+-- the slices of the two lists are the edges to a pair and those from it
+pub demanders_slice : (N : Table) (rows : List Edge) (starts : List ℕ) (x : ℕ) → AreDemanders N rows starts → IsPair N x → slice_range rows (slice_index starts x) (slice_index starts (x + 1)) ≡ demanders N x
+demanders_slice N rows starts x are h =
+    IsGrouped-slice (λ e. e.pair.0) (length N.pairs) (by_demander N) rows starts x are h
+    ∙ filter-sorted_by (λ e. eqb e.pair.0 x) (λ e. e.demander.0) (length N.pairs) (edges N)
+
+pub suppliers_slice : (N : Table) (rows : List Edge) (starts : List ℕ) (y : ℕ) → AreSuppliers N rows starts → IsPair N y → slice_range rows (slice_index starts y) (slice_index starts (y + 1)) ≡ suppliers N y
+suppliers_slice N rows starts y are h =
+    IsGrouped-slice (λ e. e.demander.0) (length N.pairs) (by_pair N) rows starts y are h
+    ∙ filter-sorted_by (λ e. eqb e.demander.0 y) (λ e. e.pair.0) (length N.pairs) (by_demander N)
+    ∙ ap (sorted_by (λ e. e.pair.0) (length N.pairs)) (group-sorted_by (λ e. e.demander.0) y (length N.pairs) (edges N) h)
+
+pub demanders_join : (N : Table) (x : ℕ) → All (IsEdge N) (edges N) → All (IsEdge N) (demanders N x)
+demanders_join N x all = All-sorted_by (IsEdge N) (λ e. e.demander.0) (length N.pairs) (filter (λ e. eqb e.pair.0 x) (edges N)) (All-filter (λ e. eqb e.pair.0 x) (IsEdge N) (edges N) all)
+
+pub suppliers_join : (N : Table) (y : ℕ) → All (IsEdge N) (edges N) → All (IsEdge N) (suppliers N y)
+suppliers_join N y all = All-sorted_by (IsEdge N) (λ e. e.pair.0) (length N.pairs) (filter (λ e. eqb e.demander.0 y) (edges N)) (All-filter (λ e. eqb e.demander.0 y) (IsEdge N) (edges N) all)

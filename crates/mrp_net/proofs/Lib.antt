@@ -1,0 +1,6 @@
+pub mod Grouping
+pub mod Sorting
+pub mod Adding
+pub mod Summing
+pub mod Joining
+pub mod Naming

@@ -1,0 +1,81 @@
+-- Sums of a table's rows are within 64 bits, so nothing is cut off them.
+use Rattle.std.proofs.Common.{◌≡◌, ℕ, ◌+◌, ◌-◌, ◌*◌, ◌^◌, ◌<◌, ◌≤◌, ◌&&◌, Bool, true, false, cond, eqb, List, length, get_or, map, min, replicate, refl, sym, ap, ◌∙◌, subst, inl, inr, arith}
+use Rattle.std.specs.List.{All, sum_by}
+use Rattle.std.proofs.lemmas.Bool.{cond_both}
+use Rattle.std.proofs.lemmas.List.{get_or-replicate, get_or-map, length-replicate, length-map}
+use Rattle.std.proofs.lemmas.List.Sums.{sum_by-le}
+use Rattle.std.proofs.lemmas.Nat.{mul-add-lt}
+use Rattle.std.proofs.Math.Nat.{mul_comm}
+use Rattle.mrp_tables.specs.declared.rows.TheConstants.{MOST_IN_ROW, MOST_OF_A_KIND}
+use Rattle.mrp_tables.specs.declared.rows.DemandRow.{DemandRow}
+use Rattle.mrp_tables.specs.declared.rows.ReceiptRow.{ReceiptRow}
+use Rattle.mrp_tables.specs.declared.rows.ShipRow.{ShipRow}
+use Rattle.mrp_tables.specs.declared.rows.CumRow.{CumRow}
+use Rattle.mrp_tables.specs.Table.{Table, IsTable, IsPair, horizon}
+use Rattle.mrp_net.specs.Added.{sum_of, sum_in, AddsTotals, AddsPeriods}
+use Rattle.mrp_net.specs.Sums.{pair_at, no_pair, demand, demand_total, received, received_total, shipped, shipped_total, incoming, supply}
+use Rattle.mrp_net.specs.Built.{AreTotals, ArePeriods, capped_supply}
+
+-- some of at most 10^6 amounts of at most 10^12 are at most 10^18
+some_within : {R : Type 0} (test : R → Bool) (amount : R → ℕ) (rows : List R) → All (λ r. amount r ≤ MOST_IN_ROW) rows → length rows ≤ MOST_OF_A_KIND → sum_by (λ r. cond (test r) (amount r) 0) rows ≤ 10 ^ 18
+some_within test amount rows small few =
+    let each : All (λ r. cond (test r) (amount r) 0 ≤ MOST_IN_ROW) rows = λ k d h. cond_both (test (get_or rows k d)) (amount (get_or rows k d)) 0 (λ n. n ≤ MOST_IN_ROW) (λ _. small k d h) (λ _. omega arith) in
+    omega (arith, sum_by-le (λ r. cond (test r) (amount r) 0) MOST_IN_ROW rows each)
+
+pub demand_within : (N : Table) → IsTable N → (x t : ℕ) → demand N x t ≤ 10 ^ 18
+demand_within N is x t = some_within (λ d. eqb d.pair.0 x && eqb d.period t) (λ d. d.quantity) N.demands (λ k d h. (is.read.demands k d h).quantity) is.read.limits.demands
+
+pub demand_total_within : (N : Table) → IsTable N → (x : ℕ) → demand_total N x ≤ 10 ^ 18
+demand_total_within N is x = some_within (λ d. eqb d.pair.0 x) (λ d. d.quantity) N.demands (λ k d h. (is.read.demands k d h).quantity) is.read.limits.demands
+
+pub received_within : (N : Table) → IsTable N → (x t : ℕ) → received N x t ≤ 10 ^ 18
+received_within N is x t = some_within (λ r. eqb r.pair.0 x && eqb r.period t) (λ r. r.quantity) N.receipts (λ k d h. (is.read.receipts k d h).quantity) is.read.limits.receipts
+
+pub shipped_within : (N : Table) → IsTable N → (x t : ℕ) → shipped N x t ≤ 10 ^ 18
+shipped_within N is x t = some_within (λ s. eqb s.pair.0 x && eqb s.period t) (λ s. s.quantity) N.ships (λ k d h. (is.read.ships k d h).quantity) is.read.limits.ships
+
+-- a pair and a period have a place
+pub place_within : (N : Table) (amounts : List ℕ) (x t : ℕ) → length amounts ≡ length N.pairs * horizon N → IsPair N x → t < horizon N → x * horizon N + t < length amounts
+place_within N amounts x t size h g = omega (arith, size, mul-add-lt x (horizon N) t (length N.pairs) h g, mul_comm (horizon N) (length N.pairs))
+
+pub demand_built : (N : Table) (before after : List ℕ) → IsTable N → before ≡ replicate (length N.pairs * horizon N) 0 → length after ≡ length before → AddsPeriods (λ (d : DemandRow). d.pair.0) (λ d. d.period) (λ d. d.quantity) (horizon N) N.demands before after → ArePeriods N (demand N) after
+demand_built N before after is zeros same adds =
+    let room : length before ≡ length N.pairs * horizon N = ap length zeros ∙ length-replicate (length N.pairs * horizon N) 0 in
+    record {
+      size = same ∙ room;
+      each = λ x t h g.
+          let within = place_within N before x t room h g in
+          let was : get_or before (x * horizon N + t) 0 ≡ 0 = ap (λ (z : List ℕ). get_or z (x * horizon N + t) 0) zeros ∙ get_or-replicate (length N.pairs * horizon N) (x * horizon N + t) 0 0 (omega arith) in
+          omega (arith, adds x t g within, was, demand_within N is x t);
+    }
+
+pub incoming_built : (N : Table) (before between after : List ℕ) → IsTable N → before ≡ replicate (length N.pairs * horizon N) 0 → length between ≡ length before → length after ≡ length between → AddsPeriods (λ (r : ReceiptRow). r.pair.0) (λ r. r.period) (λ r. r.quantity) (horizon N) N.receipts before between → AddsPeriods (λ (s : ShipRow). s.pair.0) (λ s. s.period) (λ s. s.quantity) (horizon N) N.ships between after → ArePeriods N (incoming N) after
+incoming_built N before between after is zeros same again adds more =
+    let room : length before ≡ length N.pairs * horizon N = ap length zeros ∙ length-replicate (length N.pairs * horizon N) 0 in
+    record {
+      size = again ∙ same ∙ room;
+      each = λ x t h g.
+          let within = place_within N before x t room h g in
+          let was : get_or before (x * horizon N + t) 0 ≡ 0 = ap (λ (z : List ℕ). get_or z (x * horizon N + t) 0) zeros ∙ get_or-replicate (length N.pairs * horizon N) (x * horizon N + t) 0 0 (omega arith) in
+          omega (arith, adds x t g within, more x t g (omega arith), was, received_within N is x t, shipped_within N is x t);
+    }
+
+pub demand_totals_built : (N : Table) (before after : List ℕ) → IsTable N → before ≡ replicate (length N.pairs) 0 → length after ≡ length before → AddsTotals (λ (d : DemandRow). d.pair.0) (λ d. d.quantity) N.demands before after → AreTotals N (demand_total N) after
+demand_totals_built N before after is zeros same adds =
+    let room : length before ≡ length N.pairs = ap length zeros ∙ length-replicate (length N.pairs) 0 in
+    record {
+      size = same ∙ room;
+      each = λ x h.
+          let was : get_or before x 0 ≡ 0 = ap (λ (z : List ℕ). get_or z x 0) zeros ∙ get_or-replicate (length N.pairs) x 0 0 h in
+          omega (arith, adds x (omega arith), was, demand_total_within N is x);
+    }
+
+pub supplies_built : (N : Table) (before with_receipts with_ships after : List ℕ) → before ≡ map (λ p. p.on_hand) N.pairs → length with_receipts ≡ length before → length with_ships ≡ length with_receipts → length after ≡ length with_ships → AddsTotals (λ (r : ReceiptRow). r.pair.0) (λ r. r.quantity) N.receipts before with_receipts → AddsTotals (λ (s : ShipRow). s.pair.0) (λ s. s.quantity) N.ships with_receipts with_ships → AddsTotals (λ (c : CumRow). c.pair.0) (λ c. c.figure) N.cums with_ships after → AreTotals N (capped_supply N) after
+supplies_built N before with_receipts with_ships after is same1 same2 same3 adds1 adds2 adds3 =
+    let room : length before ≡ length N.pairs = ap length is ∙ length-map N.pairs (λ p. p.on_hand) in
+    record {
+      size = same3 ∙ same2 ∙ same1 ∙ room;
+      each = λ x h.
+          let was : get_or before x 0 ≡ (pair_at N x).on_hand = ap (λ (z : List ℕ). get_or z x 0) is ∙ get_or-map (λ p. p.on_hand) N.pairs x no_pair 0 h in
+          omega (arith, adds1 x (omega arith), adds2 x (omega arith), adds3 x (omega arith), was);
+    }

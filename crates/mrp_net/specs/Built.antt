@@ -1,0 +1,45 @@
+-- What the lists of a built network hold.
+use Rattle.std.specs.Prelude.{◌≡◌, ℕ, ◌+◌, ◌-◌, ◌*◌, ◌^◌, ◌<◌, min, List, length, All, slice_index}
+use Rattle.mrp_tables.specs.Table.{Table, IsTable, IsPair, horizon}
+use Rattle.mrp_net.specs.declared.edge.Edge.{Edge}
+use Rattle.mrp_net.specs.Edges.{edges, IsEdge}
+use Rattle.mrp_net.specs.Groups.{sorted_by, IsGrouped}
+use Rattle.mrp_net.specs.Sums.{demand, demand_total, incoming, supply}
+
+-- all edges in order of their demanders, and then in order of their pairs
+abbrev pub by_demander : Table → List Edge
+by_demander N = sorted_by (λ e. e.demander.0) (length N.pairs) (edges N)
+
+abbrev pub by_pair : Table → List Edge
+by_pair N = sorted_by (λ e. e.pair.0) (length N.pairs) (by_demander N)
+
+-- the edges to each pair, and those from each pair: where each pair's begin is in `starts`
+abbrev pub AreDemanders : Table → List Edge → List ℕ → Type 0
+AreDemanders N rows starts = IsGrouped (λ e. e.pair.0) (length N.pairs) (by_demander N) rows starts
+
+abbrev pub AreSuppliers : Table → List Edge → List ℕ → Type 0
+AreSuppliers N rows starts = IsGrouped (λ e. e.demander.0) (length N.pairs) (by_pair N) rows starts
+
+-- an amount of each pair
+pub record AreTotals (N : Table) (amount : ℕ → ℕ) (totals : List ℕ) : Type 0 where
+  pub size : length totals ≡ length N.pairs
+  pub each : (x : ℕ) → IsPair N x → slice_index totals x ≡ amount x
+
+-- an amount of each pair and period, pair by pair
+pub record ArePeriods (N : Table) (amount : ℕ → ℕ → ℕ) (amounts : List ℕ) : Type 0 where
+  pub size : length amounts ≡ length N.pairs * horizon N
+  pub each : (x t : ℕ) → IsPair N x → t < horizon N → slice_index amounts (x * horizon N + t) ≡ amount x t
+
+-- what a pair has without any order, or 2^64 - 1 where it is more
+abbrev pub capped_supply : Table → ℕ → ℕ
+capped_supply N x = min (supply N x) (2 ^ 64 - 1)
+
+-- the table, and the lists that are built of it
+pub record IsBuilt (N : Table) (demander_rows : List Edge) (demander_starts : List ℕ) (supplier_rows : List Edge) (supplier_starts demands comings demand_totals supplies : List ℕ) : Type 0 where
+  pub table : IsTable N
+  pub demanders : AreDemanders N demander_rows demander_starts
+  pub suppliers : AreSuppliers N supplier_rows supplier_starts
+  pub demanded : ArePeriods N (demand N) demands
+  pub coming : ArePeriods N (incoming N) comings
+  pub total : AreTotals N (demand_total N) demand_totals
+  pub supplied : AreTotals N (capped_supply N) supplies

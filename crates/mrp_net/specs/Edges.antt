@@ -1,0 +1,49 @@
+-- Who takes from whom: the edges of a network, read off its rows.
+use Rattle.std.specs.Prelude.{◌≡◌, ℕ, ◌+◌, ◌-◌, ◌*◌, ◌/◌, ◌<◌, ◌≤◌, ◌==◌, List, ◌++◌, length, map, filter}
+use Rattle.std.specs.List.{flat_map, range_with_len}
+use Rattle.mrp_tables.specs.declared.numbers.PairNo.{PairNo}
+use Rattle.mrp_tables.specs.declared.rows.BillRow.{BillRow}
+use Rattle.mrp_tables.specs.declared.rows.SourceRow.{SourceRow}
+use Rattle.mrp_tables.specs.declared.rows.TheConstants.{MOST_PER}
+use Rattle.mrp_tables.specs.Table.{Table, source_pair}
+use Rattle.mrp_net.specs.declared.edge.Edge.{Edge}
+
+-- a made parent takes each component, so many in one, for its whole release
+abbrev pub bill_edge : BillRow → Edge
+bill_edge b = record { demander = b.parent; pair = b.component; per = b.per; low = 0; high = 1000 }
+
+-- a pair takes its share of the release from the same item at the source's plant, one for one
+abbrev pub source_edge : Table → SourceRow → Edge
+source_edge N s =
+    record { demander = s.pair; pair = record { 0 = source_pair N s }; per = 1; low = s.low; high = s.high }
+
+-- all edges
+abbrev pub edges : Table → List Edge
+edges N = map bill_edge N.bills ++ map (source_edge N) N.sources
+
+-- the edges to a pair, in table order of their demanders
+abbrev pub demanders : Table → ℕ → List Edge
+demanders N x =
+    flat_map (λ y. filter (λ e. e.demander.0 == y) (filter (λ e. e.pair.0 == x) (edges N))) (range_with_len 0 (length N.pairs))
+
+-- the edges from a pair, in table order of the pairs that it takes from
+abbrev pub suppliers : Table → ℕ → List Edge
+suppliers N y =
+    flat_map (λ x. filter (λ e. e.pair.0 == x) (filter (λ e. e.demander.0 == y) (edges N))) (range_with_len 0 (length N.pairs))
+
+-- the edge's part of a release: whole for a component, else the source's running share
+abbrev pub part : Edge → ℕ → ℕ
+part e release = (release * e.high) / 1000 - (release * e.low) / 1000
+
+-- what a release asks of the edge's pair
+abbrev pub edge_need : Edge → ℕ → ℕ
+edge_need e release = e.per * part e release
+
+-- an edge joins pairs of the table, with a factor and shares in range
+pub record IsEdge (N : Table) (e : Edge) : Type 0 where
+  pub demander : e.demander.0 < length N.pairs
+  pub pair : e.pair.0 < length N.pairs
+  pub some : 1 ≤ e.per
+  pub few : e.per ≤ MOST_PER
+  pub rises : e.low < e.high
+  pub ends : e.high ≤ 1000

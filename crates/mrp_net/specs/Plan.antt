@@ -1,0 +1,45 @@
+-- The plan of a whole network: the rows of each pair, whose gross requirements come from the
+-- releases of its demanders.
+use Rattle.std.specs.Prelude.{◌≡◌, ℕ, ◌+◌, zero, suc, List, [], length, map, sum_by, slice_index, slice_index_or}
+use Rattle.std.specs.List.{range_with_len}
+use Rattle.mrp_lot.specs.One.{PlanRows, one}
+use Rattle.mrp_tables.specs.Table.{Table, IsPair}
+use Rattle.mrp_net.specs.Edges.{demanders, edge_need}
+use Rattle.mrp_net.specs.Sums.{demand, incoming, params_at, row_of}
+
+-- what a look-up past the rows of a plan reads
+abbrev pub no_rows : PlanRows
+no_rows = record { gross = []; incoming = []; order = []; release = []; available = []; late = [] }
+
+-- the rows of a pair in a table of plans
+abbrev pub rows_at : List PlanRows → ℕ → PlanRows
+rows_at table x = slice_index_or table x no_rows
+
+-- gross requirement: the demand rows, and what the releases of the demanders ask
+abbrev pub gross : Table → List PlanRows → ℕ → ℕ → ℕ
+gross N table x t =
+    demand N x t + sum_by (λ e. edge_need e (slice_index (rows_at table e.demander.0).release t)) (demanders N x)
+
+-- the plan of a pair beside the plans of its demanders
+abbrev pub pair_plan : Table → List PlanRows → ℕ → PlanRows
+pair_plan N table x = one (params_at N x) (row_of N (incoming N x)) (row_of N (gross N table x))
+
+-- a table of plans obeys the rules at every pair
+pub record Fits (N : Table) (table : List PlanRows) : Type 0 where
+  pub size : length table ≡ length N.pairs
+  pub rows : (x : ℕ) → IsPair N x → rows_at table x ≡ pair_plan N table x
+
+-- rounds of planning: in each, every pair is planned beside the releases of the round before; in the
+-- first nothing was released
+abbrev pub rounds : Table → ℕ → List PlanRows
+rounds N zero = []
+rounds N (suc k) = map (pair_plan N (rounds N k)) (range_with_len 0 (length N.pairs))
+
+-- the plan of the network: after as many rounds as there are pairs
+abbrev pub plan_of : Table → List PlanRows
+plan_of N = rounds N (length N.pairs)
+
+-- the plan obeys the rules at every pair, and no other table of plans does
+pub record HasOnePlan (N : Table) : Type 0 where
+  pub fits : Fits N (plan_of N)
+  pub only : (table : List PlanRows) → Fits N table → table ≡ plan_of N

@@ -1,0 +1,18 @@
+//! The network of a firm: its pairs, who takes from whom, and what its rows add up to.
+//!
+//! A network is made once from the rows of a table, by counting and placing, and then answers
+//! every question in constant time or with a slice.
+#![tactic(auto)]
+
+mod build;
+mod edge;
+mod group;
+mod network;
+mod sums;
+
+pub use edge::Edge;
+pub use mrp_tables::{ItemNo, PairNo, PairRow, PlantNo, Supply};
+pub use network::Network;
+
+#[cfg(test)]
+mod tests;
