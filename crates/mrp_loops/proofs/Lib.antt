@@ -8,3 +8,4 @@ pub mod Rings
 pub mod Ranks
 pub mod Planning
 pub mod Needed
+pub mod Upstream

@@ -1,5 +1,5 @@
 -- The needs, found in an order in which demanders come first.
-use Rattle.std.proofs.Common.{◌≡◌, ◌≢◌, ℕ, suc, ◌+◌, ◌*◌, ◌<◌, ◌≤◌, ◌==◌, true, inl, inr, ⊎_elim, List, [], ◌∷◌, length, get_or, set, take, min, refl, sym, ap, subst, ◌∙◌, arith, slice_index, sum_by, length-set}
+use Rattle.std.proofs.Common.{◌≡◌, ◌≢◌, ℕ, zero, suc, ◌+◌, ◌-◌, ◌*◌, ◌<◌, ◌≤◌, ◌==◌, true, inl, inr, ⊎_elim, List, [], ◌∷◌, length, get_or, set, take, min, refl, sym, ap, subst, ◌∙◌, arith, slice_index, sum_by, length-set}
 use Rattle.std.proofs.lemmas.Bool.{eqb-true, cases_eq, or_cases, true≢false}
 use Rattle.std.proofs.lemmas.List.{get_or-take, get_or_default, length-take, get_or-set_same, get_or-set_other}
 use Rattle.std.proofs.lemmas.List.Sums.{sum_by-cons}
@@ -12,7 +12,13 @@ use Rattle.mrp_net.specs.Edges.{demanders}
 use Rattle.mrp_net.specs.Sums.{pair_at, demand_total, supply}
 use Rattle.mrp_loops.specs.Need.{need_at, AreNeeds, AreWithin}
 use Rattle.mrp_loops.specs.Taking.{is_in}
-use Rattle.mrp_loops.specs.Order.{IsVisit, IsSolved}
+use Rattle.mrp_loops.specs.Order.{IsVisit, IsFound, IsSolved, IsFirstAbove, IsPlaced, rank}
+use Rattle.mrp_loops.specs.Loop.{AreCodes}
+use Rattle.mrp_loops.specs.BoundFaults.{IsNeedTooLarge, IsNeedFault, IsBoundFault}
+use Rattle.mrp_loops.specs.declared.sized.BoundFault.{BoundFault}
+use Rattle.mrp_loops.specs.declared.sized.BoundFault.TheVariants.{SupplyTooLarge, NeedTooLarge, Memory}
+use Rattle.mrp_loops.proofs.Planning.{place_rank}
+use Rattle.mrp_loops.proofs.Ranks.{rank_by_code, rank_by_place}
 use Rattle.mrp_loops.proofs.Members.{In, Contains-from_in}
 
 sum_agree : {X : Type 0} (f g : X → ℕ) (xs : List X) → ((x : X) → In xs x → f x ≡ g x) → sum_by f xs ≡ sum_by g xs
@@ -55,34 +61,56 @@ module _ (N : Table) (order : List PairNo) (visit : IsVisit N order) where
       let at = c.3 d in
       subst (λ (w : ℕ). slice_index a w ≡ slice_index b w) at (same c.0 d (omega (arith, c.1))))
 
-  -- one need more is found
-  pub solved_more : (k : ℕ) (needs needs' : List ℕ) (x : PairNo) (value : ℕ) → k < length order → (get_or order k x).0 ≡ x.0
-      → value ≡ need_at N needs x.0 → supply N x.0 + value ≤ MOST → needs' ≡ set needs x.0 value
-      → IsSolved N order k needs → IsSolved N order (k + 1) needs'
-  solved_more k needs needs' x value kl at is low eq s =
+  -- a pair is at its place whatever the default
+  same_place : (k : ℕ) (x d : PairNo) → k < length order → (get_or order k x).0 ≡ x.0 → (get_or order k d).0 ≡ x.0
+  same_place k x d kl at = ap (λ (z : PairNo). z.0) (get_or_default order k d x kl) ∙ at
+
+  -- a write at the pair at k leaves the needs of the pairs before
+  pub needs_kept : (k : ℕ) (needs : List ℕ) (x : PairNo) (value : ℕ) → k < length order → (get_or order k x).0 ≡ x.0
+      → (j : ℕ) (d : PairNo) → j < k → slice_index (set needs x.0 value) (get_or order j d).0 ≡ slice_index needs (get_or order j d).0
+  needs_kept k needs x value kl at j d jk =
+      get_or-set_other needs x.0 (get_or order j d).0 value 0 (λ e. visit.apart j k d jk kl (e ∙ sym (same_place k x d kl at)))
+
+  need_written : (k : ℕ) (needs : List ℕ) (x : PairNo) (value : ℕ) → k < length order → (get_or order k x).0 ≡ x.0 → IsFound N order k needs
+      → slice_index (set needs x.0 value) x.0 ≡ value
+  need_written k needs x value kl at f =
       let pair : IsPair N x.0 = subst (λ (w : ℕ). IsPair N w) at (visit.pairs k x kl) in
-      let here : slice_index needs' x.0 ≡ value = ap (λ (q : List ℕ). slice_index q x.0) eq ∙ get_or-set_same needs x.0 value 0 (omega (arith, s.size)) in
-      let place : (d : PairNo) → (get_or order k d).0 ≡ x.0 = λ d. ap (λ (z : PairNo). z.0) (get_or_default order k d x kl) ∙ at in
-      let kept : (j : ℕ) (d : PairNo) → j < k → slice_index needs' (get_or order j d).0 ≡ slice_index needs (get_or order j d).0 = λ j d jk.
-      ap (λ (q : List ℕ). slice_index q (get_or order j d).0) eq
-      ∙ get_or-set_other needs x.0 (get_or order j d).0 value 0 (λ e. visit.apart j k d jk kl (e ∙ sym (place d))) in
+      get_or-set_same needs x.0 value 0 (omega (arith, f.size))
+
+  -- one need more is found
+  pub found_more : (k : ℕ) (needs : List ℕ) (x : PairNo) (value : ℕ) → k < length order → (get_or order k x).0 ≡ x.0
+      → value ≡ need_at N needs x.0 → IsFound N order k needs → IsFound N order (k + 1) (set needs x.0 value)
+  found_more k needs x value kl at is f =
+      let kept = needs_kept k needs x value kl at in
+      let after = set needs x.0 value in
       record {
-        size = ap length eq ∙ (length-set needs x.0 value ∙ s.size);
+        size = length-set needs x.0 value ∙ f.size;
         solved = λ j d jk. ⊎_elim
             (λ same.
-            let where_is : (get_or order j d).0 ≡ x.0 = ap (λ (i : ℕ). (get_or order i d).0) same ∙ place d in
-            let local = need_same needs' needs k k x kept (omega arith) kl in
-            let local' : need_at N needs' x.0 ≡ need_at N needs x.0 = subst (λ (w : ℕ). need_at N needs' w ≡ need_at N needs w) at local in
-            subst (λ (w : ℕ). slice_index needs' w ≡ need_at N needs' w) (sym where_is) (here ∙ (is ∙ sym local')))
+            let where_is : (get_or order j d).0 ≡ x.0 = ap (λ (i : ℕ). (get_or order i d).0) same ∙ same_place k x d kl at in
+            let local = need_same after needs k k x kept (omega arith) kl in
+            let local' : need_at N after x.0 ≡ need_at N needs x.0 = subst (λ (w : ℕ). need_at N after w ≡ need_at N needs w) at local in
+            subst (λ (w : ℕ). slice_index after w ≡ need_at N after w) (sym where_is) (need_written k needs x value kl at f ∙ (is ∙ sym local')))
             (λ ne.
             let ne' : j ≢ k = ne in
             let before : j < k = omega arith in
-            kept j d before ∙ (s.solved j d before ∙ sym (need_same needs' needs k j d kept (omega arith) (omega arith))))
+            kept j d before ∙ (f.solved j d before ∙ sym (need_same after needs k j d kept (omega arith) (omega arith))))
             (cases_eq j k);
+      }
+
+  -- and it is within the bound
+  pub solved_more : (k : ℕ) (needs : List ℕ) (x : PairNo) (value : ℕ) → k < length order → (get_or order k x).0 ≡ x.0
+      → value ≡ need_at N needs x.0 → supply N x.0 + value ≤ MOST → IsSolved N order k needs → IsSolved N order (k + 1) (set needs x.0 value)
+  solved_more k needs x value kl at is low s =
+      let kept = needs_kept k needs x value kl at in
+      let here = need_written k needs x value kl at s.are_found in
+      let after = set needs x.0 value in
+      record {
+        are_found = found_more k needs x value kl at is s.are_found;
         within = λ j d jk. ⊎_elim
             (λ same.
-            let where_is : (get_or order j d).0 ≡ x.0 = ap (λ (i : ℕ). (get_or order i d).0) same ∙ place d in
-            subst (λ (w : ℕ). supply N w + slice_index needs' w ≤ MOST) (sym where_is) (omega arith))
+            let where_is : (get_or order j d).0 ≡ x.0 = ap (λ (i : ℕ). (get_or order i d).0) same ∙ same_place k x d kl at in
+            subst (λ (w : ℕ). supply N w + slice_index after w ≤ MOST) (sym where_is) (omega arith))
             (λ ne.
             let ne' : j ≢ k = ne in
             let before : j < k = omega arith in
@@ -91,15 +119,18 @@ module _ (N : Table) (order : List PairNo) (visit : IsVisit N order) where
       }
 
   pub solved_none : (needs : List ℕ) → length needs ≡ length N.pairs → IsSolved N order 0 needs
-  solved_none needs size = record { size = size; solved = λ j d l. absurd (omega arith); within = λ j d l. omega arith }
+  solved_none needs size = record {
+    are_found = record { size = size; solved = λ j d l. absurd (omega arith) };
+    within = λ j d l. omega arith;
+  }
 
-  pub needs_from_solved : (k : ℕ) (needs : List ℕ) → length order ≤ k → IsSolved N order k needs → AreNeeds N needs
-  needs_from_solved k needs all s = record {
-    size = s.size;
+  pub needs_from_found : (k : ℕ) (needs : List ℕ) → length order ≤ k → IsFound N order k needs → AreNeeds N needs
+  needs_from_found k needs all f = record {
+    size = f.size;
     need = λ x pair.
         let no_pair : PairNo = record { 0 = 0 } in
         let c = place_in order x (visit.every x pair) in
-        subst (λ (w : ℕ). slice_index needs w ≡ need_at N needs w) (c.2 no_pair) (s.solved c.0 no_pair (omega (arith, c.1)));
+        subst (λ (w : ℕ). slice_index needs w ≡ need_at N needs w) (c.2 no_pair) (f.solved c.0 no_pair (omega (arith, c.1)));
   }
 
   pub within_from_solved : (k : ℕ) (needs : List ℕ) → length order ≤ k → IsSolved N order k needs → AreWithin N needs
@@ -108,9 +139,65 @@ module _ (N : Table) (order : List PairNo) (visit : IsVisit N order) where
       let c = place_in order x (visit.every x pair) in
       subst (λ (w : ℕ). supply N w + slice_index needs w ≤ MOST) (c.2 no_pair) (s.within c.0 no_pair (omega (arith, c.1)))
 
+  -- the needs of all pairs, which are those that are found at the first pairs
+  abbrev pub AllNeeds : ℕ → List ℕ → Type 0
+  AllNeeds k needs = (all : List ℕ) × AreNeeds N all × ((j : ℕ) (d : PairNo) → j < k → slice_index all (get_or order j d).0 ≡ slice_index needs (get_or order j d).0)
+
+  pub needs_extended : (m k : ℕ) (needs : List ℕ) → m + k ≡ length order → IsFound N order k needs → AllNeeds k needs
+  needs_extended zero k needs size f = (needs, needs_from_found k needs (omega arith) f, λ j d l. refl)
+  needs_extended (suc m) k needs size f =
+      let no_pair : PairNo = record { 0 = 0 } in
+      let x : PairNo = get_or order k no_pair in
+      let kl : k < length order = omega arith in
+      let at : (get_or order k x).0 ≡ x.0 = ap (λ (z : PairNo). z.0) (get_or_default order k x no_pair kl) in
+      let value = need_at N needs x.0 in
+      let more = needs_extended m (k + 1) (set needs x.0 value) (omega arith) (found_more k needs x value kl at refl f) in
+      (more.0, more.1, λ j d l. more.2 j d (omega arith) ∙ needs_kept k needs x value kl at j d l)
+
 -- a sum with a cap that stays below a bound below the cap is exact
 pub cap_exact : (cap most supply need s n t : ℕ) → most < cap → s ≡ min supply cap → n ≡ min need cap → t ≡ min (s + n) cap → t ≤ most → (n ≡ need) × (supply + n ≤ most)
 cap_exact cap most supply need s n t small es en et low = (omega arith, omega arith)
 
 pub cap_above : (cap most supply need s n t : ℕ) → most < cap → s ≡ min supply cap → n ≡ min need cap → t ≡ min (s + n) cap → most < t → most < supply + need
 cap_above cap most supply need s n t small es en et high = omega arith
+
+-- the first pair above the bound in the order of the codes
+pub need_too_large : (N : Table) (codes : List ℕ) (order : List PairNo) (x : PairNo) → IsPlaced codes (length codes) order → IsVisit N order → AreCodes N codes
+    → ((y : ℕ) → IsPair N y → supply N y ≤ MOST) → IsFirstAbove N order x → IsNeedTooLarge N codes x.0
+need_too_large N codes order x placed visit are supplies first =
+    let k = first.place in
+    let needs = first.needs in
+    let all = needs_extended N order visit (length order - k) k needs (let l = first.short in omega arith) first.solved.are_found in
+    let same = need_same N order visit all.0 needs k k x all.2 (omega arith) first.short in
+    let same' : need_at N all.0 x.0 ≡ need_at N needs x.0 = subst (λ (w : ℕ). need_at N all.0 w ≡ need_at N needs w) first.at same in
+    let pair : IsPair N x.0 = subst (λ (w : ℕ). IsPair N w) first.at (visit.pairs k x first.short) in
+    let is = all.1.need x.0 pair in
+    let short : k < length codes = omega (arith, first.short, placed.size) in
+    let place = place_rank N codes order placed k x short in
+    let rank_x : rank codes x.0 ≡ k = subst (λ (w : ℕ). rank codes w ≡ k) first.at place.1 in
+    record {
+      pair = pair;
+      supplies = supplies;
+      needs = all.0;
+      are_needs = all.1;
+      above = omega (arith, first.above);
+      first = λ y pair_y before.
+          let no_pair : PairNo = record { 0 = 0 } in
+          let y_short : y < length codes = omega (arith, are.size) in
+          let x_short : x.0 < length codes = omega (arith, are.size) in
+          let low : rank codes y < rank codes x.0 = ⊎_elim
+          (λ code. rank_by_code codes y x.0 y_short code)
+          (λ both. rank_by_place codes y x.0 x_short both.0 both.1)
+          before in
+          let at = placed.placed y no_pair y_short in
+          let early : rank codes y < k = omega arith in
+          let within = first.solved.within (rank codes y) no_pair early in
+          let kept = all.2 (rank codes y) no_pair early in
+          subst (λ (w : ℕ). supply N w + slice_index all.0 w ≤ MOST) at (omega arith);
+    }
+
+pub bound_fault : (N : Table) (codes : List ℕ) (order : List PairNo) → IsPlaced codes (length codes) order → IsVisit N order → AreCodes N codes
+    → ((y : ℕ) → IsPair N y → supply N y ≤ MOST) → (fault : BoundFault) → IsNeedFault N order fault → IsBoundFault N codes fault
+bound_fault N codes order placed visit are supplies (SupplyTooLarge x) h = absurd h
+bound_fault N codes order placed visit are supplies (NeedTooLarge x) h = need_too_large N codes order x placed visit are supplies h
+bound_fault N codes order placed visit are supplies Memory h = tt

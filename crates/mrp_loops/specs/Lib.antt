@@ -1,7 +1,9 @@
 pub mod Loop
-pub mod Fault
+pub mod LoopFaults
 pub mod Taking
 pub mod Walk
 pub mod Order
 pub mod Need
 pub mod Sized
+pub mod BoundFaults
+pub mod Laws

@@ -3,6 +3,7 @@
 //! A [`SizedNet`] is a network that passed both.
 #![tactic(auto)]
 
+pub mod laws;
 mod loops;
 mod needs;
 mod order;

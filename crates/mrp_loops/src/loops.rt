@@ -1,7 +1,7 @@
 ghost use Rattle.std.specs.Prelude.{◌≡◌, ◌<◌, ◌≤◌, length, All, IfOk, IfErr, IfNone, IfSome, slice_index};
 ghost use Rattle.mrp_loops.specs.declared.loops.LoopFault.TheVariants.{Memory};
 ghost use Rattle.mrp_loops.specs.Loop.{IsLoopFree, AreCodes};
-ghost use Rattle.mrp_loops.specs.Fault.{IsLoopFault};
+ghost use Rattle.mrp_loops.specs.LoopFaults.{IsLoopFault};
 
 use crate::taking::take_away;
 use crate::walk::loop_above;

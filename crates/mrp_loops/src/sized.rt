@@ -1,4 +1,4 @@
-ghost use Rattle.std.specs.Prelude.{◌≡◌, ◌<◌, ◌≤◌, ◌+◌, ℕ, length, IfOk, IfErr, OnOk, slice_index, map};
+ghost use Rattle.std.specs.Prelude.{◌≡◌, ◌≤◌, ℕ, IfOk, IfErr, IfNone, IfSome, map};
 ghost use Rattle.mrp_qty.specs.declared.quantity.TheConstants.{MOST};
 ghost use Rattle.mrp_loops.specs.declared.sized.BoundFault.TheVariants.{Memory};
 ghost use Rattle.mrp_tables.specs.Table.{IsPair};
@@ -6,6 +6,7 @@ ghost use Rattle.mrp_net.specs.Sums.{supply};
 ghost use Rattle.mrp_loops.specs.Loop.{AreCodes};
 ghost use Rattle.mrp_loops.specs.Need.{AreNeeds, AreWithin};
 ghost use Rattle.mrp_loops.specs.Order.{IsVisit};
+ghost use Rattle.mrp_loops.specs.BoundFaults.{IsBoundFault, IsSupplyTooLarge, IsNeedFault};
 ghost use Rattle.mrp_loops.specs.Sized.{Sized, IsSized, IsPlanningOrder};
 
 use crate::Levels;
@@ -102,8 +103,11 @@ pub fn bound<'a>(
 ) -> Result<SizedNet<'a>, BoundFault>
     requires { AreCodes network.now levels.now }
     ensures sized { IfOk result (λ s. (s.network ≡ network.now) × (s.codes ≡ levels.now)) }
+    ensures fault { IfErr result (λ fault. IsBoundFault network.now levels.now fault) }
 {
-    test_supplies(network)?;
+    if let Some(x) = first_oversupplied(network) {
+        return Err(BoundFault::SupplyTooLarge(x));
+    }
     let order = by_code(alloc, levels, network.pairs())?;
     let needs = test_needs(alloc, network, order.as_slice())?;
     Ok(SizedNet {
@@ -114,16 +118,17 @@ pub fn bound<'a>(
     })
 }
 
-/// Tests that each supply is within the bound.
-fn test_supplies(network: &Network) -> Result<(), BoundFault>
-    ensures within { OnOk result ((x : ℕ) → IsPair network.now x → supply network.now x ≤ MOST) }
+/// The first pair in the table whose supply is above the bound.
+fn first_oversupplied(network: &Network) -> Option<PairNo>
+    ensures none { IfNone result ((x : ℕ) → IsPair network.now x → supply network.now x ≤ MOST) }
+    ensures some { IfSome result (λ x. IsSupplyTooLarge network.now x.0) }
 {
     for x in 0..network.pairs() {
         if network.supply(PairNo(x)) > MOST {
-            return Err(BoundFault::SupplyTooLarge(PairNo(x)));
+            return Some(PairNo(x));
         }
     }
-    Ok(())
+    None
 }
 
 /// The need of each pair; tests that supply and need together are within the bound.
@@ -131,6 +136,7 @@ fn test_needs(alloc: Global, network: &Network, order: &[PairNo]) -> Result<Vec<
     requires { IsVisit network.now order.now }
     ensures needs { IfOk result (λ needs. AreNeeds network.now needs.items) }
     ensures within { IfOk result (λ needs. AreWithin network.now needs.items) }
+    ensures fault { IfErr result (λ fault. IsNeedFault network.now order.now fault) }
 {
     let mut needs = vec![in alloc; 0; network.pairs()]?;
     for x in order {

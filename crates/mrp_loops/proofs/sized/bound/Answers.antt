@@ -1,5 +1,7 @@
 use Rattle.std.proofs.Common.{◌∙◌}
 use Rattle.mrp_loops.proofs.Planning.{visit_from_placed, planning_from_visit}
+use Rattle.mrp_loops.proofs.Needed.{bound_fault}
+use Rattle.std.proofs.lemmas.Result.{err_from_is_err_and}
 use Rattle.mrp_loops.proofs.sized.bound.Goals as goal
 
 pub test_needs-requires : goal.test_needs-requires
@@ -20,3 +22,12 @@ invariant_of-result c =
       },
       planning_from_visit N order visit (c.in_ok-order.ensures.size ∙ c.requires.size),
     )
+
+pub returns-in_err-needs-clause-fault : goal.returns-in_err-needs-clause-fault
+returns-in_err-needs-clause-fault c =
+    let N = c.args.network.now in
+    let order = c.in_ok-order.order.items in
+    let visit = visit_from_placed N c.args.levels.now order c.in_ok-order.ensures c.pairs.ensures.table c.requires in
+    let p = err_from_is_err_and c.from_residual-in_err-needs.result c.from_residual-in_err-needs.ensures.1 in
+    rw (p.1, p.2)
+    (bound_fault N c.args.levels.now order c.in_ok-order.ensures visit c.requires c.in_default.ensures.none _ (rw (← c.as_slice.ensures.value) c.in_err-needs.ensures.fault))

@@ -1,0 +1,37 @@
+-- Laws of codes, of networks without loops, and of needs.
+use Rattle.std.specs.Prelude.{◌≡◌, ℕ, ◌<◌, Bool, true, false, List, slice_index}
+use Rattle.mrp_tables.specs.Table.{Table, IsTable, IsPair}
+use Rattle.mrp_loops.specs.Loop.{HasEdge, IsLoopFree, AreCodes}
+use Rattle.mrp_loops.specs.Need.{AreNeeds}
+
+-- codes rise along edges
+abbrev pub CodesRise : Type 0
+CodesRise =
+    (N : Table) (codes : List ℕ) → IsTable N → AreCodes N codes → (y x : ℕ) → HasEdge N y x → slice_index codes y < slice_index codes x
+
+-- a network whose pairs have codes has no loop
+abbrev pub CodedIsLoopFree : Type 0
+CodedIsLoopFree = (N : Table) (codes : List ℕ) → IsTable N → AreCodes N codes → IsLoopFree N
+
+-- a network has one list of codes
+abbrev pub CodesAreOne : Type 0
+CodesAreOne = (N : Table) (a b : List ℕ) → AreCodes N a → AreCodes N b → a ≡ b
+
+-- in a set of pairs of a network without loops that isn't empty there is a pair without a demander in
+-- the set
+abbrev pub SetsHaveAFirst : Type 0
+SetsHaveAFirst =
+    (N : Table) → IsTable N → IsLoopFree N → (set : ℕ → Bool) (x : ℕ) → IsPair N x → set x ≡ true
+    → (first : ℕ) × IsPair N first × (set first ≡ true) × ((y : ℕ) → HasEdge N y first → set y ≡ false)
+
+-- what holds of a pair wherever it holds of all its demanders holds of each pair of a network without
+-- loops
+abbrev pub DemandersDecide : Type 0
+DemandersDecide =
+    (N : Table) → IsTable N → IsLoopFree N → (test : ℕ → Bool)
+    → ((x : ℕ) → IsPair N x → ((y : ℕ) → HasEdge N y x → test y ≡ true) → test x ≡ true)
+    → (x : ℕ) → IsPair N x → test x ≡ true
+
+-- a network without loops has at most one list of needs
+abbrev pub NeedsAreOne : Type 0
+NeedsAreOne = (N : Table) → IsTable N → IsLoopFree N → (a b : List ℕ) → AreNeeds N a → AreNeeds N b → a ≡ b

@@ -1,0 +1,29 @@
+//! Laws of codes, of networks without loops, and of needs. Each is the contract of a function that
+//! does nothing.
+
+ghost use Rattle.mrp_loops.specs.Laws.{CodesRise, CodedIsLoopFree, CodesAreOne, SetsHaveAFirst, DemandersDecide, NeedsAreOne};
+
+/// Low-level codes rise along edges: a pair's code is above that of each of its demanders. So a
+/// network with codes has no loop, and it has one list of codes.
+pub fn codes_rise()
+    ensures rise { CodesRise }
+    ensures free { CodedIsLoopFree }
+    ensures one { CodesAreOne }
+{}
+
+/// In each set of pairs of a network without loops that isn't empty there is a pair without a
+/// demander in the set. The set is given as a test.
+pub fn sets_have_a_first()
+    ensures { SetsHaveAFirst }
+{}
+
+/// What holds of a pair wherever it holds of all its demanders holds of each pair of a network
+/// without loops.
+pub fn demanders_decide()
+    ensures { DemandersDecide }
+{}
+
+/// A network without loops has at most one list of needs.
+pub fn needs_are_one()
+    ensures { NeedsAreOne }
+{}
