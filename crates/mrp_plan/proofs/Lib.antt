@@ -1,4 +1,5 @@
 pub mod Asked
+pub mod OnePlan
 pub mod Orders
 pub mod Pegs
 pub mod Periods

@@ -2,6 +2,7 @@
 #![tactic(auto)]
 
 mod explosion;
+pub mod laws;
 mod pegging;
 mod plan;
 mod terms;

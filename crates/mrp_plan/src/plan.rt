@@ -4,7 +4,7 @@ ghost use Rattle.mrp_lot.specs.One.{one};
 ghost use Rattle.mrp_tables.specs.Table.{IsPair, horizon};
 ghost use Rattle.mrp_net.specs.Edges.{demanders};
 ghost use Rattle.mrp_net.specs.Sums.{demand, demand_total, incoming, received_total, shipped_total, row_of};
-ghost use Rattle.mrp_net.specs.Plan.{Fits, gross, pair_plan, rows_at};
+ghost use Rattle.mrp_net.specs.Plan.{Fits, gross, pair_plan, plan_of, rows_at};
 ghost use Rattle.mrp_loops.specs.Sized.{IsSized, IsPlanningOrder};
 ghost use Rattle.mrp_plan.specs.Explosion.{asked_total};
 ghost use Rattle.mrp_plan.specs.Progress.{CanPlan, IsPlannedTo};
@@ -59,7 +59,8 @@ impl Plan {
 ///
 /// [`Memory`] where room for a plan is refused.
 pub fn plan_all(alloc: Global, net: &SizedNet) -> Result<Plan, Memory>
-    ensures { IfOk result (λ plan. Fits net.now.network plan) }
+    ensures fits { IfOk result (λ plan. Fits net.now.network plan) }
+    ensures value { IfOk result (λ plan. plan ≡ plan_of net.now.network) }
 {
     let network = net.network();
     let horizon = network.horizon();
