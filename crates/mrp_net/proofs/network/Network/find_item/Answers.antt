@@ -1,0 +1,17 @@
+use Rattle.std.proofs.Common.{◌≡◌, subst}
+use Rattle.std.specs.Option.{IfSome, IfNone}
+use Rattle.std.specs.List.{Contains, slice_get}
+use Rattle.std.proofs.Common.{Some}
+use Rattle.mrp_tables.specs.Table.{Table}
+use Rattle.mrp_net.proofs.Naming.{found_name, missing_name}
+use Rattle.mrp_net.proofs.network.Network.find_item.Goals as goal
+
+pub returns-clause-found : goal.returns-clause-found
+returns-clause-found c =
+    subst (λ (z : Table). IfSome c.find_item.result (λ i. slice_get z.items i.0 ≡ Some c.args.name.now)) c.self.view_is
+    (found_name c.self.inside.tables.items c.args.name.now c.find_item.result c.find_item.ensures.place)
+
+pub returns-clause-missing : goal.returns-clause-missing
+returns-clause-missing c =
+    subst (λ (z : Table). IfNone c.find_item.result (¬ Contains z.items c.args.name.now)) c.self.view_is
+    (missing_name c.self.inside.tables.items c.args.name.now c.find_item.result c.find_item.ensures.place)
