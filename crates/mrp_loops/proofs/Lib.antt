@@ -9,3 +9,4 @@ pub mod Ranks
 pub mod Planning
 pub mod Needed
 pub mod Upstream
+pub mod Ordered

@@ -35,3 +35,7 @@ DemandersDecide =
 -- a network without loops has at most one list of needs
 abbrev pub NeedsAreOne : Type 0
 NeedsAreOne = (N : Table) → IsTable N → IsLoopFree N → (a b : List ℕ) → AreNeeds N a → AreNeeds N b → a ≡ b
+
+-- a network whose pairs have codes has needs
+abbrev pub NeedsExist : Type 0
+NeedsExist = (N : Table) (codes : List ℕ) → IsTable N → AreCodes N codes → (needs : List ℕ) × AreNeeds N needs

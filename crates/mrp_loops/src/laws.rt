@@ -1,7 +1,7 @@
 //! Laws of codes, of networks without loops, and of needs. Each is the contract of a function that
 //! does nothing.
 
-ghost use Rattle.mrp_loops.specs.Laws.{CodesRise, CodedIsLoopFree, CodesAreOne, SetsHaveAFirst, DemandersDecide, NeedsAreOne};
+ghost use Rattle.mrp_loops.specs.Laws.{CodesRise, CodedIsLoopFree, CodesAreOne, SetsHaveAFirst, DemandersDecide, NeedsExist, NeedsAreOne};
 
 /// Low-level codes rise along edges: a pair's code is above that of each of its demanders. So a
 /// network with codes has no loop, and it has one list of codes.
@@ -23,7 +23,8 @@ pub fn demanders_decide()
     ensures { DemandersDecide }
 {}
 
-/// A network without loops has at most one list of needs.
+/// A network with codes has needs, and a network without loops has at most one list of them.
 pub fn needs_are_one()
-    ensures { NeedsAreOne }
+    ensures exist { NeedsExist }
+    ensures one { NeedsAreOne }
 {}

@@ -64,7 +64,8 @@ impl Levels {
         ensures value { result ≡ slice_index self.now x.0 }
         ensures within { result ≤ length self.now }
     {
-        self.codes[x.0] as usize
+        let codes = self.codes.as_slice();
+        codes[x.0] as usize
     }
 }
 
