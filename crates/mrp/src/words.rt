@@ -1,0 +1,237 @@
+ghost use Rattle.std.specs.Prelude.{IfOk, IfSome};
+ghost use Rattle.mrp.specs.Choice.{IsInRange};
+
+use crate::text::MOST_CAPACITY;
+use clap::{Arg, ArgAction, ArgMatches, Command, value_parser};
+use std::alloc::{AllocError, AllocFailed, Global};
+use thiserror::Error;
+
+/// What the program is asked to do.
+#[derive(Clone, Copy, Debug, PartialEq, Eq)]
+pub enum Choice<'a> {
+    /// Write the plan.
+    Plan {
+        /// Worker threads of each plant, 1 to 64.
+        workers: u64,
+        /// Records that the mailbox between two plants holds, 1 to 65,536.
+        capacity: u64,
+        /// One thread plans all plants.
+        single: bool,
+    },
+    /// Write the low-level codes.
+    Check,
+    /// Write what a gross requirement consists of.
+    Peg {
+        /// The name of the plant.
+        plant: &'a str,
+        /// The name of the item.
+        item: &'a str,
+        /// The period, 0 to 103.
+        period: u64,
+    },
+}
+
+/// Why no choice was made.
+#[derive(Debug, Drop, Error)]
+pub enum ChooseFault {
+    /// The words are refused, or help was asked for: `clap` has the text and says which.
+    #[error("{0}")]
+    Words(clap::Error),
+    /// A growth was refused.
+    #[error("out of memory")]
+    Memory,
+}
+
+impl From<AllocError> for ChooseFault {
+    fn from(_refusal: AllocError) -> ChooseFault {
+        ChooseFault::Memory
+    }
+}
+
+impl<T: Drop> From<AllocFailed<T>> for ChooseFault {
+    fn from(_refusal: AllocFailed<T>) -> ChooseFault {
+        ChooseFault::Memory
+    }
+}
+
+const ABOUT: &str = "Plans the material of all plants of a firm. The table is read from standard \
+input, and the report is written to standard output.";
+
+const AFTER: &str = "A table is comma-separated rows of eight fields, kind by kind:\n\
+\n\
+  run,FIRST,DAYS,PERIODS,,,,\n\
+  plant,PLANT,,,,,,\n\
+  pair,PLANT,ITEM,SUPPLY,RULE,LEAD,ONHAND,SAFETY\n\
+  bill,PLANT,PARENT,COMPONENT,PER,,,\n\
+  demand,PLANT,ITEM,PERIOD,QUANTITY,,,\n\
+  receipt,PLANT,ITEM,PERIOD,QUANTITY,,,\n\
+  ship,FROM,TO,ITEM,PERIOD,QUANTITY,,\n\
+  cum,FROM,TO,ITEM,FIGURE,,,\n\
+  reset,FROM,TO,ITEM,PERIOD,,,\n\
+\n\
+SUPPLY is make, buy, from:PLANT, or from: with two to four plants and their shares in thousandths, \
+as from:B:600:C:400. RULE is lot, fixed:Q, periods:K or min:M:K. Periods count from 0.\n\
+\n\
+Statuses: 0 done, 1 the table is refused, 2 the words are refused, 3 reading, writing or memory \
+failed. After 1 and 3 one line on standard error says why.";
+
+const PLAN: &str =
+    "Writes the plan: for each pair of a plant and an item, period by period, a row\n\
+\n\
+  plan,PLANT,ITEM,PERIOD,DATE,GROSS,INCOMING,ORDER,RELEASE,AVAILABLE\n\
+\n\
+and then a row for each order that would have had to be released before period 0:\n\
+\n\
+  late,PLANT,ITEM,PERIOD,QUANTITY,BY";
+
+const PLAN_EXAMPLE: &str = "Example: mrp plan < bicycle.csv > bicycle.plan.csv";
+
+const CHECK: &str = "Writes the low-level code of each pair: the length of the longest chain of \
+demanders above it. Refuses a table with a loop, or with quantities above 10^15.\n\
+\n\
+  code,PLANT,ITEM,CODE";
+
+const CHECK_EXAMPLE: &str = "Example: mrp check < bicycle.csv";
+
+const PEG: &str =
+    "Writes what the gross requirement of a pair in a period consists of, a row for each \
+source: demand for its own demand rows, bill for a parent at its plant, plant for the item at a plant \
+that takes it from this one.\n\
+\n\
+  peg,SOURCE,PLANT,ITEM,RELEASE,PER,QUANTITY";
+
+const PEG_EXAMPLE: &str = "Example: mrp peg P1 WHEEL 2 < bicycle.csv";
+
+/// Reads the words of a command line, of which the first is the program's name.
+///
+/// # Errors
+///
+/// [`ChooseFault::Words`] where `clap` refuses the words, was asked for help or ran out of memory;
+/// [`ChooseFault::Memory`] where a growth was refused.
+pub fn choose<'a>(alloc: Global, words: &'a [&'a str]) -> Result<Choice<'a>, ChooseFault>
+    ensures range { IfOk result IsInRange }
+{
+    let command = program(alloc)?;
+    let matches = match command.try_get_matches_from(words) {
+        Ok(matches) => matches,
+        Err(error) => return Err(ChooseFault::Words(error)),
+    };
+    match chosen(&matches) {
+        Some(choice) => Ok(choice),
+        None => Err(ChooseFault::Memory),
+    }
+}
+
+/// The whole command line.
+fn program<'a>(alloc: Global) -> Result<Command<'a>, AllocError> {
+    Command::new(alloc, "mrp")
+        .about(ABOUT)
+        .after_help(AFTER)
+        .subcommand_required(true)
+        .subcommand(plan_command(alloc)?)?
+        .subcommand(check_command(alloc))?
+        .subcommand(peg_command(alloc)?)
+}
+
+/// `plan`.
+fn plan_command<'a>(alloc: Global) -> Result<Command<'a>, AllocError> {
+    let workers = Arg::new(alloc, "workers")
+        .long("workers")
+        .value_name("W")
+        .value_parser(value_parser!(u64).range(1..65))
+        .default_value("1")
+        .help("Worker threads of each plant, 1 to 64");
+    let capacity = Arg::new(alloc, "capacity")
+        .long("capacity")
+        .value_name("C")
+        .value_parser(value_parser!(u64).range(1..65_537))
+        .default_value("64")
+        .help("Records that wait between two plants at most, 1 to 65536");
+    let single = Arg::new(alloc, "single")
+        .long("single")
+        .action(ArgAction::SetTrue)
+        .help("Plan all plants on one thread");
+    Command::new(alloc, "plan")
+        .about(PLAN)
+        .after_help(PLAN_EXAMPLE)
+        .arg(workers)?
+        .arg(capacity)?
+        .arg(single)
+}
+
+/// `check`.
+fn check_command<'a>(alloc: Global) -> Command<'a> {
+    Command::new(alloc, "check")
+        .about(CHECK)
+        .after_help(CHECK_EXAMPLE)
+}
+
+/// `peg`.
+fn peg_command<'a>(alloc: Global) -> Result<Command<'a>, AllocError> {
+    let plant = Arg::new(alloc, "plant")
+        .value_name("PLANT")
+        .required(true)
+        .help("The name of the plant");
+    let item = Arg::new(alloc, "item")
+        .value_name("ITEM")
+        .required(true)
+        .help("The name of the item");
+    let period = Arg::new(alloc, "period")
+        .value_name("PERIOD")
+        .required(true)
+        .value_parser(value_parser!(u64).range(0..104))
+        .help("The period, 0 to 103");
+    Command::new(alloc, "peg")
+        .about(PEG)
+        .after_help(PEG_EXAMPLE)
+        .arg(plant)?
+        .arg(item)?
+        .arg(period)
+}
+
+/// The choice that the matches name.
+fn chosen<'a>(matches: &ArgMatches<'a>) -> Option<Choice<'a>>
+    ensures range { IfSome result IsInRange }
+{
+    let (name, values) = matches.subcommand()?;
+    if name == "plan" {
+        planning(values)
+    } else if name == "check" {
+        Some(Choice::Check)
+    } else {
+        pegging(values)
+    }
+}
+
+/// The values of `plan`.
+fn planning<'a>(values: &ArgMatches<'a>) -> Option<Choice<'a>>
+    ensures range { IfSome result IsInRange }
+{
+    let workers = values.get_one::<u64>("workers")?;
+    let capacity = values.get_one::<u64>("capacity")?;
+    if workers < 1 || workers > 64 || capacity < 1 || capacity > MOST_CAPACITY {
+        return None;
+    }
+    Some(Choice::Plan {
+        workers,
+        capacity,
+        single: values.get_flag("single"),
+    })
+}
+
+/// The values of `peg`.
+fn pegging<'a>(values: &ArgMatches<'a>) -> Option<Choice<'a>>
+    ensures range { IfSome result IsInRange }
+{
+    let plant = values.get_str("plant")?;
+    let item = values.get_str("item")?;
+    let period = values.get_one::<u64>("period")?;
+    if period > 103 {
+        return None;
+    }
+    Some(Choice::Peg {
+        plant,
+        item,
+        period,
+    })
+}

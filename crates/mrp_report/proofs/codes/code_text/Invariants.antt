@@ -1,0 +1,13 @@
+use Rattle.std.proofs.Common.{◌≡◌, ◌++◌}
+use Rattle.std.specs.Prelude.{slice_index}
+use Rattle.std.specs.List.{flat_map, range_with_len}
+use Rattle.mrp_report.specs.Rows.{IsBetweenRows, written}
+use Rattle.mrp_report.specs.Report.{code_row, plant_of, item_of}
+use Rattle.mrp_report.proofs.codes.code_text.Given as goal
+
+-- the rows of the pairs before x are there
+abbrev pub invariant-pairs : goal.invariant-pairs
+invariant-pairs l = record {
+  between : IsBetweenRows l.rows;
+  so_far : written l.rows ≡ written l.initial.rows ++ flat_map (λ x. code_row (plant_of l.network x) (item_of l.network x) (slice_index l.levels x)) (range_with_len 0 l.x);
+}

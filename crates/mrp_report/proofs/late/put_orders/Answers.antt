@@ -1,0 +1,15 @@
+use Rattle.std.proofs.Common.{◌≡◌, ◌++◌, length, arith, rules, sym, ap, ◌∙◌, List, get_or, take_all}
+use Rattle.mrp_report.specs.Rows.{written}
+use Rattle.mrp_report.specs.Report.{late_row}
+use Rattle.mrp_report.proofs.RowFacts.{rows_of-more}
+use Rattle.mrp_report.proofs.late.put_orders.Goals as goal
+
+pub orders-preserved : goal.orders-preserved
+orders-preserved c =
+    let read : get_or c.args.plan.now.late c.orders.i c.late.result ≡ c.late.result = sym c.late.ensures in
+    record {
+      between = c.in_ok-put_order.ensures.between;
+      so_far = rows_of-more (late_row c.args.plant.now c.args.item.now) c.args.plan.now.late c.late.result
+          _ _ _ c.orders.i (omega arith) c.orders.invariant.so_far
+          (rw read c.in_ok-put_order.ensures.row);
+    }

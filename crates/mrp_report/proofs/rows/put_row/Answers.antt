@@ -1,0 +1,9 @@
+use Rattle.csv.specs.Writing.{writer_setup}
+use Rattle.mrp_report.specs.Rows.{written}
+use Rattle.mrp_report.proofs.RowFacts.{row_added}
+use Rattle.mrp_report.proofs.rows.put_row.Goals as goal
+
+pub returns-clause-row : goal.returns-clause-row
+returns-clause-row c =
+    row_added (writer_setup c.args.rows.now) (written c.args.rows.now) (written c.write_fields.new.self) _ c.requires.setup
+    (c.in-Ok.ensures.bytes c.requires.fields c.requires.bytes)

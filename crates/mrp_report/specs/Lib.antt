@@ -1,0 +1,4 @@
+pub mod Sending
+pub mod Rows
+pub mod Dates
+pub mod Report

@@ -1,0 +1,21 @@
+//! Reports of a plan as comma-separated rows: the plan rows and the late orders of a plan, the terms
+//! of a gross requirement, and the low-level codes.
+//!
+//! A row ends with a line feed, and there is no header row. A report is built whole before its first
+//! byte is sent: a report that can't be built for want of memory leaves the writer as it was.
+#![tactic(auto)]
+
+mod codes;
+mod fault;
+mod late;
+mod pegs;
+mod plan;
+mod rows;
+mod writing;
+
+pub use codes::code_rows;
+pub use fault::ReportFault;
+pub use late::late_rows;
+pub use pegs::peg_rows;
+pub use plan::plan_rows;
+pub use writing::send;

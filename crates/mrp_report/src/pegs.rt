@@ -1,0 +1,98 @@
+ghost use Rattle.std.specs.Prelude.{◌≡◌, ◌++◌, Err, OnOk, IfOk, IfErr, All};
+ghost use Rattle.mrp_tables.specs.Table.{IsPair};
+ghost use Rattle.mrp_report.specs.Rows.{IsBetweenRows, written};
+ghost use Rattle.mrp_report.specs.Sending.{Sends};
+ghost use Rattle.mrp_report.specs.Report.{peg_row, peg_text, source_word};
+
+use crate::ReportFault;
+use crate::rows::{put_row, room_for, text_of};
+use crate::writing::send;
+use csv::Writer;
+use itoa::Buffer;
+use mrp_loops::SizedNet;
+use mrp_net::Network;
+use mrp_plan::{PegSource, PegTerm};
+use std::alloc::Global;
+use std::io::Write;
+
+/// The most bytes of a row: two words, two names of 20, two quantities of 16, a factor of 7 digits,
+/// the commas and the line feed.
+const LONGEST_ROW: usize = 95;
+
+/// Writes a row for each term in its order: `peg`, the source (`demand`, `bill` or `plant`), plant and
+/// item of the pair that asks, its release, the pieces for each piece of it, and their product.
+///
+/// Each term names a pair of the network.
+///
+/// # Errors
+///
+/// - [`ReportFault::WriteFault`] where a write fails or takes nothing; a front of the report is
+///   written.
+/// - [`ReportFault::Memory`] where the room for the report is refused; nothing is written.
+pub fn peg_rows<W: Write>(
+    alloc: Global,
+    net: &SizedNet<'_>,
+    terms: &[PegTerm],
+    out: &mut W,
+) -> Result<(), ReportFault>
+    requires { All (λ term. IsPair net.now.network term.pair.0) terms.now }
+    ensures text { Sends (W.contents out.old) (W.contents out.new) result (peg_text net.now.network terms.now) }
+    ensures untouched { result ≡ Err ReportFault.Memory → out.new ≡ out.old }
+{
+    let text = peg_text(alloc, net.network(), terms)?;
+    send(text.as_slice(), out)
+}
+
+/// The rows of the terms as bytes.
+fn peg_text(alloc: Global, network: &Network, terms: &[PegTerm]) -> Result<Vec<u8>, ReportFault>
+    requires { All (λ term. IsPair network.now term.pair.0) terms.now }
+    ensures text { IfOk result (λ text. text.items ≡ peg_text network.now terms.now) }
+    ensures fault { IfErr result (λ fault. fault ≡ ReportFault.Memory) }
+{
+    let mut rows = room_for(alloc, terms.len(), LONGEST_ROW)?;
+    'terms: for term in terms {
+        put_term(&mut rows, network, *term)?;
+    }
+    text_of(rows)
+}
+
+/// What a row calls the source of a term.
+fn source_word<'a>(source: PegSource) -> &'a [u8]
+    ensures { result.now ≡ source_word source }
+{
+    match source {
+        PegSource::Demand => b"demand",
+        PegSource::Bill => b"bill",
+        PegSource::Plant => b"plant",
+    }
+}
+
+/// Adds the row of a term.
+fn put_term<'a>(
+    rows: &mut Writer<Vec<u8>>,
+    network: &'a Network,
+    term: PegTerm,
+) -> Result<(), ReportFault>
+    requires between { IsBetweenRows rows.old }
+    requires pair { IsPair network.now term.pair.0 }
+    ensures row { OnOk result (written rows.new ≡ written rows.old ++ peg_row network.now term) }
+    ensures between { OnOk result (IsBetweenRows rows.new) }
+    ensures fault { IfErr result (λ fault. fault ≡ ReportFault.Memory) }
+{
+    let (plant, item) = network.pair_name(term.pair);
+    let mut release = Buffer::new();
+    let mut per = Buffer::new();
+    let mut quantity = Buffer::new();
+    put_row(
+        rows,
+        &[
+            b"peg",
+            source_word(term.source),
+            plant.as_bytes(),
+            item.as_bytes(),
+            release.format(term.release).as_bytes(),
+            per.format(term.per).as_bytes(),
+            quantity.format(term.quantity).as_bytes(),
+        ],
+    )
+}

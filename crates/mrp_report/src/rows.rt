@@ -1,0 +1,44 @@
+ghost use Rattle.std.specs.Prelude.{◌≡◌, ◌++◌, map, IfOk, OnOk, IfErr, [], length};
+ghost use Rattle.mrp_report.specs.Rows.{row, IsBetweenRows, written};
+
+use crate::ReportFault;
+use csv::Writer;
+use std::alloc::Global;
+
+/// Room for so many rows of at most so many bytes each.
+pub(crate) fn room_for(
+    alloc: Global,
+    rows: usize,
+    longest: usize,
+) -> Result<Writer<Vec<u8>>, ReportFault>
+    ensures empty { IfOk result (λ rows. written rows ≡ []) }
+    ensures between { IfOk result IsBetweenRows }
+    ensures fault { IfErr result (λ fault. fault ≡ ReportFault.Memory) }
+{
+    let text = Vec::with_capacity(alloc, rows.saturating_mul(longest))?;
+    Ok(Writer::from_writer(text))
+}
+
+/// Adds a row of these fields.
+pub(crate) fn put_row(rows: &mut Writer<Vec<u8>>, fields: &[&[u8]]) -> Result<(), ReportFault>
+    requires { IsBetweenRows rows.old }
+    ensures row { OnOk result (written rows.new ≡ written rows.old ++ row (map (λ field. field.now) fields.now)) }
+    ensures between { OnOk result (IsBetweenRows rows.new) }
+    ensures fault { IfErr result (λ fault. fault ≡ ReportFault.Memory) }
+{
+    let Ok(()) = rows.write_fields(fields) else {
+        return Err(ReportFault::Memory);
+    };
+    Ok(())
+}
+
+/// The text of the rows.
+pub(crate) fn text_of(rows: Writer<Vec<u8>>) -> Result<Vec<u8>, ReportFault>
+    ensures text { IfOk result (λ text. text.items ≡ written rows) }
+    ensures fault { IfErr result (λ fault. fault ≡ ReportFault.Memory) }
+{
+    match rows.into_inner() {
+        Ok(text) => Ok(text),
+        Err(_) => Err(ReportFault::Memory),
+    }
+}
