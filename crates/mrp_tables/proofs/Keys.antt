@@ -1,13 +1,23 @@
 -- The places of keys.
-use Rattle.std.proofs.Common.{◌≡◌, ◌≤◌, ◌<◌, ℕ, ◌+◌, ◌==◌, ◌&&◌, ◌||◌, Bool, cond, true, false, not, ltb, if◌then◌else◌, List, [], ◌∷◌, ◌++◌, map, length, position, unwrap_or, option_map, Option, None, Some, IsSome, IfSome, is_some, ◌↔◌, String, Global, refl, ap, sym, ◌∙◌, subst, arith, rules}
-use Rattle.std.specs.List.{All, position_or_len, list_any}
+use Rattle.std.proofs.Common.{◌≡◌, ◌≤◌, ◌<◌, ℕ, get_or, ◌+◌, ◌==◌, ◌&&◌, ◌||◌, Bool, cond, true, false, not, ltb, if◌then◌else◌, List, [], ◌∷◌, ◌++◌, map, length, position, slice_get, unwrap_or, option_map, Option, None, Some, IsSome, IfSome, is_some, ◌↔◌, String, Global, refl, ap, sym, ◌∙◌, subst, arith, rules}
+use Rattle.std.specs.List.{All, IsDistinct, position_or_len, list_any}
 use Rattle.std.specs.Str.{bytes_eq}
-use Rattle.std.specs.String.{string_bytes, string_eq}
+use Rattle.std.specs.String.{string_bytes, string_eq, string_eq_equiv}
 use Rattle.std.proofs.lemmas.List.{length-map, map-append}
 use Rattle.std.proofs.lemmas.Bool.Decides.{nat_tests}
-use Rattle.std.proofs.lemmas.List.Sums.{fails_before_first}
+use Rattle.std.proofs.lemmas.List.Sums.{fails_before_first, position_or_len_is}
+use Rattle.std.proofs.lemmas.Bool.{lt-ltb}
+use Rattle.std.proofs.lemmas.Slice.Eq.{bytes_eq-Decides}
+use Rattle.std.proofs.lemmas.Map.Keys.{apart_from_distinct}
 use Rattle.indexmap.specs.IndexSet.{insert_key}
-use Rattle.mrp_tables.specs.Lists.{add_item, key_of}
+use Rattle.mrp_tables.specs.Lists.{add_item, bill_key_of, cum_key_of, key_of, lane_of}
+use Rattle.mrp_tables.specs.contracts.draft.BillKeyPartialEq.TheImpl as bill
+use Rattle.mrp_tables.specs.contracts.draft.LaneKeyPartialEq.TheImpl as lane
+use Rattle.mrp_tables.specs.declared.draft.BillKey.{BillKey}
+use Rattle.mrp_tables.specs.declared.draft.LaneKey.{LaneKey}
+use Rattle.mrp_tables.specs.declared.rows.BillRow.{BillRow}
+use Rattle.mrp_tables.specs.declared.rows.CumRow.{CumRow}
+use Rattle.mrp_tables.specs.declared.rows.SourceRow.{SourceRow}
 use Rattle.mrp_tables.specs.contracts.row_lists.PairKeyPartialEq.TheImpl.{eq-value}
 use Rattle.mrp_tables.specs.declared.rows.PairRow.{PairRow}
 use Rattle.mrp_tables.specs.declared.row_lists.PairKey.{PairKey}
@@ -79,3 +89,52 @@ All-from_position p xs e k d lt = fails_before_first p xs k d (by (ltb (position
     by : (b : Bool) → ltb (position_or_len p xs) (length xs) ≡ b → cond b (Some (position_or_len p xs)) None ≡ None → k < length xs → k < position_or_len p xs
     by true t e lt = absurd (cc)
     by false t e lt = grind (arith, nat_tests)
+
+-- the first place at which a test passes
+pub position_is : {X : Type 0} (p : X → Bool) (xs : List X) (i : ℕ) (d : X) → i < length xs → ((k : ℕ) → k < i → p (get_or xs k d) ≡ false) → p (get_or xs i d) ≡ true → position p xs ≡ Some i
+position_is p xs i d lt before here =
+    let e : position_or_len p xs ≡ i = position_or_len_is p xs i d (omega arith) before (λ l. here) in
+    rw (e, lt-ltb i (length xs) lt) refl
+
+-- a key that is there stands at one place
+pub position_near : (keys : List (String Global)) (name : List ℕ) (near : ℕ) (k : String Global) → IsDistinct string_eq keys → near < length keys → k ≡ get_or keys near k → bytes_eq (string_bytes k) name ≡ true
+    → position (bytes_eq name) (map string_bytes keys) ≡ Some near
+position_near keys name near k distinct within at same =
+    let is : string_bytes k ≡ name = (bytes_eq-Decides (string_bytes k) name).0 same in
+    let there : get_or keys near k ≡ k = sym at in
+    let test : String Global → Bool = λ x. bytes_eq (string_bytes k) (string_bytes x) in
+    let before : (j : ℕ) → j < near → test (get_or keys j k) ≡ false =
+    λ j lt. string_eq_equiv.symm k (get_or keys j k) ∙ ap (string_eq (get_or keys j k)) (sym there) ∙ apart_from_distinct string_eq keys j near k distinct lt within in
+    let here : test (get_or keys near k) ≡ true = ap test there ∙ string_eq_equiv.refl k in
+    subst (λ (n : List ℕ). position (bytes_eq n) (map string_bytes keys) ≡ Some near) is
+    (position_keys string_bytes (bytes_eq (string_bytes k)) test (λ x. refl) keys ∙ position_is test keys near k within before here)
+
+swap : (a b c d : ℕ) → ((a == b) && (c == d)) ≡ ((b == a) && (d == c))
+swap a b c d = rw (same_test a b, same_test c d) refl
+
+-- whether there is a bill row of two pairs
+pub any_bill : (x y : PairNo) (keys : List BillKey) (bills : List BillRow) → keys ≡ map bill_key_of bills
+    → list_any (bill.eq-value.it (record { parent = x; component = y })) keys ≡ list_any (λ b. (b.parent.0 == x.0) && (b.component.0 == y.0)) bills
+any_bill x y keys bills same =
+    ap (list_any (bill.eq-value.it (record { parent = x; component = y }))) same
+    ∙ list_any_keys bill_key_of _ (λ b. (b.parent.0 == x.0) && (b.component.0 == y.0)) (λ b. swap x.0 b.parent.0 y.0 b.component.0) bills
+
+-- whether there is a cum row of a plant and a pair
+pub any_cum : (f : PlantNo) (x : PairNo) (keys : List LaneKey) (cums : List CumRow) → keys ≡ map cum_key_of cums
+    → list_any (lane.eq-value.it (record { from = f; pair = x })) keys ≡ list_any (λ c. (c.from.0 == f.0) && (c.pair.0 == x.0)) cums
+any_cum f x keys cums same =
+    ap (list_any (lane.eq-value.it (record { from = f; pair = x }))) same
+    ∙ list_any_keys cum_key_of _ (λ c. (c.from.0 == f.0) && (c.pair.0 == x.0)) (λ c. swap f.0 c.from.0 x.0 c.pair.0) cums
+
+-- the place of a source
+pub place_of_source : (f : PlantNo) (x : PairNo) (keys : List LaneKey) (sources : List SourceRow) → keys ≡ map lane_of sources
+    → position (lane.eq-value.it (record { from = f; pair = x })) keys ≡ position (λ s. (s.plant.0 == f.0) && (s.pair.0 == x.0)) sources
+place_of_source f x keys sources same =
+    ap (position (lane.eq-value.it (record { from = f; pair = x }))) same
+    ∙ position_keys lane_of _ (λ s. (s.plant.0 == f.0) && (s.pair.0 == x.0)) (λ s. swap f.0 s.plant.0 x.0 s.pair.0) sources
+
+-- the names after one that is new
+pub map-insert_new : (ks : List (String Global)) (k : String Global) (name : List ℕ) → string_bytes k ≡ name → list_any (bytes_eq name) (map string_bytes ks) ≡ false
+    → map string_bytes (insert_key string_eq ks k) ≡ map string_bytes ks ++ name ∷ []
+map-insert_new ks k name same fresh =
+    map-insert_key ks k name same ∙ ap (λ b. if b then map string_bytes ks else map string_bytes ks ++ name ∷ []) fresh

@@ -3,3 +3,4 @@ pub mod Grow
 pub mod Keys
 pub mod ResetRoom
 pub mod TurnCount
+pub mod Digits

@@ -22,6 +22,6 @@ pub resets-room : (N : Table) (keys : List LaneKey) (states : List Lane) (place 
     → place ≡ Some k → IfSome place (λ k. HoldsAt (λ lane. b ≡ lane.has_reset) states k) → k < length states → b ≡ false → length N.resets < MOST_SOURCES
 resets-room N keys states place k b read fits is at lt unset =
     let holds = subst (λ (o : Option ℕ). IfSome o (λ k. HoldsAt (λ lane. b ≡ lane.has_reset) states k)) is at in
-    let d : Lane = record { row = 0; last = 0; falls = false; has_cum = false; has_reset = true } in
+    let d : Lane = record { row = 0; last = 0; falls = false; has_reset = true } in
     let few = count_by-lt (λ (l : Lane). l.has_reset) states k d d lt (sym (holds d) ∙ unset) refl in
     omega (arith, few, fits.lanes, fits.resets, read.limits.sources)

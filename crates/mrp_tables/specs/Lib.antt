@@ -1,4 +1,6 @@
+pub mod Grammar
+pub mod Lists
 pub mod Rows
 pub mod Spelled
+pub mod Spelling
 pub mod Table
-pub mod Lists

@@ -16,6 +16,7 @@ use Rattle.mrp_tables.specs.declared.rows.ResetRow.{ResetRow}
 use Rattle.mrp_tables.specs.declared.row_lists.PairKey.{PairKey}
 use Rattle.mrp_tables.specs.declared.row_lists.RowLists.{RowLists}
 use Rattle.mrp_tables.specs.declared.draft.LaneKey.{LaneKey}
+use Rattle.mrp_tables.specs.declared.draft.BillKey.{BillKey}
 use Rattle.mrp_tables.specs.declared.draft.Draft.{Draft}
 use Rattle.mrp_tables.specs.declared.draft.Lane.{Lane}
 use Rattle.mrp_tables.specs.declared.lanes.NamedLane.{NamedLane}
@@ -99,15 +100,25 @@ pub record Fits (N : Table) (keys : List LaneKey) (states : List Lane) : Type 0 
   pub resets : length N.resets ≡ count_by (λ l. l.has_reset) states
   pub items : length N.items ≤ length N.pairs
 
+abbrev pub bill_key_of : BillRow → BillKey
+bill_key_of b = record { parent = b.parent; component = b.component }
+
+abbrev pub cum_key_of : CumRow → LaneKey
+cum_key_of c = record { from = c.from; pair = c.pair }
+
 -- the state of the reading fits the rows read so far
 pub record IsDraft (d : Draft) : Type 0 where
   pub rows : AreRows d.lists
+  pub bill_keys : d.bill_keys.keys ≡ map bill_key_of d.lists.bills.items
+  pub cum_keys : d.cum_keys.keys ≡ map cum_key_of d.lists.cums.items
   pub fits : Fits (table_of d.lists) d.lane_keys.keys d.lanes.items
   pub count : d.rows ≡ row_count (table_of d.lists)
 
 -- one more row is kept, and not counted yet
 pub record AddsRow (old new : Draft) : Type 0 where
   pub rows : AreRows new.lists
+  pub bill_keys : new.bill_keys.keys ≡ map bill_key_of new.lists.bills.items
+  pub cum_keys : new.cum_keys.keys ≡ map cum_key_of new.lists.cums.items
   pub fits : Fits (table_of new.lists) new.lane_keys.keys new.lanes.items
   pub counted : new.rows ≡ old.rows
   pub count : row_count (table_of new.lists) ≡ row_count (table_of old.lists) + 1
@@ -117,6 +128,8 @@ pub record AddsSource (old new : Draft) : Type 0 where
   pub rows : AreRows new.lists
   pub fits : Fits (table_of new.lists) new.lane_keys.keys new.lanes.items
   pub same : (row_count (table_of new.lists) ≡ row_count (table_of old.lists)) × (new.rows ≡ old.rows)
+  pub bills : (new.bill_keys.keys ≡ old.bill_keys.keys) × (new.lists.bills.items ≡ old.lists.bills.items)
+  pub cums : (new.cum_keys.keys ≡ old.cum_keys.keys) × (new.lists.cums.items ≡ old.lists.cums.items)
   pub pairs : length new.lists.pairs.items ≡ length old.lists.pairs.items
   pub sources : length new.lists.sources.items ≡ length old.lists.sources.items + 1
 
@@ -125,6 +138,8 @@ pub record AddsSources (old new : Draft) (count : ℕ) : Type 0 where
   pub rows : AreRows new.lists
   pub fits : Fits (table_of new.lists) new.lane_keys.keys new.lanes.items
   pub same : (row_count (table_of new.lists) ≡ row_count (table_of old.lists)) × (new.rows ≡ old.rows)
+  pub bills : (new.bill_keys.keys ≡ old.bill_keys.keys) × (new.lists.bills.items ≡ old.lists.bills.items)
+  pub cums : (new.cum_keys.keys ≡ old.cum_keys.keys) × (new.lists.cums.items ≡ old.lists.cums.items)
   pub pairs : length new.lists.pairs.items ≡ length old.lists.pairs.items
   pub sources : length new.lists.sources.items ≡ length old.lists.sources.items + count
 

@@ -1,5 +1,6 @@
 -- What a row spells, before its names are looked up.
-use Rattle.std.specs.Prelude.{◌≡◌, ℕ, ◌≤◌, ◌<◌, List, length, All}
+use Rattle.std.specs.Prelude.{◌≡◌, ℕ, ◌≤◌, ◌<◌, List, length, All, Option, None, Some}
+use Rattle.std.specs.Borrow.{Bor}
 use Rattle.mrp_lot.specs.Lot.{IsRule}
 use Rattle.mrp_lot.specs.declared.rule.TheConstants.{LONGEST_LEAD}
 use Rattle.mrp_tables.specs.declared.rows.TheConstants.{MOST_IN_ROW, MOST_PER, MOST_SHARE, MOST_SOURCES_OF_PAIR}
@@ -7,6 +8,11 @@ use Rattle.mrp_tables.specs.declared.terms.SpelledSource.{SpelledSource}
 use Rattle.mrp_tables.specs.declared.terms.SpelledSupply.{SpelledSupply}
 use Rattle.mrp_tables.specs.declared.terms.SpelledSupply.TheVariants.{Make, Buy, From}
 use Rattle.mrp_tables.specs.declared.spelled.SpelledPair.{SpelledPair}
+use Rattle.mrp_tables.specs.declared.spelled.SpelledBill.{SpelledBill}
+use Rattle.mrp_tables.specs.declared.spelled.SpelledAmount.{SpelledAmount}
+use Rattle.mrp_tables.specs.declared.spelled.SpelledLane.{SpelledLane}
+use Rattle.mrp_tables.specs.Spelling.{SourceTerms}
+use Rattle.mrp_tables.specs.Grammar.{BillTerms, AmountTerms, LaneTerms}
 
 -- a share that ends after it begins, and within the whole
 pub record IsSource (s : SpelledSource) : Type 0 where
@@ -30,3 +36,21 @@ pub record IsSpelledPair (p : SpelledPair) : Type 0 where
   pub lead : p.lead ≤ LONGEST_LEAD
   pub on_hand : p.on_hand ≤ MOST_IN_ROW
   pub safety : p.safety ≤ MOST_IN_ROW
+
+-- what a row spells, as the grammar sees it
+abbrev pub bill_view : SpelledBill → BillTerms
+bill_view b = record { plant = b.plant.now; parent = b.parent.now; component = b.component.now; per = b.per }
+
+abbrev pub amount_view : SpelledAmount → AmountTerms
+amount_view a = record { plant = a.plant.now; item = a.item.now; period = a.period; quantity = a.quantity }
+
+abbrev pub lane_view : SpelledLane → LaneTerms
+lane_view l = record { from = l.from.now; to = l.to.now; item = l.item.now }
+
+abbrev pub source_view : SpelledSource → SourceTerms
+source_view s = record { plant = s.plant.now; low = s.low; high = s.high }
+
+-- a text cut in two
+abbrev pub cut_view : Option (Bor (List ℕ) × Bor (List ℕ)) → Option (List ℕ × List ℕ)
+cut_view None = None
+cut_view (Some p) = Some (p.0.now, p.1.now)

@@ -1,17 +1,23 @@
 use crate::draft::{BillKey, Draft};
 use crate::row_lists::place_near;
 use crate::rows::{MOST_BILLS, MOST_OF_A_KIND};
-use crate::spelled::{spelled_amount, spelled_bill};
+use crate::spelled::{SpelledBill, spelled_amount, spelled_bill};
 use crate::{BillRow, DemandRow, PairNo, PlantNo, ReceiptRow, Supply, TableFaultKind};
 use csv::StringRecord;
 use mrp_qty::Qty;
 
 impl Draft {
-    ghost use Rattle.std.specs.Prelude.{◌≡◌, ◌+◌, ◌<◌, length, OnOk, IfOk, IfSome};
+    ghost use Rattle.std.specs.Prelude.{◌≡◌, ◌+◌, ◌≤◌, ◌<◌, length, option_map, Some, false, OnOk, IfOk, IfSome};
+    ghost use Rattle.csv.specs.Records.{fields_of};
+    ghost use Rattle.mrp_tables.specs.declared.rows.TheConstants.{MOST_BILLS, MOST_OF_A_KIND, MOST_PER};
+    ghost use Rattle.mrp_tables.specs.Grammar.{bill_fits, bill_of, bill_row, demand_of, demand_row, has_bill, is_made, known_pair, plant_no, receipt_of, receipt_row, Tells};
+    ghost use Rattle.mrp_tables.specs.Spelled.{bill_view};
+    ghost use Rattle.mrp_tables.specs.Table.{IsBillRow, IsDemandRow, IsReceiptRow};
     ghost use Rattle.mrp_tables.specs.Lists.{IsDraft, AddsRow, AreRows, table_of};
 
     /// The plant of that name, which is often that of the last row.
     fn plant_named(&self, name: &str) -> Option<PlantNo>
+        ensures exact { option_map (λ p. p.0) result ≡ plant_no (table_of self.now.lists) name.now }
         ensures within { IfSome result (λ plant. plant.0 < length self.now.lists.plants.keys) }
     {
         match place_near(&self.lists.plants, name, self.near) {
@@ -23,35 +29,81 @@ impl Draft {
     /// Adds a bill row.
     pub(crate) fn add_bill(&mut self, row: &StringRecord) -> Result<(), TableFaultKind>
         requires draft { IsDraft self.old }
+        ensures exact { Tells result (bill_row (table_of self.old.lists) (fields_of row.now)) (table_of self.new.lists) }
         ensures adds { OnOk result (AddsRow self.old self.new) }
     {
+        let bill = self.bill_of(row)?;
+        self.near = self.lists.pairs[bill.parent.0].plant.0;
+        let key = BillKey {
+            parent: bill.parent,
+            component: bill.component,
+        };
+        if !self.bill_keys.insert(key)? {
+            unreachable!();
+        }
+        self.lists.add_bill(bill)?;
+        Ok(())
+    }
+
+    /// What a bill row says.
+    fn bill_of(&self, row: &StringRecord) -> Result<BillRow, TableFaultKind>
+        requires draft { IsDraft self.now }
+        ensures exact { result ≡ bill_of (table_of self.now.lists) (fields_of row.now) }
+        ensures row { IfOk result (IsBillRow (table_of self.now.lists)) }
+        ensures fresh { IfOk result (λ b. has_bill (table_of self.now.lists) (Some b.parent.0) (Some b.component.0) ≡ false) }
+        ensures room { OnOk result (length self.now.lists.bills.items < MOST_BILLS) }
+    {
         let spelled = spelled_bill(row)?;
+        self.bill_fits(&spelled)
+    }
+
+    /// The bill row of what was spelled, where it fits the rows before it.
+    #[tactic(auto, unfolding(crate::specs::Grammar::bill_fits))]
+    fn bill_fits(&self, spelled: &SpelledBill<'_>) -> Result<BillRow, TableFaultKind>
+        requires draft { IsDraft self.now }
+        requires per { (1 ≤ spelled.now.per) × (spelled.now.per ≤ MOST_PER) }
+        ensures exact { result ≡ bill_fits (table_of self.now.lists) (bill_view spelled.now) }
+        ensures row { IfOk result (IsBillRow (table_of self.now.lists)) }
+        ensures fresh { IfOk result (λ b. has_bill (table_of self.now.lists) (Some b.parent.0) (Some b.component.0) ≡ false) }
+        ensures room { OnOk result (length self.now.lists.bills.items < MOST_BILLS) }
+    {
         let plant = self.plant_named(spelled.plant);
         let parent = self.lists.find_named_pair(plant, spelled.parent);
         let component = self.lists.find_named_pair(plant, spelled.component);
         if self.has_bill(parent, component) {
             return Err(TableFaultKind::Repeated);
         }
-        let plant = plant.ok_or(TableFaultKind::UnknownPlant)?;
+        if plant.is_none() {
+            return Err(TableFaultKind::UnknownPlant);
+        }
         let parent = parent.ok_or(TableFaultKind::UnknownPair)?;
         let component = component.ok_or(TableFaultKind::UnknownPair)?;
-        if self.lists.pairs[parent.0].supply != Supply::Make {
+        if !self.is_made(parent) {
             return Err(TableFaultKind::NotMade);
         }
         if self.lists.bills.len() >= MOST_BILLS {
             return Err(TableFaultKind::TooMany);
         }
-        self.near = plant.0;
-        self.bill_keys.insert(BillKey { parent, component })?;
-        self.lists.add_bill(BillRow {
+        Ok(BillRow {
             parent,
             component,
             per: spelled.per,
         })
     }
 
+    /// Whether a pair is made.
+    fn is_made(&self, pair: PairNo) -> bool
+        requires known { pair.0 < length self.now.lists.pairs.items }
+        ensures exact { result ≡ is_made (table_of self.now.lists) pair.0 }
+    {
+        self.lists.pairs[pair.0].supply == Supply::Make
+    }
+
     /// Whether there is a bill row of the two pairs.
-    fn has_bill(&self, parent: Option<PairNo>, component: Option<PairNo>) -> bool {
+    fn has_bill(&self, parent: Option<PairNo>, component: Option<PairNo>) -> bool
+        requires draft { IsDraft self.now }
+        ensures exact { result ≡ has_bill (table_of self.now.lists) (option_map (λ x. x.0) parent) (option_map (λ x. x.0) component) }
+    {
         match (parent, component) {
             (Some(parent), Some(component)) => {
                 self.bill_keys.contains(&BillKey { parent, component })
@@ -61,8 +113,10 @@ impl Draft {
     }
 
     /// The plant and the pair of a demand or a receipt row.
-    fn pair_named(&self, plant: &str, item: &str) -> Result<(PlantNo, PairNo), TableFaultKind>
+    #[tactic(auto, unfolding(crate::specs::Grammar::known_pair))]
+    fn known_pair(&self, plant: &str, item: &str) -> Result<(PlantNo, PairNo), TableFaultKind>
         requires rows { AreRows self.now.lists }
+        ensures exact { result ≡ known_pair (table_of self.now.lists) plant.now item.now }
         ensures pair { IfOk result (λ found. found.1.0 < length self.now.lists.pairs.items) }
     {
         let plant = self.plant_named(plant).ok_or(TableFaultKind::UnknownPlant)?;
@@ -74,15 +128,29 @@ impl Draft {
     /// Adds a demand row.
     pub(crate) fn add_demand(&mut self, row: &StringRecord) -> Result<(), TableFaultKind>
         requires draft { IsDraft self.old }
+        ensures exact { Tells result (demand_row (table_of self.old.lists) (fields_of row.now)) (table_of self.new.lists) }
         ensures adds { OnOk result (AddsRow self.old self.new) }
     {
+        let demand = self.demand_of(row)?;
+        self.near = self.lists.pairs[demand.pair.0].plant.0;
+        self.lists.add_demand(demand)?;
+        Ok(())
+    }
+
+    /// What a demand row says.
+    #[tactic(auto, unfolding(crate::specs::Grammar::demand_of))]
+    fn demand_of(&self, row: &StringRecord) -> Result<DemandRow, TableFaultKind>
+        requires draft { IsDraft self.now }
+        ensures exact { result ≡ demand_of (table_of self.now.lists) (fields_of row.now) }
+        ensures row { IfOk result (IsDemandRow (table_of self.now.lists)) }
+        ensures room { OnOk result (length self.now.lists.demands.items < MOST_OF_A_KIND) }
+    {
         let spelled = spelled_amount(row, self.lists.calendar.horizon())?;
-        let (plant, pair) = self.pair_named(spelled.plant, spelled.item)?;
+        let (_, pair) = self.known_pair(spelled.plant, spelled.item)?;
         if self.lists.demands.len() >= MOST_OF_A_KIND {
             return Err(TableFaultKind::TooMany);
         }
-        self.near = plant.0;
-        self.lists.add_demand(DemandRow {
+        Ok(DemandRow {
             pair,
             period: spelled.period,
             quantity: Qty::of(spelled.quantity),
@@ -92,15 +160,29 @@ impl Draft {
     /// Adds a receipt row.
     pub(crate) fn add_receipt(&mut self, row: &StringRecord) -> Result<(), TableFaultKind>
         requires draft { IsDraft self.old }
+        ensures exact { Tells result (receipt_row (table_of self.old.lists) (fields_of row.now)) (table_of self.new.lists) }
         ensures adds { OnOk result (AddsRow self.old self.new) }
     {
+        let receipt = self.receipt_of(row)?;
+        self.near = self.lists.pairs[receipt.pair.0].plant.0;
+        self.lists.add_receipt(receipt)?;
+        Ok(())
+    }
+
+    /// What a receipt row says.
+    #[tactic(auto, unfolding(crate::specs::Grammar::receipt_of))]
+    fn receipt_of(&self, row: &StringRecord) -> Result<ReceiptRow, TableFaultKind>
+        requires draft { IsDraft self.now }
+        ensures exact { result ≡ receipt_of (table_of self.now.lists) (fields_of row.now) }
+        ensures row { IfOk result (IsReceiptRow (table_of self.now.lists)) }
+        ensures room { OnOk result (length self.now.lists.receipts.items < MOST_OF_A_KIND) }
+    {
         let spelled = spelled_amount(row, self.lists.calendar.horizon())?;
-        let (plant, pair) = self.pair_named(spelled.plant, spelled.item)?;
+        let (_, pair) = self.known_pair(spelled.plant, spelled.item)?;
         if self.lists.receipts.len() >= MOST_OF_A_KIND {
             return Err(TableFaultKind::TooMany);
         }
-        self.near = plant.0;
-        self.lists.add_receipt(ReceiptRow {
+        Ok(ReceiptRow {
             pair,
             period: spelled.period,
             quantity: Qty::of(spelled.quantity),

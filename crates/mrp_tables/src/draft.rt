@@ -31,8 +31,6 @@ pub(crate) struct Lane {
     pub(crate) last: usize,
     /// Whether a shipment arrives before the one that stands above it.
     pub(crate) falls: bool,
-    /// Whether it has a cumulative figure.
-    pub(crate) has_cum: bool,
     /// Whether its figures start anew.
     pub(crate) has_reset: bool,
 }
@@ -44,7 +42,9 @@ pub(crate) struct Draft {
     /// The sources in the order of their rows, and what is known of each.
     pub(crate) lane_keys: IndexSet<LaneKey>,
     pub(crate) lanes: Vec<Lane>,
+    /// The bill rows and the cumulative figures by their keys, in the order of their rows.
     pub(crate) bill_keys: IndexSet<BillKey>,
+    pub(crate) cum_keys: IndexSet<LaneKey>,
     /// The kind of the last row, and how many rows there are.
     pub(crate) last: Kind,
     pub(crate) rows: u64,
@@ -71,6 +71,7 @@ impl Draft {
             lane_keys: IndexSet::new(alloc),
             lanes: Vec::new(alloc),
             bill_keys: IndexSet::new(alloc),
+            cum_keys: IndexSet::new(alloc),
             last: Kind::Run,
             rows: 1,
             near: 0,

@@ -21,34 +21,14 @@ pub enum Kind {
     Reset,
 }
 
-/// The kind that a first field names.
-pub(crate) fn kind_of(word: &str) -> Option<Kind> {
-    if word == "demand" {
-        Some(Kind::Demand)
-    } else if word == "receipt" {
-        Some(Kind::Receipt)
-    } else if word == "ship" {
-        Some(Kind::Ship)
-    } else if word == "bill" {
-        Some(Kind::Bill)
-    } else if word == "pair" {
-        Some(Kind::Pair)
-    } else if word == "cum" {
-        Some(Kind::Cum)
-    } else if word == "reset" {
-        Some(Kind::Reset)
-    } else if word == "plant" {
-        Some(Kind::Plant)
-    } else if word == "run" {
-        Some(Kind::Run)
-    } else {
-        None
-    }
-}
-
 impl Kind {
+    ghost use Rattle.std.specs.Prelude.{◌≡◌};
+    ghost use Rattle.mrp_tables.specs.Grammar.{used, may_follow};
+
     /// How many of the eight fields a row of this kind uses.
-    pub(crate) fn used(self) -> usize {
+    pub(crate) fn used(self) -> usize
+        ensures { result ≡ used self }
+    {
         match self {
             Kind::Run => 4,
             Kind::Plant => 2,
@@ -64,7 +44,9 @@ impl Kind {
 
     /// Whether a row of this kind may follow a row of the kind `last`: the run stands first and once,
     /// and rows of one kind stand together.
-    pub(crate) fn may_follow(self, last: Kind) -> bool {
+    pub(crate) fn may_follow(self, last: Kind) -> bool
+        ensures { result ≡ may_follow self last }
+    {
         0 < self as u8 && last as u8 <= self as u8
     }
 }

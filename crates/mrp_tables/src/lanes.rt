@@ -27,8 +27,13 @@ pub(crate) struct KnownLane {
 }
 
 impl NamedLane {
+    ghost use Rattle.std.specs.Prelude.{◌≡◌, Some, IfOk};
+    ghost use Rattle.mrp_tables.specs.Grammar.{known_lane};
+
     /// The lane, where all of it is there.
+    #[tactic(auto, unfolding(crate::specs::Grammar::known_lane))]
     fn known(self) -> Result<KnownLane, TableFaultKind>
+        ensures exact { result ≡ known_lane self }
         ensures from { IfOk result (λ lane. self.from ≡ Some lane.from) }
         ensures pair { IfOk result (λ lane. self.pair ≡ Some lane.pair) }
         ensures place { IfOk result (λ lane. self.place ≡ Some lane.place) }
@@ -47,11 +52,19 @@ impl Draft {
     ghost use Rattle.std.specs.Prelude.{◌≡◌, ◌+◌, ◌<◌, length, OnOk, IfOk, IfSome};
     ghost use Rattle.std.specs.Option.{ForSome};
     ghost use Rattle.std.specs.List.{HoldsAt};
+    ghost use Rattle.std.specs.Prelude.{option_map};
+    ghost use Rattle.mrp_tables.specs.declared.rows.TheConstants.{MOST_OF_A_KIND};
+    ghost use Rattle.mrp_tables.specs.Table.{IsCumRow, IsShipRow};
+    ghost use Rattle.std.specs.Prelude.{false, Some};
+    ghost use Rattle.csv.specs.Records.{fields_of};
+    ghost use Rattle.mrp_tables.specs.Grammar.{cum_between, cum_of, cum_row, has_cum, lane_named, seen, ship_of, ship_row, source_named, Tells};
+    ghost use Rattle.mrp_tables.specs.Spelled.{lane_view};
     ghost use Rattle.mrp_tables.specs.Lists.{IsDraft, AddsRow, AreRows, table_of, IsNamedLane};
 
     /// What the names of a row on a lane stand for.
     fn lane_named(&self, names: &SpelledLane<'_>) -> NamedLane
         requires draft { IsDraft self.now }
+        ensures exact { result ≡ lane_named (table_of self.now.lists) (lane_view names.now) }
         ensures named { IsNamedLane self.now result }
     {
         let from = place_near(&self.lists.plants, names.from, self.near_from).map(PlantNo);
@@ -67,33 +80,27 @@ impl Draft {
 
     /// The place of the source from which a pair is taken.
     fn source_place(&self, from: Option<PlantNo>, pair: Option<PairNo>) -> Option<usize>
+        requires draft { IsDraft self.now }
+        ensures exact { result ≡ source_named (table_of self.now.lists) (option_map (λ p. p.0) from) (option_map (λ x. x.0) pair) }
         ensures within { IfSome result (λ place. place < length self.now.lane_keys.keys) }
     {
-        let key = LaneKey {
-            from: from?,
-            pair: pair?,
-        };
-        self.lane_keys.get_index_of(&key)
+        match (from, pair) {
+            (Some(from), Some(pair)) => self.lane_keys.get_index_of(&LaneKey { from, pair }),
+            _ => None,
+        }
     }
 
     /// Adds a ship row.
     pub(crate) fn add_ship(&mut self, row: &StringRecord) -> Result<(), TableFaultKind>
         requires draft { IsDraft self.old }
+        ensures exact { Tells result (ship_row (table_of self.old.lists) (fields_of row.now)) (table_of self.new.lists) }
         ensures adds { OnOk result (AddsRow self.old self.new) }
     {
-        let (names, period, quantity) = spelled_ship(row, self.lists.calendar.horizon())?;
-        let lane = self.lane_named(&names).known()?;
-        if self.lists.ships.len() >= MOST_OF_A_KIND {
-            return Err(TableFaultKind::TooMany);
-        }
-        self.near_from = lane.from.0;
-        self.lists.add_ship(ShipRow {
-            from: lane.from,
-            pair: lane.pair,
-            period,
-            quantity: Qty::of(quantity),
-        })?;
-        let arrivals = &mut self.lanes[lane.place];
+        let (ship, place) = self.ship_of(row)?;
+        let period = ship.period;
+        self.near_from = ship.from.0;
+        self.lists.add_ship(ship)?;
+        let arrivals = &mut self.lanes[place];
         if period < arrivals.last {
             arrivals.falls = true;
         }
@@ -101,36 +108,80 @@ impl Draft {
         Ok(())
     }
 
+    /// What a ship row says, with the place of its source.
+    #[tactic(auto, unfolding(crate::specs::Grammar::ship_of))]
+    fn ship_of(&self, row: &StringRecord) -> Result<(ShipRow, usize), TableFaultKind>
+        requires draft { IsDraft self.now }
+        ensures exact { seen (λ s. s.0) result ≡ ship_of (table_of self.now.lists) (fields_of row.now) }
+        ensures row { IfOk result (λ s. IsShipRow (table_of self.now.lists) s.0) }
+        ensures place { IfOk result (λ s. s.1 < length self.now.lanes.items) }
+        ensures room { OnOk result (length self.now.lists.ships.items < MOST_OF_A_KIND) }
+    {
+        let (names, period, quantity) = spelled_ship(row, self.lists.calendar.horizon())?;
+        let lane = self.lane_named(&names).known()?;
+        if self.lists.ships.len() >= MOST_OF_A_KIND {
+            return Err(TableFaultKind::TooMany);
+        }
+        let ship = ShipRow {
+            from: lane.from,
+            pair: lane.pair,
+            period,
+            quantity: Qty::of(quantity),
+        };
+        Ok((ship, lane.place))
+    }
+
     /// Adds a cum row.
     pub(crate) fn add_cum(&mut self, row: &StringRecord) -> Result<(), TableFaultKind>
         requires draft { IsDraft self.old }
+        ensures exact { Tells result (cum_row (table_of self.old.lists) (fields_of row.now)) (table_of self.new.lists) }
         ensures adds { OnOk result (AddsRow self.old self.new) }
+    {
+        let cum = self.cum_of(row)?;
+        let key = LaneKey {
+            from: cum.from,
+            pair: cum.pair,
+        };
+        if !self.cum_keys.insert(key)? {
+            unreachable!();
+        }
+        self.lists.add_cum(cum)?;
+        Ok(())
+    }
+
+    /// What a cum row says.
+    #[tactic(auto, unfolding(crate::specs::Grammar::cum_of))]
+    fn cum_of(&self, row: &StringRecord) -> Result<CumRow, TableFaultKind>
+        requires draft { IsDraft self.now }
+        ensures exact { result ≡ cum_of (table_of self.now.lists) (fields_of row.now) }
+        ensures row { IfOk result (IsCumRow (table_of self.now.lists)) }
+        ensures fresh { IfOk result (λ c. cum_between (table_of self.now.lists) (Some c.from) (Some c.pair) ≡ false) }
+        ensures room { OnOk result (length self.now.lists.cums.items < MOST_OF_A_KIND) }
     {
         let (names, figure) = spelled_cum(row)?;
         let named = self.lane_named(&names);
-        if self.has_cum(named.place) {
+        if self.has_cum(named) {
             return Err(TableFaultKind::Repeated);
         }
         let lane = named.known()?;
         if self.lists.cums.len() >= MOST_OF_A_KIND {
             return Err(TableFaultKind::TooMany);
         }
-        self.lists.add_cum(CumRow {
+        Ok(CumRow {
             from: lane.from,
             pair: lane.pair,
             figure: Qty::of(figure),
-        })?;
-        self.lanes[lane.place].has_cum = true;
-        Ok(())
+        })
     }
 
-    /// Whether the source at that place has a cumulative figure.
-    fn has_cum(&self, place: Option<usize>) -> bool
-        requires within { ForSome place (λ k. k < length self.now.lanes.items) }
+    /// Whether there is a cumulative figure of the plant and the pair.
+    fn has_cum(&self, named: NamedLane) -> bool
+        requires draft { IsDraft self.now }
+        ensures exact { result ≡ has_cum (table_of self.now.lists) named }
     {
-        match place {
-            Some(place) => self.lanes[place].has_cum,
-            None => false,
+        match (named.from, named.pair) {
+            (Some(from), Some(pair)) => self.cum_keys.contains(&LaneKey { from, pair }),
+            _ => false,
         }
     }
 

@@ -10,7 +10,10 @@ use std::alloc::Global;
 
 impl Draft {
     ghost use Rattle.std.specs.Prelude.{◌≡◌, ◌+◌, ◌*◌, ◌≤◌, ◌<◌, length, OnOk, IfOk};
-    ghost use Rattle.mrp_tables.specs.declared.rows.TheConstants.{MOST_PAIRS, MOST_SOURCES_OF_PAIR};
+    ghost use Rattle.mrp_tables.specs.declared.rows.TheConstants.{MOST_PAIRS, MOST_PLANTS, MOST_SOURCES_OF_PAIR};
+    ghost use Rattle.std.specs.Prelude.{false};
+    ghost use Rattle.csv.specs.Records.{fields_of};
+    ghost use Rattle.mrp_tables.specs.Grammar.{has_plant, plant_of, plant_row, seen, Tells};
     ghost use Rattle.mrp_tables.specs.Lists.{IsDraft, AddsRow, AreRows, Fits, AddsSource, AddsSources, table_of};
     ghost use Rattle.mrp_tables.specs.Spelled.{AreSources, IsSource, IsSpelledPair};
     ghost use Rattle.mrp_tables.specs.Table.{IsPair};
@@ -22,16 +25,29 @@ impl Draft {
         row: &StringRecord,
     ) -> Result<(), TableFaultKind>
         requires draft { IsDraft self.old }
+        ensures exact { Tells result (plant_row (table_of self.old.lists) (fields_of row.now)) (table_of self.new.lists) }
         ensures adds { OnOk result (AddsRow self.old self.new) }
     {
+        let name = self.plant_of(row)?;
+        self.lists.add_plant(alloc, name)?;
+        Ok(())
+    }
+
+    /// The name of the plant that a plant row adds.
+    #[tactic(auto, unfolding(crate::specs::Grammar::plant_of))]
+    fn plant_of<'r>(&self, row: &'r StringRecord) -> Result<&'r str, TableFaultKind>
+        ensures exact { seen (λ name. name.now) result ≡ plant_of (table_of self.now.lists) (fields_of row.now) }
+        ensures fresh { IfOk result (λ name. has_plant (table_of self.now.lists) name.now ≡ false) }
+        ensures room { OnOk result (length self.now.lists.plants.keys < MOST_PLANTS) }
+    {
         let name = spelled_plant(row)?;
-        if self.lists.plants.contains(name) {
+        if self.lists.has_plant(name) {
             return Err(TableFaultKind::Repeated);
         }
         if self.lists.plants.len() >= MOST_PLANTS {
             return Err(TableFaultKind::TooMany);
         }
-        self.lists.add_plant(alloc, name)
+        Ok(name)
     }
 
     /// Adds a pair row.
@@ -135,7 +151,6 @@ impl Draft {
             row: self.rows + 1,
             last: 0,
             falls: false,
-            has_cum: false,
             has_reset: false,
         })?;
         self.lists.add_source(SourceRow {

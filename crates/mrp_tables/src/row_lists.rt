@@ -38,6 +38,9 @@ impl RowLists {
     ghost use Rattle.std.specs.Prelude.{◌≡◌, ◌≤◌, ◌<◌, ◌==◌, ◌&&◌, [], length, option_map, position, IfOk, IfSome, OnOk};
     ghost use Rattle.mrp_qty.specs.declared.horizon.TheConstants.{LONGEST};
     ghost use Rattle.mrp_tables.specs.declared.rows.TheConstants.{MOST_BILLS, MOST_OF_A_KIND, MOST_PAIRS, MOST_PLANTS, MOST_SOURCES};
+    ghost use Rattle.std.specs.Prelude.{false, is_some, IfErr};
+    ghost use Rattle.mrp_tables.specs.declared.fault.TableFaultKind.TheVariants.{Memory};
+    ghost use Rattle.mrp_tables.specs.Grammar.{has_plant, pair_named, plant_no};
     ghost use Rattle.mrp_tables.specs.Lists.{AreRows, table_of, lacks_pair, with_plant, with_item, with_pair, with_source, with_bill, with_demand, with_receipt, with_ship, with_cum, with_reset};
     ghost use Rattle.mrp_tables.specs.Table.{item_at, IsPairRow, IsSourceRow, IsBillRow, IsDemandRow, IsReceiptRow, IsShipRow, IsCumRow, IsResetRow};
 
@@ -67,13 +70,13 @@ impl RowLists {
     /// Adds a plant.
     pub(crate) fn add_plant(&mut self, alloc: Global, name: &str) -> Result<(), TableFaultKind>
         requires rows { AreRows self.old }
+        requires fresh { has_plant (table_of self.old) name.now ≡ false }
         requires room { length self.old.plants.keys < MOST_PLANTS }
         ensures rows { OnOk result (AreRows self.new) }
+        ensures memory { IfErr result (λ fault. fault ≡ Memory) }
         ensures table { OnOk result (table_of self.new ≡ with_plant (table_of self.old) name.now) }
     {
-        if !self.plants.insert(String::from_str(alloc, name)?)? {
-            return Err(TableFaultKind::Repeated);
-        }
+        self.plants.insert(String::from_str(alloc, name)?)?;
         Ok(())
     }
 
@@ -82,6 +85,7 @@ impl RowLists {
         requires rows { AreRows self.old }
         requires room { length self.old.items.keys < MOST_PAIRS }
         ensures rows { OnOk result (AreRows self.new) }
+        ensures memory { IfErr result (λ fault. fault ≡ Memory) }
         ensures table { OnOk result (table_of self.new ≡ with_item (table_of self.old) name.now) }
         ensures place { IfOk result (λ item. item.0 < length self.new.items.keys) }
     {
@@ -114,6 +118,7 @@ impl RowLists {
         requires row { IsSourceRow (table_of self.old) row }
         requires room { length self.old.sources.items < MOST_SOURCES }
         ensures rows { OnOk result (AreRows self.new) }
+        ensures memory { IfErr result (λ fault. fault ≡ Memory) }
         ensures table { OnOk result (table_of self.new ≡ with_source (table_of self.old) row) }
     {
         self.sources.push(row)?;
@@ -126,6 +131,7 @@ impl RowLists {
         requires row { IsBillRow (table_of self.old) row }
         requires room { length self.old.bills.items < MOST_BILLS }
         ensures rows { OnOk result (AreRows self.new) }
+        ensures memory { IfErr result (λ fault. fault ≡ Memory) }
         ensures table { OnOk result (table_of self.new ≡ with_bill (table_of self.old) row) }
     {
         self.bills.push(row)?;
@@ -138,6 +144,7 @@ impl RowLists {
         requires row { IsDemandRow (table_of self.old) row }
         requires room { length self.old.demands.items < MOST_OF_A_KIND }
         ensures rows { OnOk result (AreRows self.new) }
+        ensures memory { IfErr result (λ fault. fault ≡ Memory) }
         ensures table { OnOk result (table_of self.new ≡ with_demand (table_of self.old) row) }
     {
         self.demands.push(row)?;
@@ -150,6 +157,7 @@ impl RowLists {
         requires row { IsReceiptRow (table_of self.old) row }
         requires room { length self.old.receipts.items < MOST_OF_A_KIND }
         ensures rows { OnOk result (AreRows self.new) }
+        ensures memory { IfErr result (λ fault. fault ≡ Memory) }
         ensures table { OnOk result (table_of self.new ≡ with_receipt (table_of self.old) row) }
     {
         self.receipts.push(row)?;
@@ -162,6 +170,7 @@ impl RowLists {
         requires row { IsShipRow (table_of self.old) row }
         requires room { length self.old.ships.items < MOST_OF_A_KIND }
         ensures rows { OnOk result (AreRows self.new) }
+        ensures memory { IfErr result (λ fault. fault ≡ Memory) }
         ensures table { OnOk result (table_of self.new ≡ with_ship (table_of self.old) row) }
     {
         self.ships.push(row)?;
@@ -174,6 +183,7 @@ impl RowLists {
         requires row { IsCumRow (table_of self.old) row }
         requires room { length self.old.cums.items < MOST_OF_A_KIND }
         ensures rows { OnOk result (AreRows self.new) }
+        ensures memory { IfErr result (λ fault. fault ≡ Memory) }
         ensures table { OnOk result (table_of self.new ≡ with_cum (table_of self.old) row) }
     {
         self.cums.push(row)?;
@@ -186,29 +196,38 @@ impl RowLists {
         requires row { IsResetRow (table_of self.old) row }
         requires room { length self.old.resets.items < MOST_SOURCES }
         ensures rows { OnOk result (AreRows self.new) }
+        ensures memory { IfErr result (λ fault. fault ≡ Memory) }
         ensures table { OnOk result (table_of self.new ≡ with_reset (table_of self.old) row) }
     {
         self.resets.push(row)?;
         Ok(())
     }
 
+    /// Whether there is a plant of that name.
+    pub(crate) fn has_plant(&self, name: &str) -> bool
+        ensures exact { result ≡ has_plant (table_of self.now) name.now }
+    {
+        self.plants.contains(name)
+    }
+
     /// The pair of a plant and of the item of that name.
     pub(crate) fn find_named_pair(&self, plant: Option<PlantNo>, item: &str) -> Option<PairNo>
         requires rows { AreRows self.now }
+        ensures exact { option_map (λ x. x.0) result ≡ pair_named (table_of self.now) (option_map (λ p. p.0) plant) item.now }
         ensures within { IfSome result (λ pair. pair.0 < length self.now.pairs.items) }
     {
-        let item = ItemNo(place_of(&self.items, item)?);
-        self.find_pair(plant?, item)
+        let plant = plant?;
+        let item = place_of(&self.items, item)?;
+        self.find_pair(plant, ItemNo(item))
     }
 
     /// Whether there is a row of the pair of these names.
     pub(crate) fn has_pair(&self, plant: &str, item: &str) -> bool
         requires rows { AreRows self.now }
+        ensures exact { result ≡ is_some (pair_named (table_of self.now) (plant_no (table_of self.now) plant.now) item.now) }
     {
-        match place_of(&self.plants, plant) {
-            Some(plant) => self.find_named_pair(Some(PlantNo(plant)), item).is_some(),
-            None => false,
-        }
+        let plant = place_of(&self.plants, plant).map(PlantNo);
+        self.find_named_pair(plant, item).is_some()
     }
 
     /// The pair of a plant and an item.
@@ -262,11 +281,12 @@ pub(crate) fn place_of(names: &IndexSet<String>, name: &str) -> Option<usize>
 
 /// The place of a name, which is looked for at `near` first.
 pub(crate) fn place_near(names: &IndexSet<String>, name: &str, near: usize) -> Option<usize>
+    ensures place { result ≡ position (bytes_eq name.now) (map string_bytes names.now.keys) }
     ensures within { IfSome result (λ place. place < length names.now.keys) }
 {
-    match names.get_index(near) {
+    match names.as_slice().get(near) {
         Some(known) if known.as_str() == name => Some(near),
-        _ => names.get_index_of(name),
+        _ => place_of(names, name),
     }
 }
 

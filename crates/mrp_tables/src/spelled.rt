@@ -2,10 +2,12 @@ ghost use Rattle.std.specs.Prelude.{◌≡◌, ◌≤◌, ◌<◌, IfOk};
 ghost use Rattle.mrp_qty.specs.declared.quantity.TheConstants.{MOST};
 ghost use Rattle.mrp_qty.specs.declared.horizon.TheConstants.{LONGEST};
 ghost use Rattle.mrp_tables.specs.declared.rows.TheConstants.{MOST_IN_ROW, MOST_PER};
-ghost use Rattle.mrp_tables.specs.Spelled.{IsSpelledPair};
+ghost use Rattle.csv.specs.Records.{fields_of};
+ghost use Rattle.mrp_tables.specs.Grammar.{amount_terms, bill_terms, cum_terms, field, is_empty_from, is_free, kind_of, lane_terms, plant_terms, reset_terms, row_kind, seen, ship_terms};
+ghost use Rattle.mrp_tables.specs.Spelled.{amount_view, bill_view, lane_view, IsSpelledPair};
 
 use crate::TableFaultKind;
-use crate::kind::{Kind, kind_of};
+use crate::kind::Kind;
 use crate::rows::{MOST_IN_ROW, MOST_PER};
 use crate::spelling::{name, number, ranged};
 use crate::terms::{SpelledSupply, rule, supply};
@@ -19,17 +21,64 @@ use std::alloc::Global;
 const FIELDS: usize = 8;
 
 /// A field of a row, counted from 0; one that isn't there is empty.
-fn field(row: &StringRecord, i: usize) -> &str {
+fn field(row: &StringRecord, i: usize) -> &str
+    ensures { result.now ≡ field (fields_of row.now) i }
+{
     row.get(i).unwrap_or("")
 }
 
+/// The kind that a first field names.
+fn kind_of(word: &str) -> Option<Kind>
+    ensures { result ≡ kind_of word.now }
+{
+    if word == "demand" {
+        Some(Kind::Demand)
+    } else if word == "receipt" {
+        Some(Kind::Receipt)
+    } else if word == "ship" {
+        Some(Kind::Ship)
+    } else if word == "bill" {
+        Some(Kind::Bill)
+    } else if word == "pair" {
+        Some(Kind::Pair)
+    } else if word == "cum" {
+        Some(Kind::Cum)
+    } else if word == "reset" {
+        Some(Kind::Reset)
+    } else if word == "plant" {
+        Some(Kind::Plant)
+    } else if word == "run" {
+        Some(Kind::Run)
+    } else {
+        None
+    }
+}
+
+/// Whether a field is among the used ones, or empty.
+fn is_free(row: &StringRecord, used: usize, i: usize) -> bool
+    ensures { result ≡ is_free (fields_of row.now) used i }
+{
+    i < used || field(row, i).is_empty()
+}
+
 /// Whether the fields from `used` on are empty.
-fn is_empty_from(row: &StringRecord, used: usize) -> bool {
-    (used..FIELDS).all(|i| field(row, i).is_empty())
+fn is_empty_from(row: &StringRecord, used: usize) -> bool
+    ensures { result ≡ is_empty_from (fields_of row.now) used }
+{
+    is_free(row, used, 1)
+        && is_free(row, used, 2)
+        && is_free(row, used, 3)
+        && is_free(row, used, 4)
+        && is_free(row, used, 5)
+        && is_free(row, used, 6)
+        && is_free(row, used, 7)
 }
 
 /// The kind of a row that has the fields of its kind.
-pub(crate) fn row_kind(row: &StringRecord) -> Result<Kind, TableFaultKind> {
+#[tactic(auto, unfolding(crate::specs::Grammar::row_kind))]
+pub(crate) fn row_kind(row: &StringRecord) -> Result<Kind, TableFaultKind>
+    ensures { result ≡ row_kind (fields_of row.now) }
+{
     if row.len() != FIELDS {
         return Err(TableFaultKind::FieldCount);
     }
@@ -55,7 +104,9 @@ pub(crate) fn spelled_run(row: &StringRecord) -> Result<Calendar, TableFaultKind
 }
 
 /// The name of a plant row.
-pub(crate) fn spelled_plant(row: &StringRecord) -> Result<&str, TableFaultKind> {
+pub(crate) fn spelled_plant(row: &StringRecord) -> Result<&str, TableFaultKind>
+    ensures { seen (λ name. name.now) result ≡ plant_terms (fields_of row.now) }
+{
     name(field(row, 1))
 }
 
@@ -106,7 +157,9 @@ pub(crate) struct SpelledBill<'r> {
 }
 
 /// What a bill row spells.
+#[tactic(auto, unfolding(crate::specs::Grammar::bill_terms))]
 pub(crate) fn spelled_bill(row: &StringRecord) -> Result<SpelledBill<'_>, TableFaultKind>
+    ensures exact { seen bill_view result ≡ bill_terms (fields_of row.now) }
     ensures per { IfOk result (λ b. (1 ≤ b.per) × (b.per ≤ MOST_PER)) }
 {
     let plant = name(field(row, 1))?;
@@ -131,10 +184,12 @@ pub(crate) struct SpelledAmount<'r> {
 }
 
 /// What a demand or a receipt row spells.
+#[tactic(auto, unfolding(crate::specs::Grammar::amount_terms))]
 pub(crate) fn spelled_amount(
     row: &StringRecord,
     horizon: Horizon,
 ) -> Result<SpelledAmount<'_>, TableFaultKind>
+    ensures exact { seen amount_view result ≡ amount_terms (fields_of row.now) horizon }
     ensures ranges { IfOk result (λ a. (a.period < horizon) × (a.quantity ≤ MOST_IN_ROW)) }
 {
     let plant = name(field(row, 1))?;
@@ -158,7 +213,10 @@ pub(crate) struct SpelledLane<'r> {
 }
 
 /// The names of a ship, cum or reset row.
-fn spelled_lane(row: &StringRecord) -> Result<SpelledLane<'_>, TableFaultKind> {
+#[tactic(auto, unfolding(crate::specs::Grammar::lane_terms))]
+fn spelled_lane(row: &StringRecord) -> Result<SpelledLane<'_>, TableFaultKind>
+    ensures exact { seen lane_view result ≡ lane_terms (fields_of row.now) }
+{
     let from = name(field(row, 1))?;
     let to = name(field(row, 2))?;
     let item = name(field(row, 3))?;
@@ -166,10 +224,12 @@ fn spelled_lane(row: &StringRecord) -> Result<SpelledLane<'_>, TableFaultKind> {
 }
 
 /// What a ship row spells: its names, its period of arrival and its quantity.
+#[tactic(auto, unfolding(crate::specs::Grammar::ship_terms))]
 pub(crate) fn spelled_ship(
     row: &StringRecord,
     horizon: Horizon,
 ) -> Result<(SpelledLane<'_>, usize, u64), TableFaultKind>
+    ensures exact { seen (λ s. (lane_view s.0, s.1, s.2)) result ≡ ship_terms (fields_of row.now) horizon }
     ensures ranges { IfOk result (λ s. (s.1 < horizon) × (s.2 ≤ MOST_IN_ROW)) }
 {
     let lane = spelled_lane(row)?;
@@ -179,7 +239,9 @@ pub(crate) fn spelled_ship(
 }
 
 /// What a cum row spells: its names and its figure.
+#[tactic(auto, unfolding(crate::specs::Grammar::cum_terms))]
 pub(crate) fn spelled_cum(row: &StringRecord) -> Result<(SpelledLane<'_>, u64), TableFaultKind>
+    ensures exact { seen (λ c. (lane_view c.0, c.1)) result ≡ cum_terms (fields_of row.now) }
     ensures figure { IfOk result (λ c. c.1 ≤ MOST) }
 {
     let lane = spelled_lane(row)?;
@@ -188,10 +250,12 @@ pub(crate) fn spelled_cum(row: &StringRecord) -> Result<(SpelledLane<'_>, u64), 
 }
 
 /// What a reset row spells: its names and its period.
+#[tactic(auto, unfolding(crate::specs::Grammar::reset_terms))]
 pub(crate) fn spelled_reset(
     row: &StringRecord,
     horizon: Horizon,
 ) -> Result<(SpelledLane<'_>, usize), TableFaultKind>
+    ensures exact { seen (λ r. (lane_view r.0, r.1)) result ≡ reset_terms (fields_of row.now) horizon }
     ensures period { IfOk result (λ r. r.1 < horizon) }
 {
     let lane = spelled_lane(row)?;

@@ -1,6 +1,9 @@
 ghost use Rattle.std.specs.Prelude.{◌≡◌, ◌≤◌, ◌<◌, IfOk, IfSome, length};
+ghost use Rattle.std.specs.List.{list_any};
+ghost use Rattle.std.specs.Str.{bytes_eq};
 ghost use Rattle.mrp_lot.specs.Lot.{IsRule};
-ghost use Rattle.mrp_tables.specs.Spelled.{AreSources, HasSources, IsSource};
+ghost use Rattle.mrp_tables.specs.Spelled.{cut_view, source_view, AreSources, HasSources, IsSource};
+ghost use Rattle.mrp_tables.specs.Spelling.{cut, min_rule_of, names_plant, numbered_rule, rule_of, shared_source};
 
 use crate::TableFaultKind;
 use crate::rows::{MOST_SHARE, MOST_SOURCES_OF_PAIR};
@@ -9,11 +12,21 @@ use mrp_lot::{MOST_IN_RULE, Rule};
 use mrp_qty::LONGEST;
 use std::alloc::Global;
 
+/// A text cut at its first colon.
+#[tactic(auto, unfolding(crate::specs::Spelling::cut))]
+fn cut(text: &str) -> Option<(&str, &str)>
+    ensures { cut_view result ≡ cut text.now }
+{
+    text.split_once(':')
+}
+
 /// The lot rule that a text spells: `lot`, `fixed:Q`, `periods:K` or `min:M:K`.
+#[tactic(auto, unfolding(crate::specs::Spelling::rule_of))]
 pub(crate) fn rule(text: &str) -> Option<Rule>
+    ensures exact { result ≡ rule_of text.now }
     ensures rule { IfSome result IsRule }
 {
-    match text.split_once(':') {
+    match cut(text) {
         None => {
             if text == "lot" {
                 Some(Rule::LotForLot)
@@ -26,7 +39,9 @@ pub(crate) fn rule(text: &str) -> Option<Rule>
 }
 
 /// The lot rule of a word and the numbers after it.
+#[tactic(auto, unfolding(crate::specs::Spelling::numbered_rule))]
 fn numbered_rule(word: &str, numbers: &str) -> Option<Rule>
+    ensures exact { result ≡ numbered_rule word.now numbers.now }
     ensures rule { IfSome result IsRule }
 {
     if word == "fixed" {
@@ -34,14 +49,21 @@ fn numbered_rule(word: &str, numbers: &str) -> Option<Rule>
     } else if word == "periods" {
         Some(Rule::Periods(number_within(numbers, 1, LONGEST)?))
     } else if word == "min" {
-        let (least, multiple) = numbers.split_once(':')?;
-        Some(Rule::MinMultiple(
-            number_within(least, 1, MOST_IN_RULE)?,
-            number_within(multiple, 1, MOST_IN_RULE)?,
-        ))
+        min_rule(numbers)
     } else {
         None
     }
+}
+
+/// The lot rule of a minimum and a multiple.
+fn min_rule(numbers: &str) -> Option<Rule>
+    ensures exact { result ≡ min_rule_of (cut numbers.now) }
+    ensures rule { IfSome result IsRule }
+{
+    let (least, multiple) = cut(numbers)?;
+    let least = number_within(least, 1, MOST_IN_RULE)?;
+    let multiple = number_within(multiple, 1, MOST_IN_RULE)?;
+    Some(Rule::MinMultiple(least, multiple))
 }
 
 /// One plant that a pair is taken from, as its row spells it: its share of each release, in
@@ -159,6 +181,8 @@ fn shared_source<'r>(
 }
 
 /// Whether one of the sources is the plant of that name.
-pub(crate) fn names_plant(sources: &[SpelledSource<'_>], plant: &str) -> bool {
+pub(crate) fn names_plant(sources: &[SpelledSource<'_>], plant: &str) -> bool
+    ensures { result ≡ list_any (λ s. bytes_eq s.plant.now plant.now) sources.now }
+{
     sources.iter().any(|source| source.plant == plant)
 }

@@ -88,27 +88,177 @@ pair,C,X,buy,min:20:5,0,0,0
     Ok(())
 }
 
+/// Whether a text is refused for that fault in that row.
+fn is_refused(rt: &HostRuntime, text: &[u8], row: u64, kind: TableFaultKind) -> bool {
+    fault_of(rt, text) == Some((row, kind))
+}
+
 #[test]
 fn the_form_of_a_row_is_tested_first(rt: HostRuntime) {
-    assert_eq!(rt; fault_of(&rt, b""), Some((0, TableFaultKind::Empty)));
-    assert_eq!(rt;
-        fault_of(&rt, b"run,2026-01-05,7,4,,,,\nplant,\xff,,,,,,\n"),
-        Some((2, TableFaultKind::NotUtf8))
+    assert!(rt; is_refused(&rt, b"", 0, TableFaultKind::Empty));
+    assert!(rt;
+        is_refused(
+            &rt,
+            b"run,2026-01-05,7,4,,,,\nplant,\xff,,,,,,\n",
+            2,
+            TableFaultKind::NotUtf8
+        )
     );
-    assert_eq!(rt;
-        fault_of(&rt, b"run,2026-01-05,7,4,,,,\nplant,A,,,,,,,\n"),
-        Some((2, TableFaultKind::FieldCount))
+    assert!(rt;
+        is_refused(
+            &rt,
+            b"run,2026-01-05,7,4,,,,\nplant,A,,,,,,,\n",
+            2,
+            TableFaultKind::FieldCount
+        )
     );
-    assert_eq!(rt;
-        fault_of(&rt, b"run,2026-01-05,7,4,,,,\nplant,A,B,,,,,\n"),
-        Some((2, TableFaultKind::FieldCount))
+    assert!(rt;
+        is_refused(
+            &rt,
+            b"run,2026-01-05,7,4,,,,\nplant,A,B,,,,,\n",
+            2,
+            TableFaultKind::FieldCount
+        )
     );
-    assert_eq!(rt;
-        fault_of(&rt, b"run,2026-01-05,7,4,,,,\nplants,A,,,,,,\n"),
-        Some((2, TableFaultKind::UnknownKind))
+    assert!(rt;
+        is_refused(
+            &rt,
+            b"run,2026-01-05,7,4,,,,\nplants,A,,,,,,\n",
+            2,
+            TableFaultKind::UnknownKind
+        )
     );
-    assert_eq!(rt;
-        fault_of(&rt, b"plant,A,,,,,,\n"),
-        Some((1, TableFaultKind::KindOrder))
+    assert!(rt; is_refused(&rt, b"plant,A,,,,,,\n", 1, TableFaultKind::KindOrder));
+    assert!(rt;
+        is_refused(
+            &rt,
+            b"run,2026-02-30,7,4,,,,\n",
+            1,
+            TableFaultKind::CalendarFault(CalFault::BadDate)
+        )
     );
+    assert!(rt;
+        is_refused(
+            &rt,
+            b"run,2026-01-05,32,4,,,,\n",
+            1,
+            TableFaultKind::CalendarFault(CalFault::DaysOutOfRange)
+        )
+    );
+    assert!(rt;
+        is_refused(
+            &rt,
+            b"run,2026-01-05,7,0,,,,\n",
+            1,
+            TableFaultKind::BadNumber
+        )
+    );
+}
+
+/// What one more row after those of a firm with a made and a bought pair is refused for, in row 7.
+fn refused(rt: &HostRuntime, row: &str, kind: TableFaultKind) -> Result<bool, Fail> {
+    let head = "run,2026-01-05,7,4,,,,
+plant,A,,,,,,
+plant,B,,,,,,
+pair,A,X,make,lot,1,0,0
+pair,A,Y,from:B,lot,1,0,0
+pair,B,Y,buy,lot,0,0,0
+";
+    let text = format!(in rt.alloc(); "{head}{row}")?;
+    Ok(is_refused(rt, text.as_bytes(), 7, kind))
+}
+
+#[test]
+fn a_row_is_tested_against_the_rows_before_it(rt: HostRuntime) -> Result<(), Fail> {
+    assert!(rt; refused(&rt, "plant,C,,,,,,", TableFaultKind::KindOrder)?);
+    assert!(rt; refused(&rt, "pair,A,X Y,buy,lot,0,0,0", TableFaultKind::BadName)?);
+    assert!(rt; refused(&rt, "pair,A,X,buy,lot,0,00,0", TableFaultKind::BadNumber)?);
+    assert!(rt; refused(&rt, "pair,A,X,buy,fixed:0,0,0,0", TableFaultKind::BadRule)?);
+    assert!(rt; refused(&rt, "pair,A,X,sell,lot,0,0,0", TableFaultKind::BadSupply)?);
+    assert!(rt;
+        refused(
+            &rt,
+            "pair,A,Z,from:B:1000,lot,0,0,0",
+            TableFaultKind::BadSupply
+        )?
+    );
+    assert!(rt;
+        refused(
+            &rt,
+            "pair,A,Z,from:B:600:C:399,lot,0,0,0",
+            TableFaultKind::BadSupply
+        )?
+    );
+    assert!(rt;
+        refused(
+            &rt,
+            "pair,A,Z,from:B:600:B:400,lot,0,0,0",
+            TableFaultKind::BadSupply
+        )?
+    );
+    assert!(rt; refused(&rt, "pair,A,X,buy,lot,0,0,0", TableFaultKind::Repeated)?);
+    assert!(rt; refused(&rt, "pair,C,X,buy,lot,0,0,0", TableFaultKind::UnknownPlant)?);
+    assert!(rt;
+        refused(
+            &rt,
+            "pair,A,Z,from:C,lot,0,0,0",
+            TableFaultKind::UnknownPlant
+        )?
+    );
+    assert!(rt;
+        refused(
+            &rt,
+            "pair,A,Z,from:B:600:A:400,lot,0,0,0",
+            TableFaultKind::SelfSource
+        )?
+    );
+    assert!(rt;
+        refused(
+            &rt,
+            "pair,A,Z,from:B,lot,0,0,0",
+            TableFaultKind::UnknownPair
+        )?
+    );
+    assert!(rt; refused(&rt, "bill,A,Y,X,1,,,", TableFaultKind::NotMade)?);
+    assert!(rt; refused(&rt, "bill,A,X,Z,1,,,", TableFaultKind::UnknownPair)?);
+    assert!(rt; refused(&rt, "demand,A,X,02,30,,,", TableFaultKind::BadNumber)?);
+    assert!(rt; refused(&rt, "demand,A,X,4,30,,,", TableFaultKind::BadNumber)?);
+    assert!(rt; refused(&rt, "ship,A,B,Y,0,1,,", TableFaultKind::NotSourced)?);
+    assert!(rt; refused(&rt, "cum,B,A", TableFaultKind::FieldCount)?);
+    Ok(())
+}
+
+#[test]
+fn shipments_of_new_figures_stand_in_order(rt: HostRuntime) {
+    let text: &[u8] = b"run,2026-01-05,7,4,,,,
+plant,A,,,,,,
+plant,B,,,,,,
+pair,A,X,from:B,lot,1,0,0
+pair,B,X,buy,lot,0,0,0
+ship,B,A,X,2,8,,
+ship,B,A,X,1,8,,
+reset,B,A,X,1,,,
+";
+    assert!(rt; is_refused(&rt, text, 8, TableFaultKind::ResetOrder));
+    let text: &[u8] = b"run,2026-01-05,7,4,,,,
+plant,A,,,,,,
+plant,B,,,,,,
+pair,A,X,from:B,lot,1,0,0
+pair,B,X,buy,lot,0,0,0
+reset,B,A,X,1,,,
+reset,B,A,X,2,,,
+";
+    assert!(rt; is_refused(&rt, text, 7, TableFaultKind::Repeated));
+}
+
+#[test]
+fn a_table_has_64_plants_at_most(rt: HostRuntime) -> Result<(), Fail> {
+    let mut text = String::from_str(rt.alloc(), "run,2026-01-05,7,4,,,,\n")?;
+    for number in 0..65u64 {
+        text.push_str("plant,P")?;
+        text.push_str(format!(in rt.alloc(); "{number}")?.as_str())?;
+        text.push_str(",,,,,,\n")?;
+    }
+    assert!(rt; is_refused(&rt, text.as_bytes(), 66, TableFaultKind::TooMany));
+    Ok(())
 }

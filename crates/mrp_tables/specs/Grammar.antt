@@ -1,0 +1,373 @@
+-- The grammar of a table, row by row. Each row is tested against the table of the rows before it, in
+-- the order of the faults, and then adds to it.
+use Rattle.std.specs.Prelude.{◌≡◌, ℕ, zero, suc, ◌+◌, ◌-◌, ◌*◌, ◌==◌, ◌&&◌, ◌||◌, not, nat_lt, nat_le, Bool, true, false, if◌then◌else◌, List, [], ◌∷◌, ◌++◌, length, map, filter, codes, Option, Some, None, is_some, option_map, position, slice_get, unwrap_or, Result, Ok, Err, ok_or}
+use Rattle.std.specs.List.{list_all, list_any}
+use Rattle.std.specs.Str.{bytes_eq, is_utf8}
+use Rattle.csv.specs.Records.{field_at}
+use Rattle.mrp_qty.specs.declared.quantity.TheConstants.{MOST}
+use Rattle.mrp_qty.specs.declared.horizon.TheConstants.{LONGEST}
+use Rattle.mrp_cal.specs.Calendar.{CalendarTerms}
+use Rattle.mrp_cal.specs.declared.fault.CalFault.{CalFault}
+use Rattle.mrp_lot.specs.declared.rule.Rule.{Rule}
+use Rattle.mrp_lot.specs.declared.rule.TheConstants.{LONGEST_LEAD}
+use Rattle.mrp_tables.specs.declared.fault.TableFaultKind.{TableFaultKind}
+use Rattle.mrp_tables.specs.declared.fault.TableFaultKind.TheVariants as fault
+use Rattle.mrp_tables.specs.declared.kind.Kind.{Kind}
+use Rattle.mrp_tables.specs.declared.kind.Kind.TheVariants as kind
+use Rattle.mrp_tables.specs.declared.rows.TheConstants.{MOST_BILLS, MOST_IN_ROW, MOST_OF_A_KIND, MOST_PAIRS, MOST_PER, MOST_PLANTS, MOST_SOURCES}
+use Rattle.mrp_tables.specs.declared.rows.Supply.{Supply}
+use Rattle.mrp_tables.specs.declared.rows.Supply.TheVariants as supply
+use Rattle.mrp_tables.specs.declared.rows.BillRow.{BillRow}
+use Rattle.mrp_tables.specs.declared.rows.ResetRow.{ResetRow}
+use Rattle.mrp_tables.specs.declared.rows.CumRow.{CumRow}
+use Rattle.mrp_tables.specs.declared.rows.ShipRow.{ShipRow}
+use Rattle.mrp_tables.specs.declared.rows.ReceiptRow.{ReceiptRow}
+use Rattle.mrp_tables.specs.declared.rows.DemandRow.{DemandRow}
+use Rattle.mrp_tables.specs.declared.numbers.PlantNo.{PlantNo}
+use Rattle.mrp_tables.specs.declared.numbers.PairNo.{PairNo}
+use Rattle.mrp_tables.specs.declared.lanes.NamedLane.{NamedLane}
+use Rattle.mrp_tables.specs.declared.lanes.KnownLane.{KnownLane}
+use Rattle.mrp_tables.specs.Table.{Table, horizon}
+use Rattle.mrp_tables.specs.Lists.{with_plant, with_bill, with_demand, with_receipt, with_ship, with_cum, with_reset}
+use Rattle.mrp_tables.specs.Spelling.{is_name, number_of, number_within, rule_of}
+
+-- the answer of a test, or the first fault
+infixl 10 ◌>>=◌
+abbrev pub ◌>>=◌ : {A B : Type 0} → Result A TableFaultKind → (A → Result B TableFaultKind) → Result B TableFaultKind
+Ok x >>= f = f x
+Err e >>= f = Err e
+
+abbrev pub check : Bool → TableFaultKind → Result (Unit {0}) TableFaultKind
+check true e = Ok tt
+check false e = Err e
+
+-- a good answer as the definitions see it
+abbrev pub seen : {A B : Type 0} → (A → B) → Result A TableFaultKind → Result B TableFaultKind
+seen view (Ok x) = Ok (view x)
+seen view (Err e) = Err e
+
+-- a field of a row, counted from 0
+abbrev pub field : List (List ℕ) → ℕ → List ℕ
+field row i = unwrap_or (field_at row i) []
+
+abbrev pub is_empty : List ℕ → Bool
+is_empty text = length text == 0
+
+abbrev pub kind_of : List ℕ → Option Kind
+kind_of word =
+    if bytes_eq word (codes "demand") then Some kind.Demand
+    else if bytes_eq word (codes "receipt") then Some kind.Receipt
+    else if bytes_eq word (codes "ship") then Some kind.Ship
+    else if bytes_eq word (codes "bill") then Some kind.Bill
+    else if bytes_eq word (codes "pair") then Some kind.Pair
+    else if bytes_eq word (codes "cum") then Some kind.Cum
+    else if bytes_eq word (codes "reset") then Some kind.Reset
+    else if bytes_eq word (codes "plant") then Some kind.Plant
+    else if bytes_eq word (codes "run") then Some kind.Run
+    else None
+
+-- how many of the eight fields a kind uses
+abbrev pub used : Kind → ℕ
+used kind.Run = 4
+used kind.Plant = 2
+used kind.Pair = 8
+used kind.Bill = 5
+used kind.Demand = 5
+used kind.Receipt = 5
+used kind.Ship = 6
+used kind.Cum = 5
+used kind.Reset = 5
+
+-- the place of a kind in the order of the kinds
+abbrev pub place_of : Kind → ℕ
+place_of kind.Run = 0
+place_of kind.Plant = 1
+place_of kind.Pair = 2
+place_of kind.Bill = 3
+place_of kind.Demand = 4
+place_of kind.Receipt = 5
+place_of kind.Ship = 6
+place_of kind.Cum = 7
+place_of kind.Reset = 8
+
+-- the run stands first and once, and rows of one kind stand together
+abbrev pub may_follow : Kind → Kind → Bool
+may_follow next last = nat_lt 0 (place_of next) && nat_le (place_of last) (place_of next)
+
+-- a field is used, or empty
+abbrev pub is_free : List (List ℕ) → ℕ → ℕ → Bool
+is_free row used i = nat_lt i used || is_empty (field row i)
+
+-- the fields that are not used are empty
+abbrev pub is_empty_from : List (List ℕ) → ℕ → Bool
+is_empty_from row used =
+    is_free row used 1 && is_free row used 2 && is_free row used 3 && is_free row used 4 && is_free row used 5 && is_free row used 6 && is_free row used 7
+
+abbrev pub with_fields : List (List ℕ) → Kind → Result Kind TableFaultKind
+with_fields row k = if is_empty_from row (used k) then Ok k else Err fault.FieldCount
+
+-- the kind of a row of eight fields, of which those that the kind doesn't use are empty
+unfoldable pub row_kind : List (List ℕ) → Result Kind TableFaultKind
+row_kind row = do
+  _ ← check (length row == 8) fault.FieldCount
+  k ← ok_or (kind_of (field row 0)) fault.UnknownKind
+  with_fields row k
+
+abbrev pub name_of : List ℕ → Result (List ℕ) TableFaultKind
+name_of text = if is_name text then Ok text else Err fault.BadName
+
+abbrev pub ranged : List ℕ → ℕ → ℕ → Result ℕ TableFaultKind
+ranged text low high = ok_or (number_within text low high) fault.BadNumber
+
+-- ---- what a row spells, before its names are looked up
+
+abbrev pub plant_terms : List (List ℕ) → Result (List ℕ) TableFaultKind
+plant_terms row = name_of (field row 1)
+
+pub record BillTerms : Type 0 where
+  pub plant : List ℕ
+  pub parent : List ℕ
+  pub component : List ℕ
+  pub per : ℕ
+
+unfoldable pub bill_terms : List (List ℕ) → Result BillTerms TableFaultKind
+bill_terms row = do
+  plant ← name_of (field row 1)
+  parent ← name_of (field row 2)
+  component ← name_of (field row 3)
+  per ← ranged (field row 4) 1 MOST_PER
+  Ok (record { plant = plant; parent = parent; component = component; per = per })
+
+-- a demand or a receipt row
+pub record AmountTerms : Type 0 where
+  pub plant : List ℕ
+  pub item : List ℕ
+  pub period : ℕ
+  pub quantity : ℕ
+
+unfoldable pub amount_terms : List (List ℕ) → ℕ → Result AmountTerms TableFaultKind
+amount_terms row periods = do
+  plant ← name_of (field row 1)
+  item ← name_of (field row 2)
+  period ← ranged (field row 3) 0 (periods - 1)
+  quantity ← ranged (field row 4) 1 MOST_IN_ROW
+  Ok (record { plant = plant; item = item; period = period; quantity = quantity })
+
+-- the names of a row on what one plant ships to another
+pub record LaneTerms : Type 0 where
+  pub from : List ℕ
+  pub to : List ℕ
+  pub item : List ℕ
+
+unfoldable pub lane_terms : List (List ℕ) → Result LaneTerms TableFaultKind
+lane_terms row = do
+  from ← name_of (field row 1)
+  to ← name_of (field row 2)
+  item ← name_of (field row 3)
+  Ok (record { from = from; to = to; item = item })
+
+unfoldable pub ship_terms : List (List ℕ) → ℕ → Result (LaneTerms × ℕ × ℕ) TableFaultKind
+ship_terms row periods = do
+  lane ← lane_terms row
+  period ← ranged (field row 4) 0 (periods - 1)
+  quantity ← ranged (field row 5) 1 MOST_IN_ROW
+  Ok (lane, period, quantity)
+
+unfoldable pub cum_terms : List (List ℕ) → Result (LaneTerms × ℕ) TableFaultKind
+cum_terms row = do
+  lane ← lane_terms row
+  figure ← ranged (field row 4) 0 MOST
+  Ok (lane, figure)
+
+unfoldable pub reset_terms : List (List ℕ) → ℕ → Result (LaneTerms × ℕ) TableFaultKind
+reset_terms row periods = do
+  lane ← lane_terms row
+  period ← ranged (field row 4) 0 (periods - 1)
+  Ok (lane, period)
+
+-- ---- what a row says, tested against the rows before it
+
+abbrev pub has_plant : Table → List ℕ → Bool
+has_plant N name = list_any (bytes_eq name) N.plants
+
+abbrev pub plant_no : Table → List ℕ → Option ℕ
+plant_no N name = position (bytes_eq name) N.plants
+
+abbrev pub pair_at : Table → ℕ → ℕ → Option ℕ
+pair_at N plant item = position (λ p. (p.plant.0 == plant) && (p.item.0 == item)) N.pairs
+
+abbrev pub pair_of : Table → ℕ → Option ℕ → Option ℕ
+pair_of N plant None = None
+pair_of N plant (Some item) = pair_at N plant item
+
+-- the pair of a plant and the item of that name
+abbrev pub pair_named : Table → Option ℕ → List ℕ → Option ℕ
+pair_named N None item = None
+pair_named N (Some plant) item = pair_of N plant (position (bytes_eq item) N.items)
+
+-- the place of a plant and of a pair, which both have rows
+unfoldable pub known_pair : Table → List ℕ → List ℕ → Result (PlantNo × PairNo) TableFaultKind
+known_pair N plant item = do
+  p ← ok_or (plant_no N plant) fault.UnknownPlant
+  x ← ok_or (pair_named N (Some p) item) fault.UnknownPair
+  Ok (record { 0 = p }, record { 0 = x })
+
+abbrev pub has_bill : Table → Option ℕ → Option ℕ → Bool
+has_bill N None component = false
+has_bill N (Some x) None = false
+has_bill N (Some x) (Some y) = list_any (λ b. (b.parent.0 == x) && (b.component.0 == y)) N.bills
+
+abbrev pub is_make : Supply → Bool
+is_make supply.Make = true
+is_make supply.Buy = false
+is_make supply.From = false
+
+-- the pair at a place is made
+abbrev pub is_made : Table → ℕ → Bool
+is_made N x = unwrap_or (option_map (λ p. is_make p.supply) (slice_get N.pairs x)) false
+
+unfoldable pub bill_fits : Table → BillTerms → Result BillRow TableFaultKind
+bill_fits N t =
+    let plant = plant_no N t.plant in
+    let parent = pair_named N plant t.parent in
+    let component = pair_named N plant t.component in
+    do
+      _ ← check (not (has_bill N parent component)) fault.Repeated
+      _ ← check (is_some plant) fault.UnknownPlant
+      x ← ok_or parent fault.UnknownPair
+      y ← ok_or component fault.UnknownPair
+      _ ← check (is_made N x) fault.NotMade
+      _ ← check (nat_lt (length N.bills) MOST_BILLS) fault.TooMany
+      Ok (record { parent = record { 0 = x }; component = record { 0 = y }; per = t.per })
+
+-- the place of the source row of a plant and a pair, if the pair is taken from the plant
+abbrev pub source_at : Table → ℕ → ℕ → Option ℕ
+source_at N from x = position (λ s. (s.plant.0 == from) && (s.pair.0 == x)) N.sources
+
+abbrev pub source_named : Table → Option ℕ → Option ℕ → Option ℕ
+source_named N None x = None
+source_named N (Some from) None = None
+source_named N (Some from) (Some x) = source_at N from x
+
+-- what the names of a row on a lane stand for, as far as it is there
+abbrev pub lane_named : Table → LaneTerms → NamedLane
+lane_named N t =
+    let from = plant_no N t.from in
+    let to = plant_no N t.to in
+    let x = pair_named N to t.item in
+    record { from = option_map (λ p. record { 0 = p }) from; to = option_map (λ p. record { 0 = p }) to; pair = option_map (λ p. record { 0 = p }) x; place = source_named N from x }
+
+unfoldable pub known_lane : NamedLane → Result KnownLane TableFaultKind
+known_lane l = do
+  from ← ok_or l.from fault.UnknownPlant
+  _ ← check (is_some l.to) fault.UnknownPlant
+  x ← ok_or l.pair fault.UnknownPair
+  place ← ok_or l.place fault.NotSourced
+  Ok (record { from = from; pair = x; place = place })
+
+-- a cum row of that plant and that pair
+abbrev pub cum_between : Table → Option PlantNo → Option PairNo → Bool
+cum_between N None x = false
+cum_between N (Some p) None = false
+cum_between N (Some p) (Some x) = list_any (λ c. (c.from.0 == p.0) && (c.pair.0 == x.0)) N.cums
+
+abbrev pub has_cum : Table → NamedLane → Bool
+has_cum N l = cum_between N l.from l.pair
+
+-- a reset row of that plant and that pair
+abbrev pub reset_between : Table → Option PlantNo → Option PairNo → Bool
+reset_between N None x = false
+reset_between N (Some p) None = false
+reset_between N (Some p) (Some x) = list_any (λ r. (r.from.0 == p.0) && (r.pair.0 == x.0)) N.resets
+
+abbrev pub has_reset : Table → NamedLane → Bool
+has_reset N l = reset_between N l.from l.pair
+
+-- the periods of arrival of the shipments on a lane, in table order
+abbrev pub arrivals : Table → PlantNo → PairNo → List ℕ
+arrivals N f x = map (λ s. s.period) (filter (λ s. (s.from.0 == f.0) && (s.pair.0 == x.0)) N.ships)
+
+-- no number is below the one before it
+abbrev pub rises_from : ℕ → List ℕ → Bool
+rises_from low [] = true
+rises_from low (n ∷ ns) = nat_le low n && rises_from n ns
+
+-- ---- the table with one row more, or the first fault of the row
+
+-- the name of a new plant
+unfoldable pub plant_of : Table → List (List ℕ) → Result (List ℕ) TableFaultKind
+plant_of N row = do
+  name ← plant_terms row
+  _ ← check (not (has_plant N name)) fault.Repeated
+  _ ← check (nat_lt (length N.plants) MOST_PLANTS) fault.TooMany
+  Ok name
+
+abbrev pub plant_row : Table → List (List ℕ) → Result Table TableFaultKind
+plant_row N row = plant_of N row >>= λ x. Ok (with_plant N x)
+
+abbrev pub bill_of : Table → List (List ℕ) → Result BillRow TableFaultKind
+bill_of N row = bill_terms row >>= bill_fits N
+
+unfoldable pub demand_of : Table → List (List ℕ) → Result DemandRow TableFaultKind
+demand_of N row = do
+  t ← amount_terms row (horizon N)
+  found ← known_pair N t.plant t.item
+  _ ← check (nat_lt (length N.demands) MOST_OF_A_KIND) fault.TooMany
+  Ok (record { pair = found.1; period = t.period; quantity = t.quantity })
+
+unfoldable pub receipt_of : Table → List (List ℕ) → Result ReceiptRow TableFaultKind
+receipt_of N row = do
+  t ← amount_terms row (horizon N)
+  found ← known_pair N t.plant t.item
+  _ ← check (nat_lt (length N.receipts) MOST_OF_A_KIND) fault.TooMany
+  Ok (record { pair = found.1; period = t.period; quantity = t.quantity })
+
+unfoldable pub ship_of : Table → List (List ℕ) → Result ShipRow TableFaultKind
+ship_of N row = do
+  t ← ship_terms row (horizon N)
+  lane ← known_lane (lane_named N t.0)
+  _ ← check (nat_lt (length N.ships) MOST_OF_A_KIND) fault.TooMany
+  Ok (record { from = lane.from; pair = lane.pair; period = t.1; quantity = t.2 })
+
+unfoldable pub cum_of : Table → List (List ℕ) → Result CumRow TableFaultKind
+cum_of N row = do
+  t ← cum_terms row
+  _ ← check (not (has_cum N (lane_named N t.0))) fault.Repeated
+  lane ← known_lane (lane_named N t.0)
+  _ ← check (nat_lt (length N.cums) MOST_OF_A_KIND) fault.TooMany
+  Ok (record { from = lane.from; pair = lane.pair; figure = t.1 })
+
+unfoldable pub reset_of : Table → List (List ℕ) → Result ResetRow TableFaultKind
+reset_of N row = do
+  t ← reset_terms row (horizon N)
+  _ ← check (not (has_reset N (lane_named N t.0))) fault.Repeated
+  lane ← known_lane (lane_named N t.0)
+  _ ← check (rises_from 0 (arrivals N lane.from lane.pair)) fault.ResetOrder
+  Ok (record { from = lane.from; pair = lane.pair; period = t.1 })
+
+abbrev pub bill_row : Table → List (List ℕ) → Result Table TableFaultKind
+bill_row N row = bill_of N row >>= λ x. Ok (with_bill N x)
+
+abbrev pub demand_row : Table → List (List ℕ) → Result Table TableFaultKind
+demand_row N row = demand_of N row >>= λ x. Ok (with_demand N x)
+
+abbrev pub receipt_row : Table → List (List ℕ) → Result Table TableFaultKind
+receipt_row N row = receipt_of N row >>= λ x. Ok (with_receipt N x)
+
+abbrev pub ship_row : Table → List (List ℕ) → Result Table TableFaultKind
+ship_row N row = ship_of N row >>= λ x. Ok (with_ship N x)
+
+abbrev pub cum_row : Table → List (List ℕ) → Result Table TableFaultKind
+cum_row N row = cum_of N row >>= λ x. Ok (with_cum N x)
+
+abbrev pub reset_row : Table → List (List ℕ) → Result Table TableFaultKind
+reset_row N row = reset_of N row >>= λ x. Ok (with_reset N x)
+
+-- what a step answers: the table that it makes, or the fault. It may also answer that there is no memory
+abbrev pub TellsFault : Result Table TableFaultKind → TableFaultKind → Type 0
+TellsFault read fault.Memory = Unit {0}
+TellsFault read e = read ≡ Err e
+
+abbrev pub Tells : {T : Type 0} → Result T TableFaultKind → Result Table TableFaultKind → Table → Type 0
+Tells (Ok t) read N = read ≡ Ok N
+Tells (Err e) read N = TellsFault read e
