@@ -10,3 +10,4 @@ pub mod Planning
 pub mod Needed
 pub mod Upstream
 pub mod Ordered
+pub mod Coded

@@ -19,7 +19,8 @@ use Rattle.mrp_loops.proofs.Taken.{Apart-push}
 use Rattle.mrp_loops.proofs.Rings.{climbs_more, path_short, ring_from_walk}
 use Rattle.mrp_loops.proofs.Needed.{place_in, need_agrees}
 
-any_some : {X : Type 0} (p : X → Bool) (xs : List X) → list_any p xs ≡ true → (x : X) × In xs x × (p x ≡ true)
+-- a test that passes somewhere
+pub any_some : {X : Type 0} (p : X → Bool) (xs : List X) → list_any p xs ≡ true → (x : X) × In xs x × (p x ≡ true)
 any_some p [] t = absurd (true≢false (sym t))
 any_some p (x ∷ xs) t = ⊎_elim
     (λ here. (x, inl refl, here))

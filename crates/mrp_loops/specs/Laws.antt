@@ -13,6 +13,10 @@ CodesRise =
 abbrev pub CodedIsLoopFree : Type 0
 CodedIsLoopFree = (N : Table) (codes : List ℕ) → IsTable N → AreCodes N codes → IsLoopFree N
 
+-- a network without loops has codes
+abbrev pub CodesExist : Type 0
+CodesExist = (N : Table) → IsTable N → IsLoopFree N → (codes : List ℕ) × AreCodes N codes
+
 -- a network has one list of codes
 abbrev pub CodesAreOne : Type 0
 CodesAreOne = (N : Table) (a b : List ℕ) → AreCodes N a → AreCodes N b → a ≡ b

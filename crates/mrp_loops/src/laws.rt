@@ -1,13 +1,14 @@
 //! Laws of codes, of networks without loops, and of needs. Each is the contract of a function that
 //! does nothing.
 
-ghost use Rattle.mrp_loops.specs.Laws.{CodesRise, CodedIsLoopFree, CodesAreOne, SetsHaveAFirst, DemandersDecide, NeedsExist, NeedsAreOne};
+ghost use Rattle.mrp_loops.specs.Laws.{CodesRise, CodedIsLoopFree, CodesExist, CodesAreOne, SetsHaveAFirst, DemandersDecide, NeedsExist, NeedsAreOne};
 
 /// Low-level codes rise along edges: a pair's code is above that of each of its demanders. So a
-/// network with codes has no loop, and it has one list of codes.
+/// network with codes has no loop. A network without loops has codes, and none has two lists of them.
 pub fn codes_rise()
     ensures rise { CodesRise }
     ensures free { CodedIsLoopFree }
+    ensures exist { CodesExist }
     ensures one { CodesAreOne }
 {}
 
