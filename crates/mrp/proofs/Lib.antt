@@ -1,2 +1,3 @@
 pub mod LineFacts
 pub mod LoopNames
+pub mod NameFacts

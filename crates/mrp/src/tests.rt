@@ -1,0 +1,74 @@
+//! The text functions on worked tables: the bytes of each report, and the line and the status of
+//! each fault.
+
+mod plans;
+mod refusals;
+mod streams;
+
+use crate::fault::{TextFault, status};
+use crate::lines::write_fault;
+use crate::text::{check_text, drive_text, peg_text};
+use std::alloc::{AllocError, Global};
+
+/// The bicycle: one plant, two wheels to a bicycle.
+pub(crate) const BICYCLE: &str = "run,2026-01-05,7,4,,,,\nplant,P1,,,,,,\n\
+pair,P1,BIKE,make,lot,1,0,0\npair,P1,WHEEL,buy,lot,1,0,0\nbill,P1,BIKE,WHEEL,2,,,\n\
+demand,P1,BIKE,3,10,,,\n";
+
+pub(crate) const BICYCLE_PLAN: &str = "plan,P1,BIKE,0,2026-01-05,0,0,0,0,0\n\
+plan,P1,BIKE,1,2026-01-12,0,0,0,0,0\nplan,P1,BIKE,2,2026-01-19,0,0,0,10,0\n\
+plan,P1,BIKE,3,2026-01-26,10,0,10,0,0\nplan,P1,WHEEL,0,2026-01-05,0,0,0,0,0\n\
+plan,P1,WHEEL,1,2026-01-12,0,0,0,20,0\nplan,P1,WHEEL,2,2026-01-19,20,0,20,0,0\n\
+plan,P1,WHEEL,3,2026-01-26,0,0,0,0,0\n";
+
+/// What a text function left: the bytes that the writer has, or the line of the fault and its status
+/// with a leading `!` where bytes were written before it.
+fn outcome(
+    alloc: Global,
+    written: Vec<u8>,
+    answer: Result<(), TextFault>,
+) -> Result<String, AllocError> {
+    let Err(fault) = answer else {
+        return text_of(alloc, written.as_slice());
+    };
+    let mut line = Vec::new(alloc);
+    if !written.is_empty() {
+        line.push(b'!')?;
+    }
+    line.push(b'0' + status(&fault).min(9))?;
+    line.push(b' ')?;
+    write_fault(&fault, &mut line);
+    text_of(alloc, line.as_slice())
+}
+
+/// The bytes as text; every report is text.
+fn text_of(alloc: Global, bytes: &[u8]) -> Result<String, AllocError> {
+    String::from_str(alloc, std::str::from_utf8(bytes).unwrap_or("no text"))
+}
+
+/// What `mrp plan` writes for the table, or its fault.
+pub(crate) fn plan(alloc: Global, table: &str) -> Result<String, AllocError> {
+    let mut written = Vec::new(alloc);
+    let answer = drive_text(alloc, table.as_bytes(), &mut written, 64);
+    outcome(alloc, written, answer)
+}
+
+/// What `mrp check` writes for the table, or its fault.
+pub(crate) fn codes(alloc: Global, table: &str) -> Result<String, AllocError> {
+    let mut written = Vec::new(alloc);
+    let answer = check_text(alloc, table.as_bytes(), &mut written);
+    outcome(alloc, written, answer)
+}
+
+/// What `mrp peg` writes for the table, or its fault.
+pub(crate) fn pegs(
+    alloc: Global,
+    table: &str,
+    plant: &str,
+    item: &str,
+    period: u64,
+) -> Result<String, AllocError> {
+    let mut written = Vec::new(alloc);
+    let answer = peg_text(alloc, table.as_bytes(), &mut written, plant, item, period);
+    outcome(alloc, written, answer)
+}

@@ -1,0 +1,157 @@
+use super::{BICYCLE, BICYCLE_PLAN, codes, pegs, plan};
+use std::test::Fail;
+
+/// Two plants: A takes X from B, eight pieces are under way.
+const SHIPPED: &str = "run,2026-01-05,7,4,,,,\nplant,A,,,,,,\nplant,B,,,,,,\n\
+pair,A,X,from:B,lot,1,0,0\npair,B,X,buy,lot,0,0,0\ndemand,A,X,2,30,,,\nship,B,A,X,2,8,,\n\
+cum,B,A,X,100,,,\n";
+
+/// Two plants that take from each other, and no loop.
+const RING: &str = "run,2026-01-05,7,1,,,,\nplant,A,,,,,,\nplant,B,,,,,,\n\
+pair,B,X,from:A,lot,0,0,0\npair,A,X,make,lot,0,0,0\npair,A,Y,from:B,lot,0,0,0\n\
+pair,B,Y,make,lot,0,0,0\npair,B,W,from:A,lot,0,0,0\npair,A,W,buy,lot,0,0,0\nbill,A,X,Y,2,,,\n\
+bill,B,Y,W,3,,,\ndemand,B,X,0,5,,,\n";
+
+/// A supplier with two parents of its own and two customers.
+const SUPPLIER: &str = "run,2026-01-05,7,1,,,,\nplant,S,,,,,,\nplant,C1,,,,,,\nplant,C2,,,,,,\n\
+pair,S,P1,make,lot,0,0,0\npair,S,P2,make,lot,0,0,0\npair,S,Z,buy,fixed:50,0,0,0\n\
+pair,C1,Z,from:S,lot,0,0,0\npair,C2,Z,from:S,lot,0,0,0\nbill,S,P1,Z,1,,,\nbill,S,P2,Z,2,,,\n\
+demand,S,P1,0,10,,,\ndemand,S,P2,0,10,,,\ndemand,C1,Z,0,15,,,\ndemand,C2,Z,0,25,,,\n";
+
+#[test]
+fn the_bicycle(rt: HostRuntime) -> Result<(), Fail> {
+    assert_eq!(rt; plan(rt.alloc(), BICYCLE)?.as_str(), BICYCLE_PLAN);
+    let code_rows = "code,P1,BIKE,0\ncode,P1,WHEEL,1\n";
+    assert_eq!(rt; codes(rt.alloc(), BICYCLE)?.as_str(), code_rows);
+    let terms = "peg,bill,P1,BIKE,10,2,20\n";
+    assert_eq!(rt;
+        pegs(rt.alloc(), BICYCLE, "P1", "WHEEL", 2)?.as_str(),
+        terms
+    );
+    Ok(())
+}
+
+#[test]
+fn lot_rules(rt: HostRuntime) -> Result<(), Fail> {
+    let minimum = "run,2026-01-05,7,3,,,,\nplant,A,,,,,,\npair,A,X,buy,min:20:5,0,12,5\n\
+demand,A,X,0,10,,,\ndemand,A,X,1,10,,,\ndemand,A,X,2,10,,,\n";
+    let rows = "plan,A,X,0,2026-01-05,10,0,20,20,22\nplan,A,X,1,2026-01-12,10,0,0,0,12\n\
+plan,A,X,2,2026-01-19,10,0,20,20,22\n";
+    assert_eq!(rt; plan(rt.alloc(), minimum)?.as_str(), rows);
+
+    let periods = "run,2026-01-05,7,3,,,,\nplant,A,,,,,,\npair,A,X,buy,periods:2,0,0,0\n\
+demand,A,X,0,5,,,\ndemand,A,X,1,7,,,\ndemand,A,X,2,9,,,\n";
+    let rows = "plan,A,X,0,2026-01-05,5,0,12,12,7\nplan,A,X,1,2026-01-12,7,0,0,0,0\n\
+plan,A,X,2,2026-01-19,9,0,9,9,0\n";
+    assert_eq!(rt; plan(rt.alloc(), periods)?.as_str(), rows);
+
+    let receipt = "run,2026-01-05,7,2,,,,\nplant,A,,,,,,\npair,A,X,buy,periods:2,0,0,0\n\
+demand,A,X,0,5,,,\ndemand,A,X,1,3,,,\nreceipt,A,X,1,9,,,\n";
+    let rows = "plan,A,X,0,2026-01-05,5,0,5,5,0\nplan,A,X,1,2026-01-12,3,9,0,0,6\n";
+    assert_eq!(rt; plan(rt.alloc(), receipt)?.as_str(), rows);
+    Ok(())
+}
+
+#[test]
+fn a_late_order_follows_the_plan(rt: HostRuntime) -> Result<(), Fail> {
+    let late = "run,2026-01-05,7,2,,,,\nplant,A,,,,,,\npair,A,X,buy,lot,3,0,0\ndemand,A,X,1,7,,,\n";
+    let rows = "plan,A,X,0,2026-01-05,0,0,0,7,0\nplan,A,X,1,2026-01-12,7,0,7,0,0\nlate,A,X,1,7,2\n";
+    assert_eq!(rt; plan(rt.alloc(), late)?.as_str(), rows);
+    Ok(())
+}
+
+#[test]
+fn a_run_without_plants_writes_nothing(rt: HostRuntime) -> Result<(), Fail> {
+    assert_eq!(rt; plan(rt.alloc(), "run,2026-01-05,7,1,,,,\n")?.as_str(), "");
+    Ok(())
+}
+
+#[test]
+fn a_chain_below_its_parents(rt: HostRuntime) -> Result<(), Fail> {
+    let chain = "run,2026-01-05,7,1,,,,\nplant,A,,,,,,\npair,A,W,buy,lot,0,0,0\n\
+pair,A,X,make,lot,0,0,0\npair,A,Y,make,lot,0,0,0\nbill,A,Y,X,1,,,\nbill,A,X,W,2,,,\n\
+bill,A,Y,W,1,,,\ndemand,A,Y,0,3,,,\n";
+    let rows = "plan,A,W,0,2026-01-05,9,0,9,9,0\nplan,A,X,0,2026-01-05,3,0,3,3,0\n\
+plan,A,Y,0,2026-01-05,3,0,3,3,0\n";
+    assert_eq!(rt; plan(rt.alloc(), chain)?.as_str(), rows);
+    let code_rows = "code,A,W,2\ncode,A,X,1\ncode,A,Y,0\n";
+    assert_eq!(rt; codes(rt.alloc(), chain)?.as_str(), code_rows);
+    Ok(())
+}
+
+#[test]
+fn shipments_come_in_at_the_customer(rt: HostRuntime) -> Result<(), Fail> {
+    let alloc = rt.alloc();
+    let rows = "plan,A,X,0,2026-01-05,0,0,0,0,0\nplan,A,X,1,2026-01-12,0,0,0,22,0\n\
+plan,A,X,2,2026-01-19,30,8,22,0,0\nplan,A,X,3,2026-01-26,0,0,0,0,0\n\
+plan,B,X,0,2026-01-05,0,0,0,0,0\nplan,B,X,1,2026-01-12,22,0,22,22,0\n\
+plan,B,X,2,2026-01-19,0,0,0,0,0\nplan,B,X,3,2026-01-26,0,0,0,0,0\n";
+    assert_eq!(rt; plan(alloc, SHIPPED)?.as_str(), rows);
+    assert_eq!(rt;
+        pegs(alloc, SHIPPED, "A", "X", 2)?.as_str(),
+        "peg,demand,A,X,30,1,30\n"
+    );
+    assert_eq!(rt;
+        pegs(alloc, SHIPPED, "B", "X", 1)?.as_str(),
+        "peg,plant,A,X,22,1,22\n"
+    );
+    assert_eq!(rt; pegs(alloc, SHIPPED, "B", "X", 0)?.as_str(), "");
+    assert_eq!(rt;
+        pegs(alloc, SHIPPED, "B", "X", 4)?.as_str(),
+        "1 mrp: no period\n"
+    );
+    Ok(())
+}
+
+#[test]
+fn equal_rows_all_count(rt: HostRuntime) -> Result<(), Fail> {
+    let alloc = rt.alloc();
+    let table = "run,2026-01-05,7,4,,,,\nplant,A,,,,,,\nplant,B,,,,,,\n\
+pair,A,X,from:B,lot,1,0,0\npair,B,X,buy,lot,0,0,0\ndemand,A,X,2,30,,,\nship,B,A,X,2,8,,\n\
+ship,B,A,X,2,8,,\ncum,B,A,X,100,,,\n";
+    assert_eq!(rt;
+        pegs(alloc, table, "B", "X", 1)?.as_str(),
+        "peg,plant,A,X,14,1,14\n"
+    );
+    let table = "run,2026-01-05,7,4,,,,\nplant,A,,,,,,\npair,A,X,buy,lot,1,0,0\n\
+demand,A,X,2,30,,,\ndemand,A,X,2,30,,,\n";
+    assert_eq!(rt;
+        pegs(alloc, table, "A", "X", 2)?.as_str(),
+        "peg,demand,A,X,60,1,60\n"
+    );
+    Ok(())
+}
+
+#[test]
+fn two_plants_that_take_from_each_other(rt: HostRuntime) -> Result<(), Fail> {
+    let rows = "plan,B,X,0,2026-01-05,5,0,5,5,0\nplan,A,X,0,2026-01-05,5,0,5,5,0\n\
+plan,A,Y,0,2026-01-05,10,0,10,10,0\nplan,B,Y,0,2026-01-05,10,0,10,10,0\n\
+plan,B,W,0,2026-01-05,30,0,30,30,0\nplan,A,W,0,2026-01-05,30,0,30,30,0\n";
+    assert_eq!(rt; plan(rt.alloc(), RING)?.as_str(), rows);
+    let code_rows = "code,B,X,0\ncode,A,X,1\ncode,A,Y,2\ncode,B,Y,3\ncode,B,W,4\ncode,A,W,5\n";
+    assert_eq!(rt; codes(rt.alloc(), RING)?.as_str(), code_rows);
+    Ok(())
+}
+
+#[test]
+fn a_supplier_of_bills_and_plants(rt: HostRuntime) -> Result<(), Fail> {
+    let alloc = rt.alloc();
+    let rows = "plan,S,P1,0,2026-01-05,10,0,10,10,0\nplan,S,P2,0,2026-01-05,10,0,10,10,0\n\
+plan,S,Z,0,2026-01-05,70,0,100,100,30\nplan,C1,Z,0,2026-01-05,15,0,15,15,0\n\
+plan,C2,Z,0,2026-01-05,25,0,25,25,0\n";
+    assert_eq!(rt; plan(alloc, SUPPLIER)?.as_str(), rows);
+    let terms = "peg,bill,S,P1,10,1,10\npeg,bill,S,P2,10,2,20\npeg,plant,C1,Z,15,1,15\n\
+peg,plant,C2,Z,25,1,25\n";
+    assert_eq!(rt; pegs(alloc, SUPPLIER, "S", "Z", 0)?.as_str(), terms);
+    let code_rows = "code,S,P1,0\ncode,S,P2,0\ncode,S,Z,1\ncode,C1,Z,0\ncode,C2,Z,0\n";
+    assert_eq!(rt; codes(alloc, SUPPLIER)?.as_str(), code_rows);
+    assert_eq!(rt;
+        pegs(alloc, SUPPLIER, "S", "Q", 0)?.as_str(),
+        "1 mrp: no pair\n"
+    );
+    assert_eq!(rt;
+        pegs(alloc, SUPPLIER, "S", "Z", 1)?.as_str(),
+        "1 mrp: no period\n"
+    );
+    Ok(())
+}

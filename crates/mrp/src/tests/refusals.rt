@@ -1,0 +1,73 @@
+use super::{BICYCLE, codes, plan};
+use std::test::Fail;
+
+/// A make with a million pieces to one, at the bound.
+const AT_THE_BOUND: &str = "run,2026-01-05,7,1,,,,\nplant,A,,,,,,\npair,A,Y,make,lot,0,0,0\n\
+pair,A,X,buy,lot,0,0,0\nbill,A,Y,X,1000000,,,\ndemand,A,Y,0,1000000000,,,\n";
+
+#[test]
+fn loops_are_named(rt: HostRuntime) -> Result<(), Fail> {
+    let between = "run,2026-01-05,7,1,,,,\nplant,A,,,,,,\nplant,B,,,,,,\n\
+pair,A,X,from:B,lot,0,0,0\npair,B,X,from:A,lot,0,0,0\n";
+    assert_eq!(rt;
+        plan(rt.alloc(), between)?.as_str(),
+        "1 mrp: loop A/X B/X\n"
+    );
+    let own = "run,2026-01-05,7,1,,,,\nplant,A,,,,,,\npair,A,X,make,lot,0,0,0\nbill,A,X,X,1,,,\n";
+    assert_eq!(rt; plan(rt.alloc(), own)?.as_str(), "1 mrp: loop A/X\n");
+    let above = "run,2026-01-05,7,1,,,,\nplant,A,,,,,,\npair,A,W,buy,lot,0,0,0\n\
+pair,A,X,make,lot,0,0,0\npair,A,Y,make,lot,0,0,0\nbill,A,Y,X,1,,,\nbill,A,X,W,2,,,\n\
+bill,A,Y,W,1,,,\nbill,A,X,Y,1,,,\ndemand,A,Y,0,3,,,\n";
+    assert_eq!(rt; codes(rt.alloc(), above)?.as_str(), "1 mrp: loop A/X A/Y\n");
+    Ok(())
+}
+
+#[test]
+fn quantities_end_at_the_bound(rt: HostRuntime) -> Result<(), Fail> {
+    let rows = "plan,A,Y,0,2026-01-05,1000000000,0,1000000000,1000000000,0\n\
+plan,A,X,0,2026-01-05,1000000000000000,0,1000000000000000,1000000000000000,0\n";
+    assert_eq!(rt; plan(rt.alloc(), AT_THE_BOUND)?.as_str(), rows);
+    let past = "run,2026-01-05,7,1,,,,\nplant,A,,,,,,\npair,A,Y,make,lot,0,0,0\n\
+pair,A,X,buy,lot,0,0,0\nbill,A,Y,X,1000000,,,\ndemand,A,Y,0,1000000000,,,\ndemand,A,X,0,1,,,\n";
+    assert_eq!(rt;
+        plan(rt.alloc(), past)?.as_str(),
+        "1 mrp: NeedTooLarge A/X\n"
+    );
+    let supply = "run,2026-01-05,7,1,,,,\nplant,A,,,,,,\nplant,B,,,,,,\n\
+pair,A,Y,make,lot,0,0,0\npair,A,X,buy,lot,0,0,0\npair,A,Z,from:B,lot,0,1,0\n\
+pair,B,Z,buy,lot,0,0,0\nbill,A,Y,X,1000000,,,\ndemand,A,Y,0,1000000000,,,\n\
+demand,A,X,0,1,,,\ncum,B,A,Z,1000000000000000,,,\n";
+    assert_eq!(rt;
+        plan(rt.alloc(), supply)?.as_str(),
+        "1 mrp: SupplyTooLarge A/Z\n"
+    );
+    Ok(())
+}
+
+#[test]
+fn refused_rows_have_their_number(rt: HostRuntime) -> Result<(), Fail> {
+    let alloc = rt.alloc();
+    assert_eq!(rt; plan(alloc, "")?.as_str(), "1 mrp: row 0: Empty\n");
+    let long = "run,2026-01-05,7,1,,,,\nplant,A,,,,,,,\n";
+    assert_eq!(rt; plan(alloc, long)?.as_str(), "1 mrp: row 2: FieldCount\n");
+    let cut = "run,2026-01-05,7,1,,,,\nplant,A,,,,,,\npair,A,X,buy,lot,1,0,0\ncum,B,A";
+    assert_eq!(rt; plan(alloc, cut)?.as_str(), "1 mrp: row 4: FieldCount\n");
+    let zeros =
+        "run,2026-01-05,7,4,,,,\nplant,A,,,,,,\npair,A,X,buy,lot,1,0,0\ndemand,A,X,02,30,,,\n";
+    assert_eq!(rt; plan(alloc, zeros)?.as_str(), "1 mrp: row 4: BadNumber\n");
+    let order = "run,2026-01-05,7,4,,,,\nplant,A,,,,,,\npair,A,X,buy,lot,1,0,0\n\
+receipt,A,X,2,8,,,\ndemand,A,X,2,30,,,\n";
+    assert_eq!(rt; plan(alloc, order)?.as_str(), "1 mrp: row 5: KindOrder\n");
+    let day = "run,2026-02-30,7,4,,,,\n";
+    assert_eq!(rt;
+        plan(alloc, day)?.as_str(),
+        "1 mrp: row 1: CalendarFault BadDate\n"
+    );
+    let ragged = "run,2026-01-05,7,4,,,,\nplant,P1,,,,,,\nplant,P1,,,,,,\n";
+    assert_eq!(rt; plan(alloc, ragged)?.as_str(), "1 mrp: row 3: Repeated\n");
+    assert_eq!(rt;
+        codes(alloc, BICYCLE)?.as_str(),
+        "code,P1,BIKE,0\ncode,P1,WHEEL,1\n"
+    );
+    Ok(())
+}
