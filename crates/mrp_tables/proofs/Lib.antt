@@ -4,3 +4,4 @@ pub mod Keys
 pub mod ResetRoom
 pub mod TurnCount
 pub mod Digits
+pub mod Shares

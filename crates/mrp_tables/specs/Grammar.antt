@@ -14,7 +14,7 @@ use Rattle.mrp_tables.specs.declared.fault.TableFaultKind.{TableFaultKind}
 use Rattle.mrp_tables.specs.declared.fault.TableFaultKind.TheVariants as fault
 use Rattle.mrp_tables.specs.declared.kind.Kind.{Kind}
 use Rattle.mrp_tables.specs.declared.kind.Kind.TheVariants as kind
-use Rattle.mrp_tables.specs.declared.rows.TheConstants.{MOST_BILLS, MOST_IN_ROW, MOST_OF_A_KIND, MOST_PAIRS, MOST_PER, MOST_PLANTS, MOST_SOURCES}
+use Rattle.mrp_tables.specs.declared.rows.TheConstants.{MOST_BILLS, MOST_IN_ROW, MOST_OF_A_KIND, MOST_PAIRS, MOST_PER, MOST_PLANTS, MOST_SHARE, MOST_SOURCES_OF_PAIR}
 use Rattle.mrp_tables.specs.declared.rows.Supply.{Supply}
 use Rattle.mrp_tables.specs.declared.rows.Supply.TheVariants as supply
 use Rattle.mrp_tables.specs.declared.rows.BillRow.{BillRow}
@@ -29,7 +29,7 @@ use Rattle.mrp_tables.specs.declared.lanes.NamedLane.{NamedLane}
 use Rattle.mrp_tables.specs.declared.lanes.KnownLane.{KnownLane}
 use Rattle.mrp_tables.specs.Table.{Table, horizon}
 use Rattle.mrp_tables.specs.Lists.{with_plant, with_bill, with_demand, with_receipt, with_ship, with_cum, with_reset}
-use Rattle.mrp_tables.specs.Spelling.{is_name, number_of, number_within, rule_of}
+use Rattle.mrp_tables.specs.Spelling.{cut, is_name, names_plant, number_of, number_within, rule_of, shared_source, SourceTerms, SupplyTerms, MakeTerms, BuyTerms, FromTerms}
 
 -- the answer of a test, or the first fault
 infixl 10 ◌>>=◌
@@ -45,6 +45,21 @@ check false e = Err e
 abbrev pub seen : {A B : Type 0} → (A → B) → Result A TableFaultKind → Result B TableFaultKind
 seen view (Ok x) = Ok (view x)
 seen view (Err e) = Err e
+
+-- a fault that a step answers; it may also answer that there is no memory
+abbrev pub TellsFault : {B : Type 0} → Result B TableFaultKind → TableFaultKind → Type 0
+TellsFault read fault.Memory = Unit {0}
+TellsFault read e = read ≡ Err e
+
+-- what a step answers, as the definitions see it
+abbrev pub TellsSeen : {A B : Type 0} → (A → B) → Result A TableFaultKind → Result B TableFaultKind → Type 0
+TellsSeen view (Ok x) read = read ≡ Ok (view x)
+TellsSeen view (Err e) read = TellsFault read e
+
+-- a step makes that value, or answers the fault
+abbrev pub Tells : {T B : Type 0} → Result T TableFaultKind → Result B TableFaultKind → B → Type 0
+Tells (Ok t) read made = read ≡ Ok made
+Tells (Err e) read made = TellsFault read e
 
 -- a field of a row, counted from 0
 abbrev pub field : List (List ℕ) → ℕ → List ℕ
@@ -184,6 +199,62 @@ reset_terms row periods = do
   lane ← lane_terms row
   period ← ranged (field row 4) 0 (periods - 1)
   Ok (lane, period)
+
+-- the sources so far, where a text follows them or where their shares are the whole
+abbrev pub shared_rest : List SourceTerms → (List SourceTerms → ℕ → List ℕ → Result (List SourceTerms) TableFaultKind) → ℕ → Option (List ℕ) → Result (List SourceTerms) TableFaultKind
+shared_rest sources more high None = if high == MOST_SHARE then Ok sources else Err fault.BadSupply
+shared_rest sources more high (Some text) = more sources high text
+
+-- the same with one source more, which is of another plant
+abbrev pub shared_after : List SourceTerms → (List SourceTerms → ℕ → List ℕ → Result (List SourceTerms) TableFaultKind) → Option (SourceTerms × Option (List ℕ)) → Result (List SourceTerms) TableFaultKind
+shared_after before more None = Err fault.BadSupply
+shared_after before more (Some p) =
+    if names_plant before p.0.plant then Err fault.BadSupply else shared_rest (before ++ p.0 ∷ []) more p.0.high p.1
+
+-- plants with their shares, at most so many, after those before
+unfoldable pub shared_sources : ℕ → List SourceTerms → ℕ → List ℕ → Result (List SourceTerms) TableFaultKind
+shared_sources zero before low text = Err fault.BadSupply
+shared_sources (suc n) before low text = shared_after before (shared_sources n) (shared_source text low)
+
+-- one plant, or two to four plants with their shares
+unfoldable pub sources_of : List ℕ → Result (List SourceTerms) TableFaultKind
+sources_of text =
+    if is_name text then Ok (record { plant = text; low = 0; high = MOST_SHARE } ∷ []) else shared_sources MOST_SOURCES_OF_PAIR [] 0 text
+
+abbrev pub from_terms : Result (List SourceTerms) TableFaultKind → Result SupplyTerms TableFaultKind
+from_terms sources = sources >>= λ list. Ok (FromTerms list)
+
+abbrev pub supply_in : List ℕ → Option (List ℕ × List ℕ) → Result SupplyTerms TableFaultKind
+supply_in text None =
+    if bytes_eq text (codes "make") then Ok MakeTerms
+    else if bytes_eq text (codes "buy") then Ok BuyTerms
+    else Err fault.BadSupply
+supply_in text (Some p) =
+    if bytes_eq p.0 (codes "from") then from_terms (sources_of p.1) else Err fault.BadSupply
+
+-- `make`, `buy`, or `from:` and the sources
+unfoldable pub supply_of : List ℕ → Result SupplyTerms TableFaultKind
+supply_of text = supply_in text (cut text)
+
+pub record PairTerms : Type 0 where
+  pub plant : List ℕ
+  pub item : List ℕ
+  pub supply : SupplyTerms
+  pub rule : Rule
+  pub lead : ℕ
+  pub on_hand : ℕ
+  pub safety : ℕ
+
+unfoldable pub pair_terms : List (List ℕ) → Result PairTerms TableFaultKind
+pair_terms row = do
+  plant ← name_of (field row 1)
+  item ← name_of (field row 2)
+  lead ← ranged (field row 5) 0 LONGEST_LEAD
+  on_hand ← ranged (field row 6) 0 MOST_IN_ROW
+  safety ← ranged (field row 7) 0 MOST_IN_ROW
+  rule ← ok_or (rule_of (field row 4)) fault.BadRule
+  supply ← supply_of (field row 3)
+  Ok (record { plant = plant; item = item; supply = supply; rule = rule; lead = lead; on_hand = on_hand; safety = safety })
 
 -- ---- what a row says, tested against the rows before it
 
@@ -362,12 +433,3 @@ cum_row N row = cum_of N row >>= λ x. Ok (with_cum N x)
 
 abbrev pub reset_row : Table → List (List ℕ) → Result Table TableFaultKind
 reset_row N row = reset_of N row >>= λ x. Ok (with_reset N x)
-
--- what a step answers: the table that it makes, or the fault. It may also answer that there is no memory
-abbrev pub TellsFault : Result Table TableFaultKind → TableFaultKind → Type 0
-TellsFault read fault.Memory = Unit {0}
-TellsFault read e = read ≡ Err e
-
-abbrev pub Tells : {T : Type 0} → Result T TableFaultKind → Result Table TableFaultKind → Table → Type 0
-Tells (Ok t) read N = read ≡ Ok N
-Tells (Err e) read N = TellsFault read e

@@ -1,5 +1,5 @@
 -- What a row spells, before its names are looked up.
-use Rattle.std.specs.Prelude.{◌≡◌, ℕ, ◌≤◌, ◌<◌, List, length, All, Option, None, Some}
+use Rattle.std.specs.Prelude.{◌≡◌, ℕ, ◌≤◌, ◌<◌, List, length, map, All, Option, None, Some, option_map}
 use Rattle.std.specs.Borrow.{Bor}
 use Rattle.mrp_lot.specs.Lot.{IsRule}
 use Rattle.mrp_lot.specs.declared.rule.TheConstants.{LONGEST_LEAD}
@@ -11,8 +11,8 @@ use Rattle.mrp_tables.specs.declared.spelled.SpelledPair.{SpelledPair}
 use Rattle.mrp_tables.specs.declared.spelled.SpelledBill.{SpelledBill}
 use Rattle.mrp_tables.specs.declared.spelled.SpelledAmount.{SpelledAmount}
 use Rattle.mrp_tables.specs.declared.spelled.SpelledLane.{SpelledLane}
-use Rattle.mrp_tables.specs.Spelling.{SourceTerms}
-use Rattle.mrp_tables.specs.Grammar.{BillTerms, AmountTerms, LaneTerms}
+use Rattle.mrp_tables.specs.Spelling.{SourceTerms, SupplyTerms, MakeTerms, BuyTerms, FromTerms}
+use Rattle.mrp_tables.specs.Grammar.{AmountTerms, BillTerms, LaneTerms, PairTerms}
 
 -- a share that ends after it begins, and within the whole
 pub record IsSource (s : SpelledSource) : Type 0 where
@@ -54,3 +54,16 @@ source_view s = record { plant = s.plant.now; low = s.low; high = s.high }
 abbrev pub cut_view : Option (Bor (List ℕ) × Bor (List ℕ)) → Option (List ℕ × List ℕ)
 cut_view None = None
 cut_view (Some p) = Some (p.0.now, p.1.now)
+
+abbrev pub supply_view : SpelledSupply → SupplyTerms
+supply_view Make = MakeTerms
+supply_view Buy = BuyTerms
+supply_view (From sources) = FromTerms (map source_view sources.items)
+
+abbrev pub pair_view : SpelledPair → PairTerms
+pair_view p = record { plant = p.plant.now; item = p.item.now; supply = supply_view p.supply; rule = p.rule; lead = p.lead; on_hand = p.on_hand; safety = p.safety }
+
+-- a source, and the text after it
+abbrev pub share_view : Option (SpelledSource × Option (Bor (List ℕ))) → Option (SourceTerms × Option (List ℕ))
+share_view None = None
+share_view (Some p) = Some (source_view p.0, option_map (λ t. t.now) p.1)

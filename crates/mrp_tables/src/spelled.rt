@@ -3,8 +3,8 @@ ghost use Rattle.mrp_qty.specs.declared.quantity.TheConstants.{MOST};
 ghost use Rattle.mrp_qty.specs.declared.horizon.TheConstants.{LONGEST};
 ghost use Rattle.mrp_tables.specs.declared.rows.TheConstants.{MOST_IN_ROW, MOST_PER};
 ghost use Rattle.csv.specs.Records.{fields_of};
-ghost use Rattle.mrp_tables.specs.Grammar.{amount_terms, bill_terms, cum_terms, field, is_empty_from, is_free, kind_of, lane_terms, plant_terms, reset_terms, row_kind, seen, ship_terms};
-ghost use Rattle.mrp_tables.specs.Spelled.{amount_view, bill_view, lane_view, IsSpelledPair};
+ghost use Rattle.mrp_tables.specs.Grammar.{amount_terms, bill_terms, cum_terms, field, is_empty_from, is_free, kind_of, lane_terms, pair_terms, plant_terms, reset_terms, row_kind, seen, ship_terms, TellsSeen};
+ghost use Rattle.mrp_tables.specs.Spelled.{amount_view, bill_view, lane_view, pair_view, IsSpelledPair};
 
 use crate::TableFaultKind;
 use crate::kind::Kind;
@@ -123,10 +123,12 @@ pub(crate) struct SpelledPair<'r> {
 }
 
 /// What a pair row spells.
+#[tactic(auto, unfolding(crate::specs::Grammar::pair_terms))]
 pub(crate) fn spelled_pair(
     alloc: Global,
     row: &StringRecord,
 ) -> Result<SpelledPair<'_>, TableFaultKind>
+    ensures exact { TellsSeen pair_view result (pair_terms (fields_of row.now)) }
     ensures ranges { IfOk result IsSpelledPair }
 {
     let plant = name(field(row, 1))?;

@@ -1,0 +1,53 @@
+use Rattle.std.proofs.Common.{◌≡◌, ◌<◌, ◌-◌, ◌∙◌, ◌++◌, ◌∷◌, [], List, ℕ, Bool, true, false, Option, Some, None, Result, Ok, Err, map, option_map, sym, ap, subst, arith, Bor, Vec, Global}
+use Rattle.std.proofs.lemmas.List.{map-append}
+use Rattle.mrp_tables.specs.declared.fault.TableFaultKind.{TableFaultKind}
+use Rattle.mrp_tables.specs.declared.terms.SpelledSource.{SpelledSource}
+use Rattle.mrp_tables.specs.Grammar.{shared_rest, shared_sources, TellsSeen}
+use Rattle.mrp_tables.specs.Spelled.{source_view}
+use Rattle.mrp_tables.specs.Spelling.{SourceTerms, names_plant}
+use Rattle.mrp_tables.proofs.Shares.{shared_sources-go, shared_sources-none, shared_sources-stop, shared_sources-twice}
+use Rattle.mrp_tables.proofs.terms.+shared_sources.Goals as goal
+
+abbrev now_of : Option (Bor (List ℕ)) → Option (List ℕ)
+now_of later = option_map (λ t. t.now) later
+
+pub returns-then-left-eq0-clause-exact : goal.returns-then-left-eq0-clause-exact
+returns-then-left-eq0-clause-exact t c = shared_sources-none _ _ _ _ c.if-left-eq0.true
+
+pub returns-in_default-clause-exact : goal.returns-in_default-clause-exact
+returns-in_default-clause-exact t c =
+    let some : 0 < c.args.left = omega (arith, c.if-left-eq0.false) in
+    shared_sources-stop c.args.left _ c.args.low c.args.text.now some (sym c.in_default.ensures.exact)
+
+pub returns-then-names_plant-clause-exact : goal.returns-then-names_plant-clause-exact
+returns-then-names_plant-clause-exact t c =
+    let some : 0 < c.args.left = omega (arith, c.if-left-eq0.false) in
+    let s = source_view c.in-Some.source in
+    let named = ap (λ (xs : List SpelledSource). names_plant (map source_view xs) s.plant) (sym c.as_slice.ensures.value) ∙ sym c.names_plant.ensures.exact ∙ c.if-names_plant.true in
+    shared_sources-twice c.args.left _ c.args.low c.args.text.now some s (now_of c.in-Some.later) (sym c.in-Some.ensures.exact) named
+
+pub returns-in-Some-later-clause-exact : goal.returns-in-Some-later-clause-exact
+returns-in-Some-later-clause-exact t c =
+    let some : 0 < c.args.left = omega (arith, c.if-left-eq0.false) in
+    let s = source_view c.in-Some.source in
+    let before = map source_view c.args.sources.items in
+    let named = ap (λ (xs : List SpelledSource). names_plant (map source_view xs) s.plant) (sym c.as_slice.ensures.value) ∙ sym c.names_plant.ensures.exact ∙ c.if-names_plant.false in
+    let go = shared_sources-go c.args.left before c.args.low c.args.text.now some s (now_of c.in-Some.later) (sym c.in-Some.ensures.exact) named in
+    let pushed = ap (λ (xs : List SpelledSource). map source_view xs) c.in_ok-push.ensures.items ∙ map-append source_view c.args.sources.items (c.in-Some.source ∷ []) in
+    let total = go
+    ∙ ap (λ (l : Option (Bor (List ℕ))). shared_rest (before ++ s ∷ []) (shared_sources (c.args.left - 1)) s.high (now_of l)) c.in-Some-later.is
+    ∙ ap (λ (xs : List SourceTerms). shared_sources (c.args.left - 1) xs s.high c.in-Some-later.later.now) (sym pushed) in
+    subst (λ (r : Result (List SourceTerms) TableFaultKind). TellsSeen (λ (found : Vec SpelledSource Global). map source_view found.items) c.shared_sources.result r) (sym total) c.shared_sources.ensures.exact
+
+pub returns-in-None-clause-exact : goal.returns-in-None-clause-exact
+returns-in-None-clause-exact t c =
+    let some : 0 < c.args.left = omega (arith, c.if-left-eq0.false) in
+    let s = source_view c.in-Some.source in
+    let before = map source_view c.args.sources.items in
+    let named = ap (λ (xs : List SpelledSource). names_plant (map source_view xs) s.plant) (sym c.as_slice.ensures.value) ∙ sym c.names_plant.ensures.exact ∙ c.if-names_plant.false in
+    let go = shared_sources-go c.args.left before c.args.low c.args.text.now some s (now_of c.in-Some.later) (sym c.in-Some.ensures.exact) named in
+    let pushed = ap (λ (xs : List SpelledSource). map source_view xs) c.in_ok-push.ensures.items ∙ map-append source_view c.args.sources.items (c.in-Some.source ∷ []) in
+    let total = go
+    ∙ ap (λ (l : Option (Bor (List ℕ))). shared_rest (before ++ s ∷ []) (shared_sources (c.args.left - 1)) s.high (now_of l)) c.in-None.is
+    ∙ ap (λ (xs : List SourceTerms). shared_rest xs (shared_sources (c.args.left - 1)) s.high None) (sym pushed) in
+    subst (λ (r : Result (List SourceTerms) TableFaultKind). TellsSeen (λ (found : Vec SpelledSource Global). map source_view found.items) c.all_shared.result r) (sym total) c.all_shared.ensures.exact
