@@ -3,7 +3,6 @@ ghost use Rattle.mrp_lot.specs.Lot.{rule_quantities};
 ghost use Rattle.mrp_tables.specs.Table.{IsPair};
 ghost use Rattle.mrp_net.specs.Edges.{IsEdge};
 ghost use Rattle.mrp_loops.specs.Need.{need_at};
-ghost use Rattle.mrp_tables.specs.Table.{Table};
 
 use mrp_lot::Rule;
 use mrp_net::{Edge, Network, PairNo};

@@ -7,7 +7,7 @@ ghost use Rattle.mrp_loops.specs.Loop.{AreCodes};
 ghost use Rattle.mrp_loops.specs.Need.{AreNeeds, AreWithin};
 ghost use Rattle.mrp_loops.specs.Order.{IsVisit};
 ghost use Rattle.mrp_loops.specs.BoundFaults.{IsBoundFault, IsSupplyTooLarge, IsNeedFault};
-ghost use Rattle.mrp_loops.specs.Sized.{Sized, IsSized, IsPlanningOrder};
+ghost use Rattle.mrp_loops.specs.Sized.{IsSized, IsPlanningOrder};
 
 use crate::Levels;
 use crate::needs::need;

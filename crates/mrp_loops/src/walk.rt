@@ -1,4 +1,4 @@
-ghost use Rattle.std.specs.Prelude.{◌≡◌, ◌<◌, ◌≤◌, IsTrue, true, false, All, length, map, drop, slice_index, slice_index_or, IfOk};
+ghost use Rattle.std.specs.Prelude.{◌≡◌, ◌<◌, ◌≤◌, true, All, length, map, drop, slice_index, slice_index_or, IfOk};
 ghost use Rattle.mrp_tables.specs.Table.{IsPair};
 ghost use Rattle.mrp_loops.specs.Loop.{HasEdge, IsLoopFound};
 ghost use Rattle.mrp_loops.specs.Taking.{is_in};
