@@ -1,5 +1,5 @@
 -- What a plan that fits says of a pair's gross requirement and of its demanders' releases.
-use Rattle.std.proofs.Common.{◌≡◌, ℕ, ◌<◌, ◌≤◌, List, length, slice_index, slice_index_or, arith, ap, ◌∙◌, sym}
+use Rattle.std.proofs.Common.{◌≡◌, ℕ, ◌<◌, ◌≤◌, List, ◌∷◌, length, map, slice_index, slice_index_or, arith, ap, ◌∙◌, sym, subst}
 use Rattle.std.specs.List.{All}
 use Rattle.std.proofs.lemmas.List.{get_or_default}
 use Rattle.std.proofs.lemmas.List.FromFn.{get_or-map-range_with_len}
@@ -11,7 +11,9 @@ use Rattle.mrp_net.specs.Edges.{demanders, edge_need, IsEdge}
 use Rattle.mrp_net.specs.Sums.{row_of}
 use Rattle.mrp_net.specs.Plan.{rows_at, gross, Fits}
 use Rattle.mrp_net.specs.declared.edge.Edge.{Edge}
-use Rattle.mrp_plan.specs.Peg.{IsPeggable}
+use Rattle.mrp_plan.specs.Peg.{IsPeggable, is_asked, demand_term, edge_term, peg_terms}
+use Rattle.mrp_plan.specs.declared.terms.PegTerm.{PegTerm}
+use Rattle.std.proofs.lemmas.List.Elements.{All-cons, All-filter, All-map}
 use Rattle.mrp_plan.proofs.Asked.{no_edge}
 use Rattle.mrp_plan.proofs.Planning.{one-gross, pair_plan-release}
 
@@ -51,3 +53,12 @@ peggable N table x t edges fits in_table within quantity are all i d h =
         ap (λ (f : Edge). edge_need f (slice_index (rows_at table f.demander.0).release t)) read,
       );
     }
+
+-- the terms name pairs of the table
+pub peg_pairs : (N : Table) (table : List PlanRows) (x t : ℕ) (edges : List Edge) → IsPair N x → edges ≡ demanders N x → All (IsEdge N) edges → All (λ term. IsPair N term.pair.0) (peg_terms N table x t)
+peg_pairs N table x t edges in_table are all =
+    let P : List Edge → Type 0 = λ es. All (IsEdge N) es in
+    let joins = subst P are all in
+    All-filter is_asked (λ term. IsPair N term.pair.0) (demand_term N x t ∷ map (edge_term N table t) (demanders N x))
+    (All-cons (λ term. IsPair N term.pair.0) (demand_term N x t) (map (edge_term N table t) (demanders N x)) in_table
+     (All-map (λ (term : PegTerm). IsPair N term.pair.0) (edge_term N table t) (demanders N x) (λ i d h. (joins i d h).demander)))

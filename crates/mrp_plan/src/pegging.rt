@@ -28,7 +28,8 @@ pub fn peg(
     requires fits { Fits net.now.network plan.now }
     requires pair { IsPair net.now.network x.0 }
     requires period { t < horizon net.now.network }
-    ensures { let N = net.now.network in IfOk result (λ terms. terms.items ≡ peg_terms N plan.now x.0 t) }
+    ensures terms { let N = net.now.network in IfOk result (λ terms. terms.items ≡ peg_terms N plan.now x.0 t) }
+    ensures pairs { let N = net.now.network in IfOk result (λ terms. All (λ term. IsPair N term.pair.0) terms.items) }
 {
     let network = net.network();
     // Each term is within the gross requirement, which is a quantity.

@@ -1,10 +1,14 @@
-use Rattle.std.proofs.Common.{◌≡◌, ◌<◌, ◌≤◌, ℕ, List, length, slice_index, arith, ap, ◌∙◌, sym, subst}
+use Rattle.std.proofs.Common.{◌≡◌, ◌<◌, ◌≤◌, ℕ, List, length, slice_index, arith, ap, ◌∙◌, sym, subst, rules}
 use Rattle.mrp_qty.specs.declared.quantity.TheConstants.{MOST}
 use Rattle.mrp_lot.specs.One.{PlanRows}
 use Rattle.mrp_tables.specs.Table.{Table, IsPair, horizon}
 use Rattle.mrp_net.specs.Plan.{rows_at, gross, Fits}
 use Rattle.mrp_net.specs.Sums.{row_of}
-use Rattle.mrp_plan.proofs.Pegs.{fitting_gross, peggable}
+use Rattle.std.specs.List.{All}
+use Rattle.mrp_net.specs.Edges.{demanders, IsEdge}
+use Rattle.mrp_plan.specs.Peg.{peg_terms}
+use Rattle.mrp_plan.specs.declared.terms.PegTerm.{PegTerm}
+use Rattle.mrp_plan.proofs.Pegs.{fitting_gross, peggable, peg_pairs}
 use Rattle.mrp_plan.proofs.Planning.{length-row_of}
 use Rattle.mrp_plan.proofs.pegging.peg.Goals as goal
 
@@ -32,3 +36,13 @@ push_edges-requires-clause-edges c =
     ) in
     peggable n c.args.plan.now c.args.x.0 c.args.t c.demanders.result.now (subst F same c.requires.fits) (subst P same c.requires.pair) (subst T same c.requires.period) quantity c.demanders.ensures.value
     c.demanders.ensures.edges
+
+pub returns-clause-pairs : goal.returns-clause-pairs
+returns-clause-pairs c =
+    let N = c.args.net.now.network in
+    let n = c.network-network.result.now in
+    let are : c.demanders.result.now ≡ demanders N c.args.x.0 = c.demanders.ensures.value ∙ ap (λ (m : Table). demanders m c.args.x.0) c.network-network.ensures.value in
+    let P : Table → Type 0 = λ m. All (IsEdge m) c.demanders.result.now in
+    let T : List PegTerm → Type 0 = λ terms. All (λ term. IsPair N term.pair.0) terms in
+    let is : c.push_edges.new.terms.items ≡ peg_terms N c.args.plan.now c.args.x.0 c.args.t = search rules in
+    subst T (sym is) (peg_pairs N c.args.plan.now c.args.x.0 c.args.t c.demanders.result.now c.requires.pair are (subst P c.network-network.ensures.value c.demanders.ensures.edges))
