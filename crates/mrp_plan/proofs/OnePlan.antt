@@ -24,9 +24,9 @@ same_demanders : (N : Table) (order : List ℕ) → IsPlanningOrder N order → 
 same_demanders N order is old new k within same =
     pair_plan-same N old new (slice_index order k)
     (λ i h.
-     let before = demander_before N order is k within i h in
-     let P : ℕ → Type 0 = λ y. rows_at new y ≡ rows_at old y in
-     subst P before.2 (same before.0 before.1))
+    let before = demander_before N order is k within i h in
+    let P : ℕ → Type 0 = λ y. rows_at new y ≡ rows_at old y in
+    subst P before.2 (same before.0 before.1))
 
 -- the places before k are settled after k rounds
 settled : (N : Table) (order : List ℕ) → IsPlanningOrder N order → (k j m : ℕ) → j < k → k ≤ m → j < length order
@@ -60,21 +60,21 @@ plan_fits N order is =
     record {
       size = rounds_size N n refl;
       rows = λ x in_table.
-        let place = place_of N order is x in_table in
-        let at = slice_index order place.0 in
-        let here : rows_at (plan_of N) at ≡ pair_plan N (plan_of N) at =
-            sym (settled N order is n place.0 (suc n) (omega (arith, place.1, places)) (omega arith) place.1) ∙ round_rows N n at (place_in_table N order is place.0 place.1) in
-        let P : ℕ → Type 0 = λ y. rows_at (plan_of N) y ≡ pair_plan N (plan_of N) y in
-        subst P place.2 here;
+          let place = place_of N order is x in_table in
+          let at = slice_index order place.0 in
+          let here : rows_at (plan_of N) at ≡ pair_plan N (plan_of N) at =
+          sym (settled N order is n place.0 (suc n) (omega (arith, place.1, places)) (omega arith) place.1) ∙ round_rows N n at (place_in_table N order is place.0 place.1) in
+          let P : ℕ → Type 0 = λ y. rows_at (plan_of N) y ≡ pair_plan N (plan_of N) y in
+          subst P place.2 here;
     }
 
 pub one_plan : (N : Table) (order : List ℕ) → IsPlanningOrder N order → HasOnePlan N
 one_plan N order is = record {
   fits = plan_fits N order is;
   only = λ table fits.
-    ext_get_or no_rows table (plan_of N) (fits.size ∙ sym (rounds_size N (length N.pairs) refl))
-    (λ x h.
-     let place = place_of N order is x (omega (arith, h, fits.size)) in
-     let P : ℕ → Type 0 = λ y. rows_at table y ≡ rows_at (plan_of N) y in
-     subst P place.2 (agree N order is table (plan_of N) fits (plan_fits N order is) (suc place.0) place.0 (omega arith) place.1));
+      ext_get_or no_rows table (plan_of N) (fits.size ∙ sym (rounds_size N (length N.pairs) refl))
+      (λ x h.
+      let place = place_of N order is x (omega (arith, h, fits.size)) in
+      let P : ℕ → Type 0 = λ y. rows_at table y ≡ rows_at (plan_of N) y in
+      subst P place.2 (agree N order is table (plan_of N) fits (plan_fits N order is) (suc place.0) place.0 (omega arith) place.1));
 }

@@ -61,4 +61,4 @@ peg_pairs N table x t edges in_table are all =
     let joins = subst P are all in
     All-filter is_asked (λ term. IsPair N term.pair.0) (demand_term N x t ∷ map (edge_term N table t) (demanders N x))
     (All-cons (λ term. IsPair N term.pair.0) (demand_term N x t) (map (edge_term N table t) (demanders N x)) in_table
-     (All-map (λ (term : PegTerm). IsPair N term.pair.0) (edge_term N table t) (demanders N x) (λ i d h. (joins i d h).demander)))
+    (All-map (λ (term : PegTerm). IsPair N term.pair.0) (edge_term N table t) (demanders N x) (λ i d h. (joins i d h).demander)))

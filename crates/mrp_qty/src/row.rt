@@ -100,6 +100,8 @@ impl Row {
         requires { length self.old ≡ length other.now }
         ensures { self.new ≡ other.now }
     {
-        self.amounts.as_mut_slice().copy_from_slice(other.amounts.as_slice());
+        self.amounts
+            .as_mut_slice()
+            .copy_from_slice(other.amounts.as_slice());
     }
 }

@@ -3,7 +3,10 @@ use std::test::Fail;
 
 #[test]
 fn quantities_end_at_the_bound(rt: HostRuntime) {
-    assert_eq!(rt; Qty::new(1_000_000_000_000_000).map(|q| q.get()), Some(1_000_000_000_000_000));
+    assert_eq!(rt;
+        Qty::new(1_000_000_000_000_000).map(|q| q.get()),
+        Some(1_000_000_000_000_000)
+    );
     assert_eq!(rt; Qty::new(1_000_000_000_000_001), None);
     assert_eq!(rt; Horizon::new(0), None);
     assert_eq!(rt; Horizon::new(104).map(|h| h.get()), Some(104));

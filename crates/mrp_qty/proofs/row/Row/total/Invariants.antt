@@ -6,5 +6,5 @@ use Rattle.mrp_qty.proofs.row.Row.total.Given as goal
 abbrev pub invariant-loop-quantity : goal.invariant-loop-quantity
 invariant-loop-quantity l = record {
   so_far : l.total ≡ sum (take l.quantity-index l.quantity-items);
-  within : l.total ≤ MOST * l.quantity-index
+  within : l.total ≤ MOST * l.quantity-index;
 }
