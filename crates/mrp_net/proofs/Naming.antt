@@ -18,7 +18,7 @@ use Rattle.mrp_net.specs.Sums.{pair_at, no_pair}
 use Rattle.mrp_net.specs.Names.{IsNamed}
 
 -- the first place that passes, however it is said
-place_of : {X : Type 0} (p : X → Bool) (xs : List X) → unwrap_or (position p xs) (length xs) ≡ position_or_len p xs
+pub place_of : {X : Type 0} (p : X → Bool) (xs : List X) → unwrap_or (position p xs) (length xs) ≡ position_or_len p xs
 place_of {X} p xs =
     let n : ℕ = position_or_len p xs in
     let short : n ≤ length xs = prefix_len-le-length (λ x. not (p x)) xs in
