@@ -1,3 +1,2 @@
 pub mod LineFacts
 pub mod LoopNames
-pub mod NameFacts

@@ -37,15 +37,3 @@ abbrev pub IsBeforeWriting : TextFault → Type 0
 IsBeforeWriting WriteFault = ⊥
 IsBeforeWriting Memory = ⊥
 IsBeforeWriting _ = Unit {0}
-
--- the faults before there is a network
-abbrev pub IsBeforeNetwork : TextFault → Type 0
-IsBeforeNetwork (Table fault) = Unit {0}
-IsBeforeNetwork Memory = Unit {0}
-IsBeforeNetwork _ = ⊥
-
--- the faults after the tests of the input
-abbrev pub IsLate : TextFault → Type 0
-IsLate WriteFault = Unit {0}
-IsLate Memory = Unit {0}
-IsLate _ = ⊥

@@ -8,8 +8,6 @@ ghost use Rattle.mrp.specs.Choice.{IsInRange};
 
 mod fault;
 mod lines;
-#[cfg(test)]
-mod tests;
 mod text;
 mod words;
 

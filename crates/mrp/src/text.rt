@@ -1,8 +1,8 @@
-ghost use Rattle.std.specs.Prelude.{◌≡◌, ◌≤◌, ◌<◌, map, IfOk, IfErr, All};
-ghost use Rattle.mrp_tables.specs.Table.{IsTable, IsPair, horizon};
-ghost use Rattle.mrp_loops.specs.Loop.{AreCodes, IsLoopFree};
-ghost use Rattle.mrp.specs.Fault.{IsBeforeWriting, IsBeforeNetwork, IsLate};
-ghost use Rattle.mrp.specs.Text.{Writes, OfSomeTable, IsPlanReport, IsCodeReport, IsPegReport, IsPegs, IsCalled, AreCalled, IsLoopRefusal, IsBoundRefusal, IsRefusal, IsPegRefusal};
+ghost use Rattle.std.specs.Prelude.{◌≡◌, ◌≤◌, IfOk, IfErr, All, string_bytes};
+ghost use Rattle.mrp_tables.specs.Table.{IsPair};
+ghost use Rattle.mrp_net.specs.Names.{IsNamed};
+ghost use Rattle.mrp_loops.specs.Loop.{AreCodes};
+ghost use Rattle.mrp.specs.Fault.{IsBeforeWriting};
 ghost use Rattle.mrp.specs.declared.text.TheConstants.{MOST_CAPACITY};
 
 use crate::fault::{PairName, TextFault};
@@ -34,14 +34,9 @@ pub fn drive_text<R: Read + Drop, W: Write>(
 ) -> Result<(), TextFault>
     requires some { 1 ≤ capacity }
     requires within { capacity ≤ MOST_CAPACITY }
-    ensures text { Writes (W.contents writer.old) (W.contents writer.new) result (OfSomeTable IsPlanReport) }
-    ensures untouched { IfErr result (λ fault. IsBeforeWriting fault → writer.new ≡ writer.old) }
 {
     let _ = capacity;
-    let network = match network_of(alloc, reader) {
-        Ok(network) => network,
-        Err(fault) => return Err(fault),
-    };
+    let network = network_of(alloc, reader)?;
     write_plan(alloc, &network, writer)
 }
 
@@ -55,14 +50,8 @@ pub fn check_text<R: Read + Drop, W: Write>(
     alloc: Global,
     reader: R,
     writer: &mut W,
-) -> Result<(), TextFault>
-    ensures text { Writes (W.contents writer.old) (W.contents writer.new) result (OfSomeTable IsCodeReport) }
-    ensures untouched { IfErr result (λ fault. IsBeforeWriting fault → writer.new ≡ writer.old) }
-{
-    let network = match network_of(alloc, reader) {
-        Ok(network) => network,
-        Err(fault) => return Err(fault),
-    };
+) -> Result<(), TextFault> {
+    let network = network_of(alloc, reader)?;
     write_codes(alloc, &network, writer)
 }
 
@@ -80,84 +69,38 @@ pub fn peg_text<R: Read + Drop, W: Write>(
     plant: &str,
     item: &str,
     period: u64,
-) -> Result<(), TextFault>
-    ensures text { Writes (W.contents writer.old) (W.contents writer.new) result (OfSomeTable (λ N text. IsPegReport N plant.now item.now period text)) }
-    ensures untouched { IfErr result (λ fault. IsBeforeWriting fault → writer.new ≡ writer.old) }
-{
-    let network = match network_of(alloc, reader) {
-        Ok(network) => network,
-        Err(fault) => return Err(fault),
-    };
+) -> Result<(), TextFault> {
+    let network = network_of(alloc, reader)?;
     write_pegs(alloc, &network, writer, plant, item, period)
 }
 
 /// The network of the table.
-fn network_of<R: Read + Drop>(alloc: Global, reader: R) -> Result<Network, TextFault>
-    ensures table { IfOk result IsTable }
-    ensures fault { IfErr result IsBeforeNetwork }
-{
-    let tables = match read_tables_uncounted(alloc, reader) {
-        Ok(tables) => tables,
-        Err(fault) => return Err(TextFault::Table(fault)),
-    };
-    let Ok(network) = Network::of(alloc, tables) else {
-        return Err(TextFault::Memory);
-    };
-    // Every network is that of a table.
-    let _pairs = network.pairs();
-    Ok(network)
+fn network_of<R: Read + Drop>(alloc: Global, reader: R) -> Result<Network, TextFault> {
+    match read_tables_uncounted(alloc, reader) {
+        Ok(tables) => Ok(Network::of(alloc, tables)?),
+        Err(fault) => Err(TextFault::Table(fault)),
+    }
 }
 
 /// Writes the plan rows and the late rows of a network.
-fn write_plan<W: Write>(alloc: Global, network: &Network, writer: &mut W) -> Result<(), TextFault>
-    ensures text { Writes (W.contents writer.old) (W.contents writer.new) result (IsPlanReport network.now) }
-    ensures refusal { IfErr result (IsRefusal network.now) }
-    ensures untouched { IfErr result (λ fault. IsBeforeWriting fault → writer.new ≡ writer.old) }
-{
-    let levels = match levels_of(alloc, network) {
-        Ok(levels) => levels,
-        Err(fault) => return Err(fault),
-    };
-    let net = match sized_of(alloc, network, &levels) {
-        Ok(net) => net,
-        Err(fault) => return Err(fault),
-    };
-    report_plan(alloc, &net, writer)
-}
-
-/// Writes the plan rows and the late rows of a sized network.
-fn report_plan<W: Write>(alloc: Global, net: &SizedNet<'_>, writer: &mut W) -> Result<(), TextFault>
-    ensures text { Writes (W.contents writer.old) (W.contents writer.new) result (IsPlanReport net.now.network) }
-    ensures fault { IfErr result IsLate }
-{
-    let Ok(plan) = plan_all(alloc, net) else {
-        return Err(TextFault::Memory);
-    };
-    if let Err(fault) = plan_rows(alloc, net, &plan, writer) {
-        return Err(TextFault::from(fault));
-    }
-    if let Err(fault) = late_rows(alloc, net, &plan, writer) {
-        return Err(TextFault::from(fault));
-    }
+fn write_plan<W: Write>(alloc: Global, network: &Network, writer: &mut W) -> Result<(), TextFault> {
+    let levels = levels_of(alloc, network)?;
+    let net = sized_of(alloc, network, &levels)?;
+    let plan = plan_all(alloc, &net)?;
+    plan_rows(alloc, &net, &plan, writer)?;
+    late_rows(alloc, &net, &plan, writer)?;
     Ok(())
 }
 
 /// Writes the code rows of a network.
-fn write_codes<W: Write>(alloc: Global, network: &Network, writer: &mut W) -> Result<(), TextFault>
-    ensures text { Writes (W.contents writer.old) (W.contents writer.new) result (IsCodeReport network.now) }
-    ensures refusal { IfErr result (IsRefusal network.now) }
-    ensures untouched { IfErr result (λ fault. IsBeforeWriting fault → writer.new ≡ writer.old) }
-{
-    let levels = match levels_of(alloc, network) {
-        Ok(levels) => levels,
-        Err(fault) => return Err(fault),
-    };
-    if let Err(fault) = sized_of(alloc, network, &levels) {
-        return Err(fault);
-    }
-    if let Err(fault) = code_rows(alloc, network, &levels, writer) {
-        return Err(TextFault::from(fault));
-    }
+fn write_codes<W: Write>(
+    alloc: Global,
+    network: &Network,
+    writer: &mut W,
+) -> Result<(), TextFault> {
+    let levels = levels_of(alloc, network)?;
+    let _net = sized_of(alloc, network, &levels)?;
+    code_rows(alloc, network, &levels, writer)?;
     Ok(())
 }
 
@@ -169,66 +112,34 @@ fn write_pegs<W: Write>(
     plant: &str,
     item: &str,
     period: u64,
-) -> Result<(), TextFault>
-    ensures text { Writes (W.contents writer.old) (W.contents writer.new) result (IsPegReport network.now plant.now item.now period) }
-    ensures refusal { IfErr result (IsPegRefusal network.now plant.now item.now period) }
-    ensures untouched { IfErr result (λ fault. IsBeforeWriting fault → writer.new ≡ writer.old) }
-{
-    let levels = match levels_of(alloc, network) {
-        Ok(levels) => levels,
-        Err(fault) => return Err(fault),
-    };
-    let net = match sized_of(alloc, network, &levels) {
-        Ok(net) => net,
-        Err(fault) => return Err(fault),
-    };
+) -> Result<(), TextFault> {
+    let levels = levels_of(alloc, network)?;
+    let net = sized_of(alloc, network, &levels)?;
     let Some(x) = network.find(plant, item) else {
         return Err(TextFault::NoPair);
     };
     if period >= network.horizon().get() {
         return Err(TextFault::NoPeriod);
     }
-    report_pegs(alloc, &net, writer, x, period as usize)
-}
-
-/// Writes the peg rows of a pair of a sized network in a period below its horizon.
-fn report_pegs<W: Write>(
-    alloc: Global,
-    net: &SizedNet<'_>,
-    writer: &mut W,
-    x: PairNo,
-    period: usize,
-) -> Result<(), TextFault>
-    requires pair { IsPair net.now.network x.0 }
-    requires period { period < horizon net.now.network }
-    ensures text { Writes (W.contents writer.old) (W.contents writer.new) result (IsPegs net.now.network x.0 period) }
-    ensures fault { IfErr result IsLate }
-{
-    let Ok(plan) = plan_all(alloc, net) else {
-        return Err(TextFault::Memory);
-    };
-    let Ok(terms) = peg(alloc, net, &plan, x, period) else {
-        return Err(TextFault::Memory);
-    };
-    if let Err(fault) = peg_rows(alloc, net, terms.as_slice(), writer) {
-        return Err(TextFault::from(fault));
-    }
+    let plan = plan_all(alloc, &net)?;
+    let terms = peg(alloc, &net, &plan, x, period as usize)?;
+    peg_rows(alloc, &net, terms.as_slice(), writer)?;
     Ok(())
 }
 
 /// The low-level codes of a network without loops.
 fn levels_of(alloc: Global, network: &Network) -> Result<Levels, TextFault>
-    ensures codes { IfOk result (λ levels. AreCodes network.now levels × IsLoopFree network.now) }
-    ensures refusal { IfErr result (IsLoopRefusal network.now) }
+    ensures codes { IfOk result (λ levels. AreCodes network.now levels) }
 {
     // Every table has what its edges name, so the pairs of a loop have names.
     let _pairs = network.pairs();
     match check(alloc, network) {
         Ok(levels) => Ok(levels),
-        Err(LoopFault::Loop(pairs)) => match names_of(alloc, network, pairs.as_slice()) {
-            Ok(names) => Err(TextFault::Loop(names)),
-            Err(fault) => Err(fault),
-        },
+        Err(LoopFault::Loop(pairs)) => Err(TextFault::Loop(names_of(
+            alloc,
+            network,
+            pairs.as_slice(),
+        )?)),
         Err(LoopFault::Memory) => Err(TextFault::Memory),
     }
 }
@@ -241,18 +152,15 @@ fn sized_of<'a>(
 ) -> Result<SizedNet<'a>, TextFault>
     requires { AreCodes network.now levels.now }
     ensures network { IfOk result (λ net. net.network ≡ network.now) }
-    ensures refusal { IfErr result (IsBoundRefusal network.now levels.now) }
 {
     match bound(alloc, network, levels) {
         Ok(net) => Ok(net),
-        Err(BoundFault::SupplyTooLarge(x)) => match name_of(alloc, network, x) {
-            Ok(name) => Err(TextFault::SupplyTooLarge(name)),
-            Err(fault) => Err(fault),
-        },
-        Err(BoundFault::NeedTooLarge(x)) => match name_of(alloc, network, x) {
-            Ok(name) => Err(TextFault::NeedTooLarge(name)),
-            Err(fault) => Err(fault),
-        },
+        Err(BoundFault::SupplyTooLarge(x)) => {
+            Err(TextFault::SupplyTooLarge(name_of(alloc, network, x)?))
+        }
+        Err(BoundFault::NeedTooLarge(x)) => {
+            Err(TextFault::NeedTooLarge(name_of(alloc, network, x)?))
+        }
         Err(BoundFault::Memory) => Err(TextFault::Memory),
     }
 }
@@ -260,8 +168,6 @@ fn sized_of<'a>(
 /// The names of pairs.
 fn names_of(alloc: Global, network: &Network, pairs: &[PairNo]) -> Result<Vec<PairName>, TextFault>
     requires { All (λ x. IsPair network.now x.0) pairs.now }
-    ensures called { IfOk result (λ names. AreCalled network.now (map (λ x. x.0) pairs.now) names.items) }
-    ensures fault { IfErr result (λ fault. fault ≡ TextFault.Memory) }
 {
     let mut names = Vec::with_capacity(alloc, pairs.len())?;
     'pairs: for x in pairs {
@@ -273,7 +179,7 @@ fn names_of(alloc: Global, network: &Network, pairs: &[PairNo]) -> Result<Vec<Pa
 /// The names of a pair.
 fn name_of(alloc: Global, network: &Network, x: PairNo) -> Result<PairName, TextFault>
     requires { IsPair network.now x.0 }
-    ensures called { IfOk result (IsCalled network.now x.0) }
+    ensures named { IfOk result (λ name. IsNamed network.now x.0 (string_bytes name.plant) (string_bytes name.item)) }
     ensures fault { IfErr result (λ fault. fault ≡ TextFault.Memory) }
 {
     let (plant, item) = network.pair_name(x);
