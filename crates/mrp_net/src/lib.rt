@@ -13,6 +13,3 @@ mod sums;
 pub use edge::Edge;
 pub use mrp_tables::{ItemNo, PairNo, PairRow, PlantNo, Supply};
 pub use network::Network;
-
-#[cfg(test)]
-mod tests;
