@@ -1,9 +1,11 @@
 //! The text functions on worked tables: the bytes of each report, and the line and the status of
 //! each fault.
 
+mod firms;
 mod plans;
 mod refusals;
 mod streams;
+mod words;
 
 use crate::fault::{TextFault, status};
 use crate::lines::write_fault;

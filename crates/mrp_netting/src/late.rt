@@ -1,4 +1,4 @@
-ghost use Rattle.std.specs.Prelude.{◌≡◌, ◌≤◌, length, vec_capacity};
+ghost use Rattle.std.specs.Prelude.{◌≡◌, ◌≤◌, ◌<◌, length, vec_capacity, MatchBool};
 ghost use Rattle.mrp_qty.specs.declared.horizon.TheConstants.{LONGEST};
 ghost use Rattle.mrp_netting.specs.Plan.{late_periods};
 
@@ -16,8 +16,15 @@ pub fn note_late(lead: u64, order: &[Qty], late: &mut Vec<u8>)
     late.clear();
     let end = order.len().min(lead as usize);
     for t in 0..end {
-        if order[t].get() > 0 {
+        if is_order(order[t]) {
             let _ = late.push(t as u8);
         }
     }
+}
+
+/// Whether there is something to order.
+fn is_order(order: Qty) -> bool
+    ensures { MatchBool result (0 < order) (order ≡ 0) }
+{
+    order.get() > 0
 }

@@ -23,10 +23,20 @@ pub fn plan_orders(
     let mut before = params.on_hand;
     for t in 0..gross.len() {
         let ordered = order_for(params, incoming, gross, before, t);
-        before = Qty::of(before.get() + incoming[t].get() + ordered.get() - gross[t].get());
+        before = balance_after(before, incoming[t], ordered, gross[t]);
         order.set(t, ordered);
         available.set(t, before);
     }
+}
+
+/// The balance after a period: what was there, what comes in and what is ordered, less the gross
+/// requirement.
+fn balance_after(before: Qty, receipt: Qty, ordered: Qty, gross: Qty) -> Qty
+    requires covered { gross ≤ before + receipt + ordered }
+    requires within { before + receipt + ordered - gross ≤ MOST }
+    ensures { result ≡ before + receipt + ordered - gross }
+{
+    Qty::of(before.get() + receipt.get() + ordered.get() - gross.get())
 }
 
 /// The planned order receipt of period `t`, where `before` is the balance before it.

@@ -16,32 +16,30 @@ loop-t-init c = record {
   available = λ k h. absurd (omega arith);
 }
 
-pub overflow_sub-get : goal.overflow_sub-get
-overflow_sub-get c =
+pub balance_after-before-requires-clause-covered : goal.balance_after-before-requires-clause-covered
+balance_after-before-requires-clause-covered c =
     let t = c.loop-t.t in
     let params = c.args.params.now in
     let incoming = c.args.incoming.now in
     let gross = c.args.gross.now in
-    let step = is_step params incoming gross t c.get.result c.get-in-loop-t.result c.get-in-loop-t-2.result c.get-in-loop-t-3.result
-    c.requires.within (omega arith)
-    (c.get.ensures.value ∙ c.loop-t.invariant.before)
-    (c.get-in-loop-t.ensures.value ∙ get_or_read incoming t _ (omega (arith, c.requires.within.periods)) c.index-incoming-t.is 0)
-    (c.get-in-loop-t-2.ensures.value ∙ c.order_for-ordered.ensures ∙ ap (λ (b : ℕ). order_after params incoming gross b t) (sym c.get.ensures.value))
-    (c.get-in-loop-t-3.ensures.value ∙ get_or_read gross t _ (omega arith) c.index-gross-t.is 0) in
+    let step = is_step params incoming gross t _ _ _ _ c.requires.within (omega arith)
+    c.loop-t.invariant.before
+    (get_or_read incoming t _ (omega (arith, c.requires.within.periods)) c.index-incoming-t.is 0)
+    c.order_for-ordered.ensures
+    (get_or_read gross t _ (omega arith) c.index-gross-t.is 0) in
     step.covered
 
-pub of-before-requires : goal.of-before-requires
-of-before-requires c =
+pub balance_after-before-requires-clause-within : goal.balance_after-before-requires-clause-within
+balance_after-before-requires-clause-within c =
     let t = c.loop-t.t in
     let params = c.args.params.now in
     let incoming = c.args.incoming.now in
     let gross = c.args.gross.now in
-    let step = is_step params incoming gross t c.get.result c.get-in-loop-t.result c.get-in-loop-t-2.result c.get-in-loop-t-3.result
-    c.requires.within (omega arith)
-    (c.get.ensures.value ∙ c.loop-t.invariant.before)
-    (c.get-in-loop-t.ensures.value ∙ get_or_read incoming t _ (omega (arith, c.requires.within.periods)) c.index-incoming-t.is 0)
-    (c.get-in-loop-t-2.ensures.value ∙ c.order_for-ordered.ensures ∙ ap (λ (b : ℕ). order_after params incoming gross b t) (sym c.get.ensures.value))
-    (c.get-in-loop-t-3.ensures.value ∙ get_or_read gross t _ (omega arith) c.index-gross-t.is 0) in
+    let step = is_step params incoming gross t _ _ _ _ c.requires.within (omega arith)
+    c.loop-t.invariant.before
+    (get_or_read incoming t _ (omega (arith, c.requires.within.periods)) c.index-incoming-t.is 0)
+    c.order_for-ordered.ensures
+    (get_or_read gross t _ (omega arith) c.index-gross-t.is 0) in
     step.small
 
 pub loop-t-preserved : goal.loop-t-preserved
@@ -50,18 +48,17 @@ loop-t-preserved c =
     let params = c.args.params.now in
     let incoming = c.args.incoming.now in
     let gross = c.args.gross.now in
-    let step = is_step params incoming gross t c.get.result c.get-in-loop-t.result c.get-in-loop-t-2.result c.get-in-loop-t-3.result
-    c.requires.within (omega arith)
-    (c.get.ensures.value ∙ c.loop-t.invariant.before)
-    (c.get-in-loop-t.ensures.value ∙ get_or_read incoming t _ (omega (arith, c.requires.within.periods)) c.index-incoming-t.is 0)
-    (c.get-in-loop-t-2.ensures.value ∙ c.order_for-ordered.ensures ∙ ap (λ (b : ℕ). order_after params incoming gross b t) (sym c.get.ensures.value))
-    (c.get-in-loop-t-3.ensures.value ∙ get_or_read gross t _ (omega arith) c.index-gross-t.is 0) in
+    let step = is_step params incoming gross t _ _ _ _ c.requires.within (omega arith)
+    c.loop-t.invariant.before
+    (get_or_read incoming t _ (omega (arith, c.requires.within.periods)) c.index-incoming-t.is 0)
+    c.order_for-ordered.ensures
+    (get_or_read gross t _ (omega arith) c.index-gross-t.is 0) in
     let inv = c.loop-t.invariant in
     let order = c.loop-t.order in
     let available = c.loop-t.available in
     let ordered : c.set.new.self ≡ slice_set order t (order_at params incoming gross t) =
-    c.set.ensures ∙ ap (λ (q : ℕ). slice_set order t q) (sym c.get-in-loop-t-2.ensures.value ∙ step.order) in
-    let left : c.of-before.result ≡ balance_before params incoming gross (suc t) = c.of-before.ensures ∙ step.next in
+    c.set.ensures ∙ ap (λ (q : ℕ). slice_set order t q) step.order in
+    let left : c.balance_after-before.result ≡ balance_before params incoming gross (suc t) = c.balance_after-before.ensures ∙ step.next in
     let stocked : c.set-in-loop-t.new.self ≡ slice_set available t (balance_before params incoming gross (suc t)) =
     c.set-in-loop-t.ensures ∙ ap (λ (q : ℕ). slice_set available t q) left in
     record {

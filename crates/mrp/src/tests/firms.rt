@@ -1,0 +1,98 @@
+use super::{codes, pegs, plan};
+use std::test::Fail;
+
+/// A firm of three plants with sources in both directions: the table of `examples/three_plants.csv`.
+const THREE_PLANTS: &str =
+    "run,2026-01-05,7,6,,,,\nplant,NORTH,,,,,,\nplant,SOUTH,,,,,,\nplant,EAST,,,,,,\n\
+pair,NORTH,BIKE,make,lot,1,4,0\npair,NORTH,FRAME,from:SOUTH,lot,1,10,0\n\
+pair,NORTH,WHEEL,make,fixed:50,1,40,10\npair,NORTH,RIM,buy,min:100:20,1,60,0\n\
+pair,SOUTH,FRAME,make,lot,1,4,0\npair,SOUTH,TUBE,buy,periods:3,2,12,0\n\
+pair,SOUTH,WHEEL,from:NORTH,lot,1,8,0\npair,EAST,BIKE,from:NORTH,periods:2,1,6,2\n\
+pair,EAST,WHEEL,from:NORTH:600:SOUTH:400,lot,1,0,0\nbill,NORTH,BIKE,FRAME,1,,,\n\
+bill,NORTH,BIKE,WHEEL,2,,,\nbill,NORTH,WHEEL,RIM,1,,,\nbill,SOUTH,FRAME,TUBE,3,,,\n\
+demand,EAST,BIKE,2,9,,,\ndemand,EAST,BIKE,3,7,,,\ndemand,EAST,BIKE,5,12,,,\n\
+demand,EAST,WHEEL,4,25,,,\ndemand,NORTH,BIKE,3,10,,,\ndemand,SOUTH,WHEEL,3,6,,,\n\
+receipt,NORTH,RIM,1,20,,,\nship,SOUTH,NORTH,FRAME,1,5,,\nship,NORTH,EAST,BIKE,1,4,,\n\
+cum,SOUTH,NORTH,FRAME,340,,,\ncum,NORTH,EAST,BIKE,120,,,\ncum,NORTH,SOUTH,WHEEL,75,,,\n";
+
+/// Its plan, worked by a program of its own: `examples/three_plants.plan.csv`.
+const THREE_PLANTS_PLAN: &str =
+    "plan,NORTH,BIKE,0,2026-01-05,0,0,0,4,4\nplan,NORTH,BIKE,1,2026-01-12,8,0,4,0,0\n\
+plan,NORTH,BIKE,2,2026-01-19,0,0,0,10,0\nplan,NORTH,BIKE,3,2026-01-26,10,0,10,12,0\n\
+plan,NORTH,BIKE,4,2026-02-02,12,0,12,0,0\nplan,NORTH,BIKE,5,2026-02-09,0,0,0,0,0\n\
+plan,NORTH,FRAME,0,2026-01-05,4,0,0,0,6\nplan,NORTH,FRAME,1,2026-01-12,0,5,0,0,11\n\
+plan,NORTH,FRAME,2,2026-01-19,10,0,0,11,1\nplan,NORTH,FRAME,3,2026-01-26,12,0,11,0,0\n\
+plan,NORTH,FRAME,4,2026-02-02,0,0,0,0,0\nplan,NORTH,FRAME,5,2026-02-09,0,0,0,0,0\n\
+plan,NORTH,WHEEL,0,2026-01-05,8,0,0,0,32\nplan,NORTH,WHEEL,1,2026-01-12,0,0,0,50,32\n\
+plan,NORTH,WHEEL,2,2026-01-19,28,0,50,0,54\nplan,NORTH,WHEEL,3,2026-01-26,39,0,0,0,15\n\
+plan,NORTH,WHEEL,4,2026-02-02,0,0,0,0,15\nplan,NORTH,WHEEL,5,2026-02-09,0,0,0,0,15\n\
+plan,NORTH,RIM,0,2026-01-05,0,0,0,0,60\nplan,NORTH,RIM,1,2026-01-12,50,20,0,0,30\n\
+plan,NORTH,RIM,2,2026-01-19,0,0,0,0,30\nplan,NORTH,RIM,3,2026-01-26,0,0,0,0,30\n\
+plan,NORTH,RIM,4,2026-02-02,0,0,0,0,30\nplan,NORTH,RIM,5,2026-02-09,0,0,0,0,30\n\
+plan,SOUTH,FRAME,0,2026-01-05,0,0,0,0,4\nplan,SOUTH,FRAME,1,2026-01-12,0,0,0,7,4\n\
+plan,SOUTH,FRAME,2,2026-01-19,11,0,7,0,0\nplan,SOUTH,FRAME,3,2026-01-26,0,0,0,0,0\n\
+plan,SOUTH,FRAME,4,2026-02-02,0,0,0,0,0\nplan,SOUTH,FRAME,5,2026-02-09,0,0,0,0,0\n\
+plan,SOUTH,TUBE,0,2026-01-05,0,0,0,9,12\nplan,SOUTH,TUBE,1,2026-01-12,21,0,9,0,0\n\
+plan,SOUTH,TUBE,2,2026-01-19,0,0,0,0,0\nplan,SOUTH,TUBE,3,2026-01-26,0,0,0,0,0\n\
+plan,SOUTH,TUBE,4,2026-02-02,0,0,0,0,0\nplan,SOUTH,TUBE,5,2026-02-09,0,0,0,0,0\n\
+plan,SOUTH,WHEEL,0,2026-01-05,0,0,0,0,8\nplan,SOUTH,WHEEL,1,2026-01-12,0,0,0,0,8\n\
+plan,SOUTH,WHEEL,2,2026-01-19,0,0,0,8,8\nplan,SOUTH,WHEEL,3,2026-01-26,16,0,8,0,0\n\
+plan,SOUTH,WHEEL,4,2026-02-02,0,0,0,0,0\nplan,SOUTH,WHEEL,5,2026-02-09,0,0,0,0,0\n\
+plan,EAST,BIKE,0,2026-01-05,0,0,0,0,6\nplan,EAST,BIKE,1,2026-01-12,0,4,0,8,10\n\
+plan,EAST,BIKE,2,2026-01-19,9,0,8,0,9\nplan,EAST,BIKE,3,2026-01-26,7,0,0,0,2\n\
+plan,EAST,BIKE,4,2026-02-02,0,0,0,12,2\nplan,EAST,BIKE,5,2026-02-09,12,0,12,0,2\n\
+plan,EAST,WHEEL,0,2026-01-05,0,0,0,0,0\nplan,EAST,WHEEL,1,2026-01-12,0,0,0,0,0\n\
+plan,EAST,WHEEL,2,2026-01-19,0,0,0,0,0\nplan,EAST,WHEEL,3,2026-01-26,0,0,0,25,0\n\
+plan,EAST,WHEEL,4,2026-02-02,25,0,25,0,0\nplan,EAST,WHEEL,5,2026-02-09,0,0,0,0,0\n\
+late,SOUTH,TUBE,1,9,1\n";
+
+#[test]
+fn three_plants(rt: HostRuntime) -> Result<(), Fail> {
+    let alloc = rt.alloc();
+    assert_eq!(rt; plan(alloc, THREE_PLANTS)?.as_str(), THREE_PLANTS_PLAN);
+    assert_eq!(rt;
+        pegs(alloc, THREE_PLANTS, "NORTH", "WHEEL", 3)?.as_str(),
+        "peg,bill,NORTH,BIKE,12,2,24\npeg,plant,EAST,WHEEL,15,1,15\n"
+    );
+    let code_rows = "code,NORTH,BIKE,1\ncode,NORTH,FRAME,2\ncode,NORTH,WHEEL,2\n\
+code,NORTH,RIM,3\ncode,SOUTH,FRAME,3\ncode,SOUTH,TUBE,4\ncode,SOUTH,WHEEL,1\n\
+code,EAST,BIKE,0\ncode,EAST,WHEEL,0\n";
+    assert_eq!(rt; codes(alloc, THREE_PLANTS)?.as_str(), code_rows);
+    Ok(())
+}
+
+/// A takes X from B and C, 600 and 400 thousandths of each release.
+const SHARED: &str = "run,2026-01-05,7,1,,,,\nplant,A,,,,,,\nplant,B,,,,,,\nplant,C,,,,,,\n\
+pair,A,X,from:B:600:C:400,lot,0,0,0\npair,B,X,buy,lot,0,0,0\npair,C,X,buy,lot,0,0,0\n\
+demand,A,X,0,7,,,\n";
+
+#[test]
+fn a_release_is_shared_among_its_sources(rt: HostRuntime) -> Result<(), Fail> {
+    let alloc = rt.alloc();
+    let rows = "plan,A,X,0,2026-01-05,7,0,7,7,0\nplan,B,X,0,2026-01-05,4,0,4,4,0\n\
+plan,C,X,0,2026-01-05,3,0,3,3,0\n";
+    assert_eq!(rt; plan(alloc, SHARED)?.as_str(), rows);
+    assert_eq!(rt;
+        pegs(alloc, SHARED, "C", "X", 0)?.as_str(),
+        "peg,plant,A,X,3,1,3\n"
+    );
+    Ok(())
+}
+
+#[test]
+fn shares_that_are_refused(rt: HostRuntime) -> Result<(), Fail> {
+    let alloc = rt.alloc();
+    let short = "run,2026-01-05,7,1,,,,\nplant,A,,,,,,\nplant,B,,,,,,\nplant,C,,,,,,\n\
+pair,A,X,from:B:600:C:300,lot,0,0,0\n";
+    assert_eq!(rt; plan(alloc, short)?.as_str(), "1 mrp: row 5: BadSupply\n");
+    let own = "run,2026-01-05,7,1,,,,\nplant,A,,,,,,\nplant,B,,,,,,\nplant,C,,,,,,\n\
+pair,A,X,from:B:600:A:400,lot,0,0,0\n";
+    assert_eq!(rt; plan(alloc, own)?.as_str(), "1 mrp: row 5: SelfSource\n");
+    let missing = "run,2026-01-05,7,1,,,,\nplant,A,,,,,,\nplant,B,,,,,,\n\
+pair,A,X,from:B,lot,0,0,0\n";
+    assert_eq!(rt;
+        plan(alloc, missing)?.as_str(),
+        "1 mrp: row 4: UnknownPair\n"
+    );
+    Ok(())
+}
