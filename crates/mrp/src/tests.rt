@@ -1,6 +1,7 @@
 //! The text functions on worked tables: the bytes of each report, and the line and the status of
 //! each fault.
 
+mod damage;
 mod firms;
 mod plans;
 mod refusals;
