@@ -1,6 +1,8 @@
 pub mod Accept
 pub mod Grow
 pub mod Keys
+pub mod Records
+pub mod Taken
 pub mod ResetRoom
 pub mod TurnCount
 pub mod Digits

@@ -1,5 +1,6 @@
 pub mod Drafts
 pub mod Grammar
+pub mod Left
 pub mod Lists
 pub mod Reading
 pub mod Rows
