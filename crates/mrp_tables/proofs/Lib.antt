@@ -1,9 +1,12 @@
 pub mod Accept
 pub mod Grow
 pub mod Keys
+pub mod Kept
+pub mod Loop
 pub mod Records
 pub mod Taken
 pub mod ResetRoom
 pub mod TurnCount
+pub mod Waiting
 pub mod Digits
 pub mod Shares
