@@ -8,5 +8,6 @@ pub mod Taken
 pub mod ResetRoom
 pub mod TurnCount
 pub mod Waiting
+pub mod Whole
 pub mod Digits
 pub mod Shares
