@@ -1,7 +1,13 @@
 pub mod Accept
 pub mod Grow
 pub mod Keys
-pub mod Kept
+pub mod Keeping
+pub mod KeepingBill
+pub mod KeepingLists
+pub mod KeepingPair
+pub mod KeepingRows
+pub mod KeepingShares
+pub mod KeepingSteps
 pub mod Loop
 pub mod Records
 pub mod Taken

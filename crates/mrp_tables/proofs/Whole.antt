@@ -17,7 +17,7 @@ use Rattle.mrp_tables.specs.Lists.{table_of}
 use Rattle.mrp_tables.specs.Grammar.{RunTerms}
 use Rattle.mrp_tables.specs.Left.{OfLeft, records_in, StartsBadly, state_of, TakesRow, TellsFirstAt, TellsRest}
 use Rattle.mrp_tables.specs.Reading.{empty_table, first_terms, go_on, kind_of_row, OfRecords, OfRows, read_from, Reads, rows_after, started, Starts, StartsWith, TellsRows, waiting}
-use Rattle.mrp_tables.proofs.Kept.{empty_keeps}
+use Rattle.mrp_tables.proofs.Keeping.{empty_keeps}
 use Rattle.mrp_tables.proofs.Loop.{kind_no_text, of_left_from, of_rows, of_rows_from}
 
 -- ---- the first row

@@ -2,7 +2,7 @@ use Rattle.std.proofs.lemmas.Result.{err_from_is_err_and}
 use Rattle.csv.specs.Records.{fields_of}
 use Rattle.mrp_tables.specs.Left.{left_of, state_of}
 use Rattle.mrp_tables.specs.Lists.{table_of}
-use Rattle.mrp_tables.proofs.Kept.{row_after_keeps}
+use Rattle.mrp_tables.proofs.Keeping.{row_after_keeps}
 use Rattle.mrp_tables.proofs.Loop.{added, bad_there, ends_there, goes_row, none_there, refused, some_there}
 use Rattle.mrp_tables.proofs.reading.read_next.Goals as goal
 
