@@ -1,9 +1,7 @@
 -- The records of a text: each but one at the very end eats a byte, so those that are counted are all.
-use Rattle.std.proofs.Common.{◌≡◌, ◌⊎◌, inl, inr, ℕ, zero, suc, ◌+◌, ◌<◌, ◌≤◌, Bool, true, false, if◌then◌else◌, List, [], ◌∷◌, ◌++◌, length, Option, Some, None, IfSome, refl, sym, ap, arith, ◌∙◌, add-one}
-use Rattle.std.specs.List.{list_all}
-use Rattle.std.specs.Str.{is_utf8}
+use Rattle.std.proofs.Common.{◌≡◌, ◌⊎◌, inl, inr, ℕ, zero, suc, ◌+◌, ◌<◌, Bool, true, false, if◌then◌else◌, List, [], ◌∷◌, length, Option, Some, None, refl, ap, arith, add-one}
 use Rattle.csv.specs.Machine.{Read, ends_at_end, field_after, fields_after, is_end, next_record, step}
-use Rattle.csv.specs.Reading.{records_from, records_next}
+use Rattle.csv.specs.Reading.{AreRecords, Reached, records_from, records_next}
 use Rattle.csv.specs.declared.parser.Config.{Config}
 use Rattle.csv.specs.declared.parser.State.{State}
 use Rattle.csv.specs.declared.parser.State.TheVariants as st
@@ -65,5 +63,26 @@ pub one_left : (cfg : Config) (s : State) (xs : List ℕ) (r : Read) → next_re
     → records_from cfg (length xs + 1) s xs ≡ r.0 ∷ records_from cfg (length r.2 + 1) r.1 r.2
 unfolding records_from
 one_left cfg s xs r e =
-    rw (add-one, e) (ap (λ (rows : List (List (List ℕ))). r.0 ∷ rows)
+    rw (add-one (length xs), e) (ap (λ (rows : List (List (List ℕ))). r.0 ∷ rows)
       (after_eaten cfg (length xs) (length r.2 + 1) xs r (λ fewer. enough cfg (length xs) (length r.2 + 1) r.1 r.2 fewer (omega arith)) (eats cfg s [] [] xs r e)))
+
+-- the records that are counted are all the records of the text
+all_next : (cfg : Config) (n : ℕ) (s : State) (xs : List ℕ) (o : Option Read) → next_record cfg s [] [] xs ≡ o → ((r : Read) → o ≡ Some r → AreRecords cfg r.1 r.2 (records_from cfg n r.1 r.2))
+    → AreRecords cfg s xs (records_next (records_from cfg n) o)
+unfolding Reached
+all_next cfg n s xs None e more = (s, xs, (refl, refl), e)
+all_next cfg n s xs (Some r) e more = let rest = more r refl in (rest.0, rest.1, (r, e, refl, rest.2), rest.3)
+
+all_at_end : (cfg : Config) (n : ℕ) → AreRecords cfg st.StartRecord [] (records_from cfg n st.StartRecord [])
+unfolding Reached next_record
+all_at_end cfg n = rw (at_end cfg n) (st.StartRecord, [], (refl, refl), refl)
+
+all_after : (cfg : Config) (n : ℕ) (xs : List ℕ) (r : Read) → (length r.2 < length xs → AreRecords cfg r.1 r.2 (records_from cfg n r.1 r.2)) → Eats xs r → AreRecords cfg r.1 r.2 (records_from cfg n r.1 r.2)
+all_after cfg n xs r more (inl fewer) = more fewer
+all_after cfg n xs r more (inr ends) = rw (ends.0, ends.1) (all_at_end cfg n)
+
+pub records_all : (cfg : Config) (n : ℕ) (s : State) (xs : List ℕ) → length xs < n → AreRecords cfg s xs (records_from cfg n s xs)
+unfolding records_from
+records_all cfg zero s xs lt = absurd (omega arith)
+records_all cfg (suc n) s xs lt =
+    all_next cfg n s xs (next_record cfg s [] [] xs) refl (λ r e. all_after cfg n xs r (λ fewer. records_all cfg n r.1 r.2 (omega arith)) (eats cfg s [] [] xs r e))

@@ -1,17 +1,16 @@
 -- What a read of a record takes off the rows that a reader has left.
-use Rattle.std.proofs.Common.{◌≡◌, ◌⊎◌, inl, inr, ℕ, ◌+◌, Bool, true, false, ◌&&◌, List, [], ◌∷◌, length, Option, Some, None, option_map, refl}
+use Rattle.std.proofs.Common.{◌≡◌, inl, inr, ℕ, Bool, true, false, ◌&&◌, List, [], ◌∷◌, Option, Some, None, option_map, refl}
 use Rattle.std.specs.List.{list_all}
 use Rattle.std.specs.Str.{is_utf8}
 use Rattle.std.proofs.lemmas.Str.{IsUtf8-from_is_utf8}
 use Rattle.std.proofs.lemmas.Bool.{cases_Bool, false≢true}
 use Rattle.csv.specs.Machine.{Read, next_record}
-use Rattle.csv.specs.Reading.{default_config, ExplainsRead, NextIs, pending_of, ReadRecord, ReadsNext, source_of, TookRecord}
+use Rattle.csv.specs.Reading.{default_config, ExplainsRead, NextIs, pending_of, ReadRecord, ReadsNext, source_of}
 use Rattle.csv.specs.Records.{AllText}
 use Rattle.csv.specs.declared.error.ErrorKind.{ErrorKind}
 use Rattle.csv.specs.declared.error.ErrorKind.TheVariants as error
 use Rattle.csv.specs.declared.parser.State.{State}
 use Rattle.csv.specs.declared.reader.Reader.{Reader}
-use Rattle.mrp_tables.specs.declared.fault.TableFault.{TableFault}
 use Rattle.mrp_tables.specs.declared.fault.TableFaultKind.{TableFaultKind}
 use Rattle.mrp_tables.specs.declared.fault.TableFaultKind.TheVariants as fault
 use Rattle.mrp_tables.specs.Left.{fault_of, GivesAll, left_of, OfLeft, records_in, StartsBadly, TakesRow}

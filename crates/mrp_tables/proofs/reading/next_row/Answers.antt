@@ -1,6 +1,5 @@
 use Rattle.std.proofs.Common.{◌≡◌, Bool, true, false, Ok, List, ℕ, rules}
 use Rattle.csv.specs.Reading.{ReadRecord, error_kind}
-use Rattle.csv.specs.Records.{fields_of}
 use Rattle.csv.specs.declared.reader.Reader.{Reader}
 use Rattle.mrp_tables.specs.Left.{fault_of, GivesAll, left_of, TellsTaken}
 use Rattle.mrp_tables.proofs.Taken.{ends_rows, explains_as, takes_row}

@@ -1,8 +1,7 @@
-use Rattle.std.proofs.Common.{◌≡◌, ◌+◌, ◌∙◌, length, map, sym, arith}
+use Rattle.std.proofs.Common.{◌≡◌, ◌∙◌, length, sym, arith}
 use Rattle.std.specs.String.{string_bytes}
 use Rattle.std.proofs.lemmas.List.{length-map}
 use Rattle.mrp_tables.specs.Lists.{table_of}
-use Rattle.mrp_tables.specs.Reading.{pair_row_number}
 use Rattle.mrp_tables.proofs.Accept.{table_is}
 use Rattle.mrp_tables.proofs.Waiting.{none_waits, waits_at}
 use Rattle.mrp_tables.proofs.tables.Tables.accept.Goals as goal
