@@ -83,7 +83,7 @@ pub bad_there : (before : Option (List (List (List ℕ)))) (number : ℕ) (s : T
     → OfRows e.kind (OfLeft before (λ rows. rows_after number s rows ≡ Err e))
 bad_there before number s e =
     of_rows_from e.kind (OfLeft before (λ rows. StartsBadly number rows e)) (OfLeft before (λ rows. rows_after number s rows ≡ Err e))
-      (of_left_from before (λ rows. StartsBadly number rows e) (λ rows. rows_after number s rows ≡ Err e) (bad_stops number s e))
+    (of_left_from before (λ rows. StartsBadly number rows e) (λ rows. rows_after number s rows ≡ Err e) (bad_stops number s e))
 
 -- ---- the loop
 

@@ -64,7 +64,7 @@ pub one_left : (cfg : Config) (s : State) (xs : List ℕ) (r : Read) → next_re
 unfolding records_from
 one_left cfg s xs r e =
     rw (add-one (length xs), e) (ap (λ (rows : List (List (List ℕ))). r.0 ∷ rows)
-      (after_eaten cfg (length xs) (length r.2 + 1) xs r (λ fewer. enough cfg (length xs) (length r.2 + 1) r.1 r.2 fewer (omega arith)) (eats cfg s [] [] xs r e)))
+    (after_eaten cfg (length xs) (length r.2 + 1) xs r (λ fewer. enough cfg (length xs) (length r.2 + 1) r.1 r.2 fewer (omega arith)) (eats cfg s [] [] xs r e)))
 
 -- the records that are counted are all the records of the text
 all_next : (cfg : Config) (n : ℕ) (s : State) (xs : List ℕ) (o : Option Read) → next_record cfg s [] [] xs ≡ o → ((r : Read) → o ≡ Some r → AreRecords cfg r.1 r.2 (records_from cfg n r.1 r.2))

@@ -39,4 +39,4 @@ pub waits_at : (N : Table) (i row : ℕ) (d : SourceRow) → position (lacks_pai
     → waiting N ≡ Err (record { row = row; kind = fault.UnknownPair })
 waits_at N i row d found there same =
     one_waits N i d found ∙ ap (λ (s : SourceRow). Err (record { row = pair_row_number N s.pair.0; kind = fault.UnknownPair })) (sym there)
-      ∙ ap (λ (r : ℕ). Err (record { row = r; kind = fault.UnknownPair })) (sym same)
+    ∙ ap (λ (r : ℕ). Err (record { row = r; kind = fault.UnknownPair })) (sym same)

@@ -61,7 +61,7 @@ bad_reads rows e bad =
 pub bad_first : (left : Option (List (List (List ℕ)))) (e : TableFault) → OfRows e.kind (OfLeft left (λ rows. StartsBadly 1 rows e)) → OfLeft left (TellsRows (Err e))
 bad_first left e bad =
     says_under left e.kind (λ rows. Reads rows (Err e))
-      (of_rows_from e.kind (OfLeft left (λ rows. StartsBadly 1 rows e)) (OfLeft left (λ rows. Reads rows (Err e))) (of_left_from left (λ rows. StartsBadly 1 rows e) (λ rows. Reads rows (Err e)) (λ rows. bad_reads rows e)) bad)
+    (of_rows_from e.kind (OfLeft left (λ rows. StartsBadly 1 rows e)) (OfLeft left (λ rows. Reads rows (Err e))) (of_left_from left (λ rows. StartsBadly 1 rows e) (λ rows. Reads rows (Err e)) (λ rows. bad_reads rows e)) bad)
 
 -- no row
 empty_reads : (rows : List (List (List ℕ))) → rows ≡ [] → Reads rows (Err (record { row = 0; kind = fault.Empty }))

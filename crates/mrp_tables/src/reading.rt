@@ -37,10 +37,7 @@ pub fn read_tables<R: Read + Drop, L: Ledger>(
 }
 
 /// Reads a table as [`read_tables`] does, and counts nothing.
-pub fn read_tables_uncounted<R: Read + Drop>(
-    alloc: Global,
-    reader: R,
-) -> Result<Tables, TableFault>
+pub fn read_tables_uncounted<R: Read + Drop>(alloc: Global, reader: R) -> Result<Tables, TableFault>
     ensures table { OfRecords (option_map strip_bom (R.remaining reader)) (TellsRows result) }
 {
     read_with_blank::<R, Brand>(alloc, reader, Blank::new(1))

@@ -27,4 +27,4 @@ pub returns-clause-table : goal.returns-clause-table
 returns-clause-table g c =
     let takes = some_there c.in_ok-next_row.field-0 (left_of g.R.Read.remaining c.args.rows.now) (left_of g.R.Read.remaining c.next_row.new.rows) 1 (fields_of c.next_row.new.row) c.if-not-branch.false c.in_ok-next_row.ensures.exact in
     whole (left_of g.R.Read.remaining c.args.rows.now) (left_of g.R.Read.remaining c.next_row.new.rows) (fields_of c.next_row.new.row) c.in_ok-draft.draft (table_of c.read_rest.new.draft.lists) _
-      takes c.in_ok-draft.ensures.exact c.in_ok-read_rest.ensures.exact c.accept.ensures.exact
+    takes c.in_ok-draft.ensures.exact c.in_ok-read_rest.ensures.exact c.accept.ensures.exact
