@@ -5,3 +5,7 @@ pub mod ResetRoom
 pub mod TurnCount
 pub mod Digits
 pub mod Shares
+pub mod Keeping
+pub mod KeepingLists
+pub mod KeepingRows
+pub mod KeepingSteps
