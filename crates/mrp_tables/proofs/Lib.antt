@@ -9,3 +9,5 @@ pub mod Keeping
 pub mod KeepingLists
 pub mod KeepingRows
 pub mod KeepingSteps
+pub mod KeepingBill
+pub mod KeepingPair
