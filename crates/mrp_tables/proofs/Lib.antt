@@ -11,3 +11,4 @@ pub mod KeepingRows
 pub mod KeepingSteps
 pub mod KeepingBill
 pub mod KeepingPair
+pub mod KeepingShares
