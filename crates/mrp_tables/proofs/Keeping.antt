@@ -1,10 +1,10 @@
 -- What each row kept keeps: no row stands twice, and what is taken from a plant has its source.
-use Rattle.std.proofs.Common.{◌≡◌, ℕ, List, [], Result, Ok, Err, ap, subst, arith}
+use Rattle.std.proofs.Common.{◌≡◌, ℕ, List, Ok, ap, subst, arith}
 use Rattle.std.specs.Str.{bytes_eq}
 use Rattle.mrp_cal.specs.Calendar.{CalendarTerms}
 use Rattle.mrp_tables.specs.declared.kind.Kind.{Kind}
 use Rattle.mrp_tables.specs.declared.kind.Kind.TheVariants as kind
-use Rattle.mrp_tables.specs.Grammar.{◌>>=◌, bill_of, cum_of, demand_of, may_follow, pair_row, plant_of, receipt_of, reset_of, ship_of}
+use Rattle.mrp_tables.specs.Grammar.{bill_of, cum_of, demand_of, may_follow, plant_of, receipt_of, reset_of, ship_of}
 use Rattle.mrp_tables.specs.Lists.{with_plant, with_bill, with_demand, with_receipt, with_ship, with_cum, with_reset}
 use Rattle.mrp_tables.specs.Reading.{empty_table, kind_of_row, row_after, row_of_kind}
 use Rattle.mrp_tables.specs.Table.{Table, IsRead, IsOnce, IsSourced, is_same_pair, is_same_source, is_same_bill, is_same_cum, is_same_reset}

@@ -1,11 +1,9 @@
 -- A bill row more: its parent is made at the plant of its component, and no other has both.
-use Rattle.std.proofs.Common.{◌≡◌, ◌<◌, ℕ, zero, ◌==◌, ◌&&◌, Bool, true, false, not, ltb, List, [], ◌∷◌, ◌++◌, length, Option, Some, None, is_some, option_map, position, slice_get, unwrap_or, Result, Ok, Err, refl, ap, sym, ◌∙◌, subst, arith}
-use Rattle.std.specs.List.{All, list_any}
+use Rattle.std.proofs.Common.{◌≡◌, ℕ, ◌==◌, ◌&&◌, true, false, not, ltb, List, length, Option, Some, None, is_some, option_map, position, slice_get, unwrap_or, Ok, refl, ap, sym, ◌∙◌, subst}
+use Rattle.std.specs.List.{list_any}
 use Rattle.std.specs.Str.{bytes_eq}
 use Rattle.std.proofs.lemmas.Bool.{not-true, and_parts, eqb-true}
 use Rattle.std.proofs.lemmas.List.Elements.{All-push}
-use Rattle.mrp_tables.specs.declared.fault.TableFaultKind.{TableFaultKind}
-use Rattle.mrp_tables.specs.declared.numbers.PairNo.{PairNo}
 use Rattle.mrp_tables.specs.declared.rows.TheConstants.{MOST_BILLS}
 use Rattle.mrp_tables.specs.declared.rows.BillRow.{BillRow}
 use Rattle.mrp_tables.specs.declared.rows.PairRow.{PairRow}
@@ -28,6 +26,7 @@ pair_at_plant N (Some p) item x is = by (position (bytes_eq item) N.items) is
         let s : r ≡ q = cc in
         let same : q.plant.0 ≡ p = eqb-true q.plant.0 p (and_parts (q.plant.0 == p) (q.item.0 == i) t).0 in
         ap (λ n. Some n) (sym same ∙ ap (λ (z : PairRow). z.plant.0) (sym s))
+
     by : (o : Option ℕ) → Rattle.mrp_tables.specs.Grammar.pair_of N p o ≡ Some x → Some p ≡ Some (plant_at N x)
     by None e = absurd (cc)
     by (Some i) e =
@@ -84,8 +83,7 @@ fits N t b is =
 pub bill_keeps : (N : Table) (row : List (List ℕ)) (b : BillRow) → IsOnce N → IsSourced N → bill_of N row ≡ Ok b → IsOnce (with_bill N b) × IsSourced (with_bill N b)
 bill_keeps N row b once sourced is =
     let a = after (bill_terms row) (bill_fits N) b is in
-    let says = fits N a.0 b a.2 in
-    (
+    let says = fits N a.0 b a.2 in (
       record {
         plants = once.plants;
         items = once.items;

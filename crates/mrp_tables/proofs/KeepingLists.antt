@@ -1,16 +1,16 @@
 -- Lists with elements more: what is distinct, ordered, found or kept.
-use Rattle.std.proofs.Common.{◌≡◌, ◌≤◌, ◌<◌, ℕ, zero, suc, get_or, ◌+◌, ◌-◌, ◌==◌, ◌&&◌, ◌||◌, Bool, cond, true, false, not, ltb, List, [], ◌∷◌, ◌++◌, map, length, position, slice_get, unwrap_or, Option, None, Some, refl, ap, sym, ◌∙◌, subst, ⊎_elim, arith, rules}
-use Rattle.std.specs.List.{All, AllByRecursion, IsDistinct, position_or_len, list_any, filter}
+use Rattle.std.proofs.Common.{◌≡◌, ◌≤◌, ◌<◌, ℕ, zero, suc, get_or, ◌+◌, ◌-◌, Bool, true, false, List, [], ◌∷◌, ◌++◌, length, position, slice_get, Option, None, Some, refl, ap, sym, ◌∙◌, ⊎_elim, arith}
+use Rattle.std.specs.List.{All, IsDistinct, list_any, filter}
 use Rattle.std.specs.List.Sorted.{IsNonDecreasingBy}
 use Rattle.std.specs.Str.{bytes_eq}
-use Rattle.std.proofs.lemmas.Bool.{cases_Bool, cases_lt, cases_eq, lt-ltb, eqb-true, ne_eqb, or_left, or_parts}
-use Rattle.std.proofs.lemmas.Bool.Decides.{nat_tests, same_from_decides, Decides-like}
+use Rattle.std.proofs.lemmas.Bool.{cases_lt, or_left, or_parts}
+use Rattle.std.proofs.lemmas.Bool.Decides.{same_from_decides, Decides-like}
 use Rattle.std.proofs.lemmas.List.{length-append, get_or_append_left, get_or-append_right, get_or_at, length_push}
-use Rattle.std.proofs.lemmas.List.Elements.{All-append, All-get_or, All-from_recursion, recursion_from_All, All-nil, All-cons, All-head, All-tail, All-weaker, filter-append}
+use Rattle.std.proofs.lemmas.List.Elements.{All-append, All-from_recursion, recursion_from_All, All-nil, All-cons, All-head, All-tail, All-weaker}
 use Rattle.std.proofs.lemmas.List.Folds.{list_any-append, list_any_at, list_any_none}
 use Rattle.std.proofs.lemmas.List.Quantifiers.{position-Some}
 use Rattle.std.proofs.lemmas.Map.Keys.{IsDistinct-cons, IsDistinct-from_apart, IsDistinct-head, IsDistinct-tail}
-use Rattle.std.proofs.lemmas.Option.{slice_get-get_or, slice_get_past, slice_get_within}
+use Rattle.std.proofs.lemmas.Option.{slice_get-get_or}
 use Rattle.std.proofs.lemmas.Slice.Eq.{bytes_eq-Decides}
 use Rattle.mrp_tables.proofs.Keys.{All-from_position, position_is}
 
@@ -127,12 +127,14 @@ ordered_append f c xs ys up low same i j d le lt = ⊎_elim left right (cases_lt
   where
     low_all : All (λ x. f x ≤ c) (xs ++ ys)
     low_all = All-append (λ x. f x ≤ c) xs ys low (All-weaker (λ y. f y ≡ c) (λ x. f x ≤ c) (λ x e. omega arith) ys same)
+
     left : j < length xs → f (get_or (xs ++ ys) i d) ≤ f (get_or (xs ++ ys) j d)
     left h =
         let ei = get_or_append_left xs ys d i (omega arith) in
         let ej = get_or_append_left xs ys d j h in
         let u = up i j d le h in
         omega (arith, ap f ei, ap f ej)
+
     right : length xs ≤ j → f (get_or (xs ++ ys) i d) ≤ f (get_or (xs ++ ys) j d)
     right h =
         let n : length (xs ++ ys) ≡ length xs + length ys = length-append xs ys in

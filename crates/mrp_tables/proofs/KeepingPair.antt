@@ -1,5 +1,5 @@
 -- A pair row more, with its item and its sources.
-use Rattle.std.proofs.Common.{◌≡◌, ◌≤◌, ◌<◌, ℕ, ◌+◌, ◌==◌, ◌&&◌, Bool, true, false, not, ltb, if◌then◌else◌, get_or, List, [], ◌∷◌, ◌++◌, map, length, Option, Some, None, is_some, option_map, position, slice_get, unwrap_or, Result, Ok, Err, refl, ap, sym, ◌∙◌, subst, ⊎_elim, arith}
+use Rattle.std.proofs.Common.{◌≡◌, ◌≤◌, ◌<◌, ℕ, ◌+◌, ◌==◌, ◌&&◌, Bool, true, false, not, ltb, if◌then◌else◌, get_or, List, [], ◌∷◌, ◌++◌, map, length, Option, Some, None, is_some, option_map, position, slice_get, unwrap_or, Ok, refl, ap, sym, ◌∙◌, subst, ⊎_elim, arith}
 use Rattle.std.specs.List.{All, IsDistinct, filter, list_all, list_any}
 use Rattle.std.specs.Str.{bytes_eq}
 use Rattle.std.proofs.lemmas.Bool.{and_left, and_parts, and_right, cases_lt, eq-eqb, ne_eqb, not-true}
@@ -8,7 +8,6 @@ use Rattle.std.proofs.lemmas.List.Elements.{All-append, All-cons, All-from_recur
 use Rattle.std.proofs.lemmas.List.Folds.{list_any_none}
 use Rattle.std.proofs.lemmas.Map.Keys.{IsDistinct-cons, IsDistinct-head, IsDistinct-tail}
 use Rattle.std.proofs.lemmas.Slice.Eq.{bytes_eq-Decides}
-use Rattle.mrp_tables.specs.declared.fault.TableFaultKind.{TableFaultKind}
 use Rattle.mrp_tables.specs.declared.numbers.PlantNo.{PlantNo}
 use Rattle.mrp_tables.specs.declared.rows.TheConstants.{MOST_PAIRS}
 use Rattle.mrp_tables.specs.declared.rows.PairRow.{PairRow}
@@ -18,9 +17,9 @@ use Rattle.mrp_tables.specs.declared.rows.Supply.TheVariants as supply
 use Rattle.mrp_tables.specs.Spelling.{names_plant, SourceTerms, SupplyTerms, MakeTerms, BuyTerms, FromTerms}
 use Rattle.mrp_tables.specs.Lists.{add_item}
 use Rattle.mrp_tables.specs.Grammar.{has_plant, knows_sources, named_sources, PairTerms, pair_fits, pair_named, pair_of, pair_row, pair_terms, pair_with, plant_no, source_row, supply_kind, with_pair_terms}
-use Rattle.mrp_tables.specs.Table.{Table, HasSupply, IsRead, IsOnce, IsPair, IsSourced, is_same_pair, is_same_source, is_taken_from, plant_at, sources_of_pair, supply_at}
+use Rattle.mrp_tables.specs.Table.{Table, HasSupply, IsRead, IsOnce, IsPair, IsSourced, is_same_pair, is_same_source, plant_at, sources_of_pair, supply_at}
 use Rattle.mrp_tables.proofs.KeepingLists.{All-from_any, any-from_no_position, any-from_position, any_left, distinct_append, distinct_name, distinct_push, filter_everything, filter_nothing, get_last, get_left, IsDistinct-nil, names_at, ordered_append, position-from_any, position_last}
-use Rattle.mrp_tables.proofs.KeepingShares.{AreSources, is_same_plant, IsNamed, pair_terms_are, shares_are}
+use Rattle.mrp_tables.proofs.KeepingShares.{is_same_plant, IsNamed, pair_terms_are, shares_are}
 use Rattle.mrp_tables.proofs.KeepingSteps.{after, after_check, after_some, same_Ok}
 
 -- ---- what a pair row that fits says
@@ -66,9 +65,9 @@ places_differ names a b differ ha hb =
     ap (λ o. unwrap_or o 0 == unwrap_or (position (bytes_eq b) names) 0) i.1
     ∙ ap (λ o. i.0 == unwrap_or o 0) j.1
     ∙ ne_eqb i.0 j.0 (λ e.
-        let same : a ≡ b = names_at names a b i.0 i.1 (j.1 ∙ ap (λ n. Some n) (sym e)) in
-        let test : bytes_eq a b ≡ true = (bytes_eq-Decides a b).1 same in
-        absurd (cc (sym test ∙ differ)))
+    let same : a ≡ b = names_at names a b i.0 i.1 (j.1 ∙ ap (λ n. Some n) (sym e)) in
+    let test : bytes_eq a b ≡ true = (bytes_eq-Decides a b).1 same in
+    absurd (cc (sym test ∙ differ)))
 
 -- the place of an item among the items with it
 known_item : (items : List (List ℕ)) (name : List ℕ) (i : ℕ) → position (bytes_eq name) items ≡ Some i → unwrap_or (position (bytes_eq name) (add_item items name)) 0 ≡ i
@@ -164,9 +163,9 @@ module _ (N : Table) (plant : PlantNo) (t : PairTerms) (read : IsRead N) (once :
     items = distinct_items N.items t.item once.items;
     pairs = distinct_push is_same_pair N.pairs new_row once.pairs (new_pair N plant.0 t.item (λ k d lt. (read.pairs k d lt).item) fit.new);
     sources = distinct_append is_same_source N.sources new_rows once.sources (named_rows N (length N.pairs) t.supply named fit.known)
-    (All-weaker (λ s. s.pair.0 < length N.pairs) (λ s. All (λ r. is_same_source s r ≡ false) new_rows)
-    (λ s lt. All-weaker (λ r. r.pair.0 ≡ length N.pairs) (λ r. is_same_source s r ≡ false)
-    (λ r e. and_right (s.plant.0 == r.plant.0) (s.pair.0 == r.pair.0) (ne_eqb s.pair.0 r.pair.0 (λ same. absurd (omega arith)))) new_rows new_sources) N.sources old_sources);
+        (All-weaker (λ s. s.pair.0 < length N.pairs) (λ s. All (λ r. is_same_source s r ≡ false) new_rows)
+        (λ s lt. All-weaker (λ r. r.pair.0 ≡ length N.pairs) (λ r. is_same_source s r ≡ false)
+        (λ r e. and_right (s.plant.0 == r.plant.0) (s.pair.0 == r.pair.0) (ne_eqb s.pair.0 r.pair.0 (λ same. absurd (omega arith)))) new_rows new_sources) N.sources old_sources);
     bills = once.bills;
     cums = once.cums;
     resets = once.resets;
@@ -196,6 +195,7 @@ module _ (N : Table) (plant : PlantNo) (t : PairTerms) (read : IsRead N) (once :
       left lt =
           subst (λ (s : Supply). HasSupply s (sources_of_pair M x)) (sym (old_supply x lt))
           (subst (λ (l : List SourceRow). HasSupply (supply_at N x) l) (sym (old_kept x lt)) (sourced.supplies x lt))
+
       right : length N.pairs ≤ x → HasSupply (supply_at M x) (sources_of_pair M x)
       right le =
           let longer : length M.pairs ≡ length N.pairs + 1 = length_push N.pairs new_row in

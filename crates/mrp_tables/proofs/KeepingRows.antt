@@ -1,10 +1,8 @@
 -- Rows of one list more: plants, demands, receipts, and rows on what one plant ships to another.
-use Rattle.std.proofs.Common.{◌≡◌, ℕ, ◌==◌, ◌&&◌, Bool, true, false, not, List, [], ◌∷◌, ◌++◌, Option, Some, None, is_some, length, ltb, option_map, position, Result, Ok, Err, refl, ap, sym, ◌∙◌, subst, arith}
-use Rattle.std.specs.List.{All, list_any}
-use Rattle.std.specs.Str.{bytes_eq}
+use Rattle.std.proofs.Common.{◌≡◌, ℕ, ◌==◌, ◌&&◌, true, false, not, List, Option, Some, None, is_some, length, ltb, option_map, Ok, ap, sym, ◌∙◌, subst}
+use Rattle.std.specs.List.{list_any}
 use Rattle.std.proofs.lemmas.Bool.{not-true}
 use Rattle.std.proofs.lemmas.List.Elements.{All-push}
-use Rattle.mrp_tables.specs.declared.fault.TableFaultKind.{TableFaultKind}
 use Rattle.mrp_tables.specs.declared.numbers.PlantNo.{PlantNo}
 use Rattle.mrp_tables.specs.declared.numbers.PairNo.{PairNo}
 use Rattle.mrp_tables.specs.declared.lanes.NamedLane.{NamedLane}
@@ -17,7 +15,7 @@ use Rattle.mrp_tables.specs.declared.rows.ResetRow.{ResetRow}
 use Rattle.mrp_tables.specs.declared.rows.ShipRow.{ShipRow}
 use Rattle.mrp_tables.specs.Table.{Table, horizon, IsOnce, IsSourced, is_taken_from, is_same_cum, is_same_reset}
 use Rattle.mrp_tables.specs.Lists.{with_plant, with_demand, with_receipt, with_ship, with_cum, with_reset}
-use Rattle.mrp_tables.specs.Grammar.{LaneTerms, amount_terms, cum_between, cum_of, cum_terms, demand_of, has_cum, has_plant, has_reset, known_lane, lane_named, plant_of, plant_terms, pair_named, plant_no, receipt_of, reset_between, reset_of, reset_terms, ship_of, ship_terms, rises_from, arrivals, source_named}
+use Rattle.mrp_tables.specs.Grammar.{LaneTerms, cum_between, cum_of, cum_terms, has_cum, has_plant, has_reset, known_lane, lane_named, plant_of, plant_terms, pair_named, plant_no, reset_between, reset_of, reset_terms, ship_of, ship_terms, rises_from, arrivals, source_named}
 use Rattle.mrp_tables.proofs.KeepingLists.{distinct_name, distinct_push, any-from_position}
 use Rattle.mrp_tables.proofs.KeepingSteps.{after, after_check, after_some, same_Ok}
 
@@ -116,6 +114,7 @@ taken_at N (Some p) (Some q) f y k ef ex is =
   where
     same_plant : (p : ℕ) (f : PlantNo) → ◌≡◌ {A = Option PlantNo} (Some (record { 0 = p })) (Some f) → p ≡ f.0
     same_plant p f e = let s : ◌≡◌ {A = PlantNo} (record { 0 = p }) f = cc in ap (λ (x : PlantNo). x.0) s
+
     same_pair : (p : ℕ) (f : PairNo) → ◌≡◌ {A = Option PairNo} (Some (record { 0 = p })) (Some f) → p ≡ f.0
     same_pair p f e = let s : ◌≡◌ {A = PairNo} (record { 0 = p }) f = cc in ap (λ (x : PairNo). x.0) s
 
@@ -171,16 +170,14 @@ cum_lane N row x is =
     let c = after_check (ltb (length N.cums) MOST_OF_A_KIND) _ _ x b.2 in
     let same : record { from = b.0.from; pair = b.0.pair; figure = a.0.1 } ≡ x = same_Ok _ x c.1 in
     let on = on_lane N l b.0 b.1 in
-    let fresh : has_cum N l ≡ false = not-true (has_cum N l) z.0 in
-    (
+    let fresh : has_cum N l ≡ false = not-true (has_cum N l) z.0 in (
       subst (λ (y : CumRow). is_taken_from N y.pair.0 y.from.0 ≡ true) same (taken N a.0.0 b.0 on),
       new_cum N l.from l.pair x fresh (on.from ∙ ap (λ (y : CumRow). Some y.from) same) (on.pair ∙ ap (λ (y : CumRow). Some y.pair) same),
     )
 
 pub cum_keeps : (N : Table) (row : List (List ℕ)) (x : CumRow) → IsOnce N → IsSourced N → cum_of N row ≡ Ok x → IsOnce (with_cum N x) × IsSourced (with_cum N x)
 cum_keeps N row x once sourced is =
-    let says = cum_lane N row x is in
-    (
+    let says = cum_lane N row x is in (
       record {
         plants = once.plants;
         items = once.items;
@@ -224,16 +221,14 @@ reset_lane N row x is =
     let c = after_check (rises_from 0 (arrivals N b.0.from b.0.pair)) _ _ x b.2 in
     let same : record { from = b.0.from; pair = b.0.pair; period = a.0.1 } ≡ x = same_Ok _ x c.1 in
     let on = on_lane N l b.0 b.1 in
-    let fresh : has_reset N l ≡ false = not-true (has_reset N l) z.0 in
-    (
+    let fresh : has_reset N l ≡ false = not-true (has_reset N l) z.0 in (
       subst (λ (y : ResetRow). is_taken_from N y.pair.0 y.from.0 ≡ true) same (taken N a.0.0 b.0 on),
       new_reset N l.from l.pair x fresh (on.from ∙ ap (λ (y : ResetRow). Some y.from) same) (on.pair ∙ ap (λ (y : ResetRow). Some y.pair) same),
     )
 
 pub reset_keeps : (N : Table) (row : List (List ℕ)) (x : ResetRow) → IsOnce N → IsSourced N → reset_of N row ≡ Ok x → IsOnce (with_reset N x) × IsSourced (with_reset N x)
 reset_keeps N row x once sourced is =
-    let says = reset_lane N row x is in
-    (
+    let says = reset_lane N row x is in (
       record {
         plants = once.plants;
         items = once.items;

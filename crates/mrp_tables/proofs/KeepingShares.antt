@@ -1,6 +1,6 @@
 -- The sources that a supply names: other plants each, and shares that follow one another to the whole.
-use Rattle.std.proofs.Common.{◌≡◌, ℕ, zero, suc, ◌+◌, ◌<◌, ◌==◌, ◌&&◌, Bool, true, false, ltb, leb, if◌then◌else◌, List, [], ◌∷◌, ◌++◌, map, Option, Some, None, Result, Ok, Err, ok_or, refl, ap, sym, ◌∙◌, subst, arith}
-use Rattle.std.specs.List.{IsDistinct, list_any}
+use Rattle.std.proofs.Common.{◌≡◌, ℕ, zero, suc, ◌+◌, ◌==◌, ◌&&◌, Bool, true, false, leb, if◌then◌else◌, List, [], ◌∷◌, ◌++◌, map, Option, Some, None, Result, Ok, Err, refl, ap, sym, ◌∙◌, subst}
+use Rattle.std.specs.List.{IsDistinct}
 use Rattle.std.specs.Prelude.{codes}
 use Rattle.std.specs.Str.{bytes_eq}
 use Rattle.std.proofs.lemmas.Bool.{eqb-true}
@@ -9,8 +9,7 @@ use Rattle.mrp_lot.specs.declared.rule.TheConstants.{LONGEST_LEAD}
 use Rattle.mrp_tables.specs.declared.fault.TableFaultKind.{TableFaultKind}
 use Rattle.mrp_tables.specs.declared.fault.TableFaultKind.TheVariants as fault
 use Rattle.mrp_tables.specs.declared.rows.TheConstants.{MOST_IN_ROW, MOST_SHARE, MOST_SOURCES_OF_PAIR}
-use Rattle.mrp_tables.specs.declared.rows.SourceRow.{SourceRow}
-use Rattle.mrp_tables.specs.Spelling.{cut, is_name, names_plant, number_within, rule_of, share_in, share_of, shared_in, shared_source, SourceTerms, SupplyTerms, MakeTerms, BuyTerms, FromTerms}
+use Rattle.mrp_tables.specs.Spelling.{cut, is_name, names_plant, rule_of, share_in, share_of, shared_in, shared_source, SourceTerms, SupplyTerms, MakeTerms, BuyTerms, FromTerms}
 use Rattle.mrp_tables.specs.Table.{Table, AreShares}
 use Rattle.mrp_tables.specs.Grammar.{field, from_terms, name_of, PairTerms, pair_terms, ranged, shared_after, shared_rest, shared_sources, source_row, sources_of, supply_in, supply_of}
 use Rattle.mrp_tables.proofs.KeepingLists.{IsDistinct-nil, distinct_one, distinct_push}
