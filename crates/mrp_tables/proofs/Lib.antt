@@ -17,3 +17,10 @@ pub mod Waiting
 pub mod Whole
 pub mod Digits
 pub mod Shares
+pub mod Keeping
+pub mod KeepingLists
+pub mod KeepingRows
+pub mod KeepingSteps
+pub mod KeepingBill
+pub mod KeepingPair
+pub mod KeepingShares
