@@ -1,5 +1,7 @@
+pub mod Drafts
 pub mod Grammar
 pub mod Lists
+pub mod Reading
 pub mod Rows
 pub mod Spelled
 pub mod Spelling

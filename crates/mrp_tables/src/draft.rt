@@ -55,10 +55,14 @@ pub(crate) struct Draft {
 
 impl Draft {
     ghost use Rattle.std.specs.Prelude.{◌≡◌, ◌+◌, ◌<◌, OnOk, IfOk};
+    ghost use Rattle.csv.specs.Records.{AllText, fields_of};
     ghost use Rattle.mrp_tables.specs.Lists.{IsDraft, AddsRow};
+    ghost use Rattle.mrp_tables.specs.Drafts.{TellsAdded, TellsFirst};
 
     /// What a first row makes.
     pub(crate) fn first(alloc: Global, row: &StringRecord) -> Result<Draft, TableFaultKind>
+        requires text { AllText (fields_of row.now) }
+        ensures exact { TellsFirst result (fields_of row.now) }
         ensures draft { IfOk result IsDraft }
         ensures rows { IfOk result (λ draft. draft.rows ≡ 1) }
     {
@@ -83,6 +87,8 @@ impl Draft {
     pub(crate) fn add(&mut self, alloc: Global, row: &StringRecord) -> Result<(), TableFaultKind>
         requires draft { IsDraft self.old }
         requires room { self.old.rows < 5000000 }
+        requires text { AllText (fields_of row.now) }
+        ensures exact { TellsAdded self.old self.new result (fields_of row.now) }
         ensures draft { OnOk result (IsDraft self.new) }
         ensures rows { OnOk result (self.new.rows ≡ self.old.rows + 1) }
     {

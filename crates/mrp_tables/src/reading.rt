@@ -1,5 +1,9 @@
 ghost use Rattle.std.specs.Prelude.{◌≡◌, ◌+◌, ◌≤◌, ◌<◌, MatchResult, IfOk, OnOk};
+ghost use Rattle.std.specs.Prelude.{option_map};
+ghost use Rattle.csv.specs.Reading.{strip_bom};
+ghost use Rattle.csv.specs.Records.{AllText, fields_of};
 ghost use Rattle.mrp_tables.specs.Lists.{IsDraft};
+ghost use Rattle.mrp_tables.specs.Reading.{OfRecords, TellsRows};
 
 use crate::draft::Draft;
 use crate::{Steps, TableFault, TableFaultKind, Tables};
@@ -22,6 +26,7 @@ pub fn read_tables<R: Read + Drop, L: Ledger>(
     reader: R,
     steps: &mut Steps<L>,
 ) -> Result<Tables, TableFault>
+    ensures table { OfRecords (option_map strip_bom (R.remaining reader)) (TellsRows result) }
     ensures turns { steps.new ≤ steps.old + MAX_TURNS }
 {
     let mut rows = ReaderBuilder::new()
@@ -76,6 +81,7 @@ fn read_rows<R: Read, L: Ledger>(
 
 /// What the first row makes.
 fn first_draft(alloc: Global, row: &StringRecord) -> Result<Draft, TableFault>
+    requires text { AllText (fields_of row.now) }
     ensures draft { IfOk result IsDraft }
     ensures rows { IfOk result (λ draft. draft.rows ≡ 1) }
 {
