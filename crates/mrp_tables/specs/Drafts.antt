@@ -4,7 +4,13 @@ use Rattle.mrp_tables.specs.declared.draft.Draft.{Draft}
 use Rattle.mrp_tables.specs.declared.fault.TableFaultKind.{TableFaultKind}
 use Rattle.mrp_tables.specs.declared.kind.Kind.TheVariants as kind
 use Rattle.mrp_tables.specs.Lists.{table_of}
-use Rattle.mrp_tables.specs.Reading.{OfRows, row_after, Starts}
+use Rattle.mrp_cal.specs.Calendar.{CalendarTerms}
+use Rattle.mrp_tables.specs.Grammar.{run_terms, seen}
+use Rattle.mrp_tables.specs.Reading.{empty_table, OfRows, row_after, Starts, StartsWith}
+
+-- the calendar of a run row, or why there is none
+abbrev pub TellsRun : Result CalendarTerms TableFaultKind → List (List ℕ) → Type 0
+TellsRun calendar row = StartsWith (run_terms row) (seen empty_table calendar)
 
 -- what the first row makes
 abbrev pub TellsFirst : Result Draft TableFaultKind → List (List ℕ) → Type 0

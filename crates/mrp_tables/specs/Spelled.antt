@@ -11,8 +11,9 @@ use Rattle.mrp_tables.specs.declared.spelled.SpelledPair.{SpelledPair}
 use Rattle.mrp_tables.specs.declared.spelled.SpelledBill.{SpelledBill}
 use Rattle.mrp_tables.specs.declared.spelled.SpelledAmount.{SpelledAmount}
 use Rattle.mrp_tables.specs.declared.spelled.SpelledLane.{SpelledLane}
+use Rattle.mrp_tables.specs.declared.spelled.SpelledRun.{SpelledRun}
 use Rattle.mrp_tables.specs.Spelling.{SourceTerms, SupplyTerms, MakeTerms, BuyTerms, FromTerms}
-use Rattle.mrp_tables.specs.Grammar.{AmountTerms, BillTerms, LaneTerms, PairTerms}
+use Rattle.mrp_tables.specs.Grammar.{AmountTerms, BillTerms, LaneTerms, PairTerms, RunTerms}
 
 -- a share that ends after it begins, and within the whole
 pub record IsSource (s : SpelledSource) : Type 0 where
@@ -38,6 +39,9 @@ pub record IsSpelledPair (p : SpelledPair) : Type 0 where
   pub safety : p.safety ≤ MOST_IN_ROW
 
 -- what a row spells, as the grammar sees it
+abbrev pub run_view : SpelledRun → RunTerms
+run_view r = record { first = r.first.now; days = r.days; periods = r.periods }
+
 abbrev pub bill_view : SpelledBill → BillTerms
 bill_view b = record { plant = b.plant.now; parent = b.parent.now; component = b.component.now; per = b.per }
 
