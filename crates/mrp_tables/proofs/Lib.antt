@@ -1,8 +1,9 @@
 pub mod Accept
 pub mod Grow
 pub mod Keys
-pub mod ResetRoom
 pub mod Starting
 pub mod TurnCount
+pub mod Apart
+pub mod Arrivals
 pub mod Digits
 pub mod Shares

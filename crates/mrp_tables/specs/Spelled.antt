@@ -1,6 +1,8 @@
 -- What a row spells, before its names are looked up.
-use Rattle.std.specs.Prelude.{◌≡◌, ℕ, ◌≤◌, ◌<◌, List, length, map, All, Option, None, Some, option_map}
+use Rattle.std.specs.Prelude.{◌≡◌, ℕ, ◌≤◌, ◌<◌, Bool, List, length, map, All, Option, None, Some, option_map}
 use Rattle.std.specs.Borrow.{Bor}
+use Rattle.std.specs.List.{IsDistinct}
+use Rattle.std.specs.Str.{bytes_eq}
 use Rattle.mrp_lot.specs.Lot.{IsRule}
 use Rattle.mrp_lot.specs.declared.rule.TheConstants.{LONGEST_LEAD}
 use Rattle.mrp_tables.specs.declared.rows.TheConstants.{MOST_IN_ROW, MOST_PER, MOST_SHARE, MOST_SOURCES_OF_PAIR}
@@ -20,10 +22,14 @@ pub record IsSource (s : SpelledSource) : Type 0 where
   pub rises : s.low < s.high
   pub ends : s.high ≤ MOST_SHARE
 
+abbrev pub is_same_plant : SpelledSource → SpelledSource → Bool
+is_same_plant s t = bytes_eq s.plant.now t.plant.now
+
 -- the sources of one pair
 pub record AreSources (sources : List SpelledSource) : Type 0 where
   pub few : length sources ≤ MOST_SOURCES_OF_PAIR
   pub each : All IsSource sources
+  pub apart : IsDistinct is_same_plant sources
 
 abbrev pub HasSources : SpelledSupply → Type 0
 HasSources Make = Unit {0}

@@ -40,7 +40,7 @@ impl Tables {
     {
         if let Some(place) = draft.lists.first_lacking() {
             return Err(TableFault {
-                row: draft.lanes[place].row,
+                row: (2 + draft.lists.plants.len() + draft.lists.sources[place].pair.0) as u64,
                 kind: TableFaultKind::UnknownPair,
             });
         }
