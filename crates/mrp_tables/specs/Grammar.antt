@@ -30,6 +30,7 @@ use Rattle.mrp_tables.specs.declared.lanes.KnownLane.{KnownLane}
 use Rattle.mrp_tables.specs.Table.{Table, horizon}
 use Rattle.mrp_tables.specs.declared.rows.PairRow.{PairRow}
 use Rattle.mrp_tables.specs.declared.rows.SourceRow.{SourceRow}
+pub use Rattle.mrp_tables.specs.Lists.{arrivals, rises_from}
 use Rattle.mrp_tables.specs.Lists.{add_item, with_plant, with_bill, with_demand, with_receipt, with_ship, with_cum, with_reset}
 use Rattle.mrp_tables.specs.Spelling.{cut, is_name, names_plant, number_of, number_within, rule_of, shared_source, SourceTerms, SupplyTerms, MakeTerms, BuyTerms, FromTerms}
 
@@ -367,15 +368,6 @@ reset_between N (Some p) (Some x) = list_any (λ r. (r.from.0 == p.0) && (r.pair
 
 abbrev pub has_reset : Table → NamedLane → Bool
 has_reset N l = reset_between N l.from l.pair
-
--- the periods of arrival of the shipments on a lane, in table order
-abbrev pub arrivals : Table → PlantNo → PairNo → List ℕ
-arrivals N f x = map (λ s. s.period) (filter (λ s. (s.from.0 == f.0) && (s.pair.0 == x.0)) N.ships)
-
--- no number is below the one before it
-abbrev pub rises_from : ℕ → List ℕ → Bool
-rises_from low [] = true
-rises_from low (n ∷ ns) = nat_le low n && rises_from n ns
 
 -- ---- the table with one row more, or the first fault of the row
 

@@ -25,14 +25,22 @@ pub(crate) struct BillKey {
 /// What the rows so far say of one source of a pair.
 #[derive(Clone, Copy, Debug)]
 pub(crate) struct Lane {
-    /// The number of its pair row.
-    pub(crate) row: u64,
     /// The period of arrival of its last shipment, 0 without one.
     pub(crate) last: usize,
     /// Whether a shipment arrives before the one that stands above it.
     pub(crate) falls: bool,
-    /// Whether its figures start anew.
-    pub(crate) has_reset: bool,
+}
+
+impl Lane {
+    ghost use Rattle.mrp_tables.specs.Lists.{after_ship};
+
+    /// Notes one shipment more.
+    pub(crate) fn ship(&mut self, period: usize)
+        ensures { self.new ≡ after_ship self.old period }
+    {
+        self.falls = self.falls || period < self.last;
+        self.last = period;
+    }
 }
 
 /// A table while its rows are read.
@@ -42,9 +50,11 @@ pub(crate) struct Draft {
     /// The sources in the order of their rows, and what is known of each.
     pub(crate) lane_keys: IndexSet<LaneKey>,
     pub(crate) lanes: Vec<Lane>,
-    /// The bill rows and the cumulative figures by their keys, in the order of their rows.
+    /// The bill rows, the cumulative figures and where they start anew by their keys, in the order of
+    /// their rows.
     pub(crate) bill_keys: IndexSet<BillKey>,
     pub(crate) cum_keys: IndexSet<LaneKey>,
+    pub(crate) reset_keys: IndexSet<LaneKey>,
     /// The kind of the last row, and how many rows there are.
     pub(crate) last: Kind,
     pub(crate) rows: u64,
@@ -76,6 +86,7 @@ impl Draft {
             lanes: Vec::new(alloc),
             bill_keys: IndexSet::new(alloc),
             cum_keys: IndexSet::new(alloc),
+            reset_keys: IndexSet::new(alloc),
             last: Kind::Run,
             rows: 1,
             near: 0,

@@ -23,7 +23,7 @@ mod tables;
 mod terms;
 
 pub use fault::{TableFault, TableFaultKind};
-pub use laws::rows_keep_tables;
+pub use laws::{records_are_all_records, rows_keep_tables};
 pub use numbers::{ItemNo, PairNo, PlantNo};
 pub use reading::{MAX_TURNS, read_tables, read_tables_uncounted};
 pub use rows::{
