@@ -6,4 +6,5 @@ pub mod TurnCount
 pub mod Apart
 pub mod Arrivals
 pub mod Digits
+pub mod NewPair
 pub mod Shares

@@ -39,6 +39,15 @@ returns-clause-draft c = record {
   rows = c.new.ensures.rows;
   bill_keys = search rules;
   cum_keys = search rules;
-  fits = search rules;
+  reset_keys = search rules;
+  resets = ?;
+  fits = record {
+    lane_keys = search rules;
+    apart = c.new-2.ensures.unique;
+    each = search rules;
+    lanes = search rules;
+    sources = search rules;
+    items = search rules;
+  };
   count = search rules;
 }
