@@ -238,3 +238,7 @@ source_fit N M s keys more states made is grown apart pushed fits below room =
       items = fits.items;
     } in
     subst (λ (T : Table). Fits T more made) (sym is) all
+
+pub no_lanes : (keys some : List LaneKey) → length some ≡ 0 → AreLanes keys some
+no_lanes keys [] none = refl
+no_lanes keys (k ∷ ks) none = absurd (omega arith)

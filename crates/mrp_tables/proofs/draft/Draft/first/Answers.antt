@@ -4,6 +4,7 @@ use Rattle.csv.specs.Records.{fields_of}
 use Rattle.mrp_tables.specs.Lists.{IsDraft}
 use Rattle.mrp_tables.specs.Table.{Table}
 use Rattle.mrp_tables.specs.Reading.{Starts}
+use Rattle.mrp_tables.proofs.Arrivals.{no_lanes}
 use Rattle.mrp_tables.proofs.Starting.{first-bad_kind, first-bad_order, first-calendar, of_rows, other_kind, run_kind}
 use Rattle.mrp_tables.proofs.draft.Draft.first.Goals as goal
 
@@ -40,7 +41,7 @@ returns-clause-draft c = record {
   bill_keys = search rules;
   cum_keys = search rules;
   reset_keys = search rules;
-  resets = ?;
+  resets = no_lanes c.new-2.result.keys c.new-6.result.keys c.new-6.ensures.len;
   fits = record {
     lane_keys = search rules;
     apart = c.new-2.ensures.unique;
