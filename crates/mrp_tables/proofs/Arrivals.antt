@@ -1,5 +1,5 @@
 -- The shipments of each source.
-use Rattle.std.proofs.Common.{◌≡◌, ◌≢◌, ◌+◌, ◌<◌, ◌==◌, ◌&&◌, ◌||◌, ℕ, nat_le, nat_lt, not, Bool, true, false, List, [], ◌∷◌, ◌++◌, length, map, get_or, set, position, Option, Some, None, IsSome, refl, sym, ap, ◌∙◌, subst, inl, inr, ⊎_elim, arith, rules}
+use Rattle.std.proofs.Common.{◌≡◌, ◌≢◌, ◌+◌, ◌*◌, ◌<◌, ◌==◌, ◌&&◌, ◌||◌, ℕ, nat_le, nat_lt, not, Bool, true, false, List, [], ◌∷◌, ◌++◌, length, map, get_or, set, position, Option, Some, None, IsSome, refl, sym, ap, ◌∙◌, subst, inl, inr, ⊎_elim, arith, rules}
 use Rattle.std.specs.Cmp.{IsEquivalence}
 use Rattle.std.specs.List.{All, IsDistinct, filter, list_all, list_any}
 use Rattle.std.proofs.lemmas.Bool.{eq-eqb, eqb-true, false≢true}
@@ -17,7 +17,8 @@ use Rattle.mrp_tables.specs.declared.numbers.PairNo.{PairNo}
 use Rattle.mrp_tables.specs.declared.numbers.PlantNo.{PlantNo}
 use Rattle.mrp_tables.specs.declared.rows.ShipRow.{ShipRow}
 use Rattle.mrp_tables.specs.declared.rows.SourceRow.{SourceRow}
-use Rattle.mrp_tables.specs.Lists.{after_ship, AreLanes, arrivals_of, has_lane, is_same_lane, lane_of, lane_state, last_from, rises_from, state_of}
+use Rattle.mrp_tables.specs.Table.{Table}
+use Rattle.mrp_tables.specs.Lists.{after_ship, AreLanes, arrivals_of, Fits, with_source, has_lane, is_same_lane, lane_of, lane_state, last_from, rises_from, state_of}
 use Rattle.mrp_tables.proofs.Keys.{any_source, same_test}
 
 pub both : (a b : Bool) → (a && b) ≡ true → (a ≡ true) × (b ≡ true)
@@ -218,3 +219,26 @@ lanes_more keys (q ∷ qs) k all =
     let p = both (has_lane keys q) (list_all (has_lane keys) qs) all in
     let more : has_lane (keys ++ k ∷ []) q ≡ true = list_any-append (is_same_lane q) keys (k ∷ []) ∙ rw p.0 refl in
     rw (more, lanes_more keys qs k p.1) refl
+
+-- what is known of the sources with one more, of a pair that no shipment names
+pub source_fit : (N M : Table) (s : SourceRow) (keys more : List LaneKey) (states made : List Lane) → M ≡ with_source N s → more ≡ keys ++ lane_of s ∷ [] → IsDistinct is_same_lane more → made ≡ states ++ record { last = 0; falls = false } ∷ []
+    → Fits N keys states → All (λ r. r.pair.0 < s.pair.0) N.ships → length N.sources < 4 * length N.pairs → Fits M more made
+source_fit N M s keys more states made is grown apart pushed fits below room =
+    let longer = length_push N.sources s in
+    let blank : Lane = record { last = 0; falls = false } in
+    let n = length_push states blank in
+    let m = ap length pushed in
+    let all : Fits (with_source N s) more made = record {
+      lane_keys = grown ∙ ap (λ (ks : List LaneKey). ks ++ lane_of s ∷ []) fits.lane_keys ∙ sym (map-append lane_of N.sources (s ∷ []));
+      apart = apart;
+      each = pushed ∙ ap (λ (ls : List Lane). ls ++ blank ∷ []) fits.each
+          ∙ ap (λ (l : Lane). map (lane_state N.ships) N.sources ++ l ∷ []) (sym (new_state N.ships s below)) ∙ sym (map-append (lane_state N.ships) N.sources (s ∷ []));
+      lanes = omega (arith, m, n, longer, fits.lanes);
+      sources = omega (arith, longer, room);
+      items = fits.items;
+    } in
+    subst (λ (T : Table). Fits T more made) (sym is) all
+
+pub no_lanes : (keys some : List LaneKey) → length some ≡ 0 → AreLanes keys some
+no_lanes keys [] none = refl
+no_lanes keys (k ∷ ks) none = absurd (omega arith)

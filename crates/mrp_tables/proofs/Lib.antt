@@ -18,4 +18,5 @@ pub mod Starting
 pub mod Apart
 pub mod Arrivals
 pub mod Digits
+pub mod NewPair
 pub mod Shares

@@ -1,4 +1,4 @@
--- What the first row of a table makes.
+-- What the first row of a table makes, and each row after it.
 use Rattle.std.proofs.Common.{◌≡◌, ℕ, Bool, true, false, not, List, [], ◌∷◌, Result, Ok, Err, ok_or, refl, sym, ap, ◌∙◌, subst, rules}
 use Rattle.std.specs.List.{list_all}
 use Rattle.std.specs.Str.{is_utf8}
@@ -11,8 +11,8 @@ use Rattle.mrp_tables.specs.contracts.kind.Kind.{the_type as kind_type}
 use Rattle.mrp_tables.specs.declared.kind.Kind.{Kind}
 use Rattle.mrp_tables.specs.declared.kind.Kind.TheVariants as kind
 use Rattle.mrp_tables.specs.Table.{Table}
-use Rattle.mrp_tables.specs.Grammar.{◌>>=◌, check, row_kind, run_terms, RunTerms}
-use Rattle.mrp_tables.specs.Reading.{first_terms, is_run, kind_of_row, OfRows, Starts, StartsWith}
+use Rattle.mrp_tables.specs.Grammar.{◌>>=◌, check, may_follow, row_kind, run_terms, RunTerms, TellsFault}
+use Rattle.mrp_tables.specs.Reading.{first_terms, is_run, kind_of_row, OfRows, row_after, row_of_kind, Starts, StartsWith}
 
 -- fields that are text pass the test for it
 pub all_text : (fs : List (List ℕ)) → AllText fs → list_all is_utf8 fs ≡ true
@@ -84,3 +84,29 @@ run_kind k h = by (is_run k) (h ∙ ap not (same_run k))
     by : (b : Bool) → false ≡ not b → b ≡ true
     by true h = refl
     by false h = absurd (cc)
+
+-- ---- the rows after the first
+
+tells_fault : {B : Type 0} (e : TableFaultKind) (read : Result B TableFaultKind) (P : Type 0) → TellsFault read e → (read ≡ Err e → P) → OfRows e P
+tells_fault fault.ReadFault read P h f = tt
+tells_fault fault.Memory read P h f = tt
+tells_fault _ read P h f = f h
+
+module _ (N : Table) (last : Kind) (row : List (List ℕ)) (text : AllText row) where
+  pub after-bad_kind : (e : TableFaultKind) → row_kind row ≡ Err e → row_after (N, last) row ≡ Err e
+  unfolding row_after
+  after-bad_kind e is = rw (text_kind row text, is) refl
+
+  pub after-bad_order : (k : Kind) → row_kind row ≡ Ok k → may_follow k last ≡ false → row_after (N, last) row ≡ Err fault.KindOrder
+  unfolding row_after
+  after-bad_order k is other = rw (text_kind row text, is, other) refl
+
+  after-kind : (k : Kind) (made : Result Table TableFaultKind) → row_kind row ≡ Ok k → may_follow k last ≡ true → row_of_kind k N row ≡ made → row_after (N, last) row ≡ (made >>= λ M. Ok (M, k))
+  unfolding row_after
+  after-kind k made is follows of = rw (text_kind row text, is, follows) (ap (λ (r : Result Table TableFaultKind). let s : Result (Table × Kind) TableFaultKind = r >>= λ M. Ok (M, k) in s) of)
+
+  pub after-fault : (k : Kind) (e : TableFaultKind) → row_kind row ≡ Ok k → may_follow k last ≡ true → TellsFault (row_of_kind k N row) e → OfRows e (row_after (N, last) row ≡ Err e)
+  after-fault k e is follows told = tells_fault e (row_of_kind k N row) (row_after (N, last) row ≡ Err e) told (λ of. after-kind k (Err e) is follows of)
+
+  pub after-made : (k : Kind) (M : Table) → row_kind row ≡ Ok k → may_follow k last ≡ true → row_of_kind k N row ≡ Ok M → row_after (N, last) row ≡ Ok (M, k)
+  after-made k M is follows of = after-kind k (Ok M) is follows of

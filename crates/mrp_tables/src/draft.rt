@@ -66,7 +66,9 @@ pub(crate) struct Draft {
 impl Draft {
     ghost use Rattle.std.specs.Prelude.{◌≡◌, ◌+◌, ◌<◌, OnOk, IfOk};
     ghost use Rattle.csv.specs.Records.{AllText, fields_of};
-    ghost use Rattle.mrp_tables.specs.Lists.{IsDraft, AddsRow};
+    ghost use Rattle.mrp_tables.specs.Grammar.{Tells};
+    ghost use Rattle.mrp_tables.specs.Lists.{IsDraft, AddsRow, table_of};
+    ghost use Rattle.mrp_tables.specs.Reading.{row_of_kind};
     ghost use Rattle.mrp_tables.specs.Drafts.{TellsAdded, TellsFirst};
 
     /// What a first row makes.
@@ -114,6 +116,7 @@ impl Draft {
     }
 
     /// Adds a row of that kind, which is not counted yet.
+    #[tactic(auto, unfolding(crate::specs::Reading::row_of_kind))]
     fn add_row(
         &mut self,
         alloc: Global,
@@ -121,7 +124,7 @@ impl Draft {
         row: &StringRecord,
     ) -> Result<(), TableFaultKind>
         requires draft { IsDraft self.old }
-        requires room { self.old.rows < 5000000 }
+        ensures exact { Tells result (row_of_kind kind (table_of self.old.lists) (fields_of row.now)) (table_of self.new.lists) }
         ensures adds { OnOk result (AddsRow self.old self.new) }
     {
         match kind {

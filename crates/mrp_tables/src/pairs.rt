@@ -194,7 +194,8 @@ impl Draft {
             plant: from,
             low: source.low,
             high: source.high,
-        })
+        })?;
+        Ok(())
     }
 }
 

@@ -4,6 +4,7 @@ use Rattle.csv.specs.Records.{fields_of}
 use Rattle.mrp_tables.specs.Lists.{IsDraft}
 use Rattle.mrp_tables.specs.Table.{Table}
 use Rattle.mrp_tables.specs.Reading.{Starts}
+use Rattle.mrp_tables.proofs.Arrivals.{no_lanes}
 use Rattle.mrp_tables.proofs.Starting.{first-bad_kind, first-bad_order, first-calendar, of_rows, other_kind, run_kind}
 use Rattle.mrp_tables.proofs.draft.Draft.first.Goals as goal
 
@@ -39,6 +40,15 @@ returns-clause-draft c = record {
   rows = c.new.ensures.rows;
   bill_keys = search rules;
   cum_keys = search rules;
-  fits = search rules;
+  reset_keys = search rules;
+  resets = no_lanes c.new-2.result.keys c.new-6.result.keys c.new-6.ensures.len;
+  fits = record {
+    lane_keys = search rules;
+    apart = c.new-2.ensures.unique;
+    each = search rules;
+    lanes = search rules;
+    sources = search rules;
+    items = search rules;
+  };
   count = search rules;
 }
