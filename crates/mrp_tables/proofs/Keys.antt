@@ -8,9 +8,11 @@ use Rattle.std.proofs.lemmas.Bool.Decides.{nat_tests}
 use Rattle.std.proofs.lemmas.List.Sums.{fails_before_first, position_or_len_is}
 use Rattle.std.proofs.lemmas.Bool.{lt-ltb}
 use Rattle.std.proofs.lemmas.Slice.Eq.{bytes_eq-Decides}
+use Rattle.std.proofs.lemmas.Option.{get_or_from_slice_get}
 use Rattle.std.proofs.lemmas.Map.Keys.{apart_from_distinct}
+use Rattle.mrp_tables.specs.declared.rows.ResetRow.{ResetRow}
 use Rattle.indexmap.specs.IndexSet.{insert_key}
-use Rattle.mrp_tables.specs.Lists.{add_item, bill_key_of, cum_key_of, key_of, lane_of}
+use Rattle.mrp_tables.specs.Lists.{add_item, bill_key_of, cum_key_of, key_of, lane_of, reset_key_of}
 use Rattle.mrp_tables.specs.contracts.draft.BillKeyPartialEq.TheImpl as bill
 use Rattle.mrp_tables.specs.contracts.draft.LaneKeyPartialEq.TheImpl as lane
 use Rattle.mrp_tables.specs.declared.draft.BillKey.{BillKey}
@@ -138,3 +140,32 @@ pub map-insert_new : (ks : List (String Global)) (k : String Global) (name : Lis
     → map string_bytes (insert_key string_eq ks k) ≡ map string_bytes ks ++ name ∷ []
 map-insert_new ks k name same fresh =
     map-insert_key ks k name same ∙ ap (λ b. if b then map string_bytes ks else map string_bytes ks ++ name ∷ []) fresh
+
+-- whether there is a row of a pair
+pub any_pair : (plant : PlantNo) (item : ItemNo) (keys : List PairKey) (pairs : List PairRow) → keys ≡ map key_of pairs
+    → list_any (eq-value.it (record { plant = plant; item = item })) keys ≡ list_any (λ p. (p.plant.0 == plant.0) && (p.item.0 == item.0)) pairs
+any_pair plant item keys pairs same =
+    ap (list_any (eq-value.it (record { plant = plant; item = item }))) same
+    ∙ list_any_keys key_of _ (λ p. (p.plant.0 == plant.0) && (p.item.0 == item.0)) (λ p. swap plant.0 p.plant.0 item.0 p.item.0) pairs
+
+-- whether there is a source of a plant and a pair
+pub any_source : (f : PlantNo) (x : PairNo) (keys : List LaneKey) (sources : List SourceRow) → keys ≡ map lane_of sources
+    → list_any (lane.eq-value.it (record { from = f; pair = x })) keys ≡ list_any (λ s. (s.plant.0 == f.0) && (s.pair.0 == x.0)) sources
+any_source f x keys sources same =
+    ap (list_any (lane.eq-value.it (record { from = f; pair = x }))) same
+    ∙ list_any_keys lane_of _ (λ s. (s.plant.0 == f.0) && (s.pair.0 == x.0)) (λ s. swap f.0 s.plant.0 x.0 s.pair.0) sources
+
+-- whether there is a reset row of a plant and a pair
+pub any_reset : (f : PlantNo) (x : PairNo) (keys : List LaneKey) (resets : List ResetRow) → keys ≡ map reset_key_of resets
+    → list_any (lane.eq-value.it (record { from = f; pair = x })) keys ≡ list_any (λ r. (r.from.0 == f.0) && (r.pair.0 == x.0)) resets
+any_reset f x keys resets same =
+    ap (list_any (lane.eq-value.it (record { from = f; pair = x }))) same
+    ∙ list_any_keys reset_key_of _ (λ r. (r.from.0 == f.0) && (r.pair.0 == x.0)) (λ r. swap f.0 r.from.0 x.0 r.pair.0) resets
+
+-- where a name stands that equals one that was looked for
+pub position_stored : (keys : List (String Global)) (name : List ℕ) (k : String Global) (near : ℕ) (kept : String Global) → IsDistinct string_eq keys → near < length keys
+    → slice_get keys near ≡ Some kept → string_eq k kept ≡ true → string_bytes k ≡ name → position (bytes_eq name) (map string_bytes keys) ≡ Some near
+position_stored keys name k near kept distinct within at same is =
+    let equal : bytes_eq (string_bytes kept) name ≡ true =
+    subst (λ (n : List ℕ). bytes_eq (string_bytes kept) n ≡ true) is (string_eq_equiv.symm kept k ∙ same) in
+    position_near keys name near kept distinct within (sym (get_or_from_slice_get keys near kept kept at)) equal

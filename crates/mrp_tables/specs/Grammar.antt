@@ -28,7 +28,10 @@ use Rattle.mrp_tables.specs.declared.numbers.PairNo.{PairNo}
 use Rattle.mrp_tables.specs.declared.lanes.NamedLane.{NamedLane}
 use Rattle.mrp_tables.specs.declared.lanes.KnownLane.{KnownLane}
 use Rattle.mrp_tables.specs.Table.{Table, horizon}
-use Rattle.mrp_tables.specs.Lists.{with_plant, with_bill, with_demand, with_receipt, with_ship, with_cum, with_reset}
+use Rattle.mrp_tables.specs.declared.rows.PairRow.{PairRow}
+use Rattle.mrp_tables.specs.declared.rows.SourceRow.{SourceRow}
+pub use Rattle.mrp_tables.specs.Lists.{arrivals, rises_from}
+use Rattle.mrp_tables.specs.Lists.{add_item, with_plant, with_bill, with_demand, with_receipt, with_ship, with_cum, with_reset}
 use Rattle.mrp_tables.specs.Spelling.{cut, is_name, names_plant, number_of, number_within, rule_of, shared_source, SourceTerms, SupplyTerms, MakeTerms, BuyTerms, FromTerms}
 
 -- the answer of a test, or the first fault
@@ -256,6 +259,18 @@ pair_terms row = do
   supply ← supply_of (field row 3)
   Ok (record { plant = plant; item = item; supply = supply; rule = rule; lead = lead; on_hand = on_hand; safety = safety })
 
+-- what a run row spells: the text of its first day, the days of a period and how many periods
+pub record RunTerms : Type 0 where
+  pub first : List ℕ
+  pub days : ℕ
+  pub periods : ℕ
+
+unfoldable pub run_terms : List (List ℕ) → Result RunTerms TableFaultKind
+run_terms row = do
+  days ← ok_or (number_of (field row 2)) fault.BadNumber
+  periods ← ranged (field row 3) 1 LONGEST
+  Ok (record { first = field row 1; days = days; periods = periods })
+
 -- ---- what a row says, tested against the rows before it
 
 abbrev pub has_plant : Table → List ℕ → Bool
@@ -354,15 +369,6 @@ reset_between N (Some p) (Some x) = list_any (λ r. (r.from.0 == p.0) && (r.pair
 abbrev pub has_reset : Table → NamedLane → Bool
 has_reset N l = reset_between N l.from l.pair
 
--- the periods of arrival of the shipments on a lane, in table order
-abbrev pub arrivals : Table → PlantNo → PairNo → List ℕ
-arrivals N f x = map (λ s. s.period) (filter (λ s. (s.from.0 == f.0) && (s.pair.0 == x.0)) N.ships)
-
--- no number is below the one before it
-abbrev pub rises_from : ℕ → List ℕ → Bool
-rises_from low [] = true
-rises_from low (n ∷ ns) = nat_le low n && rises_from n ns
-
 -- ---- the table with one row more, or the first fault of the row
 
 -- the name of a new plant
@@ -375,6 +381,52 @@ plant_of N row = do
 
 abbrev pub plant_row : Table → List (List ℕ) → Result Table TableFaultKind
 plant_row N row = plant_of N row >>= λ x. Ok (with_plant N x)
+
+-- the sources that a supply names
+abbrev pub named_sources : SupplyTerms → List SourceTerms
+named_sources MakeTerms = []
+named_sources BuyTerms = []
+named_sources (FromTerms sources) = sources
+
+abbrev pub supply_kind : SupplyTerms → Supply
+supply_kind MakeTerms = supply.Make
+supply_kind BuyTerms = supply.Buy
+supply_kind (FromTerms sources) = supply.From
+
+-- each source is a plant with a row
+abbrev pub knows_sources : Table → List SourceTerms → Bool
+knows_sources N sources = list_all (λ s. has_plant N s.plant) sources
+
+-- the plant of a pair row that fits the rows before it
+unfoldable pub pair_fits : Table → PairTerms → Result PlantNo TableFaultKind
+pair_fits N t = do
+  _ ← check (not (is_some (pair_named N (plant_no N t.plant) t.item))) fault.Repeated
+  plant ← ok_or (plant_no N t.plant) fault.UnknownPlant
+  _ ← check (knows_sources N (named_sources t.supply)) fault.UnknownPlant
+  _ ← check (not (names_plant (named_sources t.supply) t.plant)) fault.SelfSource
+  _ ← check (nat_lt (length N.pairs) MOST_PAIRS) fault.TooMany
+  Ok (record { 0 = plant })
+
+-- a pair row with its item's place among the items
+abbrev pub pair_with : List (List ℕ) → PlantNo → PairTerms → PairRow
+pair_with items plant t =
+    record { plant = plant; item = record { 0 = unwrap_or (position (bytes_eq t.item) items) 0 }; supply = supply_kind t.supply; rule = t.rule; lead = t.lead; on_hand = t.on_hand; safety = t.safety }
+
+-- a source of the pair at a place
+abbrev pub source_row : Table → ℕ → SourceTerms → SourceRow
+source_row N x s =
+    record { pair = record { 0 = x }; plant = record { 0 = unwrap_or (plant_no N s.plant) 0 }; low = s.low; high = s.high }
+
+-- the table with a pair more, its item where that is new, and its sources
+abbrev pub with_pair_terms : Table → PlantNo → PairTerms → Table
+with_pair_terms N plant t = record N {
+  items = add_item N.items t.item;
+  pairs = N.pairs ++ pair_with (add_item N.items t.item) plant t ∷ [];
+  sources = N.sources ++ map (source_row N (length N.pairs)) (named_sources t.supply);
+}
+
+abbrev pub pair_row : Table → List (List ℕ) → Result Table TableFaultKind
+pair_row N row = pair_terms row >>= λ t. pair_fits N t >>= λ plant. Ok (with_pair_terms N plant t)
 
 abbrev pub bill_of : Table → List (List ℕ) → Result BillRow TableFaultKind
 bill_of N row = bill_terms row >>= bill_fits N

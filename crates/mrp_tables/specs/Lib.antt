@@ -1,5 +1,8 @@
+pub mod Drafts
 pub mod Grammar
+pub mod Left
 pub mod Lists
+pub mod Reading
 pub mod Rows
 pub mod Spelled
 pub mod Spelling

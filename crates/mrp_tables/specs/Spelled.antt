@@ -1,6 +1,8 @@
 -- What a row spells, before its names are looked up.
-use Rattle.std.specs.Prelude.{◌≡◌, ℕ, ◌≤◌, ◌<◌, List, length, map, All, Option, None, Some, option_map}
+use Rattle.std.specs.Prelude.{◌≡◌, ℕ, ◌≤◌, ◌<◌, Bool, List, length, map, All, Option, None, Some, option_map}
 use Rattle.std.specs.Borrow.{Bor}
+use Rattle.std.specs.List.{IsDistinct}
+use Rattle.std.specs.Str.{bytes_eq}
 use Rattle.mrp_lot.specs.Lot.{IsRule}
 use Rattle.mrp_lot.specs.declared.rule.TheConstants.{LONGEST_LEAD}
 use Rattle.mrp_tables.specs.declared.rows.TheConstants.{MOST_IN_ROW, MOST_PER, MOST_SHARE, MOST_SOURCES_OF_PAIR}
@@ -11,18 +13,23 @@ use Rattle.mrp_tables.specs.declared.spelled.SpelledPair.{SpelledPair}
 use Rattle.mrp_tables.specs.declared.spelled.SpelledBill.{SpelledBill}
 use Rattle.mrp_tables.specs.declared.spelled.SpelledAmount.{SpelledAmount}
 use Rattle.mrp_tables.specs.declared.spelled.SpelledLane.{SpelledLane}
+use Rattle.mrp_tables.specs.declared.spelled.SpelledRun.{SpelledRun}
 use Rattle.mrp_tables.specs.Spelling.{SourceTerms, SupplyTerms, MakeTerms, BuyTerms, FromTerms}
-use Rattle.mrp_tables.specs.Grammar.{AmountTerms, BillTerms, LaneTerms, PairTerms}
+use Rattle.mrp_tables.specs.Grammar.{AmountTerms, BillTerms, LaneTerms, PairTerms, RunTerms}
 
 -- a share that ends after it begins, and within the whole
 pub record IsSource (s : SpelledSource) : Type 0 where
   pub rises : s.low < s.high
   pub ends : s.high ≤ MOST_SHARE
 
+abbrev pub is_same_plant : SpelledSource → SpelledSource → Bool
+is_same_plant s t = bytes_eq s.plant.now t.plant.now
+
 -- the sources of one pair
 pub record AreSources (sources : List SpelledSource) : Type 0 where
   pub few : length sources ≤ MOST_SOURCES_OF_PAIR
   pub each : All IsSource sources
+  pub apart : IsDistinct is_same_plant sources
 
 abbrev pub HasSources : SpelledSupply → Type 0
 HasSources Make = Unit {0}
@@ -38,6 +45,9 @@ pub record IsSpelledPair (p : SpelledPair) : Type 0 where
   pub safety : p.safety ≤ MOST_IN_ROW
 
 -- what a row spells, as the grammar sees it
+abbrev pub run_view : SpelledRun → RunTerms
+run_view r = record { first = r.first.now; days = r.days; periods = r.periods }
+
 abbrev pub bill_view : SpelledBill → BillTerms
 bill_view b = record { plant = b.plant.now; parent = b.parent.now; component = b.component.now; per = b.per }
 

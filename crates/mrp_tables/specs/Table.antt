@@ -1,11 +1,14 @@
 -- A table as its rows say it, and what every accepted table says.
-use Rattle.std.specs.Prelude.{◌≡◌, ℕ, ◌≤◌, ◌<◌, ◌==◌, ◌&&◌, List, length, All, position, unwrap_or, option_map, slice_get}
+use Rattle.std.specs.Prelude.{◌≡◌, ℕ, ◌≤◌, ◌<◌, ◌==◌, ◌&&◌, Bool, true, false, List, [], ◌∷◌, length, filter, All, position, unwrap_or, option_map, slice_get}
+use Rattle.std.specs.List.{IsDistinct, list_any}
+use Rattle.std.specs.List.Sorted.{IsNonDecreasingBy}
+use Rattle.std.specs.Str.{bytes_eq}
 use Rattle.mrp_qty.specs.declared.quantity.TheConstants.{MOST}
 use Rattle.mrp_qty.specs.declared.horizon.TheConstants.{LONGEST}
 use Rattle.mrp_cal.specs.Calendar.{CalendarTerms}
 use Rattle.mrp_lot.specs.Lot.{IsRule}
 use Rattle.mrp_lot.specs.declared.rule.TheConstants.{LONGEST_LEAD}
-use Rattle.mrp_tables.specs.declared.rows.TheConstants.{MOST_BILLS, MOST_IN_ROW, MOST_OF_A_KIND, MOST_PAIRS, MOST_PER, MOST_PLANTS, MOST_SOURCES}
+use Rattle.mrp_tables.specs.declared.rows.TheConstants.{MOST_BILLS, MOST_IN_ROW, MOST_OF_A_KIND, MOST_PAIRS, MOST_PER, MOST_PLANTS, MOST_SHARE, MOST_SOURCES}
 use Rattle.mrp_tables.specs.declared.rows.BillRow.{BillRow}
 use Rattle.mrp_tables.specs.declared.rows.CumRow.{CumRow}
 use Rattle.mrp_tables.specs.declared.rows.DemandRow.{DemandRow}
@@ -14,6 +17,8 @@ use Rattle.mrp_tables.specs.declared.rows.ReceiptRow.{ReceiptRow}
 use Rattle.mrp_tables.specs.declared.rows.ResetRow.{ResetRow}
 use Rattle.mrp_tables.specs.declared.rows.ShipRow.{ShipRow}
 use Rattle.mrp_tables.specs.declared.rows.SourceRow.{SourceRow}
+use Rattle.mrp_tables.specs.declared.rows.Supply.{Supply}
+use Rattle.mrp_tables.specs.declared.rows.Supply.TheVariants as supply
 
 -- The lists of rows, each in table order. A name is the list of its bytes; everywhere else a plant,
 -- an item or a pair is its place in its list.
@@ -126,7 +131,77 @@ item_at N x = unwrap_or (option_map (λ p. p.item.0) (slice_get N.pairs x)) 0
 abbrev pub source_pair : Table → SourceRow → ℕ
 source_pair N s = pair_no N s.plant.0 (item_at N s.pair.0)
 
+-- ---- no row twice
+
+abbrev pub is_same_pair : PairRow → PairRow → Bool
+is_same_pair p q = (p.plant.0 == q.plant.0) && (p.item.0 == q.item.0)
+
+abbrev pub is_same_source : SourceRow → SourceRow → Bool
+is_same_source s t = (s.plant.0 == t.plant.0) && (s.pair.0 == t.pair.0)
+
+abbrev pub is_same_bill : BillRow → BillRow → Bool
+is_same_bill b c = (b.parent.0 == c.parent.0) && (b.component.0 == c.component.0)
+
+abbrev pub is_same_cum : CumRow → CumRow → Bool
+is_same_cum c d = (c.from.0 == d.from.0) && (c.pair.0 == d.pair.0)
+
+abbrev pub is_same_reset : ResetRow → ResetRow → Bool
+is_same_reset r s = (r.from.0 == s.from.0) && (r.pair.0 == s.pair.0)
+
+-- no name, pair, source, component, cumulative figure or new start of one stands twice
+pub record IsOnce (N : Table) : Type 0 where
+  pub plants : IsDistinct bytes_eq N.plants
+  pub items : IsDistinct bytes_eq N.items
+  pub pairs : IsDistinct is_same_pair N.pairs
+  pub sources : IsDistinct is_same_source N.sources
+  pub bills : IsDistinct is_same_bill N.bills
+  pub cums : IsDistinct is_same_cum N.cums
+  pub resets : IsDistinct is_same_reset N.resets
+
+-- ---- where pairs come from
+
+-- the sources of a pair, in table order
+abbrev pub sources_of_pair : Table → ℕ → List SourceRow
+sources_of_pair N x = filter (λ s. s.pair.0 == x) N.sources
+
+-- the shares follow one another from `low` on and end with the whole
+unfoldable pub AreShares : ℕ → List SourceRow → Type 0
+AreShares low [] = low ≡ MOST_SHARE
+AreShares low (s ∷ ss) = (s.low ≡ low) × AreShares s.high ss
+
+-- a pair that is taken from plants has sources, and their shares are the whole; no other has sources
+abbrev pub HasSupply : Supply → List SourceRow → Type 0
+HasSupply supply.From sources = AreShares 0 sources
+HasSupply supply.Make sources = sources ≡ []
+HasSupply supply.Buy sources = sources ≡ []
+
+-- the plant of the pair at a place
+abbrev pub plant_at : Table → ℕ → ℕ
+plant_at N x = unwrap_or (option_map (λ p. p.plant.0) (slice_get N.pairs x)) 0
+
+-- where the pair at a place comes from
+abbrev pub supply_at : Table → ℕ → Supply
+supply_at N x = unwrap_or (option_map (λ p. p.supply) (slice_get N.pairs x)) supply.Buy
+
+-- the pair is taken from the plant
+abbrev pub is_taken_from : Table → ℕ → ℕ → Bool
+is_taken_from N x plant = list_any (λ s. (s.plant.0 == plant) && (s.pair.0 == x)) N.sources
+
+-- sources stand in the order of their pairs and are other plants than the pair's; the parent of a
+-- component is made at the component's plant; what is shipped comes from a source
+pub record IsSourced (N : Table) : Type 0 where
+  pub order : IsNonDecreasingBy (λ s. s.pair.0) N.sources
+  pub supplies : (x : ℕ) → IsPair N x → HasSupply (supply_at N x) (sources_of_pair N x)
+  pub others : All (λ s. (s.plant.0 == plant_at N s.pair.0) ≡ false) N.sources
+  pub parents : All (λ b. supply_at N b.parent.0 ≡ supply.Make) N.bills
+  pub plants : All (λ b. plant_at N b.parent.0 ≡ plant_at N b.component.0) N.bills
+  pub ships : All (λ s. is_taken_from N s.pair.0 s.from.0 ≡ true) N.ships
+  pub cums : All (λ c. is_taken_from N c.pair.0 c.from.0 ≡ true) N.cums
+  pub resets : All (λ r. is_taken_from N r.pair.0 r.from.0 ≡ true) N.resets
+
 -- what every accepted table says: the pair behind each source has a row too
 pub record IsTable (N : Table) : Type 0 where
   pub read : IsRead N
   pub source_pairs : All (λ s. IsPair N (source_pair N s)) N.sources
+  pub once : IsOnce N
+  pub sourced : IsSourced N

@@ -25,14 +25,22 @@ pub(crate) struct BillKey {
 /// What the rows so far say of one source of a pair.
 #[derive(Clone, Copy, Debug)]
 pub(crate) struct Lane {
-    /// The number of its pair row.
-    pub(crate) row: u64,
     /// The period of arrival of its last shipment, 0 without one.
     pub(crate) last: usize,
     /// Whether a shipment arrives before the one that stands above it.
     pub(crate) falls: bool,
-    /// Whether its figures start anew.
-    pub(crate) has_reset: bool,
+}
+
+impl Lane {
+    ghost use Rattle.mrp_tables.specs.Lists.{after_ship};
+
+    /// Notes one shipment more.
+    pub(crate) fn ship(&mut self, period: usize)
+        ensures { self.new ≡ after_ship self.old period }
+    {
+        self.falls = self.falls || period < self.last;
+        self.last = period;
+    }
 }
 
 /// A table while its rows are read.
@@ -42,9 +50,11 @@ pub(crate) struct Draft {
     /// The sources in the order of their rows, and what is known of each.
     pub(crate) lane_keys: IndexSet<LaneKey>,
     pub(crate) lanes: Vec<Lane>,
-    /// The bill rows and the cumulative figures by their keys, in the order of their rows.
+    /// The bill rows, the cumulative figures and where they start anew by their keys, in the order of
+    /// their rows.
     pub(crate) bill_keys: IndexSet<BillKey>,
     pub(crate) cum_keys: IndexSet<LaneKey>,
+    pub(crate) reset_keys: IndexSet<LaneKey>,
     /// The kind of the last row, and how many rows there are.
     pub(crate) last: Kind,
     pub(crate) rows: u64,
@@ -55,10 +65,16 @@ pub(crate) struct Draft {
 
 impl Draft {
     ghost use Rattle.std.specs.Prelude.{◌≡◌, ◌+◌, ◌<◌, OnOk, IfOk};
-    ghost use Rattle.mrp_tables.specs.Lists.{IsDraft, AddsRow};
+    ghost use Rattle.csv.specs.Records.{AllText, fields_of};
+    ghost use Rattle.mrp_tables.specs.Grammar.{Tells};
+    ghost use Rattle.mrp_tables.specs.Lists.{IsDraft, AddsRow, table_of};
+    ghost use Rattle.mrp_tables.specs.Reading.{row_of_kind};
+    ghost use Rattle.mrp_tables.specs.Drafts.{TellsAdded, TellsFirst};
 
     /// What a first row makes.
     pub(crate) fn first(alloc: Global, row: &StringRecord) -> Result<Draft, TableFaultKind>
+        requires text { AllText (fields_of row.now) }
+        ensures exact { TellsFirst result (fields_of row.now) }
         ensures draft { IfOk result IsDraft }
         ensures rows { IfOk result (λ draft. draft.rows ≡ 1) }
     {
@@ -72,6 +88,7 @@ impl Draft {
             lanes: Vec::new(alloc),
             bill_keys: IndexSet::new(alloc),
             cum_keys: IndexSet::new(alloc),
+            reset_keys: IndexSet::new(alloc),
             last: Kind::Run,
             rows: 1,
             near: 0,
@@ -83,6 +100,8 @@ impl Draft {
     pub(crate) fn add(&mut self, alloc: Global, row: &StringRecord) -> Result<(), TableFaultKind>
         requires draft { IsDraft self.old }
         requires room { self.old.rows < 5000000 }
+        requires text { AllText (fields_of row.now) }
+        ensures exact { TellsAdded self.old self.new result (fields_of row.now) }
         ensures draft { OnOk result (IsDraft self.new) }
         ensures rows { OnOk result (self.new.rows ≡ self.old.rows + 1) }
     {
@@ -97,6 +116,7 @@ impl Draft {
     }
 
     /// Adds a row of that kind, which is not counted yet.
+    #[tactic(auto, unfolding(crate::specs::Reading::row_of_kind))]
     fn add_row(
         &mut self,
         alloc: Global,
@@ -104,7 +124,7 @@ impl Draft {
         row: &StringRecord,
     ) -> Result<(), TableFaultKind>
         requires draft { IsDraft self.old }
-        requires room { self.old.rows < 5000000 }
+        ensures exact { Tells result (row_of_kind kind (table_of self.old.lists) (fields_of row.now)) (table_of self.new.lists) }
         ensures adds { OnOk result (AddsRow self.old self.new) }
     {
         match kind {

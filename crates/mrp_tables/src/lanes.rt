@@ -50,14 +50,12 @@ impl NamedLane {
 
 impl Draft {
     ghost use Rattle.std.specs.Prelude.{◌≡◌, ◌+◌, ◌<◌, length, OnOk, IfOk, IfSome};
-    ghost use Rattle.std.specs.Option.{ForSome};
-    ghost use Rattle.std.specs.List.{HoldsAt};
     ghost use Rattle.std.specs.Prelude.{option_map};
     ghost use Rattle.mrp_tables.specs.declared.rows.TheConstants.{MOST_OF_A_KIND};
-    ghost use Rattle.mrp_tables.specs.Table.{IsCumRow, IsShipRow};
-    ghost use Rattle.std.specs.Prelude.{false, Some};
+    ghost use Rattle.mrp_tables.specs.Table.{IsCumRow, IsResetRow, IsShipRow};
+    ghost use Rattle.std.specs.Prelude.{false, not, IsSome, Some};
     ghost use Rattle.csv.specs.Records.{fields_of};
-    ghost use Rattle.mrp_tables.specs.Grammar.{cum_between, cum_of, cum_row, has_cum, lane_named, seen, ship_of, ship_row, source_named, Tells};
+    ghost use Rattle.mrp_tables.specs.Grammar.{arrivals, cum_between, cum_of, cum_row, has_cum, has_reset, lane_named, reset_between, reset_of, reset_row, rises_from, seen, ship_of, ship_row, source_at, source_named, Tells};
     ghost use Rattle.mrp_tables.specs.Spelled.{lane_view};
     ghost use Rattle.mrp_tables.specs.Lists.{IsDraft, AddsRow, AreRows, table_of, IsNamedLane};
 
@@ -66,6 +64,7 @@ impl Draft {
         requires draft { IsDraft self.now }
         ensures exact { result ≡ lane_named (table_of self.now.lists) (lane_view names.now) }
         ensures named { IsNamedLane self.now result }
+        ensures place { result.place ≡ source_named (table_of self.now.lists) (option_map (λ p. p.0) result.from) (option_map (λ x. x.0) result.pair) }
     {
         let from = place_near(&self.lists.plants, names.from, self.near_from).map(PlantNo);
         let to = place_near(&self.lists.plants, names.to, self.near).map(PlantNo);
@@ -100,11 +99,7 @@ impl Draft {
         let period = ship.period;
         self.near_from = ship.from.0;
         self.lists.add_ship(ship)?;
-        let arrivals = &mut self.lanes[place];
-        if period < arrivals.last {
-            arrivals.falls = true;
-        }
-        arrivals.last = period;
+        self.lanes[place].ship(period);
         Ok(())
     }
 
@@ -114,7 +109,7 @@ impl Draft {
         requires draft { IsDraft self.now }
         ensures exact { seen (λ s. s.0) result ≡ ship_of (table_of self.now.lists) (fields_of row.now) }
         ensures row { IfOk result (λ s. IsShipRow (table_of self.now.lists) s.0) }
-        ensures place { IfOk result (λ s. s.1 < length self.now.lanes.items) }
+        ensures place { IfOk result (λ s. source_at (table_of self.now.lists) s.0.from.0 s.0.pair.0 ≡ Some s.1) }
         ensures room { OnOk result (length self.now.lists.ships.items < MOST_OF_A_KIND) }
     {
         let (names, period, quantity) = spelled_ship(row, self.lists.calendar.horizon())?;
@@ -188,34 +183,63 @@ impl Draft {
     /// Adds a reset row.
     pub(crate) fn add_reset(&mut self, row: &StringRecord) -> Result<(), TableFaultKind>
         requires draft { IsDraft self.old }
+        ensures exact { Tells result (reset_row (table_of self.old.lists) (fields_of row.now)) (table_of self.new.lists) }
         ensures adds { OnOk result (AddsRow self.old self.new) }
     {
-        let (names, period) = spelled_reset(row, self.lists.calendar.horizon())?;
-        let named = self.lane_named(&names);
-        if self.has_reset(named.place) {
-            return Err(TableFaultKind::Repeated);
+        let reset = self.reset_of(row)?;
+        let key = LaneKey {
+            from: reset.from,
+            pair: reset.pair,
+        };
+        if !self.reset_keys.insert(key)? {
+            unreachable!();
         }
-        let lane = named.known()?;
-        if self.lanes[lane.place].falls {
-            return Err(TableFaultKind::ResetOrder);
-        }
-        self.lists.add_reset(ResetRow {
-            from: lane.from,
-            pair: lane.pair,
-            period,
-        })?;
-        self.lanes[lane.place].has_reset = true;
+        self.lists.add_reset(reset)?;
         Ok(())
     }
 
-    /// Whether the figures of the source at that place start anew.
-    fn has_reset(&self, place: Option<usize>) -> bool
-        requires within { ForSome place (λ k. k < length self.now.lanes.items) }
-        ensures value { IfSome place (λ k. HoldsAt (λ lane. result ≡ lane.has_reset) self.now.lanes.items k) }
+    /// What a reset row says.
+    #[tactic(auto, unfolding(crate::specs::Grammar::reset_of))]
+    fn reset_of(&self, row: &StringRecord) -> Result<ResetRow, TableFaultKind>
+        requires draft { IsDraft self.now }
+        ensures exact { result ≡ reset_of (table_of self.now.lists) (fields_of row.now) }
+        ensures row { IfOk result (IsResetRow (table_of self.now.lists)) }
+        ensures fresh { IfOk result (λ r. reset_between (table_of self.now.lists) (Some r.from) (Some r.pair) ≡ false) }
+        ensures source { IfOk result (λ r. IsSome (source_at (table_of self.now.lists) r.from.0 r.pair.0)) }
     {
-        match place {
-            Some(place) => self.lanes[place].has_reset,
-            None => false,
+        let (names, period) = spelled_reset(row, self.lists.calendar.horizon())?;
+        let named = self.lane_named(&names);
+        if self.has_reset(named) {
+            return Err(TableFaultKind::Repeated);
         }
+        let lane = named.known()?;
+        if self.falls(lane) {
+            return Err(TableFaultKind::ResetOrder);
+        }
+        Ok(ResetRow {
+            from: lane.from,
+            pair: lane.pair,
+            period,
+        })
+    }
+
+    /// Whether the figures of the plant and the pair start anew.
+    fn has_reset(&self, named: NamedLane) -> bool
+        requires draft { IsDraft self.now }
+        ensures exact { result ≡ has_reset (table_of self.now.lists) named }
+    {
+        match (named.from, named.pair) {
+            (Some(from), Some(pair)) => self.reset_keys.contains(&LaneKey { from, pair }),
+            _ => false,
+        }
+    }
+
+    /// Whether a shipment on a lane arrives before the one that stands above it.
+    fn falls(&self, lane: KnownLane) -> bool
+        requires draft { IsDraft self.now }
+        requires place { source_at (table_of self.now.lists) lane.from.0 lane.pair.0 ≡ Some lane.place }
+        ensures exact { result ≡ not (rises_from 0 (arrivals (table_of self.now.lists) lane.from lane.pair)) }
+    {
+        self.lanes[lane.place].falls
     }
 }

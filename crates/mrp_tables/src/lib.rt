@@ -10,6 +10,7 @@ mod draft;
 mod fault;
 mod kind;
 mod lanes;
+mod laws;
 mod numbers;
 mod pairs;
 mod reading;
@@ -22,6 +23,7 @@ mod tables;
 mod terms;
 
 pub use fault::{TableFault, TableFaultKind};
+pub use laws::{records_are_all_records, rows_keep_tables};
 pub use numbers::{ItemNo, PairNo, PlantNo};
 pub use reading::{MAX_TURNS, read_tables, read_tables_uncounted};
 pub use rows::{

@@ -1,3 +1,7 @@
+ghost use Rattle.std.specs.Prelude.{◌≡◌, map};
+ghost use Rattle.mrp_tables.specs.Grammar.{named_sources, supply_kind};
+ghost use Rattle.mrp_tables.specs.Spelled.{source_view, supply_view, AreSources, HasSources};
+
 use crate::draft::{Draft, Lane, LaneKey};
 use crate::row_lists::place_of;
 use crate::rows::{MOST_PAIRS, MOST_PLANTS};
@@ -9,14 +13,16 @@ use mrp_qty::Qty;
 use std::alloc::Global;
 
 impl Draft {
-    ghost use Rattle.std.specs.Prelude.{◌≡◌, ◌+◌, ◌*◌, ◌≤◌, ◌<◌, length, OnOk, IfOk};
-    ghost use Rattle.mrp_tables.specs.declared.rows.TheConstants.{MOST_PAIRS, MOST_PLANTS, MOST_SOURCES_OF_PAIR};
-    ghost use Rattle.std.specs.Prelude.{false};
+    ghost use Rattle.std.specs.Prelude.{◌≡◌, ◌+◌, ◌*◌, ◌≤◌, ◌<◌, false, true, length, map, All, OnOk, IfErr, IfOk};
+    ghost use Rattle.std.specs.List.{list_all};
     ghost use Rattle.csv.specs.Records.{fields_of};
-    ghost use Rattle.mrp_tables.specs.Grammar.{has_plant, plant_of, plant_row, seen, Tells};
-    ghost use Rattle.mrp_tables.specs.Lists.{IsDraft, AddsRow, AreRows, Fits, AddsSource, AddsSources, table_of};
-    ghost use Rattle.mrp_tables.specs.Spelled.{AreSources, IsSource, IsSpelledPair};
-    ghost use Rattle.mrp_tables.specs.Table.{IsPair};
+    ghost use Rattle.mrp_tables.specs.declared.fault.TableFaultKind.TheVariants.{Memory};
+    ghost use Rattle.mrp_tables.specs.declared.rows.TheConstants.{MOST_PLANTS, MOST_SOURCES_OF_PAIR};
+    ghost use Rattle.mrp_tables.specs.Drafts.{FitsPair, IsNewPair, with_sources};
+    ghost use Rattle.mrp_tables.specs.Grammar.{has_plant, knows_sources, pair_fits, pair_row, plant_of, plant_row, seen, source_row, Tells, with_pair_terms};
+    ghost use Rattle.mrp_tables.specs.Lists.{IsDraft, AddsRow, AreRows, Fits, AddsSource, AddsSources, table_of, with_source};
+    ghost use Rattle.mrp_tables.specs.Spelled.{pair_view, source_view, AreSources, IsSource, IsSpelledPair};
+    ghost use Rattle.mrp_tables.specs.Table.{is_taken_from};
 
     /// Adds a plant row.
     pub(crate) fn add_plant(
@@ -57,11 +63,70 @@ impl Draft {
         row: &StringRecord,
     ) -> Result<(), TableFaultKind>
         requires draft { IsDraft self.old }
-        requires room { self.old.rows < 5000000 }
+        ensures exact { Tells result (pair_row (table_of self.old.lists) (fields_of row.now)) (table_of self.new.lists) }
         ensures adds { OnOk result (AddsRow self.old self.new) }
     {
         let spelled = spelled_pair(alloc, row)?;
         let plant = self.pair_fits(&spelled)?;
+        self.add_spelled(alloc, plant, &spelled)
+    }
+
+    /// The plant of a pair row that fits the rows before it.
+    #[tactic(auto, unfolding(crate::specs::Grammar::pair_fits))]
+    fn pair_fits(&self, spelled: &SpelledPair<'_>) -> Result<PlantNo, TableFaultKind>
+        requires rows { AreRows self.now.lists }
+        ensures exact { result ≡ pair_fits (table_of self.now.lists) (pair_view spelled.now) }
+        ensures fits { IfOk result (λ plant. FitsPair (table_of self.now.lists) plant (pair_view spelled.now)) }
+    {
+        if self.lists.has_pair(spelled.plant, spelled.item) {
+            return Err(TableFaultKind::Repeated);
+        }
+        let plant = place_of(&self.lists.plants, spelled.plant).ok_or(
+            TableFaultKind::UnknownPlant,
+        )?;
+        let sources = named_sources(&spelled.supply);
+        if !self.knows_all(sources) {
+            return Err(TableFaultKind::UnknownPlant);
+        }
+        if names_plant(sources, spelled.plant) {
+            return Err(TableFaultKind::SelfSource);
+        }
+        if self.lists.pairs.len() >= MOST_PAIRS {
+            return Err(TableFaultKind::TooMany);
+        }
+        Ok(PlantNo(plant))
+    }
+
+    /// Whether each source is a plant with a row.
+    fn knows_all(&self, sources: &[SpelledSource<'_>]) -> bool
+        ensures exact { result ≡ knows_sources (table_of self.now.lists) (map source_view sources.now) }
+    {
+        self.has_plants(sources)
+    }
+
+    /// Whether each source is a plant with a row.
+    fn has_plants(&self, sources: &[SpelledSource<'_>]) -> bool
+        ensures { result ≡ list_all (λ s. has_plant (table_of self.now.lists) s.plant.now) sources.now }
+    {
+        sources
+            .iter()
+            .all(|source| self.lists.has_plant(source.plant))
+    }
+
+    /// Adds a pair that fits, its item where that is new, and its sources.
+    fn add_spelled(
+        &mut self,
+        alloc: Global,
+        plant: PlantNo,
+        spelled: &SpelledPair<'_>,
+    ) -> Result<(), TableFaultKind>
+        requires draft { IsDraft self.old }
+        requires spelled { IsSpelledPair spelled.now }
+        requires fits { FitsPair (table_of self.old.lists) plant (pair_view spelled.now) }
+        ensures memory { IfErr result (λ fault. fault ≡ Memory) }
+        ensures table { OnOk result (table_of self.new.lists ≡ with_pair_terms (table_of self.old.lists) plant (pair_view spelled.now)) }
+        ensures adds { OnOk result (AddsRow self.old self.new) }
+    {
         let item = self.lists.item_no(alloc, spelled.item)?;
         let pair = PairNo(self.lists.pairs.len());
         self.lists.add_pair(PairRow {
@@ -73,43 +138,7 @@ impl Draft {
             on_hand: Qty::of(spelled.on_hand),
             safety: Qty::of(spelled.safety),
         })?;
-        match &spelled.supply {
-            SpelledSupply::From(sources) => self.add_sources(pair, sources.as_slice()),
-            _ => Ok(()),
-        }
-    }
-
-    /// The plant of a pair row that fits the rows before it.
-    fn pair_fits(&self, spelled: &SpelledPair<'_>) -> Result<PlantNo, TableFaultKind>
-        requires rows { AreRows self.now.lists }
-        ensures plant { IfOk result (λ plant. plant.0 < length self.now.lists.plants.keys) }
-        ensures room { OnOk result (length self.now.lists.pairs.items < MOST_PAIRS) }
-    {
-        if self.lists.has_pair(spelled.plant, spelled.item) {
-            return Err(TableFaultKind::Repeated);
-        }
-        let plant = place_of(&self.lists.plants, spelled.plant).ok_or(
-            TableFaultKind::UnknownPlant,
-        )?;
-        if let SpelledSupply::From(sources) = &spelled.supply {
-            if !self.knows_all(sources.as_slice()) {
-                return Err(TableFaultKind::UnknownPlant);
-            }
-            if names_plant(sources.as_slice(), spelled.plant) {
-                return Err(TableFaultKind::SelfSource);
-            }
-        }
-        if self.lists.pairs.len() >= MOST_PAIRS {
-            return Err(TableFaultKind::TooMany);
-        }
-        Ok(PlantNo(plant))
-    }
-
-    /// Whether each source is a plant with a row.
-    fn knows_all(&self, sources: &[SpelledSource<'_>]) -> bool {
-        sources
-            .iter()
-            .all(|source| self.lists.plants.contains(source.plant))
+        self.add_sources(pair, named_sources(&spelled.supply))
     }
 
     /// Adds the sources of the pair that was added last.
@@ -121,9 +150,12 @@ impl Draft {
         requires rows { AreRows self.old.lists }
         requires pair { pair.0 < length self.old.lists.pairs.items }
         requires sources { AreSources sources.now }
+        requires known { knows_sources (table_of self.old.lists) (map source_view sources.now) ≡ true }
         requires fits { Fits (table_of self.old.lists) self.old.lane_keys.keys self.old.lanes.items }
+        requires fresh { IsNewPair (table_of self.old.lists) pair.0 }
         requires room { length self.old.lists.sources.items + MOST_SOURCES_OF_PAIR ≤ MOST_SOURCES_OF_PAIR * length self.old.lists.pairs.items }
-        requires few { self.old.rows < 5000000 }
+        ensures memory { IfErr result (λ fault. fault ≡ Memory) }
+        ensures table { OnOk result (table_of self.new.lists ≡ with_sources (table_of self.old.lists) pair.0 (map source_view sources.now)) }
         ensures adds { OnOk result (AddsSources self.old self.new (length sources.now)) }
     {
         for source in sources {
@@ -137,33 +169,52 @@ impl Draft {
         requires rows { AreRows self.old.lists }
         requires pair { pair.0 < length self.old.lists.pairs.items }
         requires source { IsSource source.now }
+        requires known { has_plant (table_of self.old.lists) source.now.plant.now ≡ true }
+        requires fresh { is_taken_from (table_of self.old.lists) pair.0 (source_row (table_of self.old.lists) pair.0 (source_view source.now)).plant.0 ≡ false }
         requires fits { Fits (table_of self.old.lists) self.old.lane_keys.keys self.old.lanes.items }
+        requires ships { All (λ s. s.pair.0 < pair.0) self.old.lists.ships.items }
         requires room { length self.old.lists.sources.items < MOST_SOURCES_OF_PAIR * length self.old.lists.pairs.items }
-        requires few { self.old.rows < 5000000 }
+        ensures memory { IfErr result (λ fault. fault ≡ Memory) }
+        ensures table { OnOk result (table_of self.new.lists ≡ with_source (table_of self.old.lists) (source_row (table_of self.old.lists) pair.0 (source_view source.now))) }
         ensures adds { OnOk result (AddsSource self.old self.new) }
     {
-        let plant = place_of(&self.lists.plants, source.plant).ok_or(TableFaultKind::UnknownPlant)?;
+        let Some(plant) = place_of(&self.lists.plants, source.plant) else {
+            unreachable!();
+        };
         let from = PlantNo(plant);
         if !self.lane_keys.insert(LaneKey { from, pair })? {
-            return Err(TableFaultKind::BadSupply);
+            unreachable!();
         }
         self.lanes.push(Lane {
-            row: self.rows + 1,
             last: 0,
             falls: false,
-            has_reset: false,
         })?;
         self.lists.add_source(SourceRow {
             pair,
             plant: from,
             low: source.low,
             high: source.high,
-        })
+        })?;
+        Ok(())
+    }
+}
+
+/// The sources that a supply names.
+fn named_sources<'s, 'r>(supply: &'s SpelledSupply<'r>) -> &'s [SpelledSource<'r>]
+    ensures exact { map source_view result.now ≡ named_sources (supply_view supply.now) }
+    ensures sources { HasSources supply.now → AreSources result.now }
+{
+    match supply {
+        SpelledSupply::Make => &[],
+        SpelledSupply::Buy => &[],
+        SpelledSupply::From(sources) => sources.as_slice(),
     }
 }
 
 /// Where a pair comes from, without the plants.
-fn supply_of(supply: &SpelledSupply<'_>) -> Supply {
+fn supply_of(supply: &SpelledSupply<'_>) -> Supply
+    ensures exact { result ≡ supply_kind (supply_view supply.now) }
+{
     match supply {
         SpelledSupply::Make => Supply::Make,
         SpelledSupply::Buy => Supply::Buy,

@@ -1,5 +1,9 @@
-ghost use Rattle.std.specs.Prelude.{◌≡◌, ◌+◌, ◌≤◌, ◌<◌, MatchResult, IfOk, OnOk};
+ghost use Rattle.std.specs.Prelude.{◌≡◌, ◌+◌, ◌≤◌, ◌<◌, true, MatchResult, IfOk, OnOk, option_map};
+ghost use Rattle.csv.specs.Reading.{strip_bom};
+ghost use Rattle.csv.specs.Records.{AllText, fields_of};
 ghost use Rattle.mrp_tables.specs.Lists.{IsDraft};
+ghost use Rattle.mrp_tables.specs.Reading.{OfRecords, TellsRows};
+ghost use Rattle.mrp_tables.specs.Left.{fault_of, GivesAll, IsKept, OfLeft, TellsFirstAt, TellsNext, TellsRest, TellsTaken, left_of, state_of};
 
 use crate::draft::Draft;
 use crate::{Steps, TableFault, TableFaultKind, Tables};
@@ -22,6 +26,7 @@ pub fn read_tables<R: Read + Drop, L: Ledger>(
     reader: R,
     steps: &mut Steps<L>,
 ) -> Result<Tables, TableFault>
+    ensures table { OfRecords (option_map strip_bom (R.remaining reader)) (TellsRows result) }
     ensures turns { steps.new ≤ steps.old + MAX_TURNS }
 {
     let mut rows = ReaderBuilder::new()
@@ -32,10 +37,9 @@ pub fn read_tables<R: Read + Drop, L: Ledger>(
 }
 
 /// Reads a table as [`read_tables`] does, and counts nothing.
-pub fn read_tables_uncounted<R: Read + Drop>(
-    alloc: Global,
-    reader: R,
-) -> Result<Tables, TableFault> {
+pub fn read_tables_uncounted<R: Read + Drop>(alloc: Global, reader: R) -> Result<Tables, TableFault>
+    ensures table { OfRecords (option_map strip_bom (R.remaining reader)) (TellsRows result) }
+{
     read_with_blank::<R, Brand>(alloc, reader, Blank::new(1))
 }
 
@@ -48,6 +52,7 @@ fn read_with_blank<R: Read + Drop, L: Ledger>(
     requires name { blank.name ≡ L.name }
     requires parts { blank.parts ≡ L.parts }
     requires some { 0 < blank.parts }
+    ensures table { OfRecords (option_map strip_bom (R.remaining reader)) (TellsRows result) }
 {
     let mut steps: Steps<L> = Steps::new(blank);
     read_tables(alloc, reader, &mut steps)
@@ -59,6 +64,8 @@ fn read_rows<R: Read, L: Ledger>(
     rows: &mut Reader<R>,
     steps: &mut Steps<L>,
 ) -> Result<Tables, TableFault>
+    requires gives { GivesAll rows.old }
+    ensures table { OfLeft (left_of R.remaining rows.old) (TellsRows result) }
     ensures turns { steps.new ≤ steps.old + MAX_TURNS }
 {
     let mut row = StringRecord::new(alloc);
@@ -76,6 +83,9 @@ fn read_rows<R: Read, L: Ledger>(
 
 /// What the first row makes.
 fn first_draft(alloc: Global, row: &StringRecord) -> Result<Draft, TableFault>
+    requires text { AllText (fields_of row.now) }
+    ensures exact { TellsFirstAt result (fields_of row.now) }
+    ensures kept { IfOk result IsKept }
     ensures draft { IfOk result IsDraft }
     ensures rows { IfOk result (λ draft. draft.rows ≡ 1) }
 {
@@ -93,19 +103,47 @@ fn read_rest<R: Read, L: Ledger>(
     draft: &mut Draft,
     steps: &mut Steps<L>,
 ) -> Result<(), TableFault>
+    requires gives { GivesAll rows.old }
     requires draft { IsDraft draft.old }
+    requires kept { IsKept draft.old }
     requires first { draft.old.rows ≡ 1 }
+    ensures exact { TellsRest (left_of R.remaining rows.old) 2 (state_of draft.old) (state_of draft.new) result }
     ensures draft { OnOk result (IsDraft draft.new) }
+    ensures kept { OnOk result (IsKept draft.new) }
     ensures turns { steps.new + 1 ≤ steps.old + MAX_TURNS }
 {
     for number in 2..MAX_TURNS + 1 {
         steps.tick();
-        if !next_row(rows, row, number)? {
+        if !read_next(alloc, rows, row, draft, number)? {
             return Ok(());
         }
-        at_row(number, draft.add(alloc, row))?;
     }
     unreachable!()
+}
+
+/// Reads the row of that number into the draft, if there is one.
+fn read_next<R: Read>(
+    alloc: Global,
+    rows: &mut Reader<R>,
+    row: &mut StringRecord,
+    draft: &mut Draft,
+    number: u64,
+) -> Result<bool, TableFault>
+    requires gives { GivesAll rows.old }
+    requires draft { IsDraft draft.old }
+    requires kept { IsKept draft.old }
+    requires room { draft.old.rows < 5000000 }
+    ensures gives { OnOk result (GivesAll rows.new) }
+    ensures exact { TellsNext (left_of R.remaining rows.old) (left_of R.remaining rows.new) number (state_of draft.old) (state_of draft.new) result }
+    ensures draft { OnOk result (IsDraft draft.new) }
+    ensures kept { OnOk result (IsKept draft.new) }
+    ensures rows { IfOk result (λ found. found ≡ true → draft.new.rows ≡ draft.old.rows + 1) }
+{
+    if !next_row(rows, row, number)? {
+        return Ok(false);
+    }
+    at_row(number, draft.add(alloc, row))?;
+    Ok(true)
 }
 
 /// A fault with the row that has it.
@@ -123,7 +161,12 @@ fn next_row<R: Read>(
     rows: &mut Reader<R>,
     row: &mut StringRecord,
     number: u64,
-) -> Result<bool, TableFault> {
+) -> Result<bool, TableFault>
+    requires gives { GivesAll rows.old }
+    ensures gives { OnOk result (GivesAll rows.new) }
+    ensures text { OnOk result (AllText (fields_of row.new)) }
+    ensures exact { TellsTaken (left_of R.remaining rows.old) (left_of R.remaining rows.new) number (fields_of row.new) result }
+{
     match rows.read_record(row) {
         Ok(found) => Ok(found),
         Err(error) => Err(TableFault {
@@ -134,7 +177,9 @@ fn next_row<R: Read>(
 }
 
 /// What an error of the reading is called.
-fn read_fault(error: &ErrorKind) -> TableFaultKind {
+fn read_fault(error: &ErrorKind) -> TableFaultKind
+    ensures value { result ≡ fault_of error.now }
+{
     match error {
         ErrorKind::Utf8 { .. } => TableFaultKind::NotUtf8,
         ErrorKind::OutOfMemory => TableFaultKind::Memory,

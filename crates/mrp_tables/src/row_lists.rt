@@ -38,7 +38,8 @@ impl RowLists {
     ghost use Rattle.std.specs.Prelude.{◌≡◌, ◌≤◌, ◌<◌, ◌==◌, ◌&&◌, [], length, option_map, position, IfOk, IfSome, OnOk};
     ghost use Rattle.mrp_qty.specs.declared.horizon.TheConstants.{LONGEST};
     ghost use Rattle.mrp_tables.specs.declared.rows.TheConstants.{MOST_BILLS, MOST_OF_A_KIND, MOST_PAIRS, MOST_PLANTS, MOST_SOURCES};
-    ghost use Rattle.std.specs.Prelude.{false, is_some, IfErr};
+    ghost use Rattle.std.specs.Prelude.{false, is_some, unwrap_or, IfErr};
+    ghost use Rattle.std.specs.List.{list_any};
     ghost use Rattle.mrp_tables.specs.declared.fault.TableFaultKind.TheVariants.{Memory};
     ghost use Rattle.mrp_tables.specs.Grammar.{has_plant, pair_named, plant_no};
     ghost use Rattle.mrp_tables.specs.Lists.{AreRows, table_of, lacks_pair, with_plant, with_item, with_pair, with_source, with_bill, with_demand, with_receipt, with_ship, with_cum, with_reset};
@@ -87,7 +88,8 @@ impl RowLists {
         ensures rows { OnOk result (AreRows self.new) }
         ensures memory { IfErr result (λ fault. fault ≡ Memory) }
         ensures table { OnOk result (table_of self.new ≡ with_item (table_of self.old) name.now) }
-        ensures place { IfOk result (λ item. item.0 < length self.new.items.keys) }
+        ensures place { IfOk result (λ item. item.0 ≡ unwrap_or (position (bytes_eq name.now) (table_of self.new).items) 0) }
+        ensures within { IfOk result (λ item. item.0 < length self.new.items.keys) }
     {
         let (place, _) = self.items.insert_full(String::from_str(alloc, name)?)?;
         Ok(ItemNo(place))
@@ -97,8 +99,10 @@ impl RowLists {
     pub(crate) fn add_pair(&mut self, row: PairRow) -> Result<(), TableFaultKind>
         requires rows { AreRows self.old }
         requires row { IsPairRow (table_of self.old) row }
+        requires fresh { list_any (λ p. (p.plant.0 == row.plant.0) && (p.item.0 == row.item.0)) self.old.pairs.items ≡ false }
         requires room { length self.old.pairs.items < MOST_PAIRS }
         ensures rows { OnOk result (AreRows self.new) }
+        ensures memory { IfErr result (λ fault. fault ≡ Memory) }
         ensures table { OnOk result (table_of self.new ≡ with_pair (table_of self.old) row) }
     {
         let key = PairKey {
@@ -106,7 +110,7 @@ impl RowLists {
             item: row.item,
         };
         if !self.pair_keys.insert(key)? {
-            return Err(TableFaultKind::Repeated);
+            unreachable!();
         }
         self.pairs.push(row)?;
         Ok(())

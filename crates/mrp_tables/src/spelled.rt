@@ -3,8 +3,9 @@ ghost use Rattle.mrp_qty.specs.declared.quantity.TheConstants.{MOST};
 ghost use Rattle.mrp_qty.specs.declared.horizon.TheConstants.{LONGEST};
 ghost use Rattle.mrp_tables.specs.declared.rows.TheConstants.{MOST_IN_ROW, MOST_PER};
 ghost use Rattle.csv.specs.Records.{fields_of};
-ghost use Rattle.mrp_tables.specs.Grammar.{amount_terms, bill_terms, cum_terms, field, is_empty_from, is_free, kind_of, lane_terms, pair_terms, plant_terms, reset_terms, row_kind, seen, ship_terms, TellsSeen};
-ghost use Rattle.mrp_tables.specs.Spelled.{amount_view, bill_view, lane_view, pair_view, IsSpelledPair};
+ghost use Rattle.mrp_tables.specs.Grammar.{amount_terms, bill_terms, cum_terms, field, is_empty_from, is_free, kind_of, lane_terms, pair_terms, plant_terms, reset_terms, row_kind, run_terms, seen, ship_terms, TellsSeen};
+ghost use Rattle.mrp_tables.specs.Spelled.{amount_view, bill_view, lane_view, pair_view, run_view, IsSpelledPair};
+ghost use Rattle.mrp_tables.specs.Drafts.{TellsRun};
 
 use crate::TableFaultKind;
 use crate::kind::Kind;
@@ -90,14 +91,39 @@ pub(crate) fn row_kind(row: &StringRecord) -> Result<Kind, TableFaultKind>
     }
 }
 
-/// The calendar of a run row.
-pub(crate) fn spelled_run(row: &StringRecord) -> Result<Calendar, TableFaultKind>
-    ensures periods { IfOk result (λ calendar. (1 ≤ calendar.periods) × (calendar.periods ≤ LONGEST)) }
+/// What a run row spells.
+#[derive(Clone, Copy, Debug)]
+struct SpelledRun<'r> {
+    first: &'r str,
+    days: u64,
+    periods: u64,
+}
+
+/// What a run row spells.
+#[tactic(auto, unfolding(crate::specs::Grammar::run_terms))]
+fn run_of(row: &StringRecord) -> Result<SpelledRun<'_>, TableFaultKind>
+    ensures exact { seen run_view result ≡ run_terms (fields_of row.now) }
+    ensures periods { IfOk result (λ run. (1 ≤ run.periods) × (run.periods ≤ LONGEST)) }
 {
     let days = number(field(row, 2)).ok_or(TableFaultKind::BadNumber)?;
     let periods = ranged(field(row, 3), 1, LONGEST)?;
-    let horizon = Horizon::new(periods).ok_or(TableFaultKind::BadNumber)?;
-    match Calendar::new(field(row, 1), days, horizon) {
+    Ok(SpelledRun {
+        first: field(row, 1),
+        days,
+        periods,
+    })
+}
+
+/// The calendar of a run row.
+pub(crate) fn spelled_run(row: &StringRecord) -> Result<Calendar, TableFaultKind>
+    ensures exact { TellsRun result (fields_of row.now) }
+    ensures periods { IfOk result (λ calendar. (1 ≤ calendar.periods) × (calendar.periods ≤ LONGEST)) }
+{
+    let run = run_of(row)?;
+    let Some(horizon) = Horizon::new(run.periods) else {
+        unreachable!();
+    };
+    match Calendar::new(run.first, run.days, horizon) {
         Ok(calendar) => Ok(calendar),
         Err(fault) => Err(TableFaultKind::CalendarFault(fault)),
     }

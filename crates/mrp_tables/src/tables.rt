@@ -28,19 +28,25 @@ impl Model for Tables {
 }
 
 impl Tables {
-    ghost use Rattle.std.specs.Prelude.{◌≡◌, ◌<◌, ◌==◌, ◌&&◌, ◌↔◌, Some, IsSome, IfSome, IfOk, length, option_map, position, slice_get};
+    ghost use Rattle.std.specs.Prelude.{◌≡◌, ◌<◌, ◌==◌, ◌&&◌, ◌↔◌, Some, Ok, Err, IsSome, IfSome, MatchResult, length, option_map, position, slice_get};
     ghost use Rattle.std.specs.Str.{bytes_eq};
     ghost use Rattle.mrp_tables.specs.Lists.{IsDraft, table_of};
-    ghost use Rattle.mrp_tables.specs.Table.{IsPair, IsTable, horizon, pair_no};
+    ghost use Rattle.mrp_tables.specs.Table.{IsOnce, IsPair, IsSourced, IsTable, horizon, pair_no};
+    ghost use Rattle.mrp_tables.specs.Reading.{waiting};
 
     /// The table of all rows read, where each pair that a pair is taken from has a row.
     pub(crate) fn accept(draft: Draft) -> Result<Tables, TableFault>
         requires draft { IsDraft draft }
-        ensures table { IfOk result (λ tables. tables ≡ table_of draft.lists) }
+        requires once { IsOnce (table_of draft.lists) }
+        requires sourced { IsSourced (table_of draft.lists) }
+        ensures exact { MatchResult result (λ tables. waiting (table_of draft.lists) ≡ Ok tables) (λ e. waiting (table_of draft.lists) ≡ Err e) }
     {
         if let Some(place) = draft.lists.first_lacking() {
+            // The run and the plants stand before the pairs.
+            let above = draft.lists.plants.len() + 1;
+            let pair = draft.lists.sources[place].pair;
             return Err(TableFault {
-                row: draft.lanes[place].row,
+                row: (above + pair.0 + 1) as u64,
                 kind: TableFaultKind::UnknownPair,
             });
         }

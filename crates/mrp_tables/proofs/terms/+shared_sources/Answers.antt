@@ -1,10 +1,12 @@
-use Rattle.std.proofs.Common.{◌≡◌, ◌<◌, ◌-◌, ◌∙◌, ◌++◌, ◌∷◌, [], List, ℕ, Bool, true, false, Option, Some, None, Result, Ok, Err, map, option_map, sym, ap, subst, arith, Bor, Vec, Global}
-use Rattle.std.proofs.lemmas.List.{map-append}
+use Rattle.std.proofs.Common.{◌≡◌, ◌+◌, ◌≤◌, length, refl, ◌<◌, ◌-◌, ◌∙◌, ◌++◌, ◌∷◌, [], List, ℕ, Bool, true, false, Option, Some, None, Result, Ok, Err, map, option_map, sym, ap, subst, arith, Bor, Vec, Global}
+use Rattle.std.proofs.lemmas.List.{length_push, map-append}
+use Rattle.std.proofs.lemmas.Result.{IfOk-weaker}
 use Rattle.mrp_tables.specs.declared.fault.TableFaultKind.{TableFaultKind}
 use Rattle.mrp_tables.specs.declared.terms.SpelledSource.{SpelledSource}
 use Rattle.mrp_tables.specs.Grammar.{shared_rest, shared_sources, TellsSeen}
-use Rattle.mrp_tables.specs.Spelled.{source_view}
+use Rattle.mrp_tables.specs.Spelled.{source_view, AreSources}
 use Rattle.mrp_tables.specs.Spelling.{SourceTerms, names_plant}
+use Rattle.mrp_tables.proofs.Apart.{sources_push}
 use Rattle.mrp_tables.proofs.Shares.{shared_sources-go, shared_sources-none, shared_sources-stop, shared_sources-twice}
 use Rattle.mrp_tables.proofs.terms.+shared_sources.Goals as goal
 
@@ -51,3 +53,25 @@ returns-in-None-clause-exact t c =
     ∙ ap (λ (l : Option (Bor (List ℕ))). shared_rest (before ++ s ∷ []) (shared_sources (c.args.left - 1)) s.high (now_of l)) c.in-None.is
     ∙ ap (λ (xs : List SourceTerms). shared_rest xs (shared_sources (c.args.left - 1)) s.high None) (sym pushed) in
     subst (λ (r : Result (List SourceTerms) TableFaultKind). TellsSeen (λ (found : Vec SpelledSource Global). map source_view found.items) c.all_shared.result r) (sym total) c.all_shared.ensures.exact
+
+pub shared_sources-requires : goal.shared_sources-requires
+shared_sources-requires t c =
+    let s = source_view c.in-Some.source in
+    let named = ap (λ (xs : List SpelledSource). names_plant (map source_view xs) s.plant) (sym c.as_slice.ensures.value) ∙ sym c.names_plant.ensures.exact ∙ c.if-names_plant.false in
+    let room : length c.args.sources.items + 1 ≤ 4 = omega arith in
+    let before_are : AreSources c.args.sources.items = assumption in
+    let pushed = sources_push c.args.sources.items c.in-Some.source before_are room c.in-Some.ensures.source named in
+    let are : AreSources c.push.new.self.items = subst AreSources (sym c.in_ok-push.ensures.items) pushed in
+    let longer = length_push c.args.sources.items c.in-Some.source in
+    let same = ap length c.in_ok-push.ensures.items in
+    (omega arith, (omega (arith, c.in-Some.ensures.source.ends), (omega (arith, longer, same), are)))
+
+pub returns-in-None-clause-sources : goal.returns-in-None-clause-sources
+returns-in-None-clause-sources t c =
+    let s = source_view c.in-Some.source in
+    let named = ap (λ (xs : List SpelledSource). names_plant (map source_view xs) s.plant) (sym c.as_slice.ensures.value) ∙ sym c.names_plant.ensures.exact ∙ c.if-names_plant.false in
+    let room : length c.args.sources.items + 1 ≤ 4 = omega arith in
+    let before_are : AreSources c.args.sources.items = assumption in
+    let pushed = sources_push c.args.sources.items c.in-Some.source before_are room c.in-Some.ensures.source named in
+    let are : AreSources c.push.new.self.items = subst AreSources (sym c.in_ok-push.ensures.items) pushed in
+    IfOk-weaker c.all_shared.result _ _ (λ kept e. subst AreSources (sym e) are) c.all_shared.ensures.same

@@ -1,8 +1,20 @@
-use Rattle.std.proofs.Common.{◌∙◌, sym}
+use Rattle.std.proofs.Common.{◌≡◌, ◌∙◌, length, sym, arith}
+use Rattle.std.specs.String.{string_bytes}
+use Rattle.std.proofs.lemmas.List.{length-map}
 use Rattle.mrp_tables.specs.Lists.{table_of}
 use Rattle.mrp_tables.proofs.Accept.{table_is}
+use Rattle.mrp_tables.proofs.Waiting.{none_waits, waits_at}
 use Rattle.mrp_tables.proofs.tables.Tables.accept.Goals as goal
 
 pub invariant_of-result : goal.invariant_of-result
 invariant_of-result c =
-    (c.requires.draft.rows, table_is (table_of c.args.draft.lists) c.requires.draft.rows.read (sym c.in_default.ensures.place))
+    (c.requires.draft.rows, table_is (table_of c.args.draft.lists) c.requires.draft.rows.read c.requires.once c.requires.sourced (sym c.in_default.ensures.place))
+
+pub returns-in-Some : goal.returns-in-Some
+returns-in-Some c =
+    let N = table_of c.args.draft.lists in
+    let plants : length N.plants ≡ c.len-above.result = length-map c.args.draft.lists.plants.keys string_bytes ∙ sym c.len-above.ensures.len in
+    record { exact = waits_at N c.in-Some.place _ c.index.result.now (sym c.in-Some.ensures.place) c.index.ensures (omega (arith, plants)) }
+
+pub returns : goal.returns
+returns c = record { exact = none_waits (table_of c.args.draft.lists) (sym c.in_default.ensures.place) }

@@ -1,0 +1,150 @@
+-- The rows after the first, read one after the other.
+use Rattle.std.proofs.Common.{◌≡◌, ℕ, ◌+◌, Bool, true, false, List, [], ◌∷◌, Option, Some, None, Result, Ok, Err, MatchResult, refl, sym, ap, ◌∙◌}
+use Rattle.std.specs.List.{list_all}
+use Rattle.std.specs.Str.{is_utf8}
+use Rattle.mrp_tables.specs.Drafts.{TellsAdded}
+use Rattle.mrp_tables.specs.declared.draft.Draft.{Draft}
+use Rattle.mrp_tables.specs.declared.fault.TableFault.{TableFault}
+use Rattle.mrp_tables.specs.declared.fault.TableFaultKind.{TableFaultKind}
+use Rattle.mrp_tables.specs.declared.fault.TableFaultKind.TheVariants as fault
+use Rattle.mrp_tables.specs.declared.kind.Kind.{Kind}
+use Rattle.mrp_tables.specs.Table.{Table}
+use Rattle.mrp_tables.specs.Left.{GoesOn, OfLeft, StartsBadly, state_of, TakesRow, TellsNext, TellsTaken}
+use Rattle.mrp_tables.specs.Reading.{at_row, go_on, kind_of_row, OfRows, row_after, rows_after}
+
+-- what holds, also where nothing is to be said
+pub of_rows_from : (k : TableFaultKind) (P Q : Type 0) → (P → Q) → OfRows k P → OfRows k Q
+of_rows_from fault.ReadFault P Q f says = tt
+of_rows_from fault.Memory P Q f says = tt
+of_rows_from e P Q f says = f says
+
+pub of_rows : (k : TableFaultKind) (P : Type 0) → P → OfRows k P
+of_rows fault.ReadFault P says = tt
+of_rows fault.Memory P says = tt
+of_rows e P says = says
+
+pub of_left_from : (left : Option (List (List (List ℕ)))) (P Q : List (List (List ℕ)) → Type 0) → ((rows : List (List (List ℕ))) → P rows → Q rows) → OfLeft left P → OfLeft left Q
+of_left_from None P Q f says = tt
+of_left_from (Some rows) P Q f says = f rows says
+
+-- a row whose fields aren't all text
+pub kind_no_text : (row : List (List ℕ)) → list_all is_utf8 row ≡ false → kind_of_row row ≡ Err fault.NotUtf8
+unfolding kind_of_row
+kind_no_text row bad = rw bad refl
+
+row_no_text : (s : Table × Kind) (row : List (List ℕ)) → list_all is_utf8 row ≡ false → row_after s row ≡ Err fault.NotUtf8
+unfolding row_after
+row_no_text s row bad = rw (kind_no_text row bad) refl
+
+-- one row of the rows
+rows_go : (number : ℕ) (s t : Table × Kind) (row : List (List ℕ)) (rest rows : List (List (List ℕ))) → row_after s row ≡ Ok t → rows ≡ row ∷ rest
+    → rows_after number s rows ≡ rows_after (number + 1) t rest
+unfolding rows_after
+rows_go number s t row rest rows e same = rw (same, e) refl
+
+rows_stop : (number : ℕ) (s : Table × Kind) (k : TableFaultKind) (row : List (List ℕ)) (rest rows : List (List (List ℕ))) → row_after s row ≡ Err k → rows ≡ row ∷ rest
+    → rows_after number s rows ≡ Err (record { row = number; kind = k })
+unfolding rows_after
+rows_stop number s k row rest rows e same = rw (same, e) refl
+
+rows_end : (number : ℕ) (s : Table × Kind) (rows : List (List (List ℕ))) → rows ≡ [] → rows_after number s rows ≡ Ok s.0
+unfolding rows_after
+rows_end number s rows same = rw same refl
+
+-- a good row
+pub goes_row : (before after : Option (List (List (List ℕ)))) (number : ℕ) (s t : Table × Kind) (row : List (List ℕ)) → TakesRow before after row → row_after s row ≡ Ok t
+    → GoesOn before after number s (number + 1) t
+goes_row None after number s t row takes e = tt
+goes_row (Some rows) None number s t row takes e = absurd takes
+goes_row (Some rows) (Some rest) number s t row takes e = rows_go number s t row rest rows e takes
+
+-- a row with a fault
+row_stops : (before after : Option (List (List (List ℕ)))) (number : ℕ) (s : Table × Kind) (k : TableFaultKind) (row : List (List ℕ)) → TakesRow before after row → row_after s row ≡ Err k
+    → OfLeft before (λ rows. rows_after number s rows ≡ Err (record { row = number; kind = k }))
+row_stops None after number s k row takes e = tt
+row_stops (Some rows) None number s k row takes e = absurd takes
+row_stops (Some rows) (Some rest) number s k row takes e = rows_stop number s k row rest rows e takes
+
+pub stops_row : (before after : Option (List (List (List ℕ)))) (number : ℕ) (s : Table × Kind) (k : TableFaultKind) (row : List (List ℕ)) → TakesRow before after row
+    → OfRows k (row_after s row ≡ Err k) → OfRows k (OfLeft before (λ rows. rows_after number s rows ≡ Err (record { row = number; kind = k })))
+stops_row before after number s k row takes =
+    of_rows_from k (row_after s row ≡ Err k) (OfLeft before (λ rows. rows_after number s rows ≡ Err (record { row = number; kind = k }))) (row_stops before after number s k row takes)
+
+-- no row more
+pub ends_there : (before : Option (List (List (List ℕ)))) (number : ℕ) (s : Table × Kind) → OfLeft before (λ rows. rows ≡ []) → OfLeft before (λ rows. rows_after number s rows ≡ Ok s.0)
+ends_there before number s = of_left_from before (λ rows. rows ≡ []) (λ rows. rows_after number s rows ≡ Ok s.0) (rows_end number s)
+
+-- a row that isn't text
+bad_stops : (number : ℕ) (s : Table × Kind) (e : TableFault) (rows : List (List (List ℕ))) → StartsBadly number rows e → rows_after number s rows ≡ Err e
+bad_stops number s e rows bad =
+    rows_stop number s fault.NotUtf8 bad.row bad.rest rows (row_no_text s bad.row bad.no_text) bad.rows_are ∙ ap (λ (f : TableFault). Err f) (sym bad.fault_is)
+
+pub bad_there : (before : Option (List (List (List ℕ)))) (number : ℕ) (s : Table × Kind) (e : TableFault) → OfRows e.kind (OfLeft before (λ rows. StartsBadly number rows e))
+    → OfRows e.kind (OfLeft before (λ rows. rows_after number s rows ≡ Err e))
+bad_there before number s e =
+    of_rows_from e.kind (OfLeft before (λ rows. StartsBadly number rows e)) (OfLeft before (λ rows. rows_after number s rows ≡ Err e))
+    (of_left_from before (λ rows. StartsBadly number rows e) (λ rows. rows_after number s rows ≡ Err e) (bad_stops number s e))
+
+-- ---- the loop
+
+pub goes_nowhere : (left : Option (List (List (List ℕ)))) (number : ℕ) (s : Table × Kind) → GoesOn left left number s number s
+goes_nowhere None number s = tt
+goes_nowhere (Some rows) number s = refl
+
+pub goes_on_on : (a b c : Option (List (List (List ℕ)))) (n m k : ℕ) (s t u : Table × Kind) → GoesOn a b n s m t → GoesOn b c m t k u → GoesOn a c n s k u
+goes_on_on None b c n m k s t u f g = tt
+goes_on_on (Some xs) None c n m k s t u f g = absurd f
+goes_on_on (Some xs) (Some ys) None n m k s t u f g = absurd g
+goes_on_on (Some xs) (Some ys) (Some zs) n m k s t u f g = f ∙ g
+
+pub goes_to : (a b : Option (List (List (List ℕ)))) (n m : ℕ) (s t : Table × Kind) (answer : Result Table TableFault) → GoesOn a b n s m t
+    → OfLeft b (λ rows. rows_after m t rows ≡ answer) → OfLeft a (λ rows. rows_after n s rows ≡ answer)
+goes_to None b n m s t answer f says = tt
+goes_to (Some xs) None n m s t answer f says = absurd f
+goes_to (Some xs) (Some ys) n m s t answer f says = f ∙ says
+
+pub goes_to_fault : (a b : Option (List (List (List ℕ)))) (n m : ℕ) (s t : Table × Kind) (e : TableFault) → GoesOn a b n s m t
+    → OfRows e.kind (OfLeft b (λ rows. rows_after m t rows ≡ Err e)) → OfRows e.kind (OfLeft a (λ rows. rows_after n s rows ≡ Err e))
+goes_to_fault a b n m s t e f =
+    of_rows_from e.kind (OfLeft b (λ rows. rows_after m t rows ≡ Err e)) (OfLeft a (λ rows. rows_after n s rows ≡ Err e)) (goes_to a b n m s t (Err e) f)
+
+-- ---- what the steps answer
+
+pub none_there : (found : Bool) (before after : Option (List (List (List ℕ)))) (number : ℕ) (row : List (List ℕ)) → found ≡ false → TellsTaken before after number row (Ok found)
+    → OfLeft before (λ rows. rows ≡ [])
+none_there true before after number row e taken = absurd (cc)
+none_there false before after number row e taken = taken
+
+pub some_there : (found : Bool) (before after : Option (List (List (List ℕ)))) (number : ℕ) (row : List (List ℕ)) → found ≡ true → TellsTaken before after number row (Ok found)
+    → TakesRow before after row
+some_there true before after number row e taken = taken
+some_there false before after number row e taken = absurd (cc)
+
+-- a row that was added, and one with a fault
+pub added : (old new : Draft) (number : ℕ) (row : List (List ℕ)) (answer : Result (Unit {0}) TableFaultKind) (r : Result (Unit {0}) TableFault) (u : Unit {0})
+    → MatchResult answer (λ value. r ≡ Ok value) (λ kind. r ≡ Err (record { row = number; kind = kind })) → r ≡ Ok u → TellsAdded old new answer row
+    → row_after (state_of old) row ≡ Ok (state_of new)
+added old new number row (Ok v) r u same e tells = tells
+added old new number row (Err k) r u same e tells = absurd (cc)
+
+refused_as : (before : Option (List (List (List ℕ)))) (number : ℕ) (s : Table × Kind) (e f : TableFault) → f ≡ e → OfRows e.kind (OfLeft before (λ rows. rows_after number s rows ≡ Err e))
+    → OfRows f.kind (OfLeft before (λ rows. rows_after number s rows ≡ Err f))
+refused_as before number s e f same says = rw same says
+
+pub refused : (before after : Option (List (List (List ℕ)))) (old new : Draft) (number : ℕ) (row : List (List ℕ)) (answer : Result (Unit {0}) TableFaultKind) (r : Result (Unit {0}) TableFault) (e : TableFault)
+    → MatchResult answer (λ value. r ≡ Ok value) (λ kind. r ≡ Err (record { row = number; kind = kind })) → r ≡ Err e → TellsAdded old new answer row
+    → TakesRow before after row → OfRows e.kind (OfLeft before (λ rows. rows_after number (state_of old) rows ≡ Err e))
+refused before after old new number row (Ok v) r e same is tells takes = absurd (cc)
+refused before after old new number row (Err k) r e same is tells takes =
+    let f : e ≡ record { row = number; kind = k } = cc in
+    refused_as before number (state_of old) (record { row = number; kind = k }) e f (stops_row before after number (state_of old) k row takes tells)
+
+-- one turn of the loop
+pub next_true : (found : Bool) (a b c : Option (List (List (List ℕ)))) (n m : ℕ) (s t u : Table × Kind) → found ≡ true → GoesOn a b n s m t → TellsNext b c m t u (Ok found) → GoesOn a c n s (m + 1) u
+next_true true a b c n m s t u e goes next = goes_on_on a b c n m (m + 1) s t u goes next
+next_true false a b c n m s t u e goes next = absurd (cc)
+
+pub next_false : (found : Bool) (a b c : Option (List (List (List ℕ)))) (n m : ℕ) (s t u : Table × Kind) → found ≡ false → GoesOn a b n s m t → TellsNext b c m t u (Ok found)
+    → OfLeft a (λ rows. rows_after n s rows ≡ Ok u.0)
+next_false true a b c n m s t u e goes next = absurd (cc)
+next_false false a b c n m s t u e goes next = goes_to a b n m s t (Ok u.0) goes next

@@ -1,0 +1,112 @@
+-- What the first row of a table makes, and each row after it.
+use Rattle.std.proofs.Common.{◌≡◌, ℕ, Bool, true, false, not, List, [], ◌∷◌, Result, Ok, Err, ok_or, refl, sym, ap, ◌∙◌, subst, rules}
+use Rattle.std.specs.List.{list_all}
+use Rattle.std.specs.Str.{is_utf8}
+use Rattle.std.proofs.lemmas.Str.{is_utf8-from_IsUtf8}
+use Rattle.csv.specs.Records.{AllText}
+use Rattle.mrp_tables.specs.declared.fault.TableFaultKind.{TableFaultKind}
+use Rattle.mrp_tables.specs.declared.fault.TableFaultKind.TheVariants as fault
+use denote.Enum.Bare.{sameb}
+use Rattle.mrp_tables.specs.contracts.kind.Kind.{the_type as kind_type}
+use Rattle.mrp_tables.specs.declared.kind.Kind.{Kind}
+use Rattle.mrp_tables.specs.declared.kind.Kind.TheVariants as kind
+use Rattle.mrp_tables.specs.Table.{Table}
+use Rattle.mrp_tables.specs.Grammar.{◌>>=◌, check, may_follow, row_kind, run_terms, RunTerms, TellsFault}
+use Rattle.mrp_tables.specs.Reading.{first_terms, is_run, kind_of_row, OfRows, row_after, row_of_kind, Starts, StartsWith}
+
+-- fields that are text pass the test for it
+pub all_text : (fs : List (List ℕ)) → AllText fs → list_all is_utf8 fs ≡ true
+unfolding AllText
+all_text [] h = refl
+all_text (f ∷ fs) h = rw (is_utf8-from_IsUtf8 f h.0) (all_text fs h.1)
+
+-- the kind of a row of text is that of its fields
+pub text_kind : (row : List (List ℕ)) → AllText row → kind_of_row row ≡ row_kind row
+unfolding kind_of_row
+text_kind row text = rw (all_text row text) refl
+
+-- what holds of the rows, whatever the fault
+pub of_rows : (e : TableFaultKind) (P : Type 0) → P → OfRows e P
+of_rows fault.ReadFault P h = tt
+of_rows fault.Memory P h = tt
+of_rows _ P h = h
+
+module _ (row : List (List ℕ)) (text : AllText row) where
+  first-misread : (e : TableFaultKind) → row_kind row ≡ Err e → first_terms row ≡ Err e
+  unfolding first_terms
+  first-misread e is = rw (text_kind row text, is) refl
+
+  first-other : (k : Kind) → row_kind row ≡ Ok k → is_run k ≡ false → first_terms row ≡ Err fault.KindOrder
+  unfolding first_terms
+  first-other k is other = rw (text_kind row text, is, other) refl
+
+  first-run : (k : Kind) → row_kind row ≡ Ok k → is_run k ≡ true → first_terms row ≡ run_terms row
+  unfolding first_terms
+  first-run k is run = rw (text_kind row text, is, run) refl
+
+-- terms that are refused make no table
+starts-refused : (terms : Result RunTerms TableFaultKind) (e : TableFaultKind) → terms ≡ Err e → StartsWith terms (Err e)
+starts-refused terms e is = subst (λ (r : Result RunTerms TableFaultKind). StartsWith r (Err e)) (sym is) refl
+
+-- the first row's fault, or its calendar
+module _ (row : List (List ℕ)) (text : AllText row) where
+  pub first-bad_kind : (e : TableFaultKind) → row_kind row ≡ Err e → Starts row (Err e)
+  first-bad_kind e is = starts-refused (first_terms row) e (first-misread row text e is)
+
+  pub first-bad_order : (k : Kind) → row_kind row ≡ Ok k → is_run k ≡ false → Starts row (Err fault.KindOrder)
+  first-bad_order k is other = starts-refused (first_terms row) fault.KindOrder (first-other row text k is other)
+
+  pub first-calendar : (k : Kind) (start : Result Table TableFaultKind) → row_kind row ≡ Ok k → is_run k ≡ true → StartsWith (run_terms row) start → Starts row start
+  first-calendar k start is run with_run = subst (λ (r : Result RunTerms TableFaultKind). StartsWith r start) (sym (first-run row text k is run)) with_run
+
+-- a derived test for the run
+same_run : (k : Kind) → sameb kind_type k kind.Run ≡ is_run k
+same_run kind.Run = refl
+same_run kind.Plant = refl
+same_run kind.Pair = refl
+same_run kind.Bill = refl
+same_run kind.Demand = refl
+same_run kind.Receipt = refl
+same_run kind.Ship = refl
+same_run kind.Cum = refl
+same_run kind.Reset = refl
+
+pub other_kind : (k : Kind) → true ≡ not (sameb kind_type k kind.Run) → is_run k ≡ false
+other_kind k h = by (is_run k) (h ∙ ap not (same_run k))
+  where
+    by : (b : Bool) → true ≡ not b → b ≡ false
+    by true h = absurd (cc)
+    by false h = refl
+
+pub run_kind : (k : Kind) → false ≡ not (sameb kind_type k kind.Run) → is_run k ≡ true
+run_kind k h = by (is_run k) (h ∙ ap not (same_run k))
+  where
+    by : (b : Bool) → false ≡ not b → b ≡ true
+    by true h = refl
+    by false h = absurd (cc)
+
+-- ---- the rows after the first
+
+tells_fault : {B : Type 0} (e : TableFaultKind) (read : Result B TableFaultKind) (P : Type 0) → TellsFault read e → (read ≡ Err e → P) → OfRows e P
+tells_fault fault.ReadFault read P h f = tt
+tells_fault fault.Memory read P h f = tt
+tells_fault _ read P h f = f h
+
+module _ (N : Table) (last : Kind) (row : List (List ℕ)) (text : AllText row) where
+  pub after-bad_kind : (e : TableFaultKind) → row_kind row ≡ Err e → row_after (N, last) row ≡ Err e
+  unfolding row_after
+  after-bad_kind e is = rw (text_kind row text, is) refl
+
+  pub after-bad_order : (k : Kind) → row_kind row ≡ Ok k → may_follow k last ≡ false → row_after (N, last) row ≡ Err fault.KindOrder
+  unfolding row_after
+  after-bad_order k is other = rw (text_kind row text, is, other) refl
+
+  after-kind : (k : Kind) (made : Result Table TableFaultKind) → row_kind row ≡ Ok k → may_follow k last ≡ true → row_of_kind k N row ≡ made → row_after (N, last) row ≡ (made >>= λ M. Ok (M, k))
+  unfolding row_after
+  after-kind k made is follows of = rw (text_kind row text, is, follows) (ap (λ (r : Result Table TableFaultKind). let s : Result (Table × Kind) TableFaultKind = r >>= λ M. Ok (M, k) in s) of)
+
+  pub after-fault : (k : Kind) (e : TableFaultKind) → row_kind row ≡ Ok k → may_follow k last ≡ true → TellsFault (row_of_kind k N row) e → OfRows e (row_after (N, last) row ≡ Err e)
+  after-fault k e is follows told = tells_fault e (row_of_kind k N row) (row_after (N, last) row ≡ Err e) told (λ of. after-kind k (Err e) is follows of)
+
+  pub after-made : (k : Kind) (M : Table) → row_kind row ≡ Ok k → may_follow k last ≡ true → row_of_kind k N row ≡ Ok M → row_after (N, last) row ≡ Ok (M, k)
+  after-made k M is follows of = after-kind k (Ok M) is follows of

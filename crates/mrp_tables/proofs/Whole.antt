@@ -1,0 +1,127 @@
+-- The whole table: the first row, the rows after it, and the test that waits for the last.
+use Rattle.std.proofs.Common.{◌≡◌, ℕ, ◌+◌, Bool, true, false, List, [], ◌∷◌, Option, Some, None, Result, Ok, Err, MatchResult, refl, sym, ap, ◌∙◌, option_map}
+use Rattle.std.specs.List.{list_all}
+use Rattle.std.specs.Str.{is_utf8}
+use Rattle.csv.specs.declared.parser.State.{State}
+use Rattle.csv.specs.declared.parser.State.TheVariants as st
+use Rattle.mrp_cal.specs.Calendar.{CalendarTerms}
+use Rattle.mrp_cal.specs.declared.fault.CalFault.{CalFault}
+use Rattle.mrp_tables.specs.declared.draft.Draft.{Draft}
+use Rattle.mrp_tables.specs.declared.fault.TableFault.{TableFault}
+use Rattle.mrp_tables.specs.declared.fault.TableFaultKind.{TableFaultKind}
+use Rattle.mrp_tables.specs.declared.fault.TableFaultKind.TheVariants as fault
+use Rattle.mrp_tables.specs.declared.kind.Kind.{Kind}
+use Rattle.mrp_tables.specs.declared.kind.Kind.TheVariants as kind
+use Rattle.mrp_tables.specs.Table.{IsOnce, IsSourced, Table}
+use Rattle.mrp_tables.specs.Lists.{table_of}
+use Rattle.mrp_tables.specs.Grammar.{RunTerms}
+use Rattle.mrp_tables.specs.Left.{OfLeft, records_in, StartsBadly, state_of, TakesRow, TellsFirstAt, TellsRest}
+use Rattle.mrp_tables.specs.Reading.{empty_table, first_terms, go_on, kind_of_row, OfRecords, OfRows, read_from, Reads, rows_after, started, Starts, StartsWith, TellsRows, waiting}
+use Rattle.mrp_tables.proofs.Keeping.{empty_keeps}
+use Rattle.mrp_tables.proofs.Loop.{kind_no_text, of_left_from, of_rows, of_rows_from}
+
+-- ---- the first row
+
+-- a table that a run starts has no other row
+run_is : (N : Table) (c : Result CalendarTerms CalFault) → Ok N ≡ started c → IsOnce N × IsSourced N
+run_is N (Ok c) e = let same : N ≡ empty_table c = cc in rw same (empty_keeps c)
+run_is N (Err e) same = absurd (cc)
+
+starts_keep : (N : Table) (terms : Result RunTerms TableFaultKind) → StartsWith terms (Ok N) → IsOnce N × IsSourced N
+starts_keep N (Ok t) s = run_is N s.0 s.2
+starts_keep N (Err e) s = absurd (cc s)
+
+pub first_keeps : (N : Table) (row : List (List ℕ)) → Starts row (Ok N) → IsOnce N × IsSourced N
+first_keeps N row s = starts_keep N (first_terms row) s
+
+-- a first row that isn't text
+first_no_text : (row : List (List ℕ)) → list_all is_utf8 row ≡ false → first_terms row ≡ Err fault.NotUtf8
+unfolding first_terms
+first_no_text row bad = rw (kind_no_text row bad) refl
+
+start_no_text : (terms : Result RunTerms TableFaultKind) → terms ≡ Err fault.NotUtf8 → StartsWith terms (Err fault.NotUtf8)
+start_no_text terms e = rw e refl
+
+-- ---- what is said of all rows
+
+-- nothing is said of a fault that no row has
+says_under : (left : Option (List (List (List ℕ)))) (k : TableFaultKind) (P : List (List (List ℕ)) → Type 0) → OfRows k (OfLeft left P) → OfLeft left (λ rows. OfRows k (P rows))
+says_under None k P says = tt
+says_under (Some rows) k P says = says
+
+reads_as : (rows : List (List (List ℕ))) (row : List (List ℕ)) (rest : List (List (List ℕ))) (start : Result Table TableFaultKind) (read : Result Table TableFault) → rows ≡ row ∷ rest → Starts row start
+    → read ≡ read_from start rest → Reads rows read
+reads_as rows row rest start read same starts e = rw same (start, starts, e)
+
+-- a first row with a field that isn't text
+bad_reads : (rows : List (List (List ℕ))) (e : TableFault) → StartsBadly 1 rows e → Reads rows (Err e)
+bad_reads rows e bad =
+    reads_as rows bad.row bad.rest (Err fault.NotUtf8) (Err e) bad.rows_are (start_no_text (first_terms bad.row) (first_no_text bad.row bad.no_text)) (ap (λ (f : TableFault). Err f) bad.fault_is)
+
+pub bad_first : (left : Option (List (List (List ℕ)))) (e : TableFault) → OfRows e.kind (OfLeft left (λ rows. StartsBadly 1 rows e)) → OfLeft left (TellsRows (Err e))
+bad_first left e bad =
+    says_under left e.kind (λ rows. Reads rows (Err e))
+    (of_rows_from e.kind (OfLeft left (λ rows. StartsBadly 1 rows e)) (OfLeft left (λ rows. Reads rows (Err e))) (of_left_from left (λ rows. StartsBadly 1 rows e) (λ rows. Reads rows (Err e)) (λ rows. bad_reads rows e)) bad)
+
+-- no row
+empty_reads : (rows : List (List (List ℕ))) → rows ≡ [] → Reads rows (Err (record { row = 0; kind = fault.Empty }))
+empty_reads rows same = rw same refl
+
+pub no_first : (left : Option (List (List (List ℕ)))) → OfLeft left (λ rows. rows ≡ []) → OfLeft left (TellsRows (Err (record { row = 0; kind = fault.Empty })))
+no_first left none = of_left_from left (λ rows. rows ≡ []) (TellsRows (Err (record { row = 0; kind = fault.Empty }))) empty_reads none
+
+-- a first row with a fault
+first_reads : (e : TableFault) (row : List (List ℕ)) (rest rows : List (List (List ℕ))) → rows ≡ row ∷ rest → e.row ≡ 1 → Starts row (Err e.kind) → Reads rows (Err e)
+first_reads e row rest rows same one starts =
+    reads_as rows row rest (Err e.kind) (Err e) same starts (ap (λ (n : ℕ). Err (record { row = n; kind = e.kind })) one)
+
+pub first_fault : (left after : Option (List (List (List ℕ)))) (row : List (List ℕ)) (e : TableFault) → TakesRow left after row → TellsFirstAt (Err e) row → OfLeft left (TellsRows (Err e))
+first_fault None after row e takes tells = tt
+first_fault (Some rows) None row e takes tells = absurd takes
+first_fault (Some rows) (Some rest) row e takes tells =
+    of_rows_from e.kind (Starts row (Err e.kind)) (Reads rows (Err e)) (first_reads e row rest rows takes tells.1) tells.0
+
+-- ---- the rows after the first
+
+from_first : (N : Table) (k : Kind) (rest : List (List (List ℕ))) (answer : Result Table TableFault) (read : Result Table TableFault) → k ≡ kind.Run → rows_after 2 (N, k) rest ≡ answer
+    → read ≡ go_on answer waiting → read ≡ read_from (Ok N) rest
+from_first N k rest answer read run after e = rw (← run) (rw after e)
+
+rest_reads : (N : Table) (k : Kind) (row : List (List ℕ)) (rest rows : List (List (List ℕ))) (answer read : Result Table TableFault) → rows ≡ row ∷ rest → Starts row (Ok N) → k ≡ kind.Run
+    → rows_after 2 (N, k) rest ≡ answer → read ≡ go_on answer waiting → Reads rows read
+rest_reads N k row rest rows answer read same starts run after e = reads_as rows row rest (Ok N) read same starts (from_first N k rest answer read run after e)
+
+-- a later row with a fault
+pub rest_fault : (left after : Option (List (List (List ℕ)))) (row : List (List ℕ)) (d : Draft) (e : TableFault) → TakesRow left after row → TellsFirstAt (Ok d) row
+    → OfRows e.kind (OfLeft after (λ rows. rows_after 2 (state_of d) rows ≡ Err e)) → OfLeft left (TellsRows (Err e))
+rest_fault None after row d e takes tells rest = tt
+rest_fault (Some rows) None row d e takes tells rest = absurd takes
+rest_fault (Some rows) (Some more) row d e takes tells rest =
+    of_rows_from e.kind (rows_after 2 (state_of d) more ≡ Err e) (Reads rows (Err e)) (λ after. rest_reads (table_of d.lists) d.last row more rows (Err e) (Err e) takes tells.0 tells.1 after refl) rest
+
+-- the rows are all there
+whole_tells : (rows : List (List (List ℕ))) (result : Result Table TableFault) → Reads rows result → TellsRows result rows
+whole_tells rows (Ok N) reads = reads
+whole_tells rows (Err e) reads = of_rows e.kind (Reads rows (Err e)) reads
+
+is_waiting : (N : Table) (result : Result Table TableFault) → MatchResult result (λ M. waiting N ≡ Ok M) (λ e. waiting N ≡ Err e) → result ≡ waiting N
+is_waiting N (Ok M) w = sym w
+is_waiting N (Err e) w = sym w
+
+pub whole : (left after : Option (List (List (List ℕ)))) (row : List (List ℕ)) (d : Draft) (N : Table) (result : Result Table TableFault) → TakesRow left after row → TellsFirstAt (Ok d) row
+    → OfLeft after (λ rows. rows_after 2 (state_of d) rows ≡ Ok N) → MatchResult result (λ M. waiting N ≡ Ok M) (λ e. waiting N ≡ Err e) → OfLeft left (TellsRows result)
+whole None after row d N result takes tells rest w = tt
+whole (Some rows) None row d N result takes tells rest w = absurd takes
+whole (Some rows) (Some more) row d N result takes tells rest w =
+    whole_tells rows result (rest_reads (table_of d.lists) d.last row more rows (Ok N) result takes tells.0 tells.1 rest (is_waiting N result w))
+
+-- ---- the text
+
+of_start : (text : Option (List ℕ)) (says : List (List (List ℕ)) → Type 0) → OfLeft (option_map (records_in st.StartRecord) text) says → OfRecords text says
+of_start None says h = tt
+of_start (Some xs) says h = h
+
+-- what is said of the rows of a reader that stands at the start of a text
+pub of_text : (source text : Option (List ℕ)) (s : State) (says : List (List (List ℕ)) → Type 0) → source ≡ text → s ≡ st.StartRecord → OfLeft (option_map (records_in s) source) says
+    → OfRecords text says
+of_text source text s says same start h = of_start text says (rw (same, start) at h)

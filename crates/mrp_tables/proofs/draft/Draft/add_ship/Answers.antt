@@ -1,0 +1,41 @@
+use Rattle.std.proofs.Common.{◌≡◌, ◌+◌, ◌∷◌, ◌++◌, [], List, ℕ, length, set, sym, ap, ◌∙◌, subst, refl, arith, rules}
+use Rattle.std.proofs.lemmas.List.{length-set, length_push}
+use Rattle.mrp_tables.specs.declared.draft.Lane.{Lane}
+use Rattle.mrp_tables.specs.declared.rows.SourceRow.{SourceRow}
+use Rattle.mrp_tables.specs.Lists.{after_ship, Fits, row_count, table_of, with_ship}
+use Rattle.mrp_tables.specs.Table.{Table}
+use Rattle.mrp_tables.proofs.Arrivals.{states_ship}
+use Rattle.mrp_tables.proofs.draft.Draft.add_ship.Goals as goal
+
+pub returns-clause-adds : goal.returns-clause-adds
+returns-clause-adds c =
+    let self = c.args.self.now in
+    let N = table_of self.lists in
+    let x = c.in_ok-ship.ship in
+    let k = c.in_ok-ship.place in
+    let old = c.requires.draft in
+    let d : SourceRow = record { pair = x.pair; plant = x.from; low = 0; high = 0 } in
+    let l : Lane = c.index_mut.result.now in
+    let each = states_ship N.ships x self.lane_keys.keys N.sources self.lanes.items k d l old.fits.lane_keys old.fits.apart old.fits.each c.in_ok-ship.ensures.place c.index_mut.ensures.value in
+    let v = after_ship l x.period in
+    let fits : Fits (with_ship N x) self.lane_keys.keys (set self.lanes.items k v) = record {
+      lane_keys = old.fits.lane_keys;
+      apart = old.fits.apart;
+      each = each;
+      lanes = length-set self.lanes.items k v ∙ old.fits.lanes;
+      sources = old.fits.sources;
+      items = old.fits.items;
+    } in
+    let made = sym c.in_ok-add_ship.ensures.table in
+    let count : row_count (with_ship N x) ≡ row_count N + 1 = omega (arith, length_push N.ships x) in
+    record {
+      rows = search rules;
+      bill_keys = search rules;
+      cum_keys = search rules;
+      reset_keys = search rules;
+      resets = old.resets;
+      fits = subst (λ (m : Lane). Fits (table_of c.add_ship.new.self) self.lane_keys.keys (set self.lanes.items k m)) (sym c.ship.ensures)
+      (subst (λ (M : Table). Fits M self.lane_keys.keys (set self.lanes.items k v)) made fits);
+      counted = refl;
+      count = subst (λ (M : Table). row_count M ≡ row_count N + 1) made count;
+    }

@@ -1,0 +1,36 @@
+use Rattle.std.proofs.lemmas.Result.{err_from_is_err_and}
+use Rattle.csv.specs.Records.{fields_of}
+use Rattle.mrp_tables.specs.Left.{left_of, state_of}
+use Rattle.mrp_tables.specs.Lists.{table_of}
+use Rattle.mrp_tables.proofs.Keeping.{row_after_keeps}
+use Rattle.mrp_tables.proofs.Loop.{added, bad_there, ends_there, goes_row, none_there, refused, some_there}
+use Rattle.mrp_tables.proofs.reading.read_next.Goals as goal
+
+pub returns-in_err-next_row-clause-exact : goal.returns-in_err-next_row-clause-exact
+returns-in_err-next_row-clause-exact g c =
+    let p = err_from_is_err_and c.from_residual.result c.from_residual.ensures.1 in
+    rw (p.1, p.2) (bad_there (left_of g.R.Read.remaining c.args.rows.now) c.args.number (state_of c.args.draft.now) _ c.in_err-next_row.ensures.exact)
+
+pub returns-then-not-branch-clause-exact : goal.returns-then-not-branch-clause-exact
+returns-then-not-branch-clause-exact g c =
+    ends_there (left_of g.R.Read.remaining c.args.rows.now) c.args.number (state_of c.args.draft.now)
+    (none_there c.in_ok-next_row.field-0 (left_of g.R.Read.remaining c.args.rows.now) (left_of g.R.Read.remaining c.next_row.new.rows) c.args.number (fields_of c.next_row.new.row) c.if-not-branch.true c.in_ok-next_row.ensures.exact)
+
+pub returns-in_err-at_row-clause-exact : goal.returns-in_err-at_row-clause-exact
+returns-in_err-at_row-clause-exact g c =
+    let p = err_from_is_err_and c.from_residual-in_err-at_row.result c.from_residual-in_err-at_row.ensures.1 in
+    let takes = some_there c.in_ok-next_row.field-0 (left_of g.R.Read.remaining c.args.rows.now) (left_of g.R.Read.remaining c.next_row.new.rows) c.args.number (fields_of c.next_row.new.row) c.if-not-branch.false c.in_ok-next_row.ensures.exact in
+    rw (p.1, p.2) (refused (left_of g.R.Read.remaining c.args.rows.now) (left_of g.R.Read.remaining c.next_row.new.rows) c.args.draft.now c.add.new.self c.args.number (fields_of c.next_row.new.row)
+    c.add.result c.at_row.result _ c.at_row.ensures.same c.in_err-at_row.was c.add.ensures.exact takes)
+
+pub returns-clause-exact : goal.returns-clause-exact
+returns-clause-exact g c =
+    let takes = some_there c.in_ok-next_row.field-0 (left_of g.R.Read.remaining c.args.rows.now) (left_of g.R.Read.remaining c.next_row.new.rows) c.args.number (fields_of c.next_row.new.row) c.if-not-branch.false c.in_ok-next_row.ensures.exact in
+    let good = added c.args.draft.now c.add.new.self c.args.number (fields_of c.next_row.new.row) c.add.result c.at_row.result _ c.at_row.ensures.same c.in_ok-at_row.was c.add.ensures.exact in
+    goes_row (left_of g.R.Read.remaining c.args.rows.now) (left_of g.R.Read.remaining c.next_row.new.rows) c.args.number (state_of c.args.draft.now) (state_of c.add.new.self) (fields_of c.next_row.new.row) takes good
+
+pub returns-clause-kept : goal.returns-clause-kept
+returns-clause-kept g c =
+    let good = added c.args.draft.now c.add.new.self c.args.number (fields_of c.next_row.new.row) c.add.result c.at_row.result _ c.at_row.ensures.same c.in_ok-at_row.was c.add.ensures.exact in
+    row_after_keeps (table_of c.args.draft.now.lists) (table_of c.add.new.self.lists) c.args.draft.now.last c.add.new.self.last (fields_of c.next_row.new.row)
+    c.requires.draft.rows.read c.requires.kept.0 c.requires.kept.1 good

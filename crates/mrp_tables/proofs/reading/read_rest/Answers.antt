@@ -1,0 +1,22 @@
+use Rattle.std.proofs.Common.{rules, arith}
+use Rattle.std.proofs.lemmas.Result.{err_from_is_err_and}
+use Rattle.mrp_tables.specs.Left.{left_of, state_of}
+use Rattle.mrp_tables.proofs.Loop.{goes_to_fault, next_true}
+use Rattle.mrp_tables.proofs.reading.read_rest.Goals as goal
+
+pub returns-in_err-read_next-clause-exact : goal.returns-in_err-read_next-clause-exact
+returns-in_err-read_next-clause-exact g c =
+    let p = err_from_is_err_and c.from_residual.result c.from_residual.ensures.1 in
+    rw (p.1, p.2) (goes_to_fault (left_of g.R.Read.remaining c.args.rows.now) (left_of g.R.Read.remaining c.loop-number.rows) 2 c.loop-number.number
+    (state_of c.args.draft.now) (state_of c.loop-number.draft) _ c.loop-number.invariant.goes c.in_err-read_next.ensures.exact)
+
+pub loop-number-preserved : goal.loop-number-preserved
+loop-number-preserved g c = record {
+  draft = c.in_ok-read_next.ensures.draft;
+  rows = let more = c.in_ok-read_next.ensures.rows c.if-not-branch.false in omega arith;
+  steps = omega arith;
+  gives = c.in_ok-read_next.ensures.gives;
+  kept = c.in_ok-read_next.ensures.kept;
+  goes = next_true c.in_ok-read_next.field-0 (left_of g.R.Read.remaining c.args.rows.now) (left_of g.R.Read.remaining c.loop-number.rows) (left_of g.R.Read.remaining c.read_next.new.rows) 2 c.loop-number.number
+      (state_of c.args.draft.now) (state_of c.loop-number.draft) (state_of c.read_next.new.draft) c.if-not-branch.false c.loop-number.invariant.goes c.in_ok-read_next.ensures.exact;
+}

@@ -1,0 +1,30 @@
+use Rattle.std.proofs.lemmas.Result.{err_from_is_err_and}
+use Rattle.csv.specs.Records.{fields_of}
+use Rattle.mrp_tables.specs.Left.{left_of, state_of}
+use Rattle.mrp_tables.specs.Lists.{table_of}
+use Rattle.mrp_tables.proofs.Loop.{some_there}
+use Rattle.mrp_tables.proofs.Whole.{bad_first, first_fault, rest_fault, whole}
+use Rattle.mrp_tables.proofs.reading.read_rows.Goals as goal
+
+pub returns-in_err-next_row-clause-table : goal.returns-in_err-next_row-clause-table
+returns-in_err-next_row-clause-table g c =
+    let p = err_from_is_err_and c.from_residual.result c.from_residual.ensures.1 in
+    rw (p.1, p.2) (bad_first (left_of g.R.Read.remaining c.args.rows.now) _ c.in_err-next_row.ensures.exact)
+
+pub returns-in_err-draft-clause-table : goal.returns-in_err-draft-clause-table
+returns-in_err-draft-clause-table g c =
+    let p = err_from_is_err_and c.from_residual-in_err-draft.result c.from_residual-in_err-draft.ensures.1 in
+    let takes = some_there c.in_ok-next_row.field-0 (left_of g.R.Read.remaining c.args.rows.now) (left_of g.R.Read.remaining c.next_row.new.rows) 1 (fields_of c.next_row.new.row) c.if-not-branch.false c.in_ok-next_row.ensures.exact in
+    rw (p.1, p.2) (first_fault (left_of g.R.Read.remaining c.args.rows.now) (left_of g.R.Read.remaining c.next_row.new.rows) (fields_of c.next_row.new.row) _ takes c.in_err-draft.ensures.exact)
+
+pub returns-in_err-read_rest-clause-table : goal.returns-in_err-read_rest-clause-table
+returns-in_err-read_rest-clause-table g c =
+    let p = err_from_is_err_and c.from_residual-in_err-read_rest.result c.from_residual-in_err-read_rest.ensures.1 in
+    let takes = some_there c.in_ok-next_row.field-0 (left_of g.R.Read.remaining c.args.rows.now) (left_of g.R.Read.remaining c.next_row.new.rows) 1 (fields_of c.next_row.new.row) c.if-not-branch.false c.in_ok-next_row.ensures.exact in
+    rw (p.1, p.2) (rest_fault (left_of g.R.Read.remaining c.args.rows.now) (left_of g.R.Read.remaining c.next_row.new.rows) (fields_of c.next_row.new.row) c.in_ok-draft.draft _ takes c.in_ok-draft.ensures.exact c.in_err-read_rest.ensures.exact)
+
+pub returns-clause-table : goal.returns-clause-table
+returns-clause-table g c =
+    let takes = some_there c.in_ok-next_row.field-0 (left_of g.R.Read.remaining c.args.rows.now) (left_of g.R.Read.remaining c.next_row.new.rows) 1 (fields_of c.next_row.new.row) c.if-not-branch.false c.in_ok-next_row.ensures.exact in
+    whole (left_of g.R.Read.remaining c.args.rows.now) (left_of g.R.Read.remaining c.next_row.new.rows) (fields_of c.next_row.new.row) c.in_ok-draft.draft (table_of c.read_rest.new.draft.lists) _
+    takes c.in_ok-draft.ensures.exact c.in_ok-read_rest.ensures.exact c.accept.ensures.exact

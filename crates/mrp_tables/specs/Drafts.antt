@@ -1,0 +1,44 @@
+-- What the steps of reading answer, in the words of the grammar.
+use Rattle.std.specs.Prelude.{◌≡◌, ℕ, ◌<◌, true, List, ◌++◌, length, map, All, Some, None, Result, Ok, Err}
+use Rattle.mrp_tables.specs.declared.draft.Draft.{Draft}
+use Rattle.mrp_tables.specs.declared.fault.TableFaultKind.{TableFaultKind}
+use Rattle.mrp_tables.specs.declared.kind.Kind.TheVariants as kind
+use Rattle.mrp_tables.specs.Lists.{table_of}
+use Rattle.mrp_cal.specs.Calendar.{CalendarTerms}
+use Rattle.mrp_tables.specs.declared.numbers.PlantNo.{PlantNo}
+use Rattle.mrp_tables.specs.declared.rows.TheConstants.{MOST_PAIRS}
+use Rattle.mrp_tables.specs.Table.{Table}
+use Rattle.mrp_tables.specs.Spelling.{SourceTerms}
+use Rattle.mrp_tables.specs.Grammar.{knows_sources, named_sources, pair_named, PairTerms, plant_no, run_terms, seen, source_row}
+use Rattle.mrp_tables.specs.Reading.{empty_table, OfRows, row_after, Starts, StartsWith}
+
+-- a pair row that fits the rows before it, at that plant
+pub record FitsPair (N : Table) (p : PlantNo) (t : PairTerms) : Type 0 where
+  pub plant : plant_no N t.plant ≡ Some p.0
+  pub within : p.0 < length N.plants
+  pub fresh : pair_named N (Some p.0) t.item ≡ None
+  pub known : knows_sources N (named_sources t.supply) ≡ true
+  pub room : length N.pairs < MOST_PAIRS
+
+-- no row of a source or a shipment names the pair at that place, or one after it
+pub record IsNewPair (N : Table) (x : ℕ) : Type 0 where
+  pub sources : All (λ s. s.pair.0 < x) N.sources
+  pub ships : All (λ s. s.pair.0 < x) N.ships
+
+-- the table with these sources of a pair more
+abbrev pub with_sources : Table → ℕ → List SourceTerms → Table
+with_sources N x sources = record N { sources = N.sources ++ map (source_row N x) sources }
+
+-- the calendar of a run row, or why there is none
+abbrev pub TellsRun : Result CalendarTerms TableFaultKind → List (List ℕ) → Type 0
+TellsRun calendar row = StartsWith (run_terms row) (seen empty_table calendar)
+
+-- what the first row makes
+abbrev pub TellsFirst : Result Draft TableFaultKind → List (List ℕ) → Type 0
+TellsFirst (Ok d) row = Starts row (Ok (table_of d.lists)) × (d.last ≡ kind.Run)
+TellsFirst (Err e) row = OfRows e (Starts row (Err e))
+
+-- what one row more makes
+abbrev pub TellsAdded : Draft → Draft → Result (Unit {0}) TableFaultKind → List (List ℕ) → Type 0
+TellsAdded old new (Ok u) row = row_after (table_of old.lists, old.last) row ≡ Ok (table_of new.lists, new.last)
+TellsAdded old new (Err e) row = OfRows e (row_after (table_of old.lists, old.last) row ≡ Err e)
