@@ -1,13 +1,11 @@
 -- The edges join pairs of the table, however they are grouped.
-use Rattle.std.proofs.Common.{◌≡◌, ℕ, ◌+◌, ◌<◌, ◌≤◌, ◌++◌, eqb, List, length, get_or, map, slice_index, slice_range, refl, sym, ap, ◌∙◌, subst, arith}
+use Rattle.std.proofs.Common.{◌≡◌, ℕ, ◌+◌, eqb, List, length, map, slice_index, slice_range, ap, ◌∙◌, arith}
 use Rattle.std.specs.List.{All, filter}
 use Rattle.std.proofs.lemmas.List.Elements.{All-append, All-map, All-filter}
-use Rattle.mrp_tables.specs.declared.rows.BillRow.{BillRow}
-use Rattle.mrp_tables.specs.declared.rows.SourceRow.{SourceRow}
 use Rattle.mrp_tables.specs.Table.{Table, IsTable, IsPair}
 use Rattle.mrp_net.specs.declared.edge.Edge.{Edge}
 use Rattle.mrp_net.specs.Edges.{bill_edge, source_edge, edges, demanders, suppliers, IsEdge}
-use Rattle.mrp_net.specs.Groups.{group, sorted_by, IsGrouped}
+use Rattle.mrp_net.specs.Groups.{sorted_by}
 use Rattle.mrp_net.specs.Built.{by_demander, by_pair, AreDemanders, AreSuppliers}
 use Rattle.mrp_net.proofs.Sorting.{filter-sorted_by, group-sorted_by, All-sorted_by, IsGrouped-slice}
 

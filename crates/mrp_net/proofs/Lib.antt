@@ -4,3 +4,5 @@ pub mod Adding
 pub mod Summing
 pub mod Joining
 pub mod Naming
+pub mod Routing
+pub mod Sharing

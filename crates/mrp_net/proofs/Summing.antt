@@ -1,19 +1,24 @@
 -- Sums of a table's rows are within 64 bits, so nothing is cut off them.
-use Rattle.std.proofs.Common.{◌≡◌, ℕ, ◌+◌, ◌-◌, ◌*◌, ◌^◌, ◌<◌, ◌≤◌, ◌&&◌, Bool, true, false, cond, eqb, List, length, get_or, map, min, replicate, refl, sym, ap, ◌∙◌, subst, inl, inr, arith}
-use Rattle.std.specs.List.{All, sum_by}
-use Rattle.std.proofs.lemmas.Bool.{cond_both}
+use Rattle.std.proofs.Common.{◌≡◌, ℕ, ◌+◌, ◌-◌, ◌*◌, ◌^◌, ◌<◌, ◌≤◌, ◌&&◌, Bool, true, false, cond, eqb, List, [], ◌∷◌, length, get_or, map, min, replicate, refl, sym, ap, ◌∙◌, subst, inl, inr, arith}
+use Rattle.std.specs.List.{All, AllByRecursion, IsDistinct, sum_by}
+use Rattle.std.proofs.lemmas.Bool.{cond_both, cases_Bool, and_from, and_parts, eq-eqb, eqb-true, false_from_ne_true, true≢false}
 use Rattle.std.proofs.lemmas.List.{get_or-replicate, get_or-map, length-replicate, length-map}
-use Rattle.std.proofs.lemmas.List.Sums.{sum_by-le}
+use Rattle.std.proofs.lemmas.List.Elements.{All-head, All-tail}
+use Rattle.std.proofs.lemmas.List.Sums.{sum_by-cons, sum_by-le}
+use Rattle.std.proofs.lemmas.Map.Keys.{IsDistinct-head, IsDistinct-tail}
 use Rattle.std.proofs.lemmas.Nat.{mul-add-lt}
 use Rattle.std.proofs.Math.Nat.{mul_comm}
+use Rattle.mrp_qty.specs.declared.quantity.TheConstants.{MOST}
 use Rattle.mrp_tables.specs.declared.rows.TheConstants.{MOST_IN_ROW, MOST_OF_A_KIND}
 use Rattle.mrp_tables.specs.declared.rows.DemandRow.{DemandRow}
 use Rattle.mrp_tables.specs.declared.rows.ReceiptRow.{ReceiptRow}
 use Rattle.mrp_tables.specs.declared.rows.ShipRow.{ShipRow}
 use Rattle.mrp_tables.specs.declared.rows.CumRow.{CumRow}
-use Rattle.mrp_tables.specs.Table.{Table, IsTable, IsPair, horizon}
-use Rattle.mrp_net.specs.Added.{sum_of, sum_in, AddsTotals, AddsPeriods}
+use Rattle.mrp_tables.specs.Table.{Table, IsTable, IsPair, horizon, is_same_cum}
+use Rattle.mrp_net.specs.Added.{sum_of, sum_in, AddsTotals, AddsAmounts}
 use Rattle.mrp_net.specs.Sums.{pair_at, no_pair, demand, demand_total, received, received_total, shipped, shipped_total, incoming, supply}
+use Rattle.mrp_net.specs.Lanes.{figure, shipped_from}
+use Rattle.mrp_net.specs.Routes.{AreSent}
 use Rattle.mrp_net.specs.Built.{AreTotals, ArePeriods, capped_supply}
 
 -- some of at most 10^6 amounts of at most 10^12 are at most 10^18
@@ -38,7 +43,7 @@ shipped_within N is x t = some_within (λ s. eqb s.pair.0 x && eqb s.period t) (
 pub place_within : (N : Table) (amounts : List ℕ) (x t : ℕ) → length amounts ≡ length N.pairs * horizon N → IsPair N x → t < horizon N → x * horizon N + t < length amounts
 place_within N amounts x t size h g = omega (arith, size, mul-add-lt x (horizon N) t (length N.pairs) h g, mul_comm (horizon N) (length N.pairs))
 
-pub demand_built : (N : Table) (before after : List ℕ) → IsTable N → before ≡ replicate (length N.pairs * horizon N) 0 → length after ≡ length before → AddsPeriods (λ (d : DemandRow). d.pair.0) (λ d. d.period) (λ d. d.quantity) (horizon N) N.demands before after → ArePeriods N (demand N) after
+pub demand_built : (N : Table) (before after : List ℕ) → IsTable N → before ≡ replicate (length N.pairs * horizon N) 0 → length after ≡ length before → AddsAmounts (λ (d : DemandRow). d.pair.0) (λ d. d.period) (λ d. d.quantity) (horizon N) N.demands before after → ArePeriods N (demand N) after
 demand_built N before after is zeros same adds =
     let room : length before ≡ length N.pairs * horizon N = ap length zeros ∙ length-replicate (length N.pairs * horizon N) 0 in
     record {
@@ -49,7 +54,7 @@ demand_built N before after is zeros same adds =
           omega (arith, adds x t g within, was, demand_within N is x t);
     }
 
-pub incoming_built : (N : Table) (before between after : List ℕ) → IsTable N → before ≡ replicate (length N.pairs * horizon N) 0 → length between ≡ length before → length after ≡ length between → AddsPeriods (λ (r : ReceiptRow). r.pair.0) (λ r. r.period) (λ r. r.quantity) (horizon N) N.receipts before between → AddsPeriods (λ (s : ShipRow). s.pair.0) (λ s. s.period) (λ s. s.quantity) (horizon N) N.ships between after → ArePeriods N (incoming N) after
+pub incoming_built : (N : Table) (before between after : List ℕ) → IsTable N → before ≡ replicate (length N.pairs * horizon N) 0 → length between ≡ length before → length after ≡ length between → AddsAmounts (λ (r : ReceiptRow). r.pair.0) (λ r. r.period) (λ r. r.quantity) (horizon N) N.receipts before between → AddsAmounts (λ (s : ShipRow). s.pair.0) (λ s. s.period) (λ s. s.quantity) (horizon N) N.ships between after → ArePeriods N (incoming N) after
 incoming_built N before between after is zeros same again adds more =
     let room : length before ≡ length N.pairs * horizon N = ap length zeros ∙ length-replicate (length N.pairs * horizon N) 0 in
     record {
@@ -78,4 +83,62 @@ supplies_built N before with_receipts with_ships after is same1 same2 same3 adds
       each = λ x h.
           let was : get_or before x 0 ≡ (pair_at N x).on_hand = ap (λ (z : List ℕ). get_or z x 0) is ∙ get_or-map (λ p. p.on_hand) N.pairs x no_pair 0 h in
           omega (arith, adds1 x (omega arith), adds2 x (omega arith), adds3 x (omega arith), was);
+    }
+
+pub shipped_from_within : (N : Table) → IsTable N → (x p : ℕ) → shipped_from N x p ≤ 10 ^ 18
+shipped_from_within N is x p = some_within (λ s. eqb s.pair.0 x && eqb s.from.0 p) (λ s. s.quantity) N.ships (λ k d h. (is.read.ships k d h).quantity) is.read.limits.ships
+
+pub sender_within : (N : Table) (amounts : List ℕ) (x p : ℕ) → length amounts ≡ length N.pairs * length N.plants → IsPair N x → p < length N.plants → x * length N.plants + p < length amounts
+sender_within N amounts x p size h g = omega (arith, size, mul-add-lt x (length N.plants) p (length N.pairs) h g, mul_comm (length N.plants) (length N.pairs))
+
+pub shipped_built : (N : Table) (before after : List ℕ) → IsTable N → before ≡ replicate (length N.pairs * length N.plants) 0 → length after ≡ length before → AddsAmounts (λ (s : ShipRow). s.pair.0) (λ s. s.from.0) (λ s. s.quantity) (length N.plants) N.ships before after → AreSent N (shipped_from N) after
+shipped_built N before after is zeros same adds =
+    let room : length before ≡ length N.pairs * length N.plants = ap length zeros ∙ length-replicate (length N.pairs * length N.plants) 0 in
+    record {
+      size = same ∙ room;
+      each = λ x p h g.
+          let within = sender_within N before x p room h g in
+          let was : get_or before (x * length N.plants + p) 0 ≡ 0 = ap (λ (z : List ℕ). get_or z (x * length N.plants + p) 0) zeros ∙ get_or-replicate (length N.pairs * length N.plants) (x * length N.plants + p) 0 0 (omega arith) in
+          omega (arith, adds x p g within, was, shipped_from_within N is x p);
+    }
+
+-- a plant's cumulative figure for a pair stands once, so it is that of one row at most
+abbrev is_of : ℕ → ℕ → CumRow → Bool
+is_of x p c = eqb c.pair.0 x && eqb c.from.0 p
+
+no_more_figures : (x p : ℕ) (c : CumRow) (rows : List CumRow) → is_of x p c ≡ true → AllByRecursion (λ d. is_same_cum c d ≡ false) rows → sum_by (λ d. cond (is_of x p d) d.figure 0) rows ≡ 0
+no_more_figures x p c [] here apart = refl
+no_more_figures x p c (d ∷ rows) here apart =
+    let first = apart.0 in
+    let parts = and_parts (eqb c.pair.0 x) (eqb c.from.0 p) here in
+    let other : is_of x p d ≡ false = false_from_ne_true (is_of x p d) (λ t. let both = and_parts (eqb d.pair.0 x) (eqb d.from.0 p) t in
+    true≢false (sym (and_from (eqb c.from.0 d.from.0) (eqb c.pair.0 d.pair.0)
+    (eq-eqb c.from.0 d.from.0 (eqb-true c.from.0 p parts.1 ∙ sym (eqb-true d.from.0 p both.1)))
+    (eq-eqb c.pair.0 d.pair.0 (eqb-true c.pair.0 x parts.0 ∙ sym (eqb-true d.pair.0 x both.0)))) ∙ first)) in
+    omega (arith, sum_by-cons (λ d. cond (is_of x p d) d.figure 0) d rows, ap (λ (b : Bool). cond b d.figure 0) other, no_more_figures x p c rows here apart.1)
+
+one_figure : (x p : ℕ) (rows : List CumRow) → IsDistinct is_same_cum rows → All (λ c. c.figure ≤ MOST) rows → sum_by (λ d. cond (is_of x p d) d.figure 0) rows ≤ MOST
+one_figure x p [] once small = omega arith
+one_figure x p (c ∷ rows) once small =
+    let sum = sum_by-cons (λ d. cond (is_of x p d) d.figure 0) c rows in
+    elim (cases_Bool (is_of x p c)) as (λ _. sum_by (λ d. cond (is_of x p d) d.figure 0) (c ∷ rows) ≤ MOST) [
+      | inl here ↦
+          let apart = IsDistinct-head is_same_cum c rows once in
+          omega (arith, sum, ap (λ (b : Bool). cond b c.figure 0) here, no_more_figures x p c rows here apart, All-head (λ c. c.figure ≤ MOST) c rows small)
+      | inr other ↦
+          omega (arith, sum, ap (λ (b : Bool). cond b c.figure 0) other, one_figure x p rows (IsDistinct-tail is_same_cum c rows once) (All-tail (λ c. c.figure ≤ MOST) c rows small))
+    ]
+
+pub figure_within : (N : Table) → IsTable N → (x p : ℕ) → figure N x p ≤ MOST
+figure_within N is x p = one_figure x p N.cums is.once.cums (λ k d h. (is.read.cums k d h).figure)
+
+pub figures_built : (N : Table) (before after : List ℕ) → IsTable N → before ≡ replicate (length N.pairs * length N.plants) 0 → length after ≡ length before → AddsAmounts (λ (c : CumRow). c.pair.0) (λ c. c.from.0) (λ c. c.figure) (length N.plants) N.cums before after → AreSent N (figure N) after
+figures_built N before after is zeros same adds =
+    let room : length before ≡ length N.pairs * length N.plants = ap length zeros ∙ length-replicate (length N.pairs * length N.plants) 0 in
+    record {
+      size = same ∙ room;
+      each = λ x p h g.
+          let within = sender_within N before x p room h g in
+          let was : get_or before (x * length N.plants + p) 0 ≡ 0 = ap (λ (z : List ℕ). get_or z (x * length N.plants + p) 0) zeros ∙ get_or-replicate (length N.pairs * length N.plants) (x * length N.plants + p) 0 0 (omega arith) in
+          omega (arith, adds x p g within, was, figure_within N is x p);
     }

@@ -1,8 +1,8 @@
 -- What the lists of a built network hold.
-use Rattle.std.specs.Prelude.{◌≡◌, ℕ, ◌+◌, ◌-◌, ◌*◌, ◌^◌, ◌<◌, min, List, length, All, slice_index}
+use Rattle.std.specs.Prelude.{◌≡◌, ℕ, ◌+◌, ◌-◌, ◌*◌, ◌^◌, ◌<◌, min, List, length, slice_index}
 use Rattle.mrp_tables.specs.Table.{Table, IsTable, IsPair, horizon}
 use Rattle.mrp_net.specs.declared.edge.Edge.{Edge}
-use Rattle.mrp_net.specs.Edges.{edges, IsEdge}
+use Rattle.mrp_net.specs.Edges.{edges}
 use Rattle.mrp_net.specs.Groups.{sorted_by, IsGrouped}
 use Rattle.mrp_net.specs.Sums.{demand, demand_total, incoming, supply}
 

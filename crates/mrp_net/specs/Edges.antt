@@ -1,7 +1,6 @@
 -- Who takes from whom: the edges of a network, read off its rows.
-use Rattle.std.specs.Prelude.{◌≡◌, ℕ, ◌+◌, ◌-◌, ◌*◌, ◌/◌, ◌<◌, ◌≤◌, ◌==◌, List, ◌++◌, length, map, filter}
+use Rattle.std.specs.Prelude.{ℕ, ◌-◌, ◌*◌, ◌/◌, ◌<◌, ◌≤◌, ◌==◌, List, ◌++◌, length, map, filter}
 use Rattle.std.specs.List.{flat_map, range_with_len}
-use Rattle.mrp_tables.specs.declared.numbers.PairNo.{PairNo}
 use Rattle.mrp_tables.specs.declared.rows.BillRow.{BillRow}
 use Rattle.mrp_tables.specs.declared.rows.SourceRow.{SourceRow}
 use Rattle.mrp_tables.specs.declared.rows.TheConstants.{MOST_PER}

@@ -6,3 +6,6 @@ pub mod Groups
 pub mod Counts
 pub mod Added
 pub mod Built
+pub mod Lanes
+pub mod Routes
+pub mod Laws

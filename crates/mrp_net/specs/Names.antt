@@ -1,5 +1,5 @@
 -- The names of pairs.
-use Rattle.std.specs.Prelude.{◌≡◌, ℕ, List, slice_get, Option, Some}
+use Rattle.std.specs.Prelude.{◌≡◌, ℕ, List, slice_get, Some}
 use Rattle.mrp_tables.specs.Table.{Table, IsPair}
 use Rattle.mrp_net.specs.Sums.{pair_at}
 

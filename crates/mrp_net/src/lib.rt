@@ -7,9 +7,13 @@
 mod build;
 mod edge;
 mod group;
+mod lane;
+mod lanes;
+pub mod laws;
 mod network;
 mod sums;
 
 pub use edge::Edge;
+pub use lane::{Lane, LaneKind, LaneNo, Shipment};
 pub use mrp_tables::{ItemNo, PairNo, PairRow, PlantNo, Supply};
 pub use network::Network;

@@ -1,11 +1,14 @@
-ghost use Rattle.std.specs.Prelude.{◌≡◌, ◌<◌, ◌≤◌, ◌^◌, ◌-◌, ℕ, min, length, slice_get, Option, Some, None, IfSome, IfNone, IfOk, Contains, All};
+ghost use Rattle.std.specs.Prelude.{◌≡◌, ◌<◌, ◌≤◌, ◌^◌, ◌-◌, ◌+◌, ◌*◌, ℕ, min, length, slice_get, Option, Some, None, IfSome, IfNone, IfOk, Contains, All};
 ghost use Rattle.mrp_tables.specs.Table.{Table, IsTable, horizon, IsPair};
 ghost use Rattle.mrp_net.specs.Edges.{demanders, suppliers, IsEdge};
 ghost use Rattle.mrp_net.specs.Sums.{pair_at, demand, demand_total, incoming, supply};
 ghost use Rattle.mrp_net.specs.Names.{IsNamed};
+ghost use Rattle.mrp_net.specs.Lanes.{lanes, lane_at, lane_items, opening, shipments, pair_on, customer_of, supplier_of};
+ghost use Rattle.mrp_net.specs.Routes.{route_no, IsLane};
 
 use crate::group::Groups;
-use crate::{Edge, build};
+use crate::lane::{Lane, LaneKind, LaneNo, Shipment};
+use crate::{Edge, build, lanes};
 use mrp_cal::Calendar;
 use mrp_qty::{Horizon, Memory};
 use mrp_tables::{ItemNo, PairNo, PairRow, PlantNo, Tables};
@@ -25,17 +28,23 @@ pub struct Network {
     incoming: Vec<u64>,
     demand_totals: Vec<u64>,
     supplies: Vec<u64>,
+    lanes: Vec<Lane>,
+    items: Groups<ItemNo>,
+    shipments: Groups<Shipment>,
+    figures: Vec<u64>,
+    shipped: Vec<u64>,
 }
 
 impl Model for Network {
     ghost use Rattle.mrp_tables.specs.Table.{Table};
     ghost use Rattle.mrp_net.specs.Built.{IsBuilt};
+    ghost use Rattle.mrp_net.specs.Routes.{AreBuiltLanes};
 
     ghost Value = { Table };
 
     ghost view = { λ n. n.tables };
 
-    ghost invariant = { λ n. IsBuilt n.tables n.demanders.rows.items n.demanders.starts.items n.suppliers.rows.items n.suppliers.starts.items n.demand.items n.incoming.items n.demand_totals.items n.supplies.items };
+    ghost invariant = { λ n. record { rows : IsBuilt n.tables n.demanders.rows.items n.demanders.starts.items n.suppliers.rows.items n.suppliers.starts.items n.demand.items n.incoming.items n.demand_totals.items n.supplies.items; lanes : AreBuiltLanes n.tables n.lanes.items n.items.rows.items n.items.starts.items n.shipments.rows.items n.shipments.starts.items n.figures.items n.shipped.items } };
 }
 
 impl Network {
@@ -54,6 +63,11 @@ impl Network {
         let incoming = build::incoming_rows(alloc, &tables)?;
         let demand_totals = build::demand_totals(alloc, &tables)?;
         let supplies = build::supplies(alloc, &tables)?;
+        let items = lanes::items(alloc, &tables)?;
+        let all_lanes = lanes::all_lanes(alloc, &tables, &items)?;
+        let shipments = lanes::shipments(alloc, &tables)?;
+        let figures = lanes::figures(alloc, &tables)?;
+        let shipped = lanes::shipped(alloc, &tables)?;
         Ok(Network {
             tables,
             demanders,
@@ -62,6 +76,11 @@ impl Network {
             incoming,
             demand_totals,
             supplies,
+            lanes: all_lanes,
+            items,
+            shipments,
+            figures,
+            shipped,
         })
     }
 
@@ -97,6 +116,7 @@ impl Network {
     /// The pair of the plant and the item with these names, or `None` where the table has none.
     pub fn find(&self, plant: &str, item: &str) -> Option<PairNo>
         ensures found { IfSome result (λ x. IsNamed self.now x.0 plant.now item.now) }
+        ensures missing { IfNone result ((x : ℕ) → ¬ (IsNamed self.now x plant.now item.now)) }
     {
         let plant = self.tables.find_plant(plant)?;
         let item = self.tables.find_item(item)?;
@@ -200,5 +220,78 @@ impl Network {
         ensures edges { All (IsEdge self.now) result.now }
     {
         self.suppliers.get(x.0)
+    }
+
+    /// The number of lanes: two for each customer plant and supplier plant that it takes items from.
+    pub fn lanes(&self) -> usize
+        ensures { result ≡ length (lanes self.now) }
+    {
+        self.lanes.len()
+    }
+
+    /// The lane of that number.
+    pub fn lane(&self, l: LaneNo) -> Lane
+        requires { l.0 < length (lanes self.now) }
+        ensures value { result ≡ lane_at self.now l.0 }
+        ensures plants { IsLane self.now result }
+    {
+        self.lanes[l.0]
+    }
+
+    /// The items of a lane, in table order of the customer's pairs.
+    pub fn lane_items(&self, l: LaneNo) -> &[ItemNo]
+        requires { l.0 < length (lanes self.now) }
+        ensures value { result.now ≡ lane_items self.now (lane_at self.now l.0) }
+        ensures items { All (λ item. item.0 < length self.now.items) result.now }
+    {
+        let route = self.route(self.lane(l));
+        self.items.get(route)
+    }
+
+    /// Where the cumulative figures of an item of the lane begin, in pieces: on a despatch lane the
+    /// opening figure, at most 10^15, on a schedule lane that and all shipments of the table, at most
+    /// 10^18 more.
+    pub fn opening(&self, l: LaneNo, item: ItemNo) -> u64
+        requires lane { l.0 < length (lanes self.now) }
+        requires item { Contains (lane_items self.now (lane_at self.now l.0)) item }
+        ensures { result ≡ opening self.now (lane_at self.now l.0) item }
+    {
+        let lane = self.lane(l);
+        let at = self.place(lane, item);
+        match lane.kind {
+            LaneKind::Despatch => self.figures[at],
+            LaneKind::Schedule => self.figures[at] + self.shipped[at],
+        }
+    }
+
+    /// The shipments of an item of the lane that are on their way from the supplier to the customer,
+    /// in table order.
+    pub fn shipments(&self, l: LaneNo, item: ItemNo) -> &[Shipment]
+        requires lane { l.0 < length (lanes self.now) }
+        requires item { Contains (lane_items self.now (lane_at self.now l.0)) item }
+        ensures { result.now ≡ shipments self.now (lane_at self.now l.0) item }
+    {
+        let at = self.place(self.lane(l), item);
+        self.shipments.get(at)
+    }
+
+    /// The number of a lane's route.
+    fn route(&self, lane: Lane) -> usize
+        requires { IsLane self.now lane }
+        ensures { result ≡ route_no self.now (customer_of lane) (supplier_of lane) }
+    {
+        let _pairs = self.tables.pairs();
+        lane.customer().0 * self.plants() + lane.supplier().0
+    }
+
+    /// The place of what a lane's supplier sends to the customer's pair of an item.
+    fn place(&self, lane: Lane, item: ItemNo) -> usize
+        requires plants { IsLane self.now lane }
+        requires item { Contains (lane_items self.now lane) item }
+        ensures value { result ≡ pair_on self.now lane item * length self.now.plants + supplier_of lane }
+        ensures pair { IsPair self.now (pair_on self.now lane item) }
+    {
+        let x = self.tables.find_pair(lane.customer(), item).unwrap();
+        x.0 * self.plants() + lane.supplier().0
     }
 }

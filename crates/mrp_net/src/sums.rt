@@ -1,6 +1,7 @@
 ghost use Rattle.std.specs.Prelude.{◌≡◌, ℕ, ◌+◌, ◌*◌, ◌<◌, length, All};
-ghost use Rattle.mrp_net.specs.Added.{AddsTotals, AddsPeriods};
+ghost use Rattle.mrp_net.specs.Added.{AddsTotals, AddsAmounts};
 
+use crate::group::KeyOf;
 use mrp_tables::{CumRow, DemandRow, ReceiptRow, ShipRow};
 
 /// A row that says an amount of a pair.
@@ -18,15 +19,6 @@ pub trait OfPair {
         ensures { result ≡ amount_of self.now };
 }
 
-/// A row that says an amount of a pair in a period.
-pub trait InPeriod: OfPair {
-    ghost period_of: { Self → ℕ };
-
-    /// The period.
-    fn period(&self) -> usize
-        ensures { result ≡ period_of self.now };
-}
-
 /// Adds the amounts of the rows to `totals`, which has a number for each pair. A sum past 2^64 - 1
 /// stays there.
 pub fn add_totals<R: OfPair>(rows: &[R], totals: &mut [u64])
@@ -39,16 +31,63 @@ pub fn add_totals<R: OfPair>(rows: &[R], totals: &mut [u64])
     }
 }
 
-/// Adds the amounts of the rows to `amounts`, which has a number for each period of each pair, pair
-/// by pair. A sum past 2^64 - 1 stays there.
-pub fn add_periods<R: InPeriod>(rows: &[R], periods: usize, amounts: &mut [u64])
-    requires places { All (λ r. R.pair_of r * periods + R.period_of r < length amounts.old) rows.now }
-    requires periods { All (λ r. R.period_of r < periods) rows.now }
-    ensures { AddsPeriods R.pair_of R.period_of R.amount_of periods rows.now amounts.old amounts.new }
+/// Adds the amounts of the rows to `amounts`, which has `width` numbers for each pair, pair by pair:
+/// the key of a row says which of them, as its period. A sum past 2^64 - 1 stays there.
+pub fn add_amounts<R: OfPair, K: KeyOf<R>>(by: &K, rows: &[R], width: usize, amounts: &mut [u64])
+    requires has { All (K.has_key by.now) rows.now }
+    requires places { All (λ r. R.pair_of r * width + K.key_of by.now r < length amounts.old) rows.now }
+    requires keys { All (λ r. K.key_of by.now r < width) rows.now }
+    ensures { AddsAmounts R.pair_of (K.key_of by.now) R.amount_of width rows.now amounts.old amounts.new }
 {
     for row in rows {
-        let at = row.pair() * periods + row.period();
+        let at = row.pair() * width + by.key(row);
         amounts[at] = amounts[at].saturating_add(row.amount());
+    }
+}
+
+/// The period of a row as its key.
+pub struct ByPeriod;
+
+impl KeyOf<DemandRow> for ByPeriod {
+    ghost key_of = { λ _ d. d.period };
+
+    fn key(&self, row: &DemandRow) -> usize {
+        row.period
+    }
+}
+
+impl KeyOf<ReceiptRow> for ByPeriod {
+    ghost key_of = { λ _ r. r.period };
+
+    fn key(&self, row: &ReceiptRow) -> usize {
+        row.period
+    }
+}
+
+impl KeyOf<ShipRow> for ByPeriod {
+    ghost key_of = { λ _ s. s.period };
+
+    fn key(&self, row: &ShipRow) -> usize {
+        row.period
+    }
+}
+
+/// The sending plant of a row as its key.
+pub struct BySender;
+
+impl KeyOf<ShipRow> for BySender {
+    ghost key_of = { λ _ s. s.from.0 };
+
+    fn key(&self, row: &ShipRow) -> usize {
+        row.from.0
+    }
+}
+
+impl KeyOf<CumRow> for BySender {
+    ghost key_of = { λ _ c. c.from.0 };
+
+    fn key(&self, row: &CumRow) -> usize {
+        row.from.0
     }
 }
 
@@ -66,14 +105,6 @@ impl OfPair for DemandRow {
     }
 }
 
-impl InPeriod for DemandRow {
-    ghost period_of = { λ d. d.period };
-
-    fn period(&self) -> usize {
-        self.period
-    }
-}
-
 impl OfPair for ReceiptRow {
     ghost pair_of = { λ r. r.pair.0 };
 
@@ -88,14 +119,6 @@ impl OfPair for ReceiptRow {
     }
 }
 
-impl InPeriod for ReceiptRow {
-    ghost period_of = { λ r. r.period };
-
-    fn period(&self) -> usize {
-        self.period
-    }
-}
-
 impl OfPair for ShipRow {
     ghost pair_of = { λ s. s.pair.0 };
 
@@ -107,14 +130,6 @@ impl OfPair for ShipRow {
 
     fn amount(&self) -> u64 {
         self.quantity.get()
-    }
-}
-
-impl InPeriod for ShipRow {
-    ghost period_of = { λ s. s.period };
-
-    fn period(&self) -> usize {
-        self.period
     }
 }
 

@@ -1,0 +1,198 @@
+-- The parts of a release over a pair's sources make the release, and pairs stand once.
+use Rattle.std.proofs.Common.{◌≡◌, ℕ, suc, zero, ◌+◌, ◌-◌, ◌*◌, ◌/◌, ◌<◌, ◌≤◌, ◌&&◌, Bool, true, false, not, cond, eqb, ltb, List, [], ◌∷◌, ◌++◌, inl, inr, length, get_or, map, Some, refl, sym, ap, ◌∙◌, subst, arith}
+use Rattle.std.specs.List.{All, filter, sum_by, slice_get, position_or_len, IsDistinct}
+use Rattle.std.specs.Option.{unwrap_or, option_map}
+use Rattle.std.proofs.lemmas.Bool.{cases_Bool, cases_order, cases_eq, cases_lt, eqb-true, eq-eqb, ne_eqb, and_from, and_parts, true≢false}
+use Rattle.std.proofs.lemmas.Bool.Decides.{nat_tests}
+use Rattle.std.proofs.lemmas.List.Elements.{All-head, All-tail, All-filter, All-append, All-map, filter-append}
+use Rattle.std.proofs.lemmas.List.Sums.{sum_by-cons, sum_by-append, prefix_len-le-length, passes_at_first, fails_before_first}
+use Rattle.std.proofs.lemmas.Map.Keys.{apart_from_distinct}
+use Rattle.std.proofs.lemmas.Nat.{le-div}
+use Rattle.std.proofs.lemmas.Option.{slice_get-get_or}
+use Rattle.std.proofs.Math.Nat.{div-mul-le_self, mul-div_cancel, mul-le-mul_left}
+use Rattle.mrp_tables.specs.declared.rows.BillRow.{BillRow}
+use Rattle.mrp_tables.specs.declared.rows.PairRow.{PairRow}
+use Rattle.mrp_tables.specs.declared.rows.SourceRow.{SourceRow}
+use Rattle.mrp_tables.specs.declared.rows.Supply.{Supply}
+use Rattle.mrp_tables.specs.declared.rows.Supply.TheVariants.{Make, Buy, From}
+use Rattle.mrp_tables.specs.Table.{Table, IsTable, IsPair, IsSourceRow, AreShares, HasSupply, is_same_pair, pair_no, sources_of_pair, supply_at}
+use Rattle.mrp_net.specs.declared.edge.Edge.{Edge}
+use Rattle.mrp_net.specs.Edges.{part, edge_need, bill_edge, source_edge, edges, suppliers, IsEdge}
+use Rattle.mrp_net.specs.Groups.{group, sorted_by}
+use Rattle.mrp_net.specs.Laws.{PartsAreWhole, NeedsAreWhole, OthersHaveNoSources, OthersHaveComponents, BoughtHaveNoEdges, PairsAreFound}
+use Rattle.mrp_net.specs.Sums.{pair_at, no_pair}
+use Rattle.mrp_net.proofs.Grouping.{sorted_by-suc}
+use Rattle.mrp_net.proofs.Joining.{edges_join}
+use Rattle.mrp_net.proofs.Naming.{place_of}
+use Rattle.mrp_net.proofs.Routing.{filter-map}
+use Rattle.mrp_net.proofs.Sorting.{filter_none}
+
+-- a running share of a release rises with the share, and the whole share is the release
+share-le : (release low high : ℕ) → low ≤ high → release * low / 1000 ≤ release * high / 1000
+share-le release low high h =
+    le-div (release * low / 1000) (release * high) 1000 (omega arith) (omega (arith, div-mul-le_self (release * low) 1000, mul-le-mul_left release h))
+
+share-whole : (release : ℕ) → release * 1000 / 1000 ≡ release
+share-whole release = mul-div_cancel release (omega arith)
+
+-- what sources whose shares go from `low` to the whole ask of a release
+rest_of_shares : (N : Table) (release low : ℕ) (ss : List SourceRow) → AreShares low ss → All (IsSourceRow N) ss → low ≤ 1000 → sum_by (λ s. part (source_edge N s) release) ss + release * low / 1000 ≡ release
+unfolding AreShares
+rest_of_shares N release low [] shares rows small = ap (λ (z : ℕ). 0 + release * z / 1000) shares ∙ omega (arith, share-whole release)
+rest_of_shares N release low (s ∷ ss) shares rows small =
+    let row = All-head (IsSourceRow N) s ss rows in
+    let rest = rest_of_shares N release s.high ss shares.1 (All-tail (IsSourceRow N) s ss rows) row.ends in
+    let up : release * low / 1000 ≤ release * s.high / 1000 = share-le release low s.high (omega (arith, shares.0, row.rises)) in
+    let here : part (source_edge N s) release ≡ release * s.high / 1000 - release * low / 1000 = ap (λ (z : ℕ). release * s.high / 1000 - release * z / 1000) shares.0 in
+    omega (arith, sum_by-cons (λ s. part (source_edge N s) release) s ss, here, rest, up)
+
+zero_share : (release : ℕ) → release * 0 / 1000 ≡ 0
+zero_share release = omega arith
+
+-- the supply of a pair
+supply_is : (N : Table) (x : ℕ) → IsPair N x → supply_at N x ≡ (pair_at N x).supply
+supply_is N x h = ap (λ o. unwrap_or (option_map (λ (p : PairRow). p.supply) o) Buy) (slice_get-get_or N.pairs x no_pair h)
+
+shares_of : (N : Table) (x : ℕ) → IsTable N → IsPair N x → (pair_at N x).supply ≡ From → AreShares 0 (sources_of_pair N x)
+shares_of N x table h from = subst (λ (z : Supply). HasSupply z (sources_of_pair N x)) (supply_is N x h ∙ from) (table.sourced.supplies x h)
+
+pub parts_are_whole : PartsAreWhole
+parts_are_whole N table x h from release =
+    omega (arith, zero_share release, rest_of_shares N release 0 (sources_of_pair N x) (shares_of N x table h from) (All-filter (λ s. eqb s.pair.0 x) (IsSourceRow N) N.sources table.read.sources) (omega arith))
+
+-- a sum over sorted rows
+sum_filter : {X : Type 0} (f : X → ℕ) (p : X → Bool) (xs : List X) → sum_by f (filter p xs) ≡ sum_by (λ x. cond (p x) (f x) 0) xs
+sum_filter f p [] = refl
+sum_filter {X} f p (x ∷ xs) =
+    elim (cases_Bool (p x)) as (λ _. sum_by f (filter p (x ∷ xs)) ≡ sum_by (λ x. cond (p x) (f x) 0) (x ∷ xs)) [
+      | inl in_p ↦
+          ap (λ (b : Bool). sum_by f (cond b (x ∷ filter p xs) (filter p xs))) in_p
+          ∙ sum_by-cons f x (filter p xs)
+          ∙ omega (arith, sum_filter f p xs, sum_by-cons (λ x. cond (p x) (f x) 0) x xs, ap (λ (b : Bool). cond b (f x) 0) in_p)
+      | inr not_p ↦
+          ap (λ (b : Bool). sum_by f (cond b (x ∷ filter p xs) (filter p xs))) not_p
+          ∙ omega (arith, sum_filter f p xs, sum_by-cons (λ x. cond (p x) (f x) 0) x xs, ap (λ (b : Bool). cond b (f x) 0) not_p)
+    ]
+
+one_key_more : (a k n : ℕ) → cond (ltb a (suc k)) n 0 ≡ cond (ltb a k) n 0 + cond (eqb a k) n 0
+one_key_more a k n = grind (arith, nat_tests)
+
+keys_more : {X : Type 0} (f : X → ℕ) (key : X → ℕ) (k : ℕ) (xs : List X) → sum_by (λ x. cond (ltb (key x) (suc k)) (f x) 0) xs ≡ sum_by (λ x. cond (ltb (key x) k) (f x) 0) xs + sum_by (λ x. cond (eqb (key x) k) (f x) 0) xs
+keys_more f key k [] = refl
+keys_more f key k (x ∷ xs) =
+    omega (arith, sum_by-cons (λ x. cond (ltb (key x) (suc k)) (f x) 0) x xs, sum_by-cons (λ x. cond (ltb (key x) k) (f x) 0) x xs, sum_by-cons (λ x. cond (eqb (key x) k) (f x) 0) x xs, one_key_more (key x) k (f x), keys_more f key k xs)
+
+no_key : (a n : ℕ) → cond (ltb a 0) n 0 ≡ 0
+no_key a n = grind (arith, nat_tests)
+
+keys_none : {X : Type 0} (f : X → ℕ) (key : X → ℕ) (xs : List X) → sum_by (λ x. cond (ltb (key x) 0) (f x) 0) xs ≡ 0
+keys_none f key [] = refl
+keys_none f key (x ∷ xs) = omega (arith, sum_by-cons (λ x. cond (ltb (key x) 0) (f x) 0) x xs, no_key (key x) (f x), keys_none f key xs)
+
+sum_below : {X : Type 0} (f : X → ℕ) (key : X → ℕ) (n : ℕ) (xs : List X) → sum_by f (sorted_by key n xs) ≡ sum_by (λ x. cond (ltb (key x) n) (f x) 0) xs
+sum_below f key zero xs = sym (keys_none f key xs)
+sum_below f key (suc n) xs =
+    ap (sum_by f) (sorted_by-suc key n xs)
+    ∙ sum_by-append f (sorted_by key n xs) (group key n xs)
+    ∙ omega (arith, sum_below f key n xs, sum_filter f (λ x. eqb (key x) n) xs, keys_more f key n xs)
+
+key_below : (a k n : ℕ) → a < k → cond (ltb a k) n 0 ≡ n
+key_below a k n h = grind (arith, nat_tests)
+
+keys_all : {X : Type 0} (f : X → ℕ) (key : X → ℕ) (n : ℕ) (xs : List X) → All (λ x. key x < n) xs → sum_by (λ x. cond (ltb (key x) n) (f x) 0) xs ≡ sum_by f xs
+keys_all f key n [] h = refl
+keys_all f key n (x ∷ xs) h =
+    omega (arith, sum_by-cons (λ x. cond (ltb (key x) n) (f x) 0) x xs, sum_by-cons f x xs, key_below (key x) n (f x) (All-head (λ x. key x < n) x xs h), keys_all f key n xs (All-tail (λ x. key x < n) x xs h))
+
+sum-sorted_by : {X : Type 0} (f : X → ℕ) (key : X → ℕ) (n : ℕ) (xs : List X) → All (λ x. key x < n) xs → sum_by f (sorted_by key n xs) ≡ sum_by f xs
+sum-sorted_by f key n xs h = sum_below f key n xs ∙ keys_all f key n xs h
+
+-- the edges from a pair are those of its components and those of its sources
+made_is : (s : Supply) → s ≡ Make → s ≡ From → ⊥
+made_is s make from = cc
+
+bought_is : (s : Supply) → s ≡ Buy → s ≡ From → ⊥
+bought_is s buy from = cc
+
+bought_is_not_made : (s : Supply) → s ≡ Buy → s ≡ Make → ⊥
+bought_is_not_made s buy make = cc
+
+edges_of : (N : Table) (x : ℕ) → filter (λ e. eqb e.demander.0 x) (edges N) ≡ map bill_edge (filter (λ b. eqb b.parent.0 x) N.bills) ++ map (source_edge N) (sources_of_pair N x)
+edges_of N x =
+    filter-append (λ e. eqb e.demander.0 x) (map bill_edge N.bills) (map (source_edge N) N.sources)
+    ∙ ap (λ (z : List Edge). z ++ filter (λ e. eqb e.demander.0 x) (map (source_edge N) N.sources)) (filter-map (λ e. eqb e.demander.0 x) bill_edge N.bills)
+    ∙ ap (λ (z : List Edge). map bill_edge (filter (λ b. eqb b.parent.0 x) N.bills) ++ z) (filter-map (λ e. eqb e.demander.0 x) (source_edge N) N.sources)
+
+-- a pair that isn't made has no components
+no_components : (N : Table) (x : ℕ) → IsTable N → (supply_at N x ≡ Make → ⊥) → filter (λ b. eqb b.parent.0 x) N.bills ≡ []
+no_components N x table other =
+    filter_none (λ b. eqb b.parent.0 x) N.bills
+    (λ k d h. ne_eqb (get_or N.bills k d).parent.0 x (λ e. other (ap (supply_at N) (sym e) ∙ table.sourced.parents k d h)))
+
+sum_map : {X Y : Type 0} (f : Y → ℕ) (g : X → Y) (xs : List X) → sum_by f (map g xs) ≡ sum_by (λ x. f (g x)) xs
+sum_map f g [] = refl
+sum_map f g (x ∷ xs) = omega (arith, sum_by-cons f (g x) (map g xs), sum_by-cons (λ x. f (g x)) x xs, sum_map f g xs)
+
+needs_are_parts : (N : Table) (release : ℕ) (ss : List SourceRow) → sum_by (λ s. edge_need (source_edge N s) release) ss ≡ sum_by (λ s. part (source_edge N s) release) ss
+needs_are_parts N release [] = refl
+needs_are_parts N release (s ∷ ss) =
+    let one : edge_need (source_edge N s) release ≡ part (source_edge N s) release = omega arith in
+    omega (arith, sum_by-cons (λ s. edge_need (source_edge N s) release) s ss, sum_by-cons (λ s. part (source_edge N s) release) s ss, one, needs_are_parts N release ss)
+
+pub needs_are_whole : NeedsAreWhole
+needs_are_whole N table x h from release =
+    let own = filter (λ e. eqb e.demander.0 x) (edges N) in
+    let need = λ (e : Edge). edge_need e release in
+    let pairs : All (λ e. e.pair.0 < length N.pairs) own = All-filter (λ e. eqb e.demander.0 x) (λ e. e.pair.0 < length N.pairs) (edges N) (λ k d lt. (edges_join N table k d lt).pair) in
+    let none = no_components N x table (λ make. made_is (supply_at N x) make (supply_is N x h ∙ from)) in
+    sum-sorted_by need (λ e. e.pair.0) (length N.pairs) own pairs
+    ∙ ap (sum_by need) (edges_of N x)
+    ∙ ap (λ (z : List BillRow). sum_by need (map bill_edge z ++ map (source_edge N) (sources_of_pair N x))) none
+    ∙ sum_map need (source_edge N) (sources_of_pair N x)
+    ∙ needs_are_parts N release (sources_of_pair N x)
+    ∙ parts_are_whole N table x h from release
+
+-- a pair that isn't taken from plants has no sources
+no_sources : (s : Supply) (ss : List SourceRow) → HasSupply s ss → (s ≡ From → ⊥) → ss ≡ []
+no_sources From ss has other = absurd (other refl)
+no_sources Make ss has other = has
+no_sources Buy ss has other = has
+
+pub others_have_no_sources : OthersHaveNoSources
+others_have_no_sources N table x h other =
+    no_sources (supply_at N x) (sources_of_pair N x) (table.sourced.supplies x h) (λ e. other (sym (supply_is N x h) ∙ e))
+
+append_none : {X : Type 0} (xs ys : List X) → ys ≡ [] → xs ++ ys ≡ xs
+append_none {X} [] ys e = e
+append_none {X} (x ∷ xs) ys e = ap (λ (z : List X). x ∷ z) (append_none xs ys e)
+
+pub others_have_components : OthersHaveComponents
+others_have_components N table x h other =
+    ap (sorted_by (λ e. e.pair.0) (length N.pairs))
+    (edges_of N x ∙ append_none (map bill_edge (filter (λ b. eqb b.parent.0 x) N.bills)) (map (source_edge N) (sources_of_pair N x)) (ap (map (source_edge N)) (others_have_no_sources N table x h other)))
+
+sorted_none : {X : Type 0} (key : X → ℕ) (n : ℕ) → sorted_by key n [] ≡ []
+sorted_none key zero = refl
+sorted_none {X} key (suc n) = sorted_by-suc key n [] ∙ ap (λ (z : List X). z ++ []) (sorted_none key n)
+
+pub bought_have_no_edges : BoughtHaveNoEdges
+bought_have_no_edges N table x h buy =
+    others_have_components N table x h (bought_is (pair_at N x).supply buy)
+    ∙ ap (λ (z : List BillRow). sorted_by (λ e. e.pair.0) (length N.pairs) (map bill_edge z)) (no_components N x table (bought_is_not_made (supply_at N x) (supply_is N x h ∙ buy)))
+    ∙ sorted_none (λ (e : Edge). e.pair.0) (length N.pairs)
+
+-- a pair stands once
+pub pairs_are_found : PairsAreFound
+pairs_are_found N table x h =
+    let row : PairRow = pair_at N x in
+    let test = λ (p : PairRow). eqb p.plant.0 row.plant.0 && eqb p.item.0 row.item.0 in
+    let n : ℕ = position_or_len test N.pairs in
+    let passes : test row ≡ true = and_from (eqb row.plant.0 row.plant.0) (eqb row.item.0 row.item.0) (eq-eqb row.plant.0 row.plant.0 refl) (eq-eqb row.item.0 row.item.0 refl) in
+    place_of test N.pairs
+    ∙ elim (cases_order n x) as (λ _. n ≡ x) [
+      | inl e ↦ e
+      | inr (inl lt) ↦
+          let first : test (pair_at N n) ≡ true = passes_at_first test N.pairs no_pair (omega (arith, lt, h)) in
+          absurd (true≢false (sym first ∙ apart_from_distinct is_same_pair N.pairs n x no_pair table.once.pairs lt h))
+      | inr (inr gt) ↦ absurd (true≢false (sym passes ∙ fails_before_first test N.pairs x no_pair gt))
+    ]
