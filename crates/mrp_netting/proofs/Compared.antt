@@ -10,7 +10,7 @@ use Rattle.mrp_lot.specs.One.{PlanRows, one}
 use Rattle.mrp_lot.specs.RangeLaws.{sum_by-range-suc, sum_by-range-more}
 use Rattle.mrp_lot.specs.declared.params.PairParams.{PairParams}
 use Rattle.mrp_lot.specs.declared.params.Late.{Late}
-use Rattle.mrp_netting.specs.Plan.{AreOrders, released, release_row, is_late, late_periods, late_orders}
+use Rattle.mrp_netting.specs.Plan.{AreOrders, order_row, available_row, released, release_row, is_late, late_periods, late_orders}
 use Rattle.mrp_netting.proofs.Lates.{late_orders-is, late_more, filter-range-more}
 use Rattle.mrp_netting.proofs.Plans.{rows_of, length-order_row, release_row-is, plan_is}
 
@@ -148,3 +148,12 @@ is_plan-lates pair rows is =
     ap (λ (r : PlanRows). r.late) is
     ∙ sym (ap (λ (n : ℕ). late_orders pair.lead rows.order (late_periods pair.lead rows.order n)) (length-order_row pair rows.incoming rows.gross rows.order order)
     ∙ late_orders-is pair rows.incoming rows.gross rows.order order)
+
+-- equal rows have the orders and balances of equal rows
+pub orders_along : (pair : PairParams) (incoming gross order available incoming2 gross2 order2 available2 : List ℕ)
+    → incoming ≡ incoming2 → gross ≡ gross2 → order ≡ order2 → available ≡ available2
+    → AreOrders pair incoming gross order available → AreOrders pair incoming2 gross2 order2 available2
+orders_along pair incoming gross order available incoming2 gross2 order2 available2 i g o a are = (
+      sym o ∙ are.0 ∙ ap (λ (r : List ℕ). order_row pair r gross) i ∙ ap (order_row pair incoming2) g,
+      sym a ∙ are.1 ∙ ap (λ (r : List ℕ). available_row pair r gross) i ∙ ap (available_row pair incoming2) g,
+    )

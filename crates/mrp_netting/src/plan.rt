@@ -180,13 +180,14 @@ pub fn is_plan(params: &PairParams, plan: &PairPlan) -> bool
     ensures { IsTrue result ↔ (plan.now ≡ one params.now plan.now.incoming plan.now.gross) }
 {
     let _len = plan.len();
+    let incoming = plan.incoming().as_slice();
+    let gross = plan.gross().as_slice();
     let order = plan.order().as_slice();
-    orders_follow(
-        params,
-        plan.incoming().as_slice(),
-        plan.gross().as_slice(),
-        order,
-        plan.available().as_slice(),
-    ) && releases_follow(params.lead, order, plan.release().as_slice())
-        && late_follow(params.lead, plan)
+    if !orders_follow(params, incoming, gross, order, plan.available().as_slice()) {
+        return false;
+    }
+    if !releases_follow(params.lead, order, plan.release().as_slice()) {
+        return false;
+    }
+    late_follow(params.lead, plan)
 }

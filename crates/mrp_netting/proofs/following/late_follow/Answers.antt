@@ -1,4 +1,4 @@
-use Rattle.std.proofs.Common.{◌≡◌, ℕ, ◌+◌, ◌-◌, ◌<◌, ◌≤◌, List, Some, length, take, slice_get, slice_index, refl, sym, ap, ◌∙◌, subst, arith, eq-eqb, eqb-true}
+use Rattle.std.proofs.Common.{◌≡◌, ℕ, ◌-◌, List, Some, length, take, slice_get, slice_index, sym, ap, ◌∙◌, arith, eq-eqb, eqb-true}
 use Rattle.std.proofs.lemmas.Bool.{false≢true}
 use Rattle.std.proofs.lemmas.List.{get_or_read, take_all, length-take-le}
 use Rattle.std.proofs.lemmas.Option.{slice_get_within}

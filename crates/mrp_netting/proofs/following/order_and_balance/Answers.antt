@@ -1,4 +1,4 @@
-use Rattle.std.proofs.Common.{◌≡◌, ℕ, ◌∙◌, ap, sym, arith}
+use Rattle.std.proofs.Common.{ℕ, ◌∙◌, ap, sym, arith}
 use Rattle.std.proofs.lemmas.List.{get_or_read}
 use Rattle.mrp_lot.specs.One.{order_after}
 use Rattle.mrp_netting.proofs.Balances.{is_step}

@@ -1,4 +1,4 @@
-use Rattle.std.proofs.Common.{◌≡◌, ℕ, ◌+◌, length, sym, ap, ◌∙◌, subst, arith}
+use Rattle.std.proofs.Common.{length, sym, ◌∙◌, arith}
 use Rattle.std.proofs.lemmas.List.{get_or_read}
 use Rattle.mrp_netting.proofs.Compared.{IsFirst, first_in_zero, first_later, released_before, released_more, released_all}
 use Rattle.mrp_netting.proofs.Releases.{released-le}
