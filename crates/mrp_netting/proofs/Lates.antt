@@ -15,7 +15,7 @@ range_from-suc : (a n j : ℕ) → a + n ≡ j → range_with_len a (suc n) ≡ 
 range_from-suc a zero j e = let here : a ≡ j = omega arith in ap (λ (x : ℕ). x ∷ []) here
 range_from-suc a (suc n) j e = ap (λ (xs : List ℕ). a ∷ xs) (range_from-suc (a + 1) n j (omega arith))
 
-filter-range-more : (p : ℕ → Bool) (n : ℕ) → filter p (range_with_len 0 (n + 1)) ≡ filter p (range_with_len 0 n) ++ cond (p n) (n ∷ []) []
+pub filter-range-more : (p : ℕ → Bool) (n : ℕ) → filter p (range_with_len 0 (n + 1)) ≡ filter p (range_with_len 0 n) ++ cond (p n) (n ∷ []) []
 filter-range-more p n =
     ap (λ (m : ℕ). filter p (range_with_len 0 m)) (add-one n) ∙ ap (filter p) (range_from-suc 0 n n (omega arith))
     ∙ filter-append p (range_with_len 0 n) (n ∷ [])

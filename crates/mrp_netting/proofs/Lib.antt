@@ -1,4 +1,5 @@
 pub mod Balances
+pub mod Compared
 pub mod Lates
 pub mod Plans
 pub mod Releases

@@ -37,6 +37,10 @@ order_row pair incoming gross = map (order_at pair incoming gross) (range_with_l
 abbrev pub available_row : PairParams → List ℕ → List ℕ → List ℕ
 available_row pair incoming gross = map (λ t. balance_before pair incoming gross (suc t)) (range_with_len 0 (length gross))
 
+-- both are given
+abbrev pub AreOrders : PairParams → List ℕ → List ℕ → List ℕ → List ℕ → Type 0
+AreOrders pair incoming gross order available = (order ≡ order_row pair incoming gross) × (available ≡ available_row pair incoming gross)
+
 -- what the orders of the first n periods release in period u
 abbrev pub released : ℕ → List ℕ → ℕ → ℕ → ℕ
 released lead order n u = sum_by (λ t. if (t - lead) == u then slice_index order t else 0) (range_with_len 0 n)

@@ -7,13 +7,14 @@
 //! and the list of its late orders.
 #![tactic(auto)]
 
+mod following;
 mod late;
 mod netting;
 mod plan;
 mod release;
 
 pub use mrp_lot::{Late, PairParams};
-pub use plan::{PairPlan, plan_pair};
+pub use plan::{PairPlan, is_plan, plan_pair};
 
 #[cfg(test)]
 mod tests;

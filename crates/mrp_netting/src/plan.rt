@@ -1,7 +1,8 @@
-ghost use Rattle.std.specs.Prelude.{◌≡◌, ◌<◌, ◌≤◌, length, IfOk, slice_index_or, vec_capacity};
+ghost use Rattle.std.specs.Prelude.{◌≡◌, ◌<◌, ◌≤◌, ◌↔◌, length, IsTrue, IfOk, slice_index_or, vec_capacity};
 ghost use Rattle.mrp_lot.specs.One.{PlanRows, one, IsWithin};
 ghost use Rattle.mrp_netting.specs.Plan.{AreRows, nothing_planned, late_orders, AreLate};
 
+use crate::following::{late_follow, orders_follow, releases_follow};
 use crate::late::note_late;
 use crate::netting::plan_orders;
 use crate::release::plan_releases;
@@ -167,4 +168,26 @@ pub fn plan_pair(params: &PairParams, incoming: &Row, gross: &Row, into: &mut Pa
     plan_releases(params.lead, into.order.as_slice(), &mut into.release);
     note_late(params.lead, into.order.as_slice(), &mut into.late);
     into.lead = params.lead;
+}
+
+/// Whether the plan is the one that follows from `params`, its scheduled receipts and its gross
+/// requirements: each order, release, projected available and late order.
+///
+/// On hand, safety stock, the rule's quantities, all receipts and all gross requirements together
+/// are at most 10^15 pieces. Nothing is allocated.
+pub fn is_plan(params: &PairParams, plan: &PairPlan) -> bool
+    requires { IsWithin params.now plan.now.incoming plan.now.gross }
+    ensures { IsTrue result ↔ (plan.now ≡ one params.now plan.now.incoming plan.now.gross) }
+{
+    let _len = plan.len();
+    let incoming = plan.incoming().as_slice();
+    let gross = plan.gross().as_slice();
+    let order = plan.order().as_slice();
+    if !orders_follow(params, incoming, gross, order, plan.available().as_slice()) {
+        return false;
+    }
+    if !releases_follow(params.lead, order, plan.release().as_slice()) {
+        return false;
+    }
+    late_follow(params.lead, plan)
 }

@@ -4,3 +4,4 @@ pub mod Orders
 pub mod Pegs
 pub mod Periods
 pub mod Planning
+pub mod Sizes

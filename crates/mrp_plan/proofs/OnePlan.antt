@@ -1,15 +1,13 @@
 -- The plan of a network with a planning order fits it, and is the only table that does.
-use Rattle.std.proofs.Common.{◌≡◌, ℕ, ◌+◌, ◌<◌, ◌≤◌, List, [], length, map, slice_index, slice_index_or, zero, suc, arith, refl, ap, sym, ◌∙◌, subst}
+use Rattle.std.proofs.Common.{◌≡◌, ℕ, ◌<◌, ◌≤◌, List, length, slice_index, zero, suc, arith, refl, sym, ◌∙◌, subst}
 use Rattle.std.specs.List.{range_with_len}
 use Rattle.std.proofs.lemmas.List.{ext_get_or}
 use Rattle.std.proofs.lemmas.List.FromFn.{get_or-map-range_with_len, length-map-range_with_len, length-range_with_len}
 use Rattle.std.proofs.lemmas.List.Sorted.{length_permutation}
 use Rattle.mrp_lot.specs.One.{PlanRows}
 use Rattle.mrp_tables.specs.Table.{Table, IsPair}
-use Rattle.mrp_net.specs.Edges.{demanders}
 use Rattle.mrp_net.specs.Plan.{rows_at, no_rows, pair_plan, Fits, rounds, plan_of, HasOnePlan}
 use Rattle.mrp_loops.specs.Sized.{IsPlanningOrder}
-use Rattle.mrp_plan.proofs.Asked.{no_edge}
 use Rattle.mrp_plan.proofs.Orders.{place_in_table, place_of, demander_before}
 use Rattle.mrp_plan.proofs.Planning.{pair_plan-same}
 

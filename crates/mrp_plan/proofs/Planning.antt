@@ -1,5 +1,5 @@
 -- One more pair is planned.
-use Rattle.std.proofs.Common.{◌≡◌, ℕ, ◌+◌, ◌*◌, ◌<◌, ◌≤◌, ◌≢◌, List, [], ◌∷◌, length, sum, sum_by, slice_index, slice_index_or, slice_set, suc, arith, refl, ap, sym, ◌∙◌, ⊎_elim, subst}
+use Rattle.std.proofs.Common.{◌≡◌, ℕ, ◌+◌, ◌*◌, ◌<◌, ◌≤◌, ◌≢◌, List, [], ◌∷◌, length, sum, sum_by, slice_index, slice_index_or, slice_set, zero, suc, arith, refl, ap, sym, ◌∙◌, ⊎_elim, subst}
 use Rattle.std.specs.List.{range_with_len}
 use Rattle.std.proofs.lemmas.Bool.{cases_eq}
 use Rattle.std.proofs.lemmas.List.{get_or_default, get_or-set_same, get_or-set_other, length-set}
@@ -9,18 +9,19 @@ use Rattle.std.proofs.Math.Nat.{mul-le-mul_left}
 use Rattle.mrp_lot.specs.Lot.{rule_quantities}
 use Rattle.mrp_lot.specs.One.{PlanRows, IsWithin, one, release_at}
 use Rattle.mrp_lot.specs.OneLaws.{releases-le}
-use Rattle.mrp_lot.specs.RangeLaws.{map-range-same}
+use Rattle.mrp_lot.specs.RangeLaws.{map-range-same, sum_by-add}
 use Rattle.mrp_tables.specs.Table.{Table, IsTable, horizon}
 use Rattle.mrp_net.specs.Edges.{demanders, edge_need}
 use Rattle.mrp_net.specs.Sums.{demand, demand_total, incoming, params_at, pair_at, row_of, no_pair}
 use Rattle.mrp_net.specs.Plan.{rows_at, no_rows, gross, pair_plan, Fits}
 use Rattle.mrp_net.specs.declared.edge.Edge.{Edge}
+use Rattle.mrp_net.proofs.Joining.{edges_join, demanders_join}
 use Rattle.mrp_loops.specs.Need.{AreNeeds, AreWithin}
 use Rattle.mrp_loops.specs.Sized.{IsPlanningOrder}
 use Rattle.mrp_plan.specs.Explosion.{asked, asked_total}
-use Rattle.mrp_plan.specs.Progress.{CanPlan, IsPlannedTo}
-use Rattle.mrp_plan.proofs.Periods.{incomings-le}
-use Rattle.mrp_plan.proofs.Asked.{no_edge}
+use Rattle.mrp_plan.specs.Progress.{CanPlan, HasRooms, IsPlannedTo}
+use Rattle.mrp_plan.proofs.Periods.{demands-le, incomings-le}
+use Rattle.mrp_plan.proofs.Asked.{no_edge, asked_sum-le}
 use Rattle.mrp_plan.proofs.Orders.{places_apart, place_in_table, place_of, demander_before}
 
 -- sums of terms that are the same, or not greater, at each element
@@ -59,6 +60,10 @@ pub one-gross : (N : Table) (table : List PlanRows) (x : ℕ) → (pair_plan N t
 unfolding one
 one-gross N table x = refl
 
+pub one-incoming : (N : Table) (table : List PlanRows) (x : ℕ) → (pair_plan N table x).incoming ≡ row_of N (incoming N x)
+unfolding one
+one-incoming N table x = refl
+
 -- its releases together are within what safety, the rule and the gross requirements ask
 pub pair_plan-releases : (N : Table) (table : List PlanRows) (x : ℕ) → IsWithin (params_at N x) (row_of N (incoming N x)) (row_of N (gross N table x))
     → sum (pair_plan N table x).release ≤ (pair_at N x).safety + rule_quantities (pair_at N x).rule + sum (row_of N (gross N table x))
@@ -95,6 +100,22 @@ demander_release N needs order k table is within planned i h =
 pub length-row_of : (N : Table) (amount : ℕ → ℕ) → length (row_of N amount) ≡ horizon N
 length-row_of N amount = length-map-range_with_len amount 0 (horizon N)
 
+-- the shares of the edges to a pair are in range
+pub shares_end : (N : Table) (x : ℕ) → IsTable N → (i : ℕ) → i < length (demanders N x) → (slice_index_or (demanders N x) i no_edge).high ≤ 1000
+shares_end N x is i h = let edge = demanders_join N x (edges_join N is) i no_edge h in edge.ends
+
+-- the gross requirements together are within the demand rows and what the demanders would ask
+pub gross_sum-le : (N : Table) (table : List PlanRows) (x : ℕ) → IsTable N → sum (row_of N (gross N table x)) ≤ demand_total N x + asked_total table (demanders N x)
+gross_sum-le N table x is =
+    omega (
+      arith,
+      sum-map (gross N table x) (range_with_len 0 (horizon N)),
+      sum_by-add (demand N x) (asked table (demanders N x)) (range_with_len 0 (horizon N)),
+      sum-map (demand N x) (range_with_len 0 (horizon N)),
+      demands-le N x,
+      asked_sum-le table (horizon N) (demanders N x) (shares_end N x is),
+    )
+
 -- the rows of a pair that can be planned are within the bound
 pub is_within : (N : Table) (table : List PlanRows) (x : ℕ) (row : List ℕ) → CanPlan N table x → length row ≡ horizon N
     → sum row ≤ demand_total N x + asked_total table (demanders N x) → IsWithin (params_at N x) (row_of N (incoming N x)) row
@@ -106,6 +127,10 @@ is_within N table x row can size total =
       periods = length-row_of N (incoming N x) ∙ sym size;
       total = omega (arith, total, incomings-le N x, can.within);
     }
+
+-- so are those of its plan
+pub pair_within : (N : Table) (table : List PlanRows) (x : ℕ) → CanPlan N table x → IsWithin (params_at N x) (row_of N (incoming N x)) (row_of N (gross N table x))
+pair_within N table x can = is_within N table x (row_of N (gross N table x)) can (length-row_of N (gross N table x)) (gross_sum-le N table x can.is_table)
 
 -- demand rows and what the demanders ask are the gross requirements
 pub gross_row : (N : Table) (table : List PlanRows) (x : ℕ) (row : List ℕ) → length row ≡ length (row_of N (demand N x))
@@ -177,18 +202,65 @@ IsPlannedTo-more N needs order k table rows is within planned plan releases =
           (cases_eq j k);
     }
 
+-- the releases of the plan beside the plans so far are within the need
+next_releases : (N : Table) (needs order : List ℕ) (k : ℕ) (table : List PlanRows) → IsTable N → AreNeeds N needs → AreWithin N needs → IsPlanningOrder N order → k < length order
+    → IsPlannedTo N needs order k table → sum (pair_plan N table (slice_index order k)).release ≤ slice_index needs (slice_index order k)
+next_releases N needs order k table tables are_needs are_within is within planned =
+    let x = slice_index order k in
+    let can = can_plan N needs order k table tables are_needs are_within is within planned in
+    let total = gross_sum-le N table x tables in
+    omega (arith, pair_plan-releases N table x (pair_within N table x can), total, are_needs.need x can.in_table, asked_total-le N needs order k table is within planned)
+
 -- the same with the plan beside the plans so far
 pub next_planned : (N : Table) (needs order : List ℕ) (k : ℕ) (table : List PlanRows) → IsTable N → AreNeeds N needs → AreWithin N needs → IsPlanningOrder N order → k < length order
     → IsPlannedTo N needs order k table
-    → sum (row_of N (gross N table (slice_index order k))) ≤ demand_total N (slice_index order k) + asked_total table (demanders N (slice_index order k))
     → IsPlannedTo N needs order (k + 1) (slice_set table (slice_index order k) (pair_plan N table (slice_index order k)))
-next_planned N needs order k table tables are_needs are_within is within planned total =
+next_planned N needs order k table tables are_needs are_within is within planned =
+    IsPlannedTo-more N needs order k table (pair_plan N table (slice_index order k)) is within planned refl
+    (next_releases N needs order k table tables are_needs are_within is within planned)
+
+-- a table that has the plan of the next pair already
+pub next_kept : (N : Table) (needs order : List ℕ) (k : ℕ) (table : List PlanRows) → IsTable N → AreNeeds N needs → AreWithin N needs → IsPlanningOrder N order → k < length order
+    → IsPlannedTo N needs order k table → rows_at table (slice_index order k) ≡ pair_plan N table (slice_index order k) → IsPlannedTo N needs order (k + 1) table
+next_kept N needs order k table tables are_needs are_within is within planned kept =
     let x = slice_index order k in
-    let can = can_plan N needs order k table tables are_needs are_within is within planned in
-    let g = row_of N (gross N table x) in
-    let rows_within = is_within N table x g can (length-row_of N (gross N table x)) total in
-    IsPlannedTo-more N needs order k table (pair_plan N table x) is within planned refl
-    (omega (arith, pair_plan-releases N table x rows_within, total, are_needs.need x can.in_table, asked_total-le N needs order k table is within planned))
+    let releases : sum (rows_at table x).release ≤ slice_index needs x =
+    omega (arith, ap (λ (r : PlanRows). sum r.release) kept, next_releases N needs order k table tables are_needs are_within is within planned) in
+    record {
+      size = planned.size;
+      rooms = planned.rooms;
+      rows = λ j h.
+          ⊎_elim
+          (λ (e : j ≡ k). subst (λ (i : ℕ). rows_at table (slice_index order i) ≡ pair_plan N table (slice_index order i)) (sym e) kept)
+          (λ (ne : j ≡ k → ⊥). planned.rows j (omega arith))
+          (cases_eq j k);
+      releases = λ j h.
+          ⊎_elim
+          (λ (e : j ≡ k). subst (λ (i : ℕ). sum (rows_at table (slice_index order i)).release ≤ slice_index needs (slice_index order i)) (sym e) releases)
+          (λ (ne : j ≡ k → ⊥). planned.releases j (omega arith))
+          (cases_eq j k);
+    }
+
+-- in a table that fits the plan of each pair has the periods of the network
+pub fits_rooms : (N : Table) (table : List PlanRows) → Fits N table → HasRooms N table
+fits_rooms N table fits x in_table =
+    ap (λ (r : PlanRows). length r.gross) (fits.rows x in_table) ∙ ap (λ (r : List ℕ). length r) (one-gross N table x) ∙ length-row_of N (gross N table x)
+
+-- a table that fits is planned as far as one looks
+pub fits_to : (N : Table) (needs order : List ℕ) (table : List PlanRows) → IsTable N → AreNeeds N needs → AreWithin N needs → IsPlanningOrder N order → Fits N table
+    → (k : ℕ) → k ≤ length order → IsPlannedTo N needs order k table
+fits_to N needs order table tables are_needs are_within is fits zero within = record {
+  size = fits.size;
+  rooms = fits_rooms N table fits;
+  rows = λ j h. absurd (omega arith);
+  releases = λ j h. absurd (omega arith);
+}
+fits_to N needs order table tables are_needs are_within is fits (suc k) within =
+    let before = fits_to N needs order table tables are_needs are_within is fits k (omega arith) in
+    let in_table = place_in_table N order is k (omega arith) in
+    let next : k + 1 ≡ suc k = omega arith in
+    subst (λ (j : ℕ). IsPlannedTo N needs order j table) next
+    (next_kept N needs order k table tables are_needs are_within is (omega arith) before (fits.rows (slice_index order k) in_table))
 
 -- with all places of the order planned, the table fits
 pub all_planned : (N : Table) (needs order : List ℕ) (k : ℕ) (table : List PlanRows) → IsPlanningOrder N order → length order ≤ k → IsPlannedTo N needs order k table → Fits N table

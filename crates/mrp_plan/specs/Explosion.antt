@@ -19,3 +19,10 @@ pub record CanExplode (table : List PlanRows) (periods : ℕ) (e : Edge) : Type 
   pub release : length (rows_at table e.demander.0).release ≡ periods
   pub shares : e.low ≤ e.high
   pub whole : e.high ≤ 1000
+
+-- the edge's demander has a release in the period, and its shares are in range
+pub record CanAsk (table : List PlanRows) (t : ℕ) (e : Edge) : Type 0 where
+  pub demander : e.demander.0 < length table
+  pub period : t < length (rows_at table e.demander.0).release
+  pub shares : e.low ≤ e.high
+  pub whole : e.high ≤ 1000

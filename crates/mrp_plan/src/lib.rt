@@ -2,11 +2,13 @@
 #![tactic(auto)]
 
 mod explosion;
+mod fitting;
 pub mod laws;
 mod pegging;
 mod plan;
 mod terms;
 
+pub use fitting::fits;
 pub use pegging::peg;
 pub use plan::{Plan, plan_all};
 pub use terms::{PegSource, PegTerm};

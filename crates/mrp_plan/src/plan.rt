@@ -42,6 +42,13 @@ impl Plan {
         Plan { pairs }
     }
 
+    /// How many plans there are.
+    pub(crate) fn len(&self) -> usize
+        ensures { result ≡ length self.now }
+    {
+        self.pairs.len()
+    }
+
     /// The plan of a pair of the network.
     pub fn pair(&self, x: PairNo) -> &PairPlan
         requires { x.0 < length self.now }
@@ -128,8 +135,6 @@ fn plan_one(
     requires incoming_room { length incoming_row.old ≡ horizon network.now }
     requires gross_room { length gross_row.old ≡ horizon network.now }
     ensures planned { plans.new ≡ slice_set plans.old x.0 (pair_plan network.now plans.old x.0) }
-    ensures total { sum (row_of network.now (gross network.now plans.old x.0)) ≤
-        demand_total network.now x.0 + asked_total plans.old (demanders network.now x.0) }
     ensures incoming_room { length incoming_row.new ≡ horizon network.now }
     ensures gross_room { length gross_row.new ≡ horizon network.now }
 {

@@ -1,12 +1,9 @@
-use Rattle.std.proofs.Common.{◌≡◌, ◌<◌, ◌≤◌, ◌+◌, ℕ, List, length, map, sum, slice_index, slice_index_or, slice_set, arith, ap, sym, ◌∙◌, subst}
+use Rattle.std.proofs.Common.{◌≡◌, ◌<◌, ◌+◌, ℕ, List, length, map, slice_index, slice_index_or, slice_set, arith, ap, sym, ◌∙◌, subst}
 use Rattle.std.proofs.lemmas.List.{get_or-map, length-map}
 use Rattle.mrp_lot.specs.One.{PlanRows}
 use Rattle.mrp_tables.specs.Table.{Table}
 use Rattle.mrp_tables.specs.declared.numbers.PairNo.{PairNo}
-use Rattle.mrp_net.specs.Edges.{demanders}
-use Rattle.mrp_net.specs.Sums.{demand_total, row_of}
-use Rattle.mrp_net.specs.Plan.{gross, pair_plan}
-use Rattle.mrp_plan.specs.Explosion.{asked_total}
+use Rattle.mrp_net.specs.Plan.{pair_plan}
 use Rattle.mrp_plan.specs.Progress.{CanPlan, IsPlannedTo}
 use Rattle.mrp_plan.proofs.Planning.{can_plan, next_planned}
 use Rattle.mrp_plan.proofs.plan.plan_next.Goals as goal
@@ -29,12 +26,9 @@ returns-clause-after c =
     let place : c.args.k < length order = omega (arith, c.requires.place, length-map c.args.order.now (λ (x : PairNo). x.0)) in
     let at : slice_index order c.args.k ≡ (slice_index_or c.args.order.now c.args.k (record { 0 = 0 })).0 = get_or-map (λ (x : PairNo). x.0) c.args.order.now c.args.k (record { 0 = 0 }) 0 c.requires.place in
     let s = c.requires.sized in
-    let T : Table → ℕ → Type 0 = λ n x. sum (row_of n (gross n c.args.plans.now x)) ≤ demand_total n x + asked_total c.args.plans.now (demanders n x) in
-    let total : T N (slice_index order c.args.k) =
-    subst (λ (x : ℕ). T N x) (sym at) (subst (λ (n : Table). T n (slice_index_or c.args.order.now c.args.k (record { 0 = 0 })).0) c.network.ensures.value c.plan_one.ensures.total) in
     let kept : c.plan_one.new.plans ≡ slice_set c.args.plans.now (slice_index order c.args.k) (pair_plan N c.args.plans.now (slice_index order c.args.k)) =
     c.plan_one.ensures.planned
     ∙ ap (λ (n : Table). slice_set c.args.plans.now (slice_index_or c.args.order.now c.args.k (record { 0 = 0 })).0 (pair_plan n c.args.plans.now (slice_index_or c.args.order.now c.args.k (record { 0 = 0 })).0)) c.network.ensures.value
     ∙ ap (λ (x : ℕ). slice_set c.args.plans.now x (pair_plan N c.args.plans.now x)) (sym at) in
     let P : List PlanRows → Type 0 = λ plans. IsPlannedTo N c.args.net.now.needs order (c.args.k + 1) plans in
-    subst P (sym kept) (next_planned N c.args.net.now.needs order c.args.k c.args.plans.now s.table s.are_needs s.within c.requires.order place c.requires.before total)
+    subst P (sym kept) (next_planned N c.args.net.now.needs order c.args.k c.args.plans.now s.table s.are_needs s.within c.requires.order place c.requires.before)

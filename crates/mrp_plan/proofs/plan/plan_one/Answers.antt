@@ -54,21 +54,6 @@ plan_pair-requires-clause-room c =
     let in_plans : x < length c.args.plans.now = omega (arith, c.requires.can.in_table, c.requires.can.size) in
     ap (λ (r : PlanRows). length r.gross) (get_or_default c.args.plans.now x c.index-plans-x.result no_rows in_plans) ∙ c.requires.can.room ∙ sym size
 
-pub returns-clause-total : goal.returns-clause-total
-returns-clause-total c =
-    let N = c.args.network.now in
-    let x = c.args.x.0 in
-    let each = λ (t : ℕ) (h : t < length (row_of N (demand N x))).
-    let own : slice_index c.fill_demand.new.row t ≡ slice_index (row_of N (demand N x)) t = ap (λ (r : List ℕ). slice_index r t) c.fill_demand.ensures in
-    let asks : asked c.args.plans.now c.demanders.result.now t ≡ asked c.args.plans.now (demanders N x) t = ap (λ (es : List Edge). asked c.args.plans.now es t) c.demanders.ensures.value in
-    let in_row : t < length c.fill_demand.new.row = omega (arith, h, ap (λ (r : List ℕ). length r) c.fill_demand.ensures) in
-    let sum_is : slice_index c.explode_all.new.gross t ≡ slice_index (row_of N (demand N x)) t + asked c.args.plans.now (demanders N x) t =
-    omega (arith, own, asks, c.explode_all.ensures.each t in_row) in
-    sum_is in
-    let is_gross : c.explode_all.new.gross ≡ row_of N (gross N c.args.plans.now x) =
-    gross_row N c.args.plans.now x c.explode_all.new.gross (c.explode_all.ensures.size ∙ ap (λ (r : List ℕ). length r) c.fill_demand.ensures) each in
-    omega (arith, c.explode_all.ensures.total, demands-le N x, ap (λ (r : List ℕ). sum r) is_gross, ap (λ (r : List ℕ). sum r) c.fill_demand.ensures, ap (asked_total c.args.plans.now) c.demanders.ensures.value)
-
 pub returns-clause-planned : goal.returns-clause-planned
 returns-clause-planned c =
     let N = c.args.network.now in

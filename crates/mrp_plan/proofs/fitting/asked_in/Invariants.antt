@@ -1,0 +1,7 @@
+use Rattle.std.proofs.Common.{◌≡◌, take}
+use Rattle.mrp_plan.specs.Explosion.{asked}
+use Rattle.mrp_plan.proofs.fitting.asked_in.Given as goal
+
+-- what the edges passed so far ask
+abbrev pub invariant-loop-edge : goal.invariant-loop-edge
+invariant-loop-edge l = l.total ≡ asked l.plan (take l.edge-index l.edges) l.t

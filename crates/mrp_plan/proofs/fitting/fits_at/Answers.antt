@@ -1,0 +1,59 @@
+use Rattle.std.proofs.Common.{◌≡◌, ℕ, List, sym, ap, ◌∙◌, subst}
+use Rattle.std.proofs.lemmas.Bool.{false≢true}
+use Rattle.mrp_lot.specs.One.{PlanRows, IsWithin, one}
+use Rattle.mrp_lot.specs.declared.params.PairParams.{PairParams}
+use Rattle.mrp_tables.specs.Rows.{params_of}
+use Rattle.mrp_net.specs.Sums.{incoming, params_at, row_of}
+use Rattle.mrp_net.specs.Plan.{rows_at, gross, pair_plan}
+use Rattle.mrp_plan.proofs.Planning.{one-gross, one-incoming, pair_within}
+use Rattle.mrp_plan.proofs.fitting.fits_at.Goals as goal
+
+pub returns-then-not-has_incoming : goal.returns-then-not-has_incoming
+returns-then-not-has_incoming c =
+    let N = c.args.network.now in
+    let x = c.args.x.0 in
+    let row : c.incoming.result.now ≡ (rows_at c.args.plan.now x).incoming = c.incoming.ensures ∙ ap (λ (r : PlanRows). r.incoming) c.pair-own.ensures in (
+      λ no_. absurd (false≢true no_),
+      λ is.
+          let are = row ∙ ap (λ (r : PlanRows). r.incoming) is ∙ one-incoming N c.args.plan.now x in
+          absurd (false≢true (sym c.if-not-has_incoming.true ∙ c.has_incoming.ensures.1 are)),
+    )
+
+pub returns-then-not-has_gross : goal.returns-then-not-has_gross
+returns-then-not-has_gross c =
+    let N = c.args.network.now in
+    let x = c.args.x.0 in
+    let row : c.gross.result.now ≡ (rows_at c.args.plan.now x).gross = c.gross.ensures ∙ ap (λ (r : PlanRows). r.gross) c.pair-own.ensures in (
+      λ no_. absurd (false≢true no_),
+      λ is.
+          let are = row ∙ ap (λ (r : PlanRows). r.gross) is ∙ one-gross N c.args.plan.now x in
+          absurd (false≢true (sym c.if-not-has_gross.true ∙ c.has_gross.ensures.1 are)),
+    )
+
+pub is_plan-requires : goal.is_plan-requires
+is_plan-requires c =
+    let N = c.args.network.now in
+    let x = c.args.x.0 in
+    let i : c.pair-own.result.now.incoming ≡ row_of N (incoming N x) = sym c.incoming.ensures ∙ c.has_incoming.ensures.0 c.if-not-has_incoming.false in
+    let g : c.pair-own.result.now.gross ≡ row_of N (gross N c.args.plan.now x) = sym c.gross.ensures ∙ c.has_gross.ensures.0 c.if-not-has_gross.false in
+    let p : c.params.result ≡ params_at N x = c.params.ensures ∙ ap params_of c.pair.ensures in
+    let P : PairParams → Type 0 = λ q. IsWithin q c.pair-own.result.now.incoming c.pair-own.result.now.gross in
+    let Q : List ℕ → Type 0 = λ r. IsWithin (params_at N x) r c.pair-own.result.now.gross in
+    let R : List ℕ → Type 0 = λ r. IsWithin (params_at N x) (row_of N (incoming N x)) r in
+    subst P (sym p) (subst Q (sym i) (subst R (sym g) (pair_within N c.args.plan.now x c.requires)))
+
+pub returns : goal.returns
+returns c =
+    let N = c.args.network.now in
+    let x = c.args.x.0 in
+    let own = c.pair-own.ensures in
+    let i : c.pair-own.result.now.incoming ≡ row_of N (incoming N x) = sym c.incoming.ensures ∙ c.has_incoming.ensures.0 c.if-not-has_incoming.false in
+    let g : c.pair-own.result.now.gross ≡ row_of N (gross N c.args.plan.now x) = sym c.gross.ensures ∙ c.has_gross.ensures.0 c.if-not-has_gross.false in
+    let p : c.params.result ≡ params_at N x = c.params.ensures ∙ ap params_of c.pair.ensures in
+    let same : one c.params.result c.pair-own.result.now.incoming c.pair-own.result.now.gross ≡ pair_plan N c.args.plan.now x =
+    ap (λ (q : PairParams). one q c.pair-own.result.now.incoming c.pair-own.result.now.gross) p
+    ∙ ap (λ (r : List ℕ). one (params_at N x) r c.pair-own.result.now.gross) i
+    ∙ ap (one (params_at N x) (row_of N (incoming N x))) g in (
+      λ yes. sym own ∙ c.is_plan.ensures.0 yes ∙ same,
+      λ is. c.is_plan.ensures.1 (own ∙ is ∙ sym same),
+    )

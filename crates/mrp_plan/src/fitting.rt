@@ -1,0 +1,129 @@
+//! Whether a table of plans obeys the rules at every pair.
+
+ghost use Rattle.std.specs.Prelude.{◌≡◌, ℕ, ◌<◌, ◌≤◌, ◌+◌, ◌↔◌, IsTrue, List, length, map, slice_index, All};
+ghost use Rattle.mrp_qty.specs.declared.quantity.TheConstants.{MOST};
+ghost use Rattle.mrp_tables.specs.Table.{IsPair, horizon};
+ghost use Rattle.mrp_net.specs.Edges.{edge_need};
+ghost use Rattle.mrp_net.specs.Sums.{incoming, row_of};
+ghost use Rattle.mrp_net.specs.Plan.{Fits, gross, pair_plan, rows_at};
+ghost use Rattle.mrp_loops.specs.Sized.{IsSized, IsPlanningOrder};
+ghost use Rattle.mrp_plan.specs.Explosion.{asked, CanAsk};
+ghost use Rattle.mrp_plan.specs.Progress.{CanPlan, HasRooms, IsPlannedTo};
+
+use crate::Plan;
+use crate::explosion::part_of;
+use mrp_loops::SizedNet;
+use mrp_net::{Edge, Network, PairNo};
+use mrp_netting::is_plan;
+use mrp_qty::Row;
+
+/// Whether the plan obeys the rules at every pair of the network: its receipts and gross
+/// requirements are those of the network and of the demanders' releases, and its orders, releases,
+/// projected available and late orders follow from them.
+///
+/// The plan may be one of another network. Nothing is allocated; linear in edges times periods.
+pub fn fits(net: &SizedNet, plan: &Plan) -> bool
+    ensures { IsTrue result ↔ Fits net.now.network plan.now }
+{
+    let network = net.network();
+    if plan.len() != network.pairs() {
+        return false;
+    }
+    if !has_periods(network, plan) {
+        return false;
+    }
+    let order = net.in_code_order();
+    for k in 0..order.len() {
+        if !fits_next(net, order, k, plan) {
+            return false;
+        }
+    }
+    true
+}
+
+/// Whether the plan of each pair has the periods of the network.
+fn has_periods(network: &Network, plan: &Plan) -> bool
+    requires { length plan.now ≡ length network.now.pairs }
+    ensures { IsTrue result ↔ HasRooms network.now plan.now }
+{
+    let periods = network.horizon().get() as usize;
+    for x in 0..plan.len() {
+        if plan.pair(PairNo(x)).len() != periods {
+            return false;
+        }
+    }
+    true
+}
+
+/// Whether the plan obeys the rules at the pair at place `k` of the order, where it does at those
+/// before it.
+fn fits_next(net: &SizedNet, order: &[PairNo], k: usize, plan: &Plan) -> bool
+    requires sized { IsSized net.now }
+    requires order { IsPlanningOrder net.now.network (map (λ x. x.0) order.now) }
+    requires place { k < length order.now }
+    requires before { IsPlannedTo net.now.network net.now.needs (map (λ x. x.0) order.now) k plan.now }
+    ensures after { IsTrue result → IsPlannedTo net.now.network net.now.needs (map (λ x. x.0) order.now) (k + 1) plan.now }
+    ensures fits { Fits net.now.network plan.now → IsTrue result }
+{
+    fits_at(net.network(), order[k], plan)
+}
+
+/// Whether the plan obeys the rules at one pair.
+fn fits_at(network: &Network, x: PairNo, plan: &Plan) -> bool
+    requires { CanPlan network.now plan.now x.0 }
+    ensures { IsTrue result ↔ (rows_at plan.now x.0 ≡ pair_plan network.now plan.now x.0) }
+{
+    let own = plan.pair(x);
+    let _len = own.len();
+    if !has_incoming(network, x, own.incoming()) {
+        return false;
+    }
+    if !has_gross(network, x, plan, own.gross()) {
+        return false;
+    }
+    is_plan(&network.pair(x).params(), own)
+}
+
+/// Whether the row is what comes in for the pair.
+fn has_incoming(network: &Network, x: PairNo, row: &Row) -> bool
+    requires pair { IsPair network.now x.0 }
+    requires periods { length row.now ≡ horizon network.now }
+    ensures { IsTrue result ↔ (row.now ≡ row_of network.now (incoming network.now x.0)) }
+{
+    for t in 0..row.len() {
+        if row.get(t).get() != network.incoming(x, t) {
+            return false;
+        }
+    }
+    true
+}
+
+/// Whether the row is the gross requirements of the pair.
+fn has_gross(network: &Network, x: PairNo, plan: &Plan, row: &Row) -> bool
+    requires can { CanPlan network.now plan.now x.0 }
+    requires periods { length row.now ≡ horizon network.now }
+    ensures { IsTrue result ↔ (row.now ≡ row_of network.now (gross network.now plan.now x.0)) }
+{
+    let edges = network.demanders(x);
+    for t in 0..row.len() {
+        let needed = network.demand(x, t) + asked_in(edges, plan, t);
+        if row.get(t).get() != needed {
+            return false;
+        }
+    }
+    true
+}
+
+/// What the edges ask in the period for the releases of their demanders.
+fn asked_in(edges: &[Edge], plan: &Plan, t: usize) -> u64
+    requires edges { All (CanAsk plan.now t) edges.now }
+    requires within { asked plan.now edges.now t ≤ MOST }
+    ensures { result ≡ asked plan.now edges.now t }
+{
+    let mut total = 0;
+    for edge in edges {
+        let released = plan.pair(edge.demander).release().get(t);
+        total += edge.per * part_of(edge, released.get());
+    }
+    total
+}
