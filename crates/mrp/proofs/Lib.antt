@@ -1,2 +1,4 @@
 pub mod LineFacts
 pub mod LoopNames
+pub mod NameFacts
+pub mod TextFacts

@@ -37,3 +37,9 @@ abbrev pub IsBeforeWriting : TextFault → Type 0
 IsBeforeWriting WriteFault = ⊥
 IsBeforeWriting Memory = ⊥
 IsBeforeWriting _ = Unit {0}
+
+-- the faults after the tests of the input
+abbrev pub IsLate : TextFault → Type 0
+IsLate WriteFault = Unit {0}
+IsLate Memory = Unit {0}
+IsLate _ = ⊥

@@ -1,3 +1,4 @@
 pub mod Fault
 pub mod Lines
 pub mod Choice
+pub mod Text
