@@ -101,10 +101,10 @@ none_named N p i plant item table none at_plant of_item x named =
     let test = λ (row : PairRow). eqb row.plant.0 p && eqb row.item.0 i in
     let first : pair_no N p i ≡ position_or_len test N.pairs = place_of test N.pairs in
     let past : x < pair_no N p i =
-        elim (cases_lt (pair_no N p i) (length N.pairs)) as (λ _. x < pair_no N p i) [
-          | inl lt ↦ absurd (none lt)
-          | inr ge ↦ omega (arith, ge, named.pair)
-        ] in
+    elim (cases_lt (pair_no N p i) (length N.pairs)) as (λ _. x < pair_no N p i) [
+      | inl lt ↦ absurd (none lt)
+      | inr ge ↦ omega (arith, ge, named.pair)
+    ] in
     let fails : test (pair_at N x) ≡ false = fails_before_first test N.pairs x no_pair (omega (arith, past, first)) in
     let plant_is = same_place N.plants (pair_at N x).plant.0 p plant table.once.plants named.at_plant at_plant in
     let item_is = same_place N.items (pair_at N x).item.0 i item table.once.items named.of_item of_item in
