@@ -6,3 +6,5 @@ pub mod Joining
 pub mod Naming
 pub mod Routing
 pub mod Sharing
+pub mod Covering
+pub mod Local

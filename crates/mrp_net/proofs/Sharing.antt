@@ -32,7 +32,7 @@ share-le : (release low high : ℕ) → low ≤ high → release * low / 1000 �
 share-le release low high h =
     le-div (release * low / 1000) (release * high) 1000 (omega arith) (omega (arith, div-mul-le_self (release * low) 1000, mul-le-mul_left release h))
 
-share-whole : (release : ℕ) → release * 1000 / 1000 ≡ release
+pub share-whole : (release : ℕ) → release * 1000 / 1000 ≡ release
 share-whole release = mul-div_cancel release (omega arith)
 
 -- what sources whose shares go from `low` to the whole ask of a release
@@ -46,7 +46,7 @@ rest_of_shares N release low (s ∷ ss) shares rows small =
     let here : part (source_edge N s) release ≡ release * s.high / 1000 - release * low / 1000 = ap (λ (z : ℕ). release * s.high / 1000 - release * z / 1000) shares.0 in
     omega (arith, sum_by-cons (λ s. part (source_edge N s) release) s ss, here, rest, up)
 
-zero_share : (release : ℕ) → release * 0 / 1000 ≡ 0
+pub zero_share : (release : ℕ) → release * 0 / 1000 ≡ 0
 zero_share release = omega arith
 
 -- the supply of a pair
@@ -104,7 +104,7 @@ keys_all f key n [] h = refl
 keys_all f key n (x ∷ xs) h =
     omega (arith, sum_by-cons (λ x. cond (ltb (key x) n) (f x) 0) x xs, sum_by-cons f x xs, key_below (key x) n (f x) (All-head (λ x. key x < n) x xs h), keys_all f key n xs (All-tail (λ x. key x < n) x xs h))
 
-sum-sorted_by : {X : Type 0} (f : X → ℕ) (key : X → ℕ) (n : ℕ) (xs : List X) → All (λ x. key x < n) xs → sum_by f (sorted_by key n xs) ≡ sum_by f xs
+pub sum-sorted_by : {X : Type 0} (f : X → ℕ) (key : X → ℕ) (n : ℕ) (xs : List X) → All (λ x. key x < n) xs → sum_by f (sorted_by key n xs) ≡ sum_by f xs
 sum-sorted_by f key n xs h = sum_below f key n xs ∙ keys_all f key n xs h
 
 -- the edges from a pair are those of its components and those of its sources

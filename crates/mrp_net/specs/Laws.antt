@@ -1,9 +1,17 @@
 -- Laws of every accepted table.
-use Rattle.std.specs.Prelude.{◌≡◌, ℕ, List, [], map, filter, ◌==◌, sum_by, length}
+use Rattle.std.specs.Prelude.{◌≡◌, ℕ, ◌*◌, ◌==◌, Bool, true, List, [], length, map, filter, sum_by, All}
+use Rattle.std.specs.List.{IsDistinct, range_with_len}
+use Rattle.mrp_lot.specs.One.{PlanRows}
+use Rattle.mrp_tables.specs.declared.numbers.ItemNo.{ItemNo}
+use Rattle.mrp_tables.specs.declared.rows.SourceRow.{SourceRow}
 use Rattle.mrp_tables.specs.declared.rows.Supply.TheVariants.{From, Buy}
-use Rattle.mrp_tables.specs.Table.{Table, IsTable, IsPair, pair_no, sources_of_pair}
-use Rattle.mrp_net.specs.Edges.{part, edge_need, bill_edge, source_edge, suppliers}
+use Rattle.mrp_tables.specs.Table.{Table, IsTable, IsPair, pair_no, source_pair, sources_of_pair}
+use Rattle.mrp_net.specs.declared.edge.Edge.{Edge}
+use Rattle.mrp_net.specs.declared.lane.Lane.{Lane}
+use Rattle.mrp_net.specs.Edges.{part, edge_need, bill_edge, source_edge, edges, demanders, suppliers}
 use Rattle.mrp_net.specs.Groups.{sorted_by}
+use Rattle.mrp_net.specs.Lanes.{taken_over, item_of, lane_items}
+use Rattle.mrp_net.specs.Plan.{rows_at, pair_plan}
 use Rattle.mrp_net.specs.Sums.{pair_at}
 
 -- the parts of a release over the sources of a pair that is taken from plants are the release
@@ -36,3 +44,88 @@ BoughtHaveNoEdges = (N : Table) → IsTable N → (x : ℕ) → IsPair N x → (
 -- the pair of the plant and the item of a pair is that pair
 abbrev pub PairsAreFound : Type 0
 PairsAreFound = (N : Table) → IsTable N → (x : ℕ) → IsPair N x → pair_no N (pair_at N x).plant.0 (pair_at N x).item.0 ≡ x
+
+-- ---- routes
+
+-- the sources by which a customer plant takes items, and those by which items are taken from a supplier plant
+abbrev pub taken_by : Table → ℕ → List SourceRow
+taken_by N customer = filter (λ s. (pair_at N s.pair.0).plant.0 == customer) N.sources
+
+abbrev pub taken_from : Table → ℕ → List SourceRow
+taken_from N supplier = filter (λ s. s.plant.0 == supplier) N.sources
+
+-- an amount of each source, added up over a route
+abbrev pub over_route : Table → (SourceRow → ℕ) → ℕ → ℕ → ℕ
+over_route N amount customer supplier = sum_by amount (taken_over N customer supplier)
+
+-- and over all plants
+abbrev pub over_plants : Table → (ℕ → ℕ) → ℕ
+over_plants N amount = sum_by amount (range_with_len 0 (length N.plants))
+
+-- each source is on one route: what is added up over the routes of a customer, of a supplier, and of
+-- all customers is added up over their sources
+abbrev pub RoutesCoverCustomers : Type 0
+RoutesCoverCustomers =
+    (N : Table) → IsTable N → (amount : SourceRow → ℕ) (customer : ℕ)
+    → over_plants N (λ supplier. over_route N amount customer supplier) ≡ sum_by amount (taken_by N customer)
+
+abbrev pub RoutesCoverSuppliers : Type 0
+RoutesCoverSuppliers =
+    (N : Table) → IsTable N → (amount : SourceRow → ℕ) (supplier : ℕ)
+    → over_plants N (λ customer. over_route N amount customer supplier) ≡ sum_by amount (taken_from N supplier)
+
+abbrev pub RoutesCoverSources : Type 0
+RoutesCoverSources =
+    (N : Table) → IsTable N → (amount : SourceRow → ℕ)
+    → over_plants N (λ customer. over_plants N (λ supplier. over_route N amount customer supplier)) ≡ sum_by amount N.sources
+
+-- the items over a route are each brought by one source, and a lane has each of its items once
+abbrev pub is_same_item : ItemNo → ItemNo → Bool
+is_same_item i j = i.0 == j.0
+
+abbrev pub OneSourceBringsAnItem : Type 0
+OneSourceBringsAnItem =
+    (N : Table) → IsTable N → (customer supplier : ℕ) → IsDistinct is_same_item (map (item_of N) (taken_over N customer supplier))
+
+abbrev pub LaneItemsStandOnce : Type 0
+LaneItemsStandOnce = (N : Table) → IsTable N → (lane : Lane) → IsDistinct is_same_item (lane_items N lane)
+
+-- ---- plans
+
+-- the plan of a pair looks at the releases of its demanders alone
+abbrev pub PlansLookAtDemanders : Type 0
+PlansLookAtDemanders =
+    (N : Table) (a b : List PlanRows) (x : ℕ)
+    → All (λ e. (rows_at a e.demander.0).release ≡ (rows_at b e.demander.0).release) (demanders N x)
+    → pair_plan N a x ≡ pair_plan N b x
+
+-- ---- edges within a plant
+
+-- an edge joins pairs of one plant
+abbrev pub is_local : Table → Edge → Bool
+is_local N e = (pair_at N e.demander.0).plant.0 == (pair_at N e.pair.0).plant.0
+
+-- the pair behind a source has the source's plant, and the item of the pair that takes from it
+abbrev pub SourcePairsAreThere : Type 0
+SourcePairsAreThere =
+    (N : Table) → IsTable N
+    → All (λ s. IsPair N (source_pair N s) × ((pair_at N (source_pair N s)).plant ≡ s.plant) × ((pair_at N (source_pair N s)).item ≡ item_of N s)) N.sources
+
+-- the edges within plants are those of components
+abbrev pub LocalEdgesAreBills : Type 0
+LocalEdgesAreBills = (N : Table) → IsTable N → filter (is_local N) (edges N) ≡ map bill_edge N.bills
+
+-- such an edge takes its part of the whole release, for a pair of the same plant
+pub record IsLocalEdge (N : Table) (e : Edge) : Type 0 where
+  pub low : e.low ≡ 0
+  pub high : e.high ≡ 1000
+  pub demander : IsPair N e.demander.0
+  pub plant : (pair_at N e.demander.0).plant ≡ (pair_at N e.pair.0).plant
+  pub need : (release : ℕ) → edge_need e release ≡ e.per * release
+
+abbrev pub LocalEdgesAreWhole : Type 0
+LocalEdgesAreWhole = (N : Table) → IsTable N → All (λ e. is_local N e ≡ true → IsLocalEdge N e) (edges N)
+
+-- and so among the demanders of a pair
+abbrev pub LocalDemandersAreWhole : Type 0
+LocalDemandersAreWhole = (N : Table) → IsTable N → (x : ℕ) → All (λ e. is_local N e ≡ true → IsLocalEdge N e) (demanders N x)

@@ -1,7 +1,9 @@
-//! Laws of sources and shares and of the pairs of a table. Each is the contract of a function that
-//! does nothing.
+//! Laws of sources and shares and of the pairs of a table, of routes, and of edges within a plant.
+//! Each is the contract of a function that does nothing.
 
 ghost use Rattle.mrp_net.specs.Laws.{PartsAreWhole, NeedsAreWhole, OthersHaveNoSources, OthersHaveComponents, BoughtHaveNoEdges, PairsAreFound};
+ghost use Rattle.mrp_net.specs.Laws.{RoutesCoverCustomers, RoutesCoverSuppliers, RoutesCoverSources, OneSourceBringsAnItem, LaneItemsStandOnce, PlansLookAtDemanders};
+ghost use Rattle.mrp_net.specs.Laws.{SourcePairsAreThere, LocalEdgesAreBills, LocalEdgesAreWhole, LocalDemandersAreWhole};
 
 /// The parts of a release over the sources of a pair that is taken from plants add up to the release,
 /// and so does what it asks of its suppliers: nothing is lost or made up by rounding.
@@ -21,4 +23,37 @@ pub fn others_have_no_sources()
 /// No pair stands twice: the pair of the plant and the item of a pair is that pair.
 pub fn pairs_are_found()
     ensures { PairsAreFound }
+{}
+
+/// Each source is on one route: an amount of each source, added up over the routes of a customer, of
+/// a supplier, or of all customers, is the sum over their sources.
+pub fn routes_cover_sources()
+    ensures customers { RoutesCoverCustomers }
+    ensures suppliers { RoutesCoverSuppliers }
+    ensures sources { RoutesCoverSources }
+{}
+
+/// Over a route one source at most brings an item, so a lane has each of its items once.
+pub fn one_source_brings_an_item()
+    ensures routes { OneSourceBringsAnItem }
+    ensures lanes { LaneItemsStandOnce }
+{}
+
+/// The plan of a pair looks at the releases of its demanders alone: two tables of plans in which
+/// these are the same give the pair the same plan.
+pub fn plans_look_at_demanders()
+    ensures { PlansLookAtDemanders }
+{}
+
+/// The pair behind a source has the source's plant, and the item of the pair that takes from it.
+pub fn source_pairs_are_there()
+    ensures { SourcePairsAreThere }
+{}
+
+/// The edges between pairs of one plant are those of components. Each takes its part of the whole
+/// release, and its demander is a pair of that plant.
+pub fn local_edges_are_whole()
+    ensures bills { LocalEdgesAreBills }
+    ensures edges { LocalEdgesAreWhole }
+    ensures demanders { LocalDemandersAreWhole }
 {}
