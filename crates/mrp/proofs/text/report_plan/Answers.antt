@@ -26,6 +26,8 @@ returns-in_err-late_rows-clause-text g c =
 
 pub returns-clause-text : goal.returns-clause-text
 returns-clause-text g c =
-    let N = c.args.net.now.network in
-    (_, (c.requires, (c.in_ok-plan.plan, c.in_ok-plan.ensures.fits, refl)),
-    whole-after _ _ _ (plan_text N c.in_ok-plan.plan) (late_text N c.in_ok-plan.plan) c.in_ok-plan_rows.ensures.text c.in_ok-late_rows.ensures.text)
+    let N = c.args.net.now.network in (
+      _,
+      (c.requires, (c.in_ok-plan.plan, c.in_ok-plan.ensures.fits, refl)),
+      whole-after _ _ _ (plan_text N c.in_ok-plan.plan) (late_text N c.in_ok-plan.plan) c.in_ok-plan_rows.ensures.text c.in_ok-late_rows.ensures.text,
+    )
