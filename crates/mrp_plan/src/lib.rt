@@ -12,3 +12,6 @@ pub use fitting::fits;
 pub use pegging::peg;
 pub use plan::{Plan, plan_all};
 pub use terms::{PegSource, PegTerm};
+
+#[cfg(test)]
+mod tests;
