@@ -12,6 +12,3 @@ pub use fitting::fits;
 pub use pegging::peg;
 pub use plan::{Plan, plan_all};
 pub use terms::{PegSource, PegTerm};
-
-#[cfg(test)]
-mod tests;
