@@ -1,5 +1,5 @@
 -- The shipments of each source.
-use Rattle.std.proofs.Common.{◌≡◌, ◌≢◌, ◌+◌, ◌*◌, ◌<◌, ◌==◌, ◌&&◌, ◌||◌, ℕ, nat_le, nat_lt, not, Bool, true, false, List, [], ◌∷◌, ◌++◌, length, map, get_or, set, position, Option, Some, None, IsSome, refl, sym, ap, ◌∙◌, subst, inl, inr, ⊎_elim, arith, rules}
+use Rattle.std.proofs.Common.{◌≡◌, ◌≢◌, ◌+◌, ◌*◌, ◌<◌, ◌==◌, ◌&&◌, ◌||◌, ℕ, nat_le, nat_lt, not, Bool, true, false, List, [], ◌∷◌, ◌++◌, length, map, get_or, set, position, Option, Some, None, IsSome, refl, sym, ap, ◌∙◌, subst, ⊎_elim, arith}
 use Rattle.std.specs.Cmp.{IsEquivalence}
 use Rattle.std.specs.List.{All, IsDistinct, filter, list_all, list_any}
 use Rattle.std.proofs.lemmas.Bool.{eq-eqb, eqb-true, false≢true}
@@ -60,10 +60,10 @@ other_source keys sources j k d is apart jn kn ne =
     let distinct : IsDistinct is_same_lane (map lane_of sources) = subst (IsDistinct is_same_lane) is apart in
     let ordered : (a b : ℕ) → a < b → b < length sources → is_same_lane (lane_of (get_or sources a d)) (lane_of (get_or sources b d)) ≡ false =
     λ a b ab bn.
-        let longer = length-map sources lane_of in
-        let h = apart_from_distinct is_same_lane (map lane_of sources) a b (lane_of d) distinct ab (omega arith) in
-        subst (λ (l : LaneKey). is_same_lane (lane_of (get_or sources a d)) l ≡ false) (get_or-map lane_of sources b d)
-        (subst (λ (l : LaneKey). is_same_lane l (get_or (map lane_of sources) b (lane_of d)) ≡ false) (get_or-map lane_of sources a d) h) in
+    let longer = length-map sources lane_of in
+    let h = apart_from_distinct is_same_lane (map lane_of sources) a b (lane_of d) distinct ab (omega arith) in
+    subst (λ (l : LaneKey). is_same_lane (lane_of (get_or sources a d)) l ≡ false) (get_or-map lane_of sources b d)
+    (subst (λ (l : LaneKey). is_same_lane l (get_or (map lane_of sources) b (lane_of d)) ≡ false) (get_or-map lane_of sources a d) h) in
     let cases : (j < k → is_same_lane (lane_of (get_or sources j d)) (lane_of (get_or sources k d)) ≡ false) × (k < j → is_same_lane (lane_of (get_or sources j d)) (lane_of (get_or sources k d)) ≡ false) =
     (λ lt. ordered j k lt kn, λ lt. same_lane_laws.symm (lane_of (get_or sources j d)) (lane_of (get_or sources k d)) ∙ ordered k j lt jn) in
     by (nat_lt j k) refl cases
@@ -150,12 +150,12 @@ states_ship ships y keys sources states k d l is apart each at there =
     ∙ sym (new k p.0) in
     let elsewhere : (i : ℕ) → i < length sources → i ≢ k → get_or (set states k v) i l ≡ get_or (map g sources) i l =
     λ i lt ne.
-        let apart_at = subst (λ (m : LaneKey). is_same_lane (lane_of (get_or sources i d)) m ≡ false) same (other_source keys sources i k d is apart lt p.0 ne) in
-        get_or-set_other states k i v l ne ∙ old i lt ∙ sym (miss ships y (get_or sources i d) apart_at) ∙ sym (new i lt) in
+    let apart_at = subst (λ (m : LaneKey). is_same_lane (lane_of (get_or sources i d)) m ≡ false) same (other_source keys sources i k d is apart lt p.0 ne) in
+    get_or-set_other states k i v l ne ∙ old i lt ∙ sym (miss ships y (get_or sources i d) apart_at) ∙ sym (new i lt) in
     let at_each : (i : ℕ) → i < length (set states k v) → get_or (set states k v) i l ≡ get_or (map g sources) i l =
     λ i lt.
-        let within : i < length sources = omega (arith, lt, n1, n3, n4) in
-        ⊎_elim (λ e. subst (λ j. get_or (set states k v) j l ≡ get_or (map g sources) j l) (sym e.1) here) (λ e. elsewhere i within e.1) (eqb_tells i k) in
+    let within : i < length sources = omega (arith, lt, n1, n3, n4) in
+    ⊎_elim (λ e. subst (λ j. get_or (set states k v) j l ≡ get_or (map g sources) j l) (sym e.1) here) (λ e. elsewhere i within e.1) (eqb_tells i k) in
     ext_get_or l (set states k v) (map g sources) (omega (arith, n1, n2, n3, n4)) at_each
 
 -- what is known of the source of a plant and a pair

@@ -1,11 +1,10 @@
 -- A pair row with its item and its sources.
-use Rattle.std.proofs.Common.{◌≡◌, ◌+◌, ◌*◌, ◌<◌, ◌≤◌, ◌==◌, ◌&&◌, ◌||◌, ℕ, not, Bool, true, false, if◌then◌else◌, List, [], ◌∷◌, ◌++◌, length, map, get_or, take, position, unwrap_or, is_some, Option, Some, None, refl, sym, ap, ◌∙◌, subst, append_assoc, arith, rules}
-use Rattle.std.specs.List.{All, list_all, list_any}
+use Rattle.std.proofs.Common.{◌≡◌, ◌+◌, ◌<◌, ◌≤◌, ◌==◌, ◌&&◌, ℕ, Bool, true, false, if◌then◌else◌, List, [], ◌∷◌, ◌++◌, length, map, get_or, take, position, unwrap_or, Option, Some, None, refl, sym, ap, ◌∙◌, subst, append_assoc, arith}
+use Rattle.std.specs.List.{list_any}
 use Rattle.std.specs.Str.{bytes_eq}
 use Rattle.std.proofs.lemmas.Bool.{eqb-true, false≢true}
 use Rattle.std.proofs.lemmas.Bool.Decides.{nat_tests}
 use Rattle.std.proofs.lemmas.List.{append-nil, get_or_append_left, get_or-take, length-take-le, length_push, map-append, take_all, take_more}
-use Rattle.std.proofs.lemmas.List.Elements.{All-head, All-tail}
 use Rattle.std.proofs.lemmas.List.Folds.{list_any-append, list_any_at, list_any_none}
 use Rattle.std.proofs.Math.Seq.{get_or-append_seam}
 use Rattle.std.proofs.lemmas.List.Quantifiers.{position-Some}
@@ -17,7 +16,6 @@ use Rattle.mrp_tables.specs.declared.draft.LaneKey.{LaneKey}
 use Rattle.mrp_tables.specs.declared.numbers.PlantNo.{PlantNo}
 use Rattle.mrp_tables.specs.declared.rows.PairRow.{PairRow}
 use Rattle.mrp_tables.specs.declared.rows.SourceRow.{SourceRow}
-use Rattle.mrp_tables.specs.declared.rows.ShipRow.{ShipRow}
 use Rattle.mrp_tables.specs.Drafts.{IsNewPair, with_sources}
 use Rattle.mrp_tables.specs.Grammar.{has_plant, knows_sources, named_sources, pair_named, pair_of, pair_with, PairTerms, plant_no, source_row, with_pair_terms}
 use Rattle.mrp_tables.specs.Lists.{add_item, Fits, with_item, with_pair, with_source}
@@ -78,10 +76,10 @@ module _ (N M : Table) (x : ℕ) (ss : List SourceTerms) (i : ℕ) (d : SourceTe
       let size = length-take-le i ss (omega arith) in
       let none : list_any view (take i ss) ≡ false =
       list_any_none view (take i ss) (λ k e kn.
-          let ki : k < i = omega (arith, size, kn) in
-          let same : get_or (take i ss) k e ≡ get_or ss k d = get_or-take i ss k e ki ∙ any_default ss k e d (omega arith) in
-          subst (λ (s : SourceTerms). view s ≡ false) (sym same)
-          (and_false _ (x == x) (place_apart (get_or ss k d).plant (get_or ss i d).plant N.plants (all k (omega arith)) (all i lt) (apart k ki)))) in
+      let ki : k < i = omega (arith, size, kn) in
+      let same : get_or (take i ss) k e ≡ get_or ss k d = get_or-take i ss k e ki ∙ any_default ss k e d (omega arith) in
+      subst (λ (s : SourceTerms). view s ≡ false) (sym same)
+      (and_false _ (x == x) (place_apart (get_or ss k d).plant (get_or ss i d).plant N.plants (all k (omega arith)) (all i lt) (apart k ki)))) in
       let made : list_any test rows ≡ false = list_any_keys (source_row N x) test view (λ s. refl) (take i ss) ∙ none in
       let total : list_any test (N.sources ++ rows) ≡ false = list_any-append test N.sources rows ∙ rw (old, made) refl in
       subst (λ (T : Table). is_taken_from T x (source_row T x (get_or ss i d)).plant.0 ≡ false) (sym is) total
@@ -118,8 +116,10 @@ new_place items name fresh =
   where
     left : (xs ys : List (List ℕ)) (k : ℕ) → k < length xs → get_or (xs ++ ys) k [] ≡ get_or xs k []
     left xs ys k lt = get_or_append_left xs ys [] k lt
+
     seam : (xs : List (List ℕ)) (y : List ℕ) → get_or (xs ++ y ∷ []) (length xs) [] ≡ y
     seam xs y = get_or-append_seam xs y [] []
+
     fails : (k : ℕ) → k < length items → bytes_eq name (get_or items k []) ≡ false
     fails k lt = by (bytes_eq name (get_or items k [])) refl
       where

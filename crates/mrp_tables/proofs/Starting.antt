@@ -1,5 +1,5 @@
 -- What the first row of a table makes, and each row after it.
-use Rattle.std.proofs.Common.{◌≡◌, ℕ, Bool, true, false, not, List, [], ◌∷◌, Result, Ok, Err, ok_or, refl, sym, ap, ◌∙◌, subst, rules}
+use Rattle.std.proofs.Common.{◌≡◌, ℕ, Bool, true, false, not, List, [], ◌∷◌, Result, Ok, Err, refl, sym, ap, ◌∙◌, subst}
 use Rattle.std.specs.List.{list_all}
 use Rattle.std.specs.Str.{is_utf8}
 use Rattle.std.proofs.lemmas.Str.{is_utf8-from_IsUtf8}
@@ -11,7 +11,7 @@ use Rattle.mrp_tables.specs.contracts.kind.Kind.{the_type as kind_type}
 use Rattle.mrp_tables.specs.declared.kind.Kind.{Kind}
 use Rattle.mrp_tables.specs.declared.kind.Kind.TheVariants as kind
 use Rattle.mrp_tables.specs.Table.{Table}
-use Rattle.mrp_tables.specs.Grammar.{◌>>=◌, check, may_follow, row_kind, run_terms, RunTerms, TellsFault}
+use Rattle.mrp_tables.specs.Grammar.{◌>>=◌, may_follow, row_kind, run_terms, RunTerms, TellsFault}
 use Rattle.mrp_tables.specs.Reading.{first_terms, is_run, kind_of_row, OfRows, row_after, row_of_kind, Starts, StartsWith}
 
 -- fields that are text pass the test for it

@@ -1,4 +1,4 @@
-use Rattle.std.proofs.Common.{◌≡◌, ◌++◌, ◌∷◌, [], List, refl, sym, ap, ◌∙◌, subst, arith, rules}
+use Rattle.std.proofs.Common.{◌++◌, ◌∷◌, [], List, refl, sym, ap, ◌∙◌, subst, arith}
 use Rattle.mrp_tables.specs.declared.terms.SpelledSource.{SpelledSource}
 use Rattle.mrp_tables.specs.Spelled.{AreSources, IsSource}
 use Rattle.mrp_tables.proofs.Apart.{no_sources, sources_push}

@@ -1,4 +1,4 @@
-use Rattle.std.proofs.Common.{◌≡◌, refl, sym, ap, ◌∙◌, subst, rules}
+use Rattle.std.proofs.Common.{sym, ◌∙◌}
 use Rattle.std.proofs.lemmas.Result.{err_from_is_err_and}
 use Rattle.csv.specs.Records.{fields_of}
 use Rattle.mrp_tables.specs.Lists.{table_of}
@@ -22,7 +22,7 @@ returns-in_err-add_row-clause-exact c =
     let p = err_from_is_err_and c.from_residual-in_err-add_row.result c.from_residual-in_err-add_row.ensures.1 in
     let self = c.args.self.now in
     let told = after-fault (table_of self.lists) self.last (fields_of c.args.row.now) c.requires.text c.in_ok-kind.kind c.in_err-add_row.field-0.0 (sym c.row_kind.ensures ∙ c.in_ok-kind.was)
-        (sym c.may_follow.ensures ∙ c.if-not-may_follow.false) c.in_err-add_row.ensures.exact in
+    (sym c.may_follow.ensures ∙ c.if-not-may_follow.false) c.in_err-add_row.ensures.exact in
     rw (p.1, p.2) told
 
 pub returns-clause-exact : goal.returns-clause-exact

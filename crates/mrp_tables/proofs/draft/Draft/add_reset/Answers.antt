@@ -1,10 +1,9 @@
-use Rattle.std.proofs.Common.{◌≡◌, ◌+◌, ◌≤◌, ◌<◌, ◌∷◌, ◌++◌, [], List, Bool, if◌then◌else◌, length, map, ◌∙◌, ap, subst, sym, not, true, false, true≢false, refl, arith, rules}
+use Rattle.std.proofs.Common.{◌≡◌, ◌+◌, ◌<◌, ◌∷◌, ◌++◌, [], List, if◌then◌else◌, length, map, ◌∙◌, ap, subst, sym, not, true, false, true≢false, refl, arith, rules}
 use Rattle.std.specs.List.{IsDistinct}
 use Rattle.std.proofs.lemmas.List.{length-map, length_push, map-append}
 use Rattle.mrp_tables.specs.declared.draft.LaneKey.{LaneKey}
-use Rattle.mrp_tables.specs.declared.rows.ResetRow.{ResetRow}
 use Rattle.mrp_tables.specs.declared.rows.SourceRow.{SourceRow}
-use Rattle.mrp_tables.specs.Lists.{AreLanes, Fits, has_lane, is_same_lane, reset_key_of, row_count, table_of, with_reset}
+use Rattle.mrp_tables.specs.Lists.{AreLanes, Fits, is_same_lane, reset_key_of, row_count, table_of, with_reset}
 use Rattle.mrp_tables.specs.Table.{Table}
 use Rattle.mrp_tables.proofs.Arrivals.{found_lane, lanes_push, resets_room}
 use Rattle.mrp_tables.proofs.Keys.{any_reset}

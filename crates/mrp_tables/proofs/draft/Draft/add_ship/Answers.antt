@@ -1,4 +1,4 @@
-use Rattle.std.proofs.Common.{◌≡◌, ◌+◌, ◌∷◌, ◌++◌, [], List, ℕ, length, set, sym, ap, ◌∙◌, subst, refl, arith, rules}
+use Rattle.std.proofs.Common.{◌≡◌, ◌+◌, set, sym, ◌∙◌, subst, refl, arith, rules}
 use Rattle.std.proofs.lemmas.List.{length-set, length_push}
 use Rattle.mrp_tables.specs.declared.draft.Lane.{Lane}
 use Rattle.mrp_tables.specs.declared.rows.SourceRow.{SourceRow}
@@ -35,7 +35,7 @@ returns-clause-adds c =
       reset_keys = search rules;
       resets = old.resets;
       fits = subst (λ (m : Lane). Fits (table_of c.add_ship.new.self) self.lane_keys.keys (set self.lanes.items k m)) (sym c.ship.ensures)
-      (subst (λ (M : Table). Fits M self.lane_keys.keys (set self.lanes.items k v)) made fits);
+          (subst (λ (M : Table). Fits M self.lane_keys.keys (set self.lanes.items k v)) made fits);
       counted = refl;
       count = subst (λ (M : Table). row_count M ≡ row_count N + 1) made count;
     }

@@ -1,9 +1,9 @@
-use Rattle.std.proofs.Common.{◌≡◌, ◌+◌, ◌∷◌, ◌++◌, [], List, ℕ, Option, Bool, if◌then◌else◌, unwrap_or, length, ◌∙◌, ap, subst, sym, not, true, false, true≢false, refl, arith, rules}
+use Rattle.std.proofs.Common.{◌≡◌, ◌+◌, ◌∷◌, ◌++◌, [], List, ℕ, Option, if◌then◌else◌, unwrap_or, length, ◌∙◌, ap, subst, sym, not, true, false, true≢false, refl}
 use Rattle.std.proofs.lemmas.List.{length_push}
 use Rattle.mrp_tables.specs.declared.draft.LaneKey.{LaneKey}
 use Rattle.mrp_tables.specs.declared.numbers.PlantNo.{PlantNo}
 use Rattle.mrp_tables.specs.declared.rows.SourceRow.{SourceRow}
-use Rattle.mrp_tables.specs.Lists.{AreLanes, lane_of, row_count, table_of, with_source}
+use Rattle.mrp_tables.specs.Lists.{AreLanes, lane_of, row_count, table_of}
 use Rattle.mrp_tables.specs.Table.{is_taken_from, Table}
 use Rattle.mrp_tables.proofs.Arrivals.{lanes_more, source_fit}
 use Rattle.mrp_tables.proofs.Keys.{any_source}

@@ -1,4 +1,4 @@
-use Rattle.std.proofs.Common.{◌≡◌, ◌<◌, [], false, map, take, length, get_or, List, ℕ, ◌∙◌, sym, ap, subst, arith, rules}
+use Rattle.std.proofs.Common.{◌≡◌, ◌<◌, [], false, map, length, get_or, ℕ, ◌∙◌, sym, ap, subst, arith}
 use Rattle.std.specs.Str.{bytes_eq}
 use Rattle.std.proofs.lemmas.List.{length-map}
 use Rattle.std.proofs.lemmas.Map.Keys.{apart_from_distinct}
@@ -23,9 +23,9 @@ add_source-requires-clause-fresh c =
     let size = length-map xs source_view in
     let apart : (j : ℕ) → j < i → bytes_eq (get_or (map source_view xs) j (source_view d)).plant (get_or (map source_view xs) i (source_view d)).plant ≡ false =
     λ j ji.
-        subst (λ (s : SourceTerms). bytes_eq s.plant (get_or (map source_view xs) i (source_view d)).plant ≡ false) (sym (get_or-map source_view xs j d))
-        (subst (λ (s : SourceTerms). bytes_eq (get_or xs j d).plant.now s.plant ≡ false) (sym (get_or-map source_view xs i d))
-        (apart_from_distinct is_same_plant xs j i d c.requires.sources.apart ji lt)) in
+    subst (λ (s : SourceTerms). bytes_eq s.plant (get_or (map source_view xs) i (source_view d)).plant ≡ false) (sym (get_or-map source_view xs j d))
+    (subst (λ (s : SourceTerms). bytes_eq (get_or xs j d).plant.now s.plant ≡ false) (sym (get_or-map source_view xs i d))
+    (apart_from_distinct is_same_plant xs j i d c.requires.sources.apart ji lt)) in
     let fresh = sources_fresh (table_of c.args.self.now.lists) M x (map source_view xs) i (source_view d) c.loop-source.invariant.1 c.requires.fresh c.requires.known apart (omega (arith, lt, size)) in
     subst (λ (s : SourceTerms). is_taken_from M x (source_row M x s).plant.0 ≡ false) (get_or-map source_view xs i d) fresh
 
@@ -40,16 +40,17 @@ loop-source-preserved c =
     let size = length-map xs source_view in
     let a = c.in_ok-add_source.ensures.adds in
     let p = c.loop-source.invariant.0 in
-    let made = c.in_ok-add_source.ensures.table ∙ ap (λ (s : SourceTerms). with_source M (source_row M x s)) (sym (get_or-map source_view xs i d)) in
-    (record {
-      rows = a.rows;
-      fits = a.fits;
-      same = (a.same.0 ∙ p.same.0, a.same.1 ∙ p.same.1);
-      bills = (a.bills.0 ∙ p.bills.0, a.bills.1 ∙ p.bills.1);
-      cums = (a.cums.0 ∙ p.cums.0, a.cums.1 ∙ p.cums.1);
-      resets = (a.resets.0 ∙ p.resets.0, a.resets.1 ∙ p.resets.1);
-      lanes = λ h. a.lanes (p.lanes h);
-      pairs = a.pairs ∙ p.pairs;
-      sources = omega (arith, a.sources, p.sources);
-    },
-    sources_more (table_of c.args.self.now.lists) M x (map source_view xs) i (source_view d) c.loop-source.invariant.1 (table_of c.add_source.new.self.lists) made (omega (arith, lt, size)))
+    let made = c.in_ok-add_source.ensures.table ∙ ap (λ (s : SourceTerms). with_source M (source_row M x s)) (sym (get_or-map source_view xs i d)) in (
+      record {
+        rows = a.rows;
+        fits = a.fits;
+        same = (a.same.0 ∙ p.same.0, a.same.1 ∙ p.same.1);
+        bills = (a.bills.0 ∙ p.bills.0, a.bills.1 ∙ p.bills.1);
+        cums = (a.cums.0 ∙ p.cums.0, a.cums.1 ∙ p.cums.1);
+        resets = (a.resets.0 ∙ p.resets.0, a.resets.1 ∙ p.resets.1);
+        lanes = λ h. a.lanes (p.lanes h);
+        pairs = a.pairs ∙ p.pairs;
+        sources = omega (arith, a.sources, p.sources);
+      },
+      sources_more (table_of c.args.self.now.lists) M x (map source_view xs) i (source_view d) c.loop-source.invariant.1 (table_of c.add_source.new.self.lists) made (omega (arith, lt, size)),
+    )

@@ -1,5 +1,4 @@
-use Rattle.std.proofs.Common.{◌∙◌, ap, map, sym, subst, unwrap_or, Option, ◌≡◌, true, List, ℕ}
-use Rattle.std.specs.Str.{bytes_eq}
+use Rattle.std.proofs.Common.{◌∙◌, ap, map, sym, unwrap_or, Option, ℕ}
 use Rattle.std.specs.String.{string_bytes}
 use Rattle.mrp_tables.specs.Lists.{table_of}
 use Rattle.mrp_tables.specs.Table.{Table}
