@@ -113,7 +113,7 @@ IsRefusal N _ = ⊥
 -- the same of a question about a pair in a period, which is asked of a network that can be planned:
 -- no such pair; or the pair, and no such period
 abbrev pub IsPegRefusal : List ℕ → List ℕ → ℕ → Table → TextFault → Type 0
-IsPegRefusal plant item period N fault.NoPair = IsPlannable N
+IsPegRefusal plant item period N fault.NoPair = IsPlannable N × ((x : ℕ) → ¬ (IsNamed N x plant item))
 IsPegRefusal plant item period N fault.NoPeriod = IsPlannable N × ((x : ℕ) × IsNamed N x plant item × (horizon N ≤ period))
 IsPegRefusal plant item period N fault = IsRefusal N fault
 
