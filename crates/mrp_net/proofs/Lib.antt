@@ -8,3 +8,4 @@ pub mod Routing
 pub mod Sharing
 pub mod Covering
 pub mod Local
+pub mod Asking

@@ -29,7 +29,7 @@ item_is : (N : Table) (x : ℕ) → IsPair N x → item_at N x ≡ (pair_at N x)
 item_is N x h = ap (λ o. unwrap_or (option_map (λ (p : PairRow). p.item.0) o) 0) (slice_get-get_or N.pairs x no_pair h)
 
 -- the pair of a plant and an item has them
-pair_of : (N : Table) (x plant item : ℕ) → x ≡ pair_no N plant item → IsPair N x → ((pair_at N x).plant.0 ≡ plant) × ((pair_at N x).item.0 ≡ item)
+pub pair_of : (N : Table) (x plant item : ℕ) → x ≡ pair_no N plant item → IsPair N x → ((pair_at N x).plant.0 ≡ plant) × ((pair_at N x).item.0 ≡ item)
 pair_of N x plant item is pair =
     let test = λ (row : PairRow). eqb row.plant.0 plant && eqb row.item.0 item in
     let n : ℕ = position_or_len test N.pairs in
@@ -82,7 +82,7 @@ local_edges_are_bills N is =
     ∙ append-nil (map bill_edge N.bills)
 
 -- a bill edge is whole
-whole_need : (per release : ℕ) → per * (release * 1000 / 1000 - release * 0 / 1000) ≡ per * release
+pub whole_need : (per release : ℕ) → per * (release * 1000 / 1000 - release * 0 / 1000) ≡ per * release
 whole_need per release =
     let whole : release * 1000 / 1000 - release * 0 / 1000 ≡ release = omega (arith, share-whole release, zero_share release) in
     ap (λ (z : ℕ). per * z) whole

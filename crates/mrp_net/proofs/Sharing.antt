@@ -61,7 +61,7 @@ parts_are_whole N table x h from release =
     omega (arith, zero_share release, rest_of_shares N release 0 (sources_of_pair N x) (shares_of N x table h from) (All-filter (λ s. eqb s.pair.0 x) (IsSourceRow N) N.sources table.read.sources) (omega arith))
 
 -- a sum over sorted rows
-sum_filter : {X : Type 0} (f : X → ℕ) (p : X → Bool) (xs : List X) → sum_by f (filter p xs) ≡ sum_by (λ x. cond (p x) (f x) 0) xs
+pub sum_filter : {X : Type 0} (f : X → ℕ) (p : X → Bool) (xs : List X) → sum_by f (filter p xs) ≡ sum_by (λ x. cond (p x) (f x) 0) xs
 sum_filter f p [] = refl
 sum_filter {X} f p (x ∷ xs) =
     elim (cases_Bool (p x)) as (λ _. sum_by f (filter p (x ∷ xs)) ≡ sum_by (λ x. cond (p x) (f x) 0) (x ∷ xs)) [
@@ -129,7 +129,7 @@ no_components N x table other =
     filter_none (λ b. eqb b.parent.0 x) N.bills
     (λ k d h. ne_eqb (get_or N.bills k d).parent.0 x (λ e. other (ap (supply_at N) (sym e) ∙ table.sourced.parents k d h)))
 
-sum_map : {X Y : Type 0} (f : Y → ℕ) (g : X → Y) (xs : List X) → sum_by f (map g xs) ≡ sum_by (λ x. f (g x)) xs
+pub sum_map : {X Y : Type 0} (f : Y → ℕ) (g : X → Y) (xs : List X) → sum_by f (map g xs) ≡ sum_by (λ x. f (g x)) xs
 sum_map f g [] = refl
 sum_map f g (x ∷ xs) = omega (arith, sum_by-cons f (g x) (map g xs), sum_by-cons (λ x. f (g x)) x xs, sum_map f g xs)
 

@@ -1,8 +1,9 @@
 -- Laws of every accepted table.
-use Rattle.std.specs.Prelude.{◌≡◌, ℕ, ◌*◌, ◌==◌, Bool, true, List, [], length, map, filter, sum_by, All}
+use Rattle.std.specs.Prelude.{◌≡◌, ℕ, ◌+◌, ◌*◌, ◌==◌, if◌then◌else◌, Bool, true, List, [], length, map, filter, sum_by, slice_index, All}
 use Rattle.std.specs.List.{IsDistinct, range_with_len}
 use Rattle.mrp_lot.specs.One.{PlanRows}
 use Rattle.mrp_tables.specs.declared.numbers.ItemNo.{ItemNo}
+use Rattle.mrp_tables.specs.declared.rows.BillRow.{BillRow}
 use Rattle.mrp_tables.specs.declared.rows.SourceRow.{SourceRow}
 use Rattle.mrp_tables.specs.declared.rows.Supply.TheVariants.{From, Buy}
 use Rattle.mrp_tables.specs.Table.{Table, IsTable, IsPair, pair_no, source_pair, sources_of_pair}
@@ -11,8 +12,8 @@ use Rattle.mrp_net.specs.declared.lane.Lane.{Lane}
 use Rattle.mrp_net.specs.Edges.{part, edge_need, bill_edge, source_edge, edges, demanders, suppliers}
 use Rattle.mrp_net.specs.Groups.{sorted_by}
 use Rattle.mrp_net.specs.Lanes.{taken_over, item_of, lane_items}
-use Rattle.mrp_net.specs.Plan.{rows_at, pair_plan}
-use Rattle.mrp_net.specs.Sums.{pair_at}
+use Rattle.mrp_net.specs.Plan.{rows_at, gross, pair_plan}
+use Rattle.mrp_net.specs.Sums.{pair_at, demand}
 
 -- the parts of a release over the sources of a pair that is taken from plants are the release
 abbrev pub PartsAreWhole : Type 0
@@ -129,3 +130,25 @@ LocalEdgesAreWhole = (N : Table) → IsTable N → All (λ e. is_local N e ≡ t
 -- and so among the demanders of a pair
 abbrev pub LocalDemandersAreWhole : Type 0
 LocalDemandersAreWhole = (N : Table) → IsTable N → (x : ℕ) → All (λ e. is_local N e ≡ true → IsLocalEdge N e) (demanders N x)
+
+-- ---- where gross requirements come from
+
+-- the release of a pair in a period
+abbrev pub released : List PlanRows → ℕ → ℕ → ℕ
+released table x t = slice_index (rows_at table x).release t
+
+-- what a component row asks of a pair, and what a source asks of it
+abbrev pub asked_by_bill : List PlanRows → ℕ → ℕ → BillRow → ℕ
+asked_by_bill table x t b = if b.component.0 == x then b.per * released table b.parent.0 t else 0
+
+abbrev pub asked_by_source : Table → List PlanRows → ℕ → ℕ → SourceRow → ℕ
+asked_by_source N table x t s = if source_pair N s == x then part (source_edge N s) (released table s.pair.0 t) else 0
+
+-- gross requirements are the demand rows, what is asked within the plant, and what is asked over the
+-- routes on which the plant is the supplier
+abbrev pub GrossIsLocalAndCalled : Type 0
+GrossIsLocalAndCalled =
+    (N : Table) → IsTable N → (table : List PlanRows) (x t : ℕ) → IsPair N x
+    → gross N table x t
+    ≡ demand N x t + sum_by (asked_by_bill table x t) N.bills
+    + over_plants N (λ customer. over_route N (asked_by_source N table x t) customer (pair_at N x).plant.0)

@@ -3,7 +3,7 @@
 
 ghost use Rattle.mrp_net.specs.Laws.{PartsAreWhole, NeedsAreWhole, OthersHaveNoSources, OthersHaveComponents, BoughtHaveNoEdges, PairsAreFound};
 ghost use Rattle.mrp_net.specs.Laws.{RoutesCoverCustomers, RoutesCoverSuppliers, RoutesCoverSources, OneSourceBringsAnItem, LaneItemsStandOnce, PlansLookAtDemanders};
-ghost use Rattle.mrp_net.specs.Laws.{SourcePairsAreThere, LocalEdgesAreBills, LocalEdgesAreWhole, LocalDemandersAreWhole};
+ghost use Rattle.mrp_net.specs.Laws.{SourcePairsAreThere, LocalEdgesAreBills, LocalEdgesAreWhole, LocalDemandersAreWhole, GrossIsLocalAndCalled};
 
 /// The parts of a release over the sources of a pair that is taken from plants add up to the release,
 /// and so does what it asks of its suppliers: nothing is lost or made up by rounding.
@@ -56,4 +56,10 @@ pub fn local_edges_are_whole()
     ensures bills { LocalEdgesAreBills }
     ensures edges { LocalEdgesAreWhole }
     ensures demanders { LocalDemandersAreWhole }
+{}
+
+/// Gross requirements are the demand rows, what is asked within the plant, and what is asked over
+/// the routes on which the plant is the supplier.
+pub fn gross_is_local_and_called()
+    ensures { GrossIsLocalAndCalled }
 {}
