@@ -100,7 +100,10 @@ demand,A,Y,0,1000000000,,,
 ";
     let within = network(&rt, at_the_bound)?;
     let levels = check(rt.alloc(), &within)?;
-    assert_eq!(rt; bound(rt.alloc(), &within, &levels)?.in_code_order().len(), 2);
+    assert_eq!(rt;
+        bound(rt.alloc(), &within, &levels)?.in_code_order().len(),
+        2
+    );
     let one_piece_more = b"run,2026-01-05,7,1,,,,
 plant,A,,,,,,
 pair,A,Y,make,lot,0,0,0

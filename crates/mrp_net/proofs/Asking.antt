@@ -70,9 +70,9 @@ called N table x t is pair =
 pub gross_is_local_and_called : GrossIsLocalAndCalled
 gross_is_local_and_called N is table x t pair =
     let bills : sum_by (asked_of table x t) (map bill_edge N.bills) ≡ sum_by (asked_by_bill table x t) N.bills =
-        sum_map (asked_of table x t) bill_edge N.bills
-        ∙ sum_by-same (λ b. asked_of table x t (bill_edge b)) (asked_by_bill table x t) N.bills (λ k d h. bill_asks table x t (get_or N.bills k d)) in
+    sum_map (asked_of table x t) bill_edge N.bills
+    ∙ sum_by-same (λ b. asked_of table x t (bill_edge b)) (asked_by_bill table x t) N.bills (λ k d h. bill_asks table x t (get_or N.bills k d)) in
     let sources : sum_by (asked_of table x t) (map (source_edge N) N.sources) ≡ sum_by (asked_by_source N table x t) N.sources =
-        sum_map (asked_of table x t) (source_edge N) N.sources
-        ∙ sum_by-same (λ s. asked_of table x t (source_edge N s)) (asked_by_source N table x t) N.sources (λ k d h. source_asks N table x t (get_or N.sources k d)) in
+    sum_map (asked_of table x t) (source_edge N) N.sources
+    ∙ sum_by-same (λ s. asked_of table x t (source_edge N s)) (asked_by_source N table x t) N.sources (λ k d h. source_asks N table x t (get_or N.sources k d)) in
     omega (arith, all_edges N table x t is, sum_by-append (asked_of table x t) (map bill_edge N.bills) (map (source_edge N) N.sources), bills, sources, called N table x t is pair)

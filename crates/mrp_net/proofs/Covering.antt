@@ -92,7 +92,7 @@ IsDistinct-filter {X} e p (x ∷ xs) once =
     let apart : AllByRecursion (λ y. e x y ≡ false) xs = IsDistinct-head e x xs once in
     let rest : IsDistinct e (filter p xs) = IsDistinct-filter e p xs (IsDistinct-tail e x xs once) in
     let kept : AllByRecursion (λ y. e x y ≡ false) (filter p xs) =
-        recursion_from_All (λ y. e x y ≡ false) (filter p xs) (All-filter p (λ y. e x y ≡ false) xs (All-from_recursion (λ y. e x y ≡ false) xs apart)) in
+    recursion_from_All (λ y. e x y ≡ false) (filter p xs) (All-filter p (λ y. e x y ≡ false) xs (All-from_recursion (λ y. e x y ≡ false) xs apart)) in
     elim (cases_Bool (p x)) as (λ _. IsDistinct e (filter p (x ∷ xs))) [
       | inl passes ↦ subst (λ (b : Bool). IsDistinct e (cond b (x ∷ filter p xs) (filter p xs))) (sym passes) (IsDistinct-cons e x (filter p xs) kept rest)
       | inr not_p ↦ subst (λ (b : Bool). IsDistinct e (cond b (x ∷ filter p xs) (filter p xs))) (sym not_p) rest
@@ -108,10 +108,10 @@ same_over_route N is customer supplier s r in_s in_r over_s over_r same =
     let plants : (pair_at N s.pair.0).plant.0 ≡ (pair_at N r.pair.0).plant.0 = eqb-true (pair_at N s.pair.0).plant.0 customer of_s.0 ∙ sym (eqb-true (pair_at N r.pair.0).plant.0 customer of_r.0) in
     let items : (pair_at N s.pair.0).item.0 ≡ (pair_at N r.pair.0).item.0 = eqb-true (item_of N s).0 (item_of N r).0 same in
     let pairs : s.pair.0 ≡ r.pair.0 =
-        sym (pairs_are_found N is s.pair.0 in_s)
-        ∙ ap (λ (z : ℕ). pair_no N z (pair_at N s.pair.0).item.0) plants
-        ∙ ap (λ (z : ℕ). pair_no N (pair_at N r.pair.0).plant.0 z) items
-        ∙ pairs_are_found N is r.pair.0 in_r in
+    sym (pairs_are_found N is s.pair.0 in_s)
+    ∙ ap (λ (z : ℕ). pair_no N z (pair_at N s.pair.0).item.0) plants
+    ∙ ap (λ (z : ℕ). pair_no N (pair_at N r.pair.0).plant.0 z) items
+    ∙ pairs_are_found N is r.pair.0 in_r in
     and_from (eqb s.plant.0 r.plant.0) (eqb s.pair.0 r.pair.0)
     (eq-eqb s.plant.0 r.plant.0 (eqb-true s.plant.0 supplier of_s.1 ∙ sym (eqb-true r.plant.0 supplier of_r.1)))
     (eq-eqb s.pair.0 r.pair.0 pairs)

@@ -154,6 +154,6 @@ pub orders_along : (pair : PairParams) (incoming gross order available incoming2
     → incoming ≡ incoming2 → gross ≡ gross2 → order ≡ order2 → available ≡ available2
     → AreOrders pair incoming gross order available → AreOrders pair incoming2 gross2 order2 available2
 orders_along pair incoming gross order available incoming2 gross2 order2 available2 i g o a are = (
-      sym o ∙ are.0 ∙ ap (λ (r : List ℕ). order_row pair r gross) i ∙ ap (order_row pair incoming2) g,
-      sym a ∙ are.1 ∙ ap (λ (r : List ℕ). available_row pair r gross) i ∙ ap (available_row pair incoming2) g,
-    )
+  sym o ∙ are.0 ∙ ap (λ (r : List ℕ). order_row pair r gross) i ∙ ap (order_row pair incoming2) g,
+  sym a ∙ are.1 ∙ ap (λ (r : List ℕ). available_row pair r gross) i ∙ ap (available_row pair incoming2) g,
+)

@@ -40,7 +40,13 @@ fn balance_after(before: Qty, receipt: Qty, ordered: Qty, gross: Qty) -> Qty
 }
 
 /// The planned order receipt of period `t`, where `before` is the balance before it.
-pub(crate) fn order_for(params: &PairParams, incoming: &[Qty], gross: &[Qty], before: Qty, t: usize) -> Qty
+pub(crate) fn order_for(
+    params: &PairParams,
+    incoming: &[Qty],
+    gross: &[Qty],
+    before: Qty,
+    t: usize,
+) -> Qty
     requires within { IsWithin params.now incoming.now gross.now }
     requires period { t < length gross.now }
     ensures { result ≡ order_after params.now incoming.now gross.now before t }

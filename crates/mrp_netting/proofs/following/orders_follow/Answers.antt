@@ -40,9 +40,9 @@ returns c =
     let incoming = c.args.incoming.now in
     let gross = c.args.gross.now in (
       λ yes. (
-            fill_by_all (order_at params incoming gross) c.args.order.now (length gross) 0 c.requires.order_len (λ k h. c.loop-t.invariant.order k (omega arith)),
-            fill_by_all (λ k. balance_before params incoming gross (suc k)) c.args.available.now (length gross) 0 c.requires.available_len
-                (λ k h. c.loop-t.invariant.available k (omega arith)),
-          ),
+        fill_by_all (order_at params incoming gross) c.args.order.now (length gross) 0 c.requires.order_len (λ k h. c.loop-t.invariant.order k (omega arith)),
+        fill_by_all (λ k. balance_before params incoming gross (suc k)) c.args.available.now (length gross) 0 c.requires.available_len
+            (λ k h. c.loop-t.invariant.available k (omega arith)),
+      ),
       λ are. refl,
     )

@@ -9,12 +9,12 @@ use Rattle.mrp_plan.proofs.fitting.fits.Goals as goal
 
 pub returns-then-not-has_periods : goal.returns-then-not-has_periods
 returns-then-not-has_periods c = (
-      λ no_. absurd (false≢true no_),
-      λ fits.
-          let P : Table → Type 0 = λ n. HasRooms n c.args.plan.now in
-          let rooms = fits_rooms c.args.net.now.network c.args.plan.now fits in
-          absurd (false≢true (sym c.if-not-has_periods.true ∙ c.has_periods.ensures.1 (subst P (sym c.network-network.ensures.value) rooms))),
-    )
+  λ no_. absurd (false≢true no_),
+  λ fits.
+      let P : Table → Type 0 = λ n. HasRooms n c.args.plan.now in
+      let rooms = fits_rooms c.args.net.now.network c.args.plan.now fits in
+      absurd (false≢true (sym c.if-not-has_periods.true ∙ c.has_periods.ensures.1 (subst P (sym c.network-network.ensures.value) rooms))),
+)
 
 pub returns : goal.returns
 returns c =
