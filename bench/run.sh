@@ -2,7 +2,7 @@
 # Measures `mrp plan --single` on tables that it makes, each twice the one before, and prints for each
 # the pairs, the rows of the table and of the report, seconds of the whole run and peak memory.
 #
-#   bench/run.sh [PAIRS]      PAIRS is the number of pairs of the largest table, 8 to 20000
+#   bench/run.sh [PAIRS]      PAIRS is the number of pairs of the largest table, 64 to 20000
 #
 # It needs awk and GNU time.
 set -eu
@@ -11,7 +11,7 @@ most=${1:-20000}
 folder=$(mktemp -d)
 trap 'rm -rf "$folder"' EXIT
 
-# A firm of 8 plants. Half of the pairs of a plant are made, each of ten pairs that stand below it;
+# A firm of 8 plants. Half of the pairs of a plant are made, each of up to ten pairs that stand below it;
 # every 50th pair of a plant is taken from the plant after it, and each pair has six or seven demand rows.
 make_table() {
     awk -v pairs="$1" 'BEGIN {
