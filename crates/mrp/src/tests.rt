@@ -1,9 +1,14 @@
 //! The text functions on worked tables: the bytes of each report, and the line and the status of
-//! each fault.
+//! each fault; and the calls of the crates below on small ones, here since a crate with tests is
+//! proved twice.
 
 mod damage;
 mod firms;
+mod loops;
+mod networks;
+mod planning;
 mod plans;
+mod reading;
 mod refusals;
 mod streams;
 mod words;

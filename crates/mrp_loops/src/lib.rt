@@ -13,6 +13,3 @@ mod walk;
 
 pub use loops::{Levels, LoopFault, check};
 pub use sized::{BoundFault, SizedNet, bound};
-
-#[cfg(test)]
-mod tests;

@@ -2,8 +2,12 @@
 use Rattle.std.specs.Prelude.{◌≡◌, ℕ, ◌+◌, ◌-◌, ◌*◌, ◌^◌, ◌<◌, min, List, length, slice_index}
 use Rattle.mrp_tables.specs.Table.{Table, IsTable, IsPair, horizon}
 use Rattle.mrp_net.specs.declared.edge.Edge.{Edge}
+use Rattle.mrp_net.specs.declared.build.Edges.{Edges}
+use Rattle.mrp_net.specs.declared.build.Amounts.{Amounts}
+use Rattle.mrp_net.specs.declared.lanes.LaneLists.{LaneLists}
 use Rattle.mrp_net.specs.Edges.{edges}
 use Rattle.mrp_net.specs.Groups.{sorted_by, IsGrouped}
+use Rattle.mrp_net.specs.Routes.{AreLaneLists}
 use Rattle.mrp_net.specs.Sums.{demand, demand_total, incoming, supply}
 
 -- all edges in order of their demanders, and then in order of their pairs
@@ -34,12 +38,21 @@ pub record ArePeriods (N : Table) (amount : ℕ → ℕ → ℕ) (amounts : List
 abbrev pub capped_supply : Table → ℕ → ℕ
 capped_supply N x = min (supply N x) (2 ^ 64 - 1)
 
--- the table, and the lists that are built of it
-pub record IsBuilt (N : Table) (demander_rows : List Edge) (demander_starts : List ℕ) (supplier_rows : List Edge) (supplier_starts demands comings demand_totals supplies : List ℕ) : Type 0 where
+-- the edges by the pair that is taken from, and by the pair that takes
+pub record AreEdges (N : Table) (e : Edges) : Type 0 where
+  pub demanders : AreDemanders N e.demanders.rows.items e.demanders.starts.items
+  pub suppliers : AreSuppliers N e.suppliers.rows.items e.suppliers.starts.items
+
+-- what the rows add up to
+pub record AreAmounts (N : Table) (a : Amounts) : Type 0 where
+  pub demanded : ArePeriods N (demand N) a.demand.items
+  pub coming : ArePeriods N (incoming N) a.incoming.items
+  pub total : AreTotals N (demand_total N) a.demand_totals.items
+  pub supplied : AreTotals N (capped_supply N) a.supplies.items
+
+-- the table, and what is built of it
+pub record IsBuilt (N : Table) (e : Edges) (a : Amounts) (l : LaneLists) : Type 0 where
   pub table : IsTable N
-  pub demanders : AreDemanders N demander_rows demander_starts
-  pub suppliers : AreSuppliers N supplier_rows supplier_starts
-  pub demanded : ArePeriods N (demand N) demands
-  pub coming : ArePeriods N (incoming N) comings
-  pub total : AreTotals N (demand_total N) demand_totals
-  pub supplied : AreTotals N (capped_supply N) supplies
+  pub edges : AreEdges N e
+  pub amounts : AreAmounts N a
+  pub lanes : AreLaneLists N l

@@ -6,6 +6,7 @@ use Rattle.mrp_tables.specs.declared.rows.ShipRow.{ShipRow}
 use Rattle.mrp_tables.specs.Table.{Table, IsPair}
 use Rattle.mrp_net.specs.declared.lane.Lane.{Lane}
 use Rattle.mrp_net.specs.declared.lane.Shipment.{Shipment}
+use Rattle.mrp_net.specs.declared.lanes.LaneLists.{LaneLists}
 use Rattle.mrp_net.specs.declared.lanes.Taken.{Taken}
 use Rattle.mrp_net.specs.Groups.{ShowsGroups}
 use Rattle.mrp_net.specs.Sums.{pair_at}
@@ -37,10 +38,10 @@ pub record IsLane (N : Table) (lane : Lane) : Type 0 where
   pub customer : customer_of lane < length N.plants
   pub supplier : supplier_of lane < length N.plants
 
--- the lists behind the lanes
-pub record AreBuiltLanes (N : Table) (all_lanes : List Lane) (item_rows : List ItemNo) (item_starts : List ℕ) (shipment_rows : List Shipment) (shipment_starts figures shipped : List ℕ) : Type 0 where
-  pub all : all_lanes ≡ lanes N
-  pub items : AreItems N item_rows item_starts
-  pub shipments : AreShipments N shipment_rows shipment_starts
-  pub openings : AreSent N (figure N) figures
-  pub sent : AreSent N (shipped_from N) shipped
+-- the lanes and what is sent over them
+pub record AreLaneLists (N : Table) (l : LaneLists) : Type 0 where
+  pub all : l.lanes.items ≡ lanes N
+  pub items : AreItems N l.items.rows.items l.items.starts.items
+  pub shipments : AreShipments N l.shipments.rows.items l.shipments.starts.items
+  pub openings : AreSent N (figure N) l.figures.items
+  pub sent : AreSent N (shipped_from N) l.shipped.items

@@ -1,6 +1,6 @@
 ghost use Rattle.std.specs.Prelude.{◌≡◌, ◌+◌, ◌*◌, ◌^◌, ◌<◌, ◌++◌, length, map, IfOk};
 ghost use Rattle.mrp_net.specs.Lanes.{lanes, lanes_of, both_lanes, shipment_of, figure, shipped_from};
-ghost use Rattle.mrp_net.specs.Routes.{taken, AreItems, AreShipments, AreSent};
+ghost use Rattle.mrp_net.specs.Routes.{taken, AreItems, AreLaneLists, AreShipments, AreSent};
 
 use crate::group::{Groups, KeyOf, group};
 use crate::lane::{Lane, LaneKind, Shipment};
@@ -8,6 +8,17 @@ use crate::sums::{BySender, add_amounts};
 use mrp_qty::Memory;
 use mrp_tables::{ItemNo, PlantNo, ShipRow, SourceRow, Tables};
 use std::alloc::Global;
+
+/// The lanes of a network, the items of each route, and what each plant sends to each pair: the
+/// shipments on their way, what it had shipped before them, and their sum.
+#[derive(Drop)]
+pub struct LaneLists {
+    pub lanes: Vec<Lane>,
+    pub items: Groups<ItemNo>,
+    pub shipments: Groups<Shipment>,
+    pub figures: Vec<u64>,
+    pub shipped: Vec<u64>,
+}
 
 /// An item that is taken over a route. The number of a route is its customer's times the number of
 /// plants, plus its supplier's.
@@ -71,7 +82,7 @@ fn items_of(alloc: Global, all: &[Taken]) -> Result<Vec<ItemNo>, Memory>
 }
 
 /// The items of each route, in table order of the customer's pairs.
-pub fn items(alloc: Global, tables: &Tables) -> Result<Groups<ItemNo>, Memory>
+fn items(alloc: Global, tables: &Tables) -> Result<Groups<ItemNo>, Memory>
     ensures { IfOk result (λ g. AreItems tables.now g.rows.items g.starts.items) }
 {
     let _pairs = tables.pairs();
@@ -125,11 +136,7 @@ fn add_lanes(
 }
 
 /// All lanes: by customer, then by supplier, the despatch lane before the schedule lane.
-pub fn all_lanes(
-    alloc: Global,
-    tables: &Tables,
-    items: &Groups<ItemNo>,
-) -> Result<Vec<Lane>, Memory>
+fn all_lanes(alloc: Global, tables: &Tables, items: &Groups<ItemNo>) -> Result<Vec<Lane>, Memory>
     requires { AreItems tables.now items.now.rows.items items.now.starts.items }
     ensures { IfOk result (λ v. v.items ≡ lanes tables.now) }
 {
@@ -155,7 +162,7 @@ fn shipments_of(alloc: Global, ships: &[ShipRow]) -> Result<Vec<Shipment>, Memor
 }
 
 /// The shipments to each pair from each plant, in table order.
-pub fn shipments(alloc: Global, tables: &Tables) -> Result<Groups<Shipment>, Memory>
+fn shipments(alloc: Global, tables: &Tables) -> Result<Groups<Shipment>, Memory>
     ensures { IfOk result (λ g. AreShipments tables.now g.rows.items g.starts.items) }
 {
     let pairs = tables.pairs().len();
@@ -170,7 +177,7 @@ pub fn shipments(alloc: Global, tables: &Tables) -> Result<Groups<Shipment>, Mem
 }
 
 /// What each plant had shipped to each pair before the shipments of the table.
-pub fn figures(alloc: Global, tables: &Tables) -> Result<Vec<u64>, Memory>
+fn figures(alloc: Global, tables: &Tables) -> Result<Vec<u64>, Memory>
     ensures { IfOk result (λ v. AreSent tables.now (figure tables.now) v.items) }
 {
     let plants = tables.plants();
@@ -180,11 +187,29 @@ pub fn figures(alloc: Global, tables: &Tables) -> Result<Vec<u64>, Memory>
 }
 
 /// The shipments of each plant to each pair.
-pub fn shipped(alloc: Global, tables: &Tables) -> Result<Vec<u64>, Memory>
+fn shipped(alloc: Global, tables: &Tables) -> Result<Vec<u64>, Memory>
     ensures { IfOk result (λ v. AreSent tables.now (shipped_from tables.now) v.items) }
 {
     let plants = tables.plants();
     let mut shipped = vec![in alloc; 0; tables.pairs().len() * plants]?;
     add_amounts(&BySender, tables.ships(), plants, shipped.as_mut_slice());
     Ok(shipped)
+}
+
+/// The lanes and what is sent over them.
+pub fn lane_lists_of(alloc: Global, tables: &Tables) -> Result<LaneLists, Memory>
+    ensures { IfOk result (AreLaneLists tables.now) }
+{
+    let items = items(alloc, tables)?;
+    let lanes = all_lanes(alloc, tables, &items)?;
+    let shipments = shipments(alloc, tables)?;
+    let figures = figures(alloc, tables)?;
+    let shipped = shipped(alloc, tables)?;
+    Ok(LaneLists {
+        lanes,
+        items,
+        shipments,
+        figures,
+        shipped,
+    })
 }

@@ -17,6 +17,3 @@ pub use edge::Edge;
 pub use lane::{Lane, LaneKind, LaneNo, Shipment};
 pub use mrp_tables::{ItemNo, PairNo, PairRow, PlantNo, Supply};
 pub use network::Network;
-
-#[cfg(test)]
-mod tests;

@@ -6,8 +6,9 @@ ghost use Rattle.mrp_net.specs.Names.{IsNamed};
 ghost use Rattle.mrp_net.specs.Lanes.{lanes, lane_at, lane_items, opening, shipments, pair_on, customer_of, supplier_of};
 ghost use Rattle.mrp_net.specs.Routes.{route_no, IsLane};
 
-use crate::group::Groups;
+use crate::build::{Amounts, Edges};
 use crate::lane::{Lane, LaneKind, LaneNo, Shipment};
+use crate::lanes::LaneLists;
 use crate::{Edge, build, lanes};
 use mrp_cal::Calendar;
 use mrp_qty::{Horizon, Memory};
@@ -22,29 +23,20 @@ use std::marker::Model;
 #[derive(Drop)]
 pub struct Network {
     tables: Tables,
-    demanders: Groups<Edge>,
-    suppliers: Groups<Edge>,
-    demand: Vec<u64>,
-    incoming: Vec<u64>,
-    demand_totals: Vec<u64>,
-    supplies: Vec<u64>,
-    lanes: Vec<Lane>,
-    items: Groups<ItemNo>,
-    shipments: Groups<Shipment>,
-    figures: Vec<u64>,
-    shipped: Vec<u64>,
+    edges: Edges,
+    amounts: Amounts,
+    lanes: LaneLists,
 }
 
 impl Model for Network {
     ghost use Rattle.mrp_tables.specs.Table.{Table};
     ghost use Rattle.mrp_net.specs.Built.{IsBuilt};
-    ghost use Rattle.mrp_net.specs.Routes.{AreBuiltLanes};
 
     ghost Value = { Table };
 
     ghost view = { λ n. n.tables };
 
-    ghost invariant = { λ n. record { rows : IsBuilt n.tables n.demanders.rows.items n.demanders.starts.items n.suppliers.rows.items n.suppliers.starts.items n.demand.items n.incoming.items n.demand_totals.items n.supplies.items; lanes : AreBuiltLanes n.tables n.lanes.items n.items.rows.items n.items.starts.items n.shipments.rows.items n.shipments.starts.items n.figures.items n.shipped.items } };
+    ghost invariant = { λ n. IsBuilt n.tables n.edges n.amounts n.lanes };
 }
 
 impl Network {
@@ -57,30 +49,14 @@ impl Network {
         ensures { IfOk result (λ n. n ≡ tables) }
     {
         let _pairs = tables.pairs();
-        let demanders = build::demanders(alloc, &tables)?;
-        let suppliers = build::suppliers(alloc, &tables, &demanders)?;
-        let demand = build::demand_rows(alloc, &tables)?;
-        let incoming = build::incoming_rows(alloc, &tables)?;
-        let demand_totals = build::demand_totals(alloc, &tables)?;
-        let supplies = build::supplies(alloc, &tables)?;
-        let items = lanes::items(alloc, &tables)?;
-        let all_lanes = lanes::all_lanes(alloc, &tables, &items)?;
-        let shipments = lanes::shipments(alloc, &tables)?;
-        let figures = lanes::figures(alloc, &tables)?;
-        let shipped = lanes::shipped(alloc, &tables)?;
+        let edges = build::edges_of(alloc, &tables)?;
+        let amounts = build::amounts_of(alloc, &tables)?;
+        let lanes = lanes::lane_lists_of(alloc, &tables)?;
         Ok(Network {
             tables,
-            demanders,
-            suppliers,
-            demand,
-            incoming,
-            demand_totals,
-            supplies,
-            lanes: all_lanes,
-            items,
-            shipments,
-            figures,
-            shipped,
+            edges,
+            amounts,
+            lanes,
         })
     }
 
@@ -174,7 +150,7 @@ impl Network {
         ensures { result ≡ demand self.now x.0 t }
     {
         let periods = self.horizon().get() as usize;
-        self.demand[x.0 * periods + t]
+        self.amounts.demand[x.0 * periods + t]
     }
 
     /// The sum of the pair's demand rows, at most 10^18 pieces.
@@ -182,7 +158,7 @@ impl Network {
         requires { IsPair self.now x.0 }
         ensures { result ≡ demand_total self.now x.0 }
     {
-        self.demand_totals[x.0]
+        self.amounts.demand_totals[x.0]
     }
 
     /// What comes in for the pair in period `t`: its receipt rows and the shipments to it, at most
@@ -193,7 +169,7 @@ impl Network {
         ensures { result ≡ incoming self.now x.0 t }
     {
         let periods = self.horizon().get() as usize;
-        self.incoming[x.0 * periods + t]
+        self.amounts.incoming[x.0 * periods + t]
     }
 
     /// On hand, receipts, shipments and opening figures of the pair, or 2^64 - 1 where they are more.
@@ -201,7 +177,7 @@ impl Network {
         requires { IsPair self.now x.0 }
         ensures { result ≡ min (supply self.now x.0) (2 ^ 64 - 1) }
     {
-        self.supplies[x.0]
+        self.amounts.supplies[x.0]
     }
 
     /// The edges to a pair, in table order of their demanders.
@@ -210,7 +186,7 @@ impl Network {
         ensures value { result.now ≡ demanders self.now x.0 }
         ensures edges { All (IsEdge self.now) result.now }
     {
-        self.demanders.get(x.0)
+        self.edges.demanders.get(x.0)
     }
 
     /// The edges from a pair, in table order of the pairs that it takes from.
@@ -219,14 +195,14 @@ impl Network {
         ensures value { result.now ≡ suppliers self.now x.0 }
         ensures edges { All (IsEdge self.now) result.now }
     {
-        self.suppliers.get(x.0)
+        self.edges.suppliers.get(x.0)
     }
 
     /// The number of lanes: two for each customer plant and supplier plant that it takes items from.
     pub fn lanes(&self) -> usize
         ensures { result ≡ length (lanes self.now) }
     {
-        self.lanes.len()
+        self.lanes.lanes.len()
     }
 
     /// The lane of that number.
@@ -235,7 +211,7 @@ impl Network {
         ensures value { result ≡ lane_at self.now l.0 }
         ensures plants { IsLane self.now result }
     {
-        self.lanes[l.0]
+        self.lanes.lanes[l.0]
     }
 
     /// The items of a lane, in table order of the customer's pairs.
@@ -245,7 +221,7 @@ impl Network {
         ensures items { All (λ item. item.0 < length self.now.items) result.now }
     {
         let route = self.route(self.lane(l));
-        self.items.get(route)
+        self.lanes.items.get(route)
     }
 
     /// Where the cumulative figures of an item of the lane begin, in pieces: on a despatch lane the
@@ -259,8 +235,8 @@ impl Network {
         let lane = self.lane(l);
         let at = self.place(lane, item);
         match lane.kind {
-            LaneKind::Despatch => self.figures[at],
-            LaneKind::Schedule => self.figures[at] + self.shipped[at],
+            LaneKind::Despatch => self.lanes.figures[at],
+            LaneKind::Schedule => self.lanes.figures[at] + self.lanes.shipped[at],
         }
     }
 
@@ -272,7 +248,7 @@ impl Network {
         ensures { result.now ≡ shipments self.now (lane_at self.now l.0) item }
     {
         let at = self.place(self.lane(l), item);
-        self.shipments.get(at)
+        self.lanes.shipments.get(at)
     }
 
     /// The number of a lane's route.

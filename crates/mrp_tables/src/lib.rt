@@ -32,6 +32,3 @@ pub use rows::{
 };
 pub use steps::Steps;
 pub use tables::Tables;
-
-#[cfg(test)]
-mod tests;

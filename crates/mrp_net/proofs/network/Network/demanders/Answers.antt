@@ -12,26 +12,26 @@ pub get-requires-clause-rises : goal.get-requires-clause-rises
 get-requires-clause-rises c =
     let N = c.self.inside.tables in
     let pair : IsPair N c.args.x.0 = rw c.self.view_is c.requires in
-    (IsGrouped-within (λ (e : Edge). e.pair.0) (length N.pairs) (by_demander N) c.self.inside.demanders.rows.items c.self.inside.demanders.starts.items c.args.x.0 c.self.invariant.rows.demanders pair).0
+    (IsGrouped-within (λ (e : Edge). e.pair.0) (length N.pairs) (by_demander N) c.self.inside.edges.demanders.rows.items c.self.inside.edges.demanders.starts.items c.args.x.0 c.self.invariant.edges.demanders pair).0
 
 pub get-requires-clause-within : goal.get-requires-clause-within
 get-requires-clause-within c =
     let N = c.self.inside.tables in
     let pair : IsPair N c.args.x.0 = rw c.self.view_is c.requires in
-    (IsGrouped-within (λ (e : Edge). e.pair.0) (length N.pairs) (by_demander N) c.self.inside.demanders.rows.items c.self.inside.demanders.starts.items c.args.x.0 c.self.invariant.rows.demanders pair).1
+    (IsGrouped-within (λ (e : Edge). e.pair.0) (length N.pairs) (by_demander N) c.self.inside.edges.demanders.rows.items c.self.inside.edges.demanders.starts.items c.args.x.0 c.self.invariant.edges.demanders pair).1
 
 pub returns-clause-value : goal.returns-clause-value
 returns-clause-value c =
     let N = c.self.inside.tables in
     let pair : IsPair N c.args.x.0 = rw c.self.view_is c.requires in
     c.get.ensures
-    ∙ demanders_slice N c.self.inside.demanders.rows.items c.self.inside.demanders.starts.items c.args.x.0 c.self.invariant.rows.demanders pair
+    ∙ demanders_slice N c.self.inside.edges.demanders.rows.items c.self.inside.edges.demanders.starts.items c.args.x.0 c.self.invariant.edges.demanders pair
     ∙ ap (λ (z : Table). demanders z c.args.x.0) c.self.view_is
 
 pub returns-clause-edges : goal.returns-clause-edges
 returns-clause-edges c =
     let N = c.self.inside.tables in
     let pair : IsPair N c.args.x.0 = rw c.self.view_is c.requires in
-    let is : c.get.result.now ≡ demanders N c.args.x.0 = c.get.ensures ∙ demanders_slice N c.self.inside.demanders.rows.items c.self.inside.demanders.starts.items c.args.x.0 c.self.invariant.rows.demanders pair in
+    let is : c.get.result.now ≡ demanders N c.args.x.0 = c.get.ensures ∙ demanders_slice N c.self.inside.edges.demanders.rows.items c.self.inside.edges.demanders.starts.items c.args.x.0 c.self.invariant.edges.demanders pair in
     subst (λ (z : Table). All (IsEdge z) c.get.result.now) c.self.view_is
-    (subst (λ (z : List Edge). All (IsEdge N) z) (sym is) (demanders_join N c.args.x.0 (edges_join N c.self.invariant.rows.table)))
+    (subst (λ (z : List Edge). All (IsEdge N) z) (sym is) (demanders_join N c.args.x.0 (edges_join N c.self.invariant.table)))

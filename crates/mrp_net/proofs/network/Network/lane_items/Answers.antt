@@ -11,8 +11,8 @@ use Rattle.mrp_net.proofs.network.Network.lane_items.Goals as goal
 pub get-requires-clause-rises : goal.get-requires-clause-rises
 get-requires-clause-rises c =
     let M = c.args.self.now in
-    let rows = c.self.inside.items.rows.items in
-    let starts = c.self.inside.items.starts.items in
+    let rows = c.self.inside.lanes.items.rows.items in
+    let starts = c.self.inside.lanes.items.starts.items in
     let lane = c.lane.result in
     let joins = c.lane.ensures.plants in
     let are : AreItems M rows starts = subst (λ (z : Table). AreItems z rows starts) c.self.view_is c.self.invariant.lanes.items in
@@ -22,8 +22,8 @@ get-requires-clause-rises c =
 pub get-requires-clause-within : goal.get-requires-clause-within
 get-requires-clause-within c =
     let M = c.args.self.now in
-    let rows = c.self.inside.items.rows.items in
-    let starts = c.self.inside.items.starts.items in
+    let rows = c.self.inside.lanes.items.rows.items in
+    let starts = c.self.inside.lanes.items.starts.items in
     let lane = c.lane.result in
     let joins = c.lane.ensures.plants in
     let are : AreItems M rows starts = subst (λ (z : Table). AreItems z rows starts) c.self.view_is c.self.invariant.lanes.items in
@@ -33,12 +33,12 @@ get-requires-clause-within c =
 pub returns-clause-value : goal.returns-clause-value
 returns-clause-value c =
     let M = c.args.self.now in
-    let rows = c.self.inside.items.rows.items in
-    let starts = c.self.inside.items.starts.items in
+    let rows = c.self.inside.lanes.items.rows.items in
+    let starts = c.self.inside.lanes.items.starts.items in
     let lane = c.lane.result in
     let joins = c.lane.ensures.plants in
     let are : AreItems M rows starts = subst (λ (z : Table). AreItems z rows starts) c.self.view_is c.self.invariant.lanes.items in
-    let table : IsTable M = subst IsTable c.self.view_is c.self.invariant.rows.table in
+    let table : IsTable M = subst IsTable c.self.view_is c.self.invariant.table in
     let value : c.get.result.now ≡ lane_items M (lane_at M c.args.l.0) =
     c.get.ensures
     ∙ ap (λ (z : ℕ). slice_range rows (slice_index starts z) (slice_index starts (z + 1))) c.route-route.ensures
@@ -49,12 +49,12 @@ returns-clause-value c =
 pub returns-clause-items : goal.returns-clause-items
 returns-clause-items c =
     let M = c.args.self.now in
-    let rows = c.self.inside.items.rows.items in
-    let starts = c.self.inside.items.starts.items in
+    let rows = c.self.inside.lanes.items.rows.items in
+    let starts = c.self.inside.lanes.items.starts.items in
     let lane = c.lane.result in
     let joins = c.lane.ensures.plants in
     let are : AreItems M rows starts = subst (λ (z : Table). AreItems z rows starts) c.self.view_is c.self.invariant.lanes.items in
-    let table : IsTable M = subst IsTable c.self.view_is c.self.invariant.rows.table in
+    let table : IsTable M = subst IsTable c.self.view_is c.self.invariant.table in
     let value : c.get.result.now ≡ lane_items M (lane_at M c.args.l.0) =
     c.get.ensures
     ∙ ap (λ (z : ℕ). slice_range rows (slice_index starts z) (slice_index starts (z + 1))) c.route-route.ensures

@@ -13,8 +13,8 @@ returns-in-Despatch c =
     let lane = c.lane-lane.result in
     let x : ℕ = pair_on M lane c.args.item in
     let p : ℕ = supplier_of lane in
-    let figures = subst (λ (z : Table). AreSent z (figure z) c.self.inside.figures.items) c.self.view_is c.self.invariant.lanes.openings in
-    let read = sent_at M (figure M) c.self.inside.figures.items c.place-at.result x p c.index.result.now figures c.place-at.ensures.value c.place-at.ensures.pair c.lane-lane.ensures.plants.supplier c.index.ensures in
+    let figures = subst (λ (z : Table). AreSent z (figure z) c.self.inside.lanes.figures.items) c.self.view_is c.self.invariant.lanes.openings in
+    let read = sent_at M (figure M) c.self.inside.lanes.figures.items c.place-at.result x p c.index.result.now figures c.place-at.ensures.value c.place-at.ensures.pair c.lane-lane.ensures.plants.supplier c.index.ensures in
     read
     ∙ sym (opening_despatch M lane c.args.item c.in-Despatch.is)
     ∙ ap (λ (z : Lane). opening M z c.args.item) c.lane-lane.ensures.value
@@ -25,10 +25,10 @@ returns-in-Schedule c =
     let lane = c.lane-lane.result in
     let x : ℕ = pair_on M lane c.args.item in
     let p : ℕ = supplier_of lane in
-    let figures = subst (λ (z : Table). AreSent z (figure z) c.self.inside.figures.items) c.self.view_is c.self.invariant.lanes.openings in
-    let shipped = subst (λ (z : Table). AreSent z (shipped_from z) c.self.inside.shipped.items) c.self.view_is c.self.invariant.lanes.sent in
-    let one = sent_at M (figure M) c.self.inside.figures.items c.place-at.result x p c.index-in-Schedule.result.now figures c.place-at.ensures.value c.place-at.ensures.pair c.lane-lane.ensures.plants.supplier c.index-in-Schedule.ensures in
-    let two = sent_at M (shipped_from M) c.self.inside.shipped.items c.place-at.result x p c.index-in-Schedule-2.result.now shipped c.place-at.ensures.value c.place-at.ensures.pair c.lane-lane.ensures.plants.supplier c.index-in-Schedule-2.ensures in
+    let figures = subst (λ (z : Table). AreSent z (figure z) c.self.inside.lanes.figures.items) c.self.view_is c.self.invariant.lanes.openings in
+    let shipped = subst (λ (z : Table). AreSent z (shipped_from z) c.self.inside.lanes.shipped.items) c.self.view_is c.self.invariant.lanes.sent in
+    let one = sent_at M (figure M) c.self.inside.lanes.figures.items c.place-at.result x p c.index-in-Schedule.result.now figures c.place-at.ensures.value c.place-at.ensures.pair c.lane-lane.ensures.plants.supplier c.index-in-Schedule.ensures in
+    let two = sent_at M (shipped_from M) c.self.inside.lanes.shipped.items c.place-at.result x p c.index-in-Schedule-2.result.now shipped c.place-at.ensures.value c.place-at.ensures.pair c.lane-lane.ensures.plants.supplier c.index-in-Schedule-2.ensures in
     ap (λ (z : ℕ). z + c.index-in-Schedule-2.result.now) one
     ∙ ap (λ (z : ℕ). figure M x p + z) two
     ∙ sym (opening_schedule M lane c.args.item c.in-Schedule.is)
@@ -40,9 +40,9 @@ overflow_add-result c =
     let lane = c.lane-lane.result in
     let x : ℕ = pair_on M lane c.args.item in
     let p : ℕ = supplier_of lane in
-    let table : IsTable M = subst IsTable c.self.view_is c.self.invariant.rows.table in
-    let figures = subst (λ (z : Table). AreSent z (figure z) c.self.inside.figures.items) c.self.view_is c.self.invariant.lanes.openings in
-    let shipped = subst (λ (z : Table). AreSent z (shipped_from z) c.self.inside.shipped.items) c.self.view_is c.self.invariant.lanes.sent in
-    let one = sent_at M (figure M) c.self.inside.figures.items c.place-at.result x p c.index-in-Schedule.result.now figures c.place-at.ensures.value c.place-at.ensures.pair c.lane-lane.ensures.plants.supplier c.index-in-Schedule.ensures in
-    let two = sent_at M (shipped_from M) c.self.inside.shipped.items c.place-at.result x p c.index-in-Schedule-2.result.now shipped c.place-at.ensures.value c.place-at.ensures.pair c.lane-lane.ensures.plants.supplier c.index-in-Schedule-2.ensures in
+    let table : IsTable M = subst IsTable c.self.view_is c.self.invariant.table in
+    let figures = subst (λ (z : Table). AreSent z (figure z) c.self.inside.lanes.figures.items) c.self.view_is c.self.invariant.lanes.openings in
+    let shipped = subst (λ (z : Table). AreSent z (shipped_from z) c.self.inside.lanes.shipped.items) c.self.view_is c.self.invariant.lanes.sent in
+    let one = sent_at M (figure M) c.self.inside.lanes.figures.items c.place-at.result x p c.index-in-Schedule.result.now figures c.place-at.ensures.value c.place-at.ensures.pair c.lane-lane.ensures.plants.supplier c.index-in-Schedule.ensures in
+    let two = sent_at M (shipped_from M) c.self.inside.lanes.shipped.items c.place-at.result x p c.index-in-Schedule-2.result.now shipped c.place-at.ensures.value c.place-at.ensures.pair c.lane-lane.ensures.plants.supplier c.index-in-Schedule-2.ensures in
     omega (arith, one, two, figure_within M table x p, shipped_from_within M table x p)

@@ -7,5 +7,5 @@ use Rattle.mrp_net.proofs.network.Network.place.Goals as goal
 pub unwrap-x-requires : goal.unwrap-x-requires
 unwrap-x-requires c =
     let N = c.self.inside.tables in
-    let has : IsPair N (pair_on N c.args.lane c.args.item) = item_has_pair N c.args.lane c.args.item c.self.invariant.rows.table (rw c.self.view_is c.requires.item) in
+    let has : IsPair N (pair_on N c.args.lane c.args.item) = item_has_pair N c.args.lane c.args.item c.self.invariant.table (rw c.self.view_is c.requires.item) in
     c.find_pair.ensures.found.1 (subst (λ (z : ℕ). IsPair N (pair_no N z c.args.item.0)) (sym c.customer.ensures) has)

@@ -10,8 +10,8 @@ use Rattle.mrp_net.proofs.network.Network.shipments.Goals as goal
 pub get-requires-clause-rises : goal.get-requires-clause-rises
 get-requires-clause-rises c =
     let M = c.args.self.now in
-    let rows = c.self.inside.shipments.rows.items in
-    let starts = c.self.inside.shipments.starts.items in
+    let rows = c.self.inside.lanes.shipments.rows.items in
+    let starts = c.self.inside.lanes.shipments.starts.items in
     let lane = c.lane.result in
     let x : ℕ = pair_on M lane c.args.item in
     let p : ℕ = supplier_of lane in
@@ -22,8 +22,8 @@ get-requires-clause-rises c =
 pub get-requires-clause-within : goal.get-requires-clause-within
 get-requires-clause-within c =
     let M = c.args.self.now in
-    let rows = c.self.inside.shipments.rows.items in
-    let starts = c.self.inside.shipments.starts.items in
+    let rows = c.self.inside.lanes.shipments.rows.items in
+    let starts = c.self.inside.lanes.shipments.starts.items in
     let lane = c.lane.result in
     let x : ℕ = pair_on M lane c.args.item in
     let p : ℕ = supplier_of lane in
@@ -34,13 +34,13 @@ get-requires-clause-within c =
 pub returns : goal.returns
 returns c =
     let M = c.args.self.now in
-    let rows = c.self.inside.shipments.rows.items in
-    let starts = c.self.inside.shipments.starts.items in
+    let rows = c.self.inside.lanes.shipments.rows.items in
+    let starts = c.self.inside.lanes.shipments.starts.items in
     let lane = c.lane.result in
     let x : ℕ = pair_on M lane c.args.item in
     let p : ℕ = supplier_of lane in
     let are : AreShipments M rows starts = subst (λ (z : Table). AreShipments z rows starts) c.self.view_is c.self.invariant.lanes.shipments in
     c.get.ensures
     ∙ ap (λ (z : ℕ). slice_range rows (slice_index starts z) (slice_index starts (z + 1))) c.place-at.ensures.value
-    ∙ shipments_slice M rows starts x p (subst IsTable c.self.view_is c.self.invariant.rows.table) are c.place-at.ensures.pair c.lane.ensures.plants.supplier
+    ∙ shipments_slice M rows starts x p (subst IsTable c.self.view_is c.self.invariant.table) are c.place-at.ensures.pair c.lane.ensures.plants.supplier
     ∙ ap (λ (z : Lane). shipments M z c.args.item) c.lane.ensures.value

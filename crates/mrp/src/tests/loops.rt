@@ -1,4 +1,6 @@
-use super::*;
+//! Low-level codes, loops and the bound, by their calls.
+
+use mrp_loops::{BoundFault, LoopFault, bound, check};
 use mrp_net::{Network, PairNo};
 use mrp_tables::read_tables_uncounted;
 use std::test::Fail;

@@ -1,8 +1,10 @@
+//! The network of a firm of three plants, by the calls that read it.
+
 ghost use Rattle.std.specs.Prelude.{◌<◌, length, Contains, IfOk};
 ghost use Rattle.mrp_tables.specs.Table.{IsPair};
 ghost use Rattle.mrp_net.specs.Lanes.{lanes, lane_at, lane_items};
 
-use super::*;
+use mrp_net::{Edge, ItemNo, LaneKind, LaneNo, Network, PairNo, PlantNo, Shipment, Supply};
 use mrp_tables::read_tables_uncounted;
 use std::test::Fail;
 

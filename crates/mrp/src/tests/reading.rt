@@ -1,5 +1,7 @@
-use super::*;
+//! What is read of a table, and the first fault of a bad one.
+
 use mrp_cal::CalFault;
+use mrp_tables::{PairNo, PlantNo, Supply, TableFaultKind, read_tables_uncounted};
 use std::test::Fail;
 
 /// The row and the fault that a text is refused for, or `None` where it is a table.
