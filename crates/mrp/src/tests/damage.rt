@@ -52,120 +52,75 @@ fn tables_cut_after_a_row(rt: HostRuntime) -> Result<(), Fail> {
 
 #[test]
 fn tables_with_two_rows_exchanged(rt: HostRuntime) -> Result<(), Fail> {
-    let alloc = rt.alloc();
-    let order = "1 mrp: row 1: KindOrder\n";
-    assert_eq!(rt;
-        answer(alloc, &[1, 0, 2, 3, 4, 5, 6, 7], "\n")?.as_str(),
-        order
-    );
-    assert_eq!(rt;
-        answer(alloc, &[0, 2, 1, 3, 4, 5, 6, 7], "\n")?.as_str(),
-        "accepted"
-    );
-    let plant = "1 mrp: row 3: UnknownPlant\n";
-    assert_eq!(rt;
-        answer(alloc, &[0, 1, 3, 2, 4, 5, 6, 7], "\n")?.as_str(),
-        plant
-    );
-    assert_eq!(rt;
-        answer(alloc, &[0, 1, 2, 4, 3, 5, 6, 7], "\n")?.as_str(),
-        "accepted"
-    );
-    let order = "1 mrp: row 6: KindOrder\n";
-    assert_eq!(rt;
-        answer(alloc, &[0, 1, 2, 3, 5, 4, 6, 7], "\n")?.as_str(),
-        order
-    );
-    let order = "1 mrp: row 7: KindOrder\n";
-    assert_eq!(rt;
-        answer(alloc, &[0, 1, 2, 3, 4, 6, 5, 7], "\n")?.as_str(),
-        order
-    );
-    let order = "1 mrp: row 8: KindOrder\n";
-    assert_eq!(rt;
-        answer(alloc, &[0, 1, 2, 3, 4, 5, 7, 6], "\n")?.as_str(),
-        order
-    );
+    let exchanged = [
+        ([1, 0, 2, 3, 4, 5, 6, 7], "1 mrp: row 1: KindOrder\n"),
+        ([0, 2, 1, 3, 4, 5, 6, 7], "accepted"),
+        ([0, 1, 3, 2, 4, 5, 6, 7], "1 mrp: row 3: UnknownPlant\n"),
+        ([0, 1, 2, 4, 3, 5, 6, 7], "accepted"),
+        ([0, 1, 2, 3, 5, 4, 6, 7], "1 mrp: row 6: KindOrder\n"),
+        ([0, 1, 2, 3, 4, 6, 5, 7], "1 mrp: row 7: KindOrder\n"),
+        ([0, 1, 2, 3, 4, 5, 7, 6], "1 mrp: row 8: KindOrder\n"),
+    ];
+    for (places, wanted) in exchanged {
+        assert_eq!(rt; answer(rt.alloc(), &places, "\n")?.as_str(), wanted);
+    }
     Ok(())
 }
 
 #[test]
 fn tables_with_a_row_twice(rt: HostRuntime) -> Result<(), Fail> {
-    let alloc = rt.alloc();
-    let order = "1 mrp: row 2: KindOrder\n";
-    assert_eq!(rt;
-        answer(alloc, &[0, 0, 1, 2, 3, 4, 5, 6, 7], "\n")?.as_str(),
-        order
-    );
-    let again = "1 mrp: row 3: Repeated\n";
-    assert_eq!(rt;
-        answer(alloc, &[0, 1, 1, 2, 3, 4, 5, 6, 7], "\n")?.as_str(),
-        again
-    );
-    let again = "1 mrp: row 4: Repeated\n";
-    assert_eq!(rt;
-        answer(alloc, &[0, 1, 2, 2, 3, 4, 5, 6, 7], "\n")?.as_str(),
-        again
-    );
-    let again = "1 mrp: row 5: Repeated\n";
-    assert_eq!(rt;
-        answer(alloc, &[0, 1, 2, 3, 3, 4, 5, 6, 7], "\n")?.as_str(),
-        again
-    );
-    let again = "1 mrp: row 6: Repeated\n";
-    assert_eq!(rt;
-        answer(alloc, &[0, 1, 2, 3, 4, 4, 5, 6, 7], "\n")?.as_str(),
-        again
-    );
-    assert_eq!(rt;
-        answer(alloc, &[0, 1, 2, 3, 4, 5, 5, 6, 7], "\n")?.as_str(),
-        "accepted"
-    );
-    assert_eq!(rt;
-        answer(alloc, &[0, 1, 2, 3, 4, 5, 6, 6, 7], "\n")?.as_str(),
-        "accepted"
-    );
-    let again = "1 mrp: row 9: Repeated\n";
-    assert_eq!(rt;
-        answer(alloc, &[0, 1, 2, 3, 4, 5, 6, 7, 7], "\n")?.as_str(),
-        again
-    );
+    let twice = [
+        ([0, 0, 1, 2, 3, 4, 5, 6, 7], "1 mrp: row 2: KindOrder\n"),
+        ([0, 1, 1, 2, 3, 4, 5, 6, 7], "1 mrp: row 3: Repeated\n"),
+        ([0, 1, 2, 2, 3, 4, 5, 6, 7], "1 mrp: row 4: Repeated\n"),
+        ([0, 1, 2, 3, 3, 4, 5, 6, 7], "1 mrp: row 5: Repeated\n"),
+        ([0, 1, 2, 3, 4, 4, 5, 6, 7], "1 mrp: row 6: Repeated\n"),
+        ([0, 1, 2, 3, 4, 5, 5, 6, 7], "accepted"),
+        ([0, 1, 2, 3, 4, 5, 6, 6, 7], "accepted"),
+        ([0, 1, 2, 3, 4, 5, 6, 7, 7], "1 mrp: row 9: Repeated\n"),
+    ];
+    for (places, wanted) in twice {
+        assert_eq!(rt; answer(rt.alloc(), &places, "\n")?.as_str(), wanted);
+    }
     Ok(())
 }
 
 #[test]
 fn tables_of_other_programs(rt: HostRuntime) -> Result<(), Fail> {
-    let alloc = rt.alloc();
-    let plain =
-        "run,2026-01-05,7,1,,,,\nplant,A,,,,,,\npair,A,X,buy,lot,0,0,0\ndemand,A,X,0,3,,,\n";
     let rows = "plan,A,X,0,2026-01-05,3,0,3,3,0\n";
-    assert_eq!(rt; plan(alloc, plain)?.as_str(), rows);
-    let quoted = "run,2026-01-05,7,1,,,,\r\nplant,\"A\",,,,,\"\",\r\npair,A,\"X\",buy,lot,0,0,0\r\n\
-demand,A,X,0,\"3\",,,\r\n";
-    assert_eq!(rt; plan(alloc, quoted)?.as_str(), rows);
-    let without_end =
-        "run,2026-01-05,7,1,,,,\nplant,A,,,,,,\npair,A,X,buy,lot,0,0,0\ndemand,A,X,0,3,,,";
-    assert_eq!(rt; plan(alloc, without_end)?.as_str(), rows);
-    let semicolons = "run;2026-01-05;7;1;;;;\nplant;A;;;;;;\n";
-    assert_eq!(rt;
-        plan(alloc, semicolons)?.as_str(),
-        "1 mrp: row 1: FieldCount\n"
-    );
-    let dropped = "run,2026-01-05,7,1\nplant,A\n";
-    assert_eq!(rt;
-        plan(alloc, dropped)?.as_str(),
-        "1 mrp: row 1: FieldCount\n"
-    );
-    let rewritten = "run,05.01.2026,7,1,,,,\n";
-    assert_eq!(rt;
-        plan(alloc, rewritten)?.as_str(),
-        "1 mrp: row 1: CalendarFault BadDate\n"
-    );
-    let shortened = "run,2026-01-05,7,1,,,,\nplant,A,,,,,,\npair,A,007,buy,lot,0,0,0\n\
-demand,A,7,0,3,,,\n";
-    assert_eq!(rt;
-        plan(alloc, shortened)?.as_str(),
-        "1 mrp: row 4: UnknownPair\n"
-    );
+    let written = [
+        (
+            "run,2026-01-05,7,1,,,,\nplant,A,,,,,,\npair,A,X,buy,lot,0,0,0\ndemand,A,X,0,3,,,\n",
+            rows,
+        ),
+        (
+            "run,2026-01-05,7,1,,,,\r\nplant,\"A\",,,,,\"\",\r\npair,A,\"X\",buy,lot,0,0,0\r\n\
+demand,A,X,0,\"3\",,,\r\n",
+            rows,
+        ),
+        (
+            "run,2026-01-05,7,1,,,,\nplant,A,,,,,,\npair,A,X,buy,lot,0,0,0\ndemand,A,X,0,3,,,",
+            rows,
+        ),
+        (
+            "run;2026-01-05;7;1;;;;\nplant;A;;;;;;\n",
+            "1 mrp: row 1: FieldCount\n",
+        ),
+        (
+            "run,2026-01-05,7,1\nplant,A\n",
+            "1 mrp: row 1: FieldCount\n",
+        ),
+        (
+            "run,05.01.2026,7,1,,,,\n",
+            "1 mrp: row 1: CalendarFault BadDate\n",
+        ),
+        (
+            "run,2026-01-05,7,1,,,,\nplant,A,,,,,,\npair,A,007,buy,lot,0,0,0\ndemand,A,7,0,3,,,\n",
+            "1 mrp: row 4: UnknownPair\n",
+        ),
+    ];
+    for (table, wanted) in written {
+        assert_eq!(rt; plan(rt.alloc(), table)?.as_str(), wanted);
+    }
     Ok(())
 }

@@ -1,6 +1,6 @@
 //! The network of a firm of three plants, by the calls that read it.
 
-ghost use Rattle.std.specs.Prelude.{◌<◌, length, Contains, IfOk};
+ghost use Rattle.std.specs.Prelude.{◌<◌, length, Contains, IfSome};
 ghost use Rattle.mrp_tables.specs.Table.{IsPair};
 ghost use Rattle.mrp_net.specs.Lanes.{lanes, lane_at, lane_items};
 
@@ -34,25 +34,22 @@ fn firm(rt: &HostRuntime) -> Result<Network, Fail> {
 }
 
 /// The pair of that name.
-fn pair(network: &Network, plant: &str, item: &str) -> Result<PairNo, Fail>
-    ensures { IfOk result (λ x. IsPair network.now x.0) }
+fn pair(network: &Network, plant: &str, item: &str) -> Option<PairNo>
+    ensures { IfSome result (λ x. IsPair network.now x.0) }
 {
-    match network.find(plant, item) {
-        Some(x) => Ok(x),
-        None => Err("no pair")?,
-    }
+    network.find(plant, item)
 }
 
 /// The first item of a lane.
-fn first_item(network: &Network, l: LaneNo) -> Result<ItemNo, Fail>
+fn first_item(network: &Network, l: LaneNo) -> Option<ItemNo>
     requires { l.0 < length (lanes network.now) }
-    ensures { IfOk result (λ item. Contains (lane_items network.now (lane_at network.now l.0)) item) }
+    ensures { IfSome result (λ item. Contains (lane_items network.now (lane_at network.now l.0)) item) }
 {
     let items = network.lane_items(l);
     if items.is_empty() {
-        return Err("no item")?;
+        return None;
     }
-    Ok(items[0])
+    Some(items[0])
 }
 
 /// An edge as numbers: demander, pair, per, and the running shares.
@@ -65,135 +62,140 @@ fn pieces(shipment: Option<&Shipment>) -> Option<(usize, u64)> {
     shipment.map(|s| (s.period, s.quantity.get()))
 }
 
-#[test]
-fn the_firm_has_its_plants_pairs_and_periods(rt: HostRuntime) -> Result<(), Fail> {
-    let net = firm(&rt)?;
-    assert_eq!(rt; net.plants(), 3);
-    assert_eq!(rt; net.pairs(), 4);
-    assert_eq!(rt; net.horizon().get(), 4);
-    assert_eq!(rt; net.calendar().horizon().get(), 4);
-    assert_eq!(rt; net.plant_name(PlantNo(2)), "C");
-    Ok(())
+/// Whether the network has the firm's plants, pairs and periods.
+fn has_the_firm(net: &Network) -> bool {
+    net.plants() == 3
+        && net.pairs() == 4
+        && net.horizon().get() == 4
+        && net.calendar().horizon().get() == 4
+        && net.plant_name(PlantNo(2)) == "C"
 }
 
-#[test]
-fn pairs_are_found_by_their_names(rt: HostRuntime) -> Result<(), Fail> {
-    let net = firm(&rt)?;
-    assert_eq!(rt; net.find("A", "WHEEL"), Some(PairNo(1)));
-    assert_eq!(rt; net.find("C", "WHEEL"), Some(PairNo(3)));
-    assert_eq!(rt; net.find("B", "BIKE"), None);
-    assert_eq!(rt; net.find("A", "PEDAL"), None);
-    assert_eq!(rt; net.find("D", "WHEEL"), None);
-    assert_eq!(rt; net.find_item("WHEEL"), Some(ItemNo(1)));
-    assert_eq!(rt; net.find_item("A"), None);
-    Ok(())
+/// Whether pairs and items are found by the names that they have, and by no others.
+fn finds_names(net: &Network) -> bool {
+    net.find("A", "WHEEL") == Some(PairNo(1))
+        && net.find("C", "WHEEL") == Some(PairNo(3))
+        && net.find("B", "BIKE").is_none()
+        && net.find("A", "PEDAL").is_none()
+        && net.find("D", "WHEEL").is_none()
+        && net.find_item("WHEEL") == Some(ItemNo(1))
+        && net.find_item("A").is_none()
 }
 
-#[test]
-fn a_wheel_has_its_names_and_its_row(rt: HostRuntime) -> Result<(), Fail> {
-    let net = firm(&rt)?;
-    let wheel = pair(&net, "A", "WHEEL")?;
-    assert_eq!(rt; net.pair_name(wheel), ("A", "WHEEL"));
+/// Whether A's wheel has its names and what its row says.
+fn has_the_wheel(net: &Network) -> bool {
+    let Some(wheel) = pair(net, "A", "WHEEL") else {
+        return false;
+    };
     let row = net.pair(wheel);
-    assert_eq!(rt; row.supply, Supply::From);
-    assert_eq!(rt; row.lead, 1);
-    assert_eq!(rt; row.on_hand.get(), 7);
-    assert_eq!(rt; row.safety.get(), 2);
-    Ok(())
+    net.pair_name(wheel) == ("A", "WHEEL")
+        && net.find_item("WHEEL") == Some(row.item)
+        && net.item_name(row.item) == "WHEEL"
+        && row.supply == Supply::From
+        && row.lead == 1
+        && row.on_hand.get() == 7
+        && row.safety.get() == 2
 }
 
 #[test]
-fn equal_rows_all_count(rt: HostRuntime) -> Result<(), Fail> {
+fn names_and_rows(rt: HostRuntime) -> Result<(), Fail> {
     let net = firm(&rt)?;
-    let bike = pair(&net, "A", "BIKE")?;
-    let wheel = pair(&net, "A", "WHEEL")?;
-    assert_eq!(rt; net.demand_total(bike), 10);
-    assert_eq!(rt; net.demand_total(wheel), 60);
-    assert_eq!(rt; net.supply(bike), 0);
-    assert_eq!(rt; net.supply(wheel), 128);
+    assert!(rt; has_the_firm(&net));
+    assert!(rt; finds_names(&net));
+    assert!(rt; has_the_wheel(&net));
     Ok(())
 }
 
-#[test]
-fn demand_and_incoming_of_a_period(rt: HostRuntime) -> Result<(), Fail> {
-    let net = firm(&rt)?;
-    let wheel = pair(&net, "A", "WHEEL")?;
-    let periods = net.horizon().get() as usize;
-    assert_eq!(rt; periods, 4);
-    assert_eq!(rt; net.demand(wheel, 1), 0);
-    assert_eq!(rt; net.demand(wheel, 2), 60);
-    assert_eq!(rt; net.incoming(wheel, 2), 12);
-    assert_eq!(rt; net.incoming(wheel, 3), 9);
-    Ok(())
+/// Whether equal rows all count, in the totals and in their period.
+fn adds_up(net: &Network) -> bool {
+    let (Some(bike), Some(wheel)) = (pair(net, "A", "BIKE"), pair(net, "A", "WHEEL")) else {
+        return false;
+    };
+    net.demand_total(bike) == 10
+        && net.demand_total(wheel) == 60
+        && net.supply(bike) == 0
+        && net.supply(wheel) == 128
+        && net.horizon().get() == 4
+        && net.demand(wheel, 1) == 0
+        && net.demand(wheel, 2) == 60
+        && net.incoming(wheel, 2) == 12
+        && net.incoming(wheel, 3) == 9
+}
+
+/// Whether wheels are split between two plants, and the bicycle asks for those at A.
+fn has_the_edges(net: &Network) -> bool {
+    let (Some(at_a), Some(at_c)) = (pair(net, "A", "WHEEL"), pair(net, "C", "WHEEL")) else {
+        return false;
+    };
+    let suppliers = net.suppliers(at_a);
+    suppliers.len() == 2
+        && numbers(suppliers.first()) == Some((1, 2, 1, 0, 600))
+        && numbers(suppliers.last()) == Some((1, 3, 1, 600, 1000))
+        && net.demanders(at_a).len() == 1
+        && numbers(net.demanders(at_a).first()) == Some((0, 1, 2, 0, 1000))
+        && net.demanders(at_c).len() == 1
+        && numbers(net.demanders(at_c).first()) == Some((1, 3, 1, 600, 1000))
 }
 
 #[test]
-fn wheels_are_split_between_two_plants(rt: HostRuntime) -> Result<(), Fail> {
+fn sums_and_edges(rt: HostRuntime) -> Result<(), Fail> {
     let net = firm(&rt)?;
-    let wheel = pair(&net, "A", "WHEEL")?;
-    let suppliers = net.suppliers(wheel);
-    assert_eq!(rt; suppliers.len(), 2);
-    assert_eq!(rt; numbers(suppliers.first()), Some((1, 2, 1, 0, 600)));
-    assert_eq!(rt; numbers(suppliers.last()), Some((1, 3, 1, 600, 1000)));
+    assert!(rt; adds_up(&net));
+    assert!(rt; has_the_edges(&net));
     Ok(())
 }
 
-#[test]
-fn bicycles_and_plant_a_ask_for_wheels(rt: HostRuntime) -> Result<(), Fail> {
-    let net = firm(&rt)?;
-    let at_a = pair(&net, "A", "WHEEL")?;
-    let at_c = pair(&net, "C", "WHEEL")?;
-    let demanders = net.demanders(at_a);
-    assert_eq!(rt; demanders.len(), 1);
-    assert_eq!(rt; numbers(demanders.first()), Some((0, 1, 2, 0, 1000)));
-    let demanders = net.demanders(at_c);
-    assert_eq!(rt; demanders.len(), 1);
-    assert_eq!(rt; numbers(demanders.first()), Some((1, 3, 1, 600, 1000)));
-    Ok(())
-}
-
-#[test]
-fn lanes_come_by_supplier_and_kind(rt: HostRuntime) -> Result<(), Fail> {
-    let net = firm(&rt)?;
-    assert_eq!(rt; net.lanes(), 4);
+/// Whether the lanes come by supplier and kind.
+fn has_the_lanes(net: &Network) -> bool {
+    if net.lanes() != 4 {
+        return false;
+    }
     let despatch = net.lane(LaneNo(0));
-    assert_eq!(rt; despatch.kind, LaneKind::Despatch);
-    assert_eq!(rt; despatch.sender, PlantNo(1));
-    assert_eq!(rt; despatch.receiver, PlantNo(0));
     let schedule = net.lane(LaneNo(3));
-    assert_eq!(rt; schedule.kind, LaneKind::Schedule);
-    assert_eq!(rt; schedule.customer(), PlantNo(0));
-    assert_eq!(rt; schedule.supplier(), PlantNo(2));
-    Ok(())
+    despatch.kind == LaneKind::Despatch
+        && despatch.sender == PlantNo(1)
+        && despatch.receiver == PlantNo(0)
+        && schedule.kind == LaneKind::Schedule
+        && schedule.customer() == PlantNo(0)
+        && schedule.supplier() == PlantNo(2)
+}
+
+/// Whether wheels from B have their figure and two shipments on their way.
+fn despatches_from_b(net: &Network) -> bool {
+    if net.lanes() != 4 {
+        return false;
+    }
+    let Some(wheel) = first_item(net, LaneNo(0)) else {
+        return false;
+    };
+    let shipments = net.shipments(LaneNo(0), wheel);
+    net.lane_items(LaneNo(0)).len() == 1
+        && net.opening(LaneNo(0), wheel) == 100
+        && shipments.len() == 2
+        && pieces(shipments.first()) == Some((2, 8))
+        && pieces(shipments.last()) == Some((3, 9))
+}
+
+/// Whether the schedule to B begins after the shipments, and nothing is on its way from C.
+fn other_lanes_begin(net: &Network) -> bool {
+    if net.lanes() != 4 {
+        return false;
+    }
+    let (Some(called), Some(sent)) = (first_item(net, LaneNo(1)), first_item(net, LaneNo(2))) else {
+        return false;
+    };
+    called == ItemNo(1)
+        && net.opening(LaneNo(1), called) == 117
+        && sent == ItemNo(1)
+        && net.opening(LaneNo(2), sent) == 0
+        && net.shipments(LaneNo(2), sent).is_empty()
 }
 
 #[test]
-fn wheels_from_b_have_figures_and_shipments(rt: HostRuntime) -> Result<(), Fail> {
+fn lanes_between_plants(rt: HostRuntime) -> Result<(), Fail> {
     let net = firm(&rt)?;
-    assert_eq!(rt; net.lanes(), 4);
-    let despatch = LaneNo(0);
-    let schedule = LaneNo(1);
-    let wheel = first_item(&net, despatch)?;
-    assert_eq!(rt; net.lane_items(despatch).len(), 1);
-    assert_eq!(rt; net.opening(despatch, wheel), 100);
-    let shipments = net.shipments(despatch, wheel);
-    assert_eq!(rt; shipments.len(), 2);
-    assert_eq!(rt; pieces(shipments.first()), Some((2, 8)));
-    assert_eq!(rt; pieces(shipments.last()), Some((3, 9)));
-    let called = first_item(&net, schedule)?;
-    assert_eq!(rt; called, wheel);
-    assert_eq!(rt; net.opening(schedule, called), 117);
-    Ok(())
-}
-
-#[test]
-fn nothing_is_on_its_way_from_c(rt: HostRuntime) -> Result<(), Fail> {
-    let net = firm(&rt)?;
-    assert_eq!(rt; net.lanes(), 4);
-    let despatch = LaneNo(2);
-    let wheel = first_item(&net, despatch)?;
-    assert_eq!(rt; wheel, ItemNo(1));
-    assert_eq!(rt; net.opening(despatch, wheel), 0);
-    assert_eq!(rt; net.shipments(despatch, wheel).len(), 0);
+    assert!(rt; has_the_lanes(&net));
+    assert!(rt; despatches_from_b(&net));
+    assert!(rt; other_lanes_begin(&net));
     Ok(())
 }

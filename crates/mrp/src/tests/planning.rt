@@ -1,13 +1,13 @@
 //! The plan of a bicycle: what fits, and what its requirements consist of.
 
-ghost use Rattle.std.specs.Prelude.{◌≤◌};
+ghost use Rattle.std.specs.Prelude.{◌≡◌, ◌≤◌, length};
 ghost use Rattle.mrp_lot.specs.declared.rule.TheConstants.{LONGEST_LEAD};
 
-use mrp_loops::{bound, check};
+use mrp_loops::{SizedNet, bound, check};
 use mrp_lot::Rule;
 use mrp_net::{Network, PairNo};
 use mrp_netting::{PairParams, PairPlan, plan_pair};
-use mrp_plan::{PegSource, Plan, fits, peg, plan_all};
+use mrp_plan::{PegSource, PegTerm, Plan, fits, peg, plan_all};
 use mrp_qty::{Horizon, Qty, Row};
 use mrp_tables::read_tables_uncounted;
 use std::alloc::Global;
@@ -46,21 +46,59 @@ fn wheels(alloc: Global, horizon: Horizon, lead: u64) -> Result<PairPlan, Fail>
     Ok(plan)
 }
 
+/// Whether the plan of the bicycle's network fits with the wheels' plan exchanged for one with
+/// that lead time.
+fn fits_with_lead(alloc: Global, net: &SizedNet, plan: &Plan, lead: u64) -> Result<bool, Fail>
+    requires lead { lead ≤ LONGEST_LEAD }
+    requires pairs { length plan.now ≡ length net.now.network.pairs }
+{
+    let network = net.network();
+    let mut pairs = Vec::new(alloc);
+    if network.pairs() != 2 {
+        return Err("not two pairs")?;
+    }
+    pairs.push(plan.pair(PairNo(0)).copy(alloc)?)?;
+    pairs.push(wheels(alloc, network.horizon(), lead)?)?;
+    Ok(fits(net, &Plan::gather(net, pairs)))
+}
+
+/// Whether the plan fits, and no other release of the wheels does.
+fn is_the_only_plan(alloc: Global, net: &SizedNet) -> Result<bool, Fail> {
+    let plan = plan_all(alloc, net)?;
+    Ok(
+        fits(net, &plan)
+            && fits_with_lead(alloc, net, &plan, 1)?
+            && !fits_with_lead(alloc, net, &plan, 0)?,
+    )
+}
+
+/// Whether the one term is the bicycle's: ten of it ask for twenty.
+fn is_asked_by_the_bicycle(terms: &[PegTerm]) -> bool {
+    terms.len() == 1
+        && terms[0].source == PegSource::Bill
+        && terms[0].pair == PairNo(0)
+        && terms[0].release == 10
+        && terms[0].per == 2
+        && terms[0].quantity == 20
+}
+
+/// What the wheels' gross requirement in period 2 consists of.
+fn wheel_terms(alloc: Global, net: &SizedNet) -> Result<Vec<PegTerm>, Fail> {
+    let network = net.network();
+    if network.pairs() != 2 || network.horizon().get() != 4 {
+        return Err("no bicycle")?;
+    }
+    let plan = plan_all(alloc, net)?;
+    let terms = peg(alloc, net, &plan, PairNo(1), 2)?;
+    Ok(terms)
+}
+
 #[test]
 fn a_plan_with_another_release_does_not_fit(rt: HostRuntime) -> Result<(), Fail> {
     let network = Network::of(rt.alloc(), read_tables_uncounted(rt.alloc(), BICYCLE)?)?;
     let levels = check(rt.alloc(), &network)?;
     let net = bound(rt.alloc(), &network, &levels)?;
-    let plan = plan_all(rt.alloc(), &net)?;
-    assert!(rt; fits(&net, &plan));
-    assert!(rt; network.pairs() == 2);
-    for (lead, does_fit) in [(1, true), (0, false)] {
-        let mut pairs = Vec::new(rt.alloc());
-        pairs.push(plan.pair(PairNo(0)).copy(rt.alloc())?)?;
-        pairs.push(wheels(rt.alloc(), network.horizon(), lead)?)?;
-        assert!(rt; pairs.len() == network.pairs());
-        assert_eq!(rt; fits(&net, &Plan::gather(&net, pairs)), does_fit);
-    }
+    assert!(rt; is_the_only_plan(rt.alloc(), &net)?);
     Ok(())
 }
 
@@ -69,16 +107,6 @@ fn wheels_are_asked_for_by_the_bicycle(rt: HostRuntime) -> Result<(), Fail> {
     let network = Network::of(rt.alloc(), read_tables_uncounted(rt.alloc(), BICYCLE)?)?;
     let levels = check(rt.alloc(), &network)?;
     let net = bound(rt.alloc(), &network, &levels)?;
-    let plan = plan_all(rt.alloc(), &net)?;
-    assert!(rt; network.pairs() == 2);
-    assert!(rt; network.horizon().get() == 4);
-    let terms = peg(rt.alloc(), &net, &plan, PairNo(1), 2)?;
-    assert_eq!(rt; terms.len(), 1);
-    let term = terms[0];
-    assert_eq!(rt; term.source, PegSource::Bill);
-    assert_eq!(rt; term.pair.0, 0);
-    assert_eq!(rt; term.release, 10);
-    assert_eq!(rt; term.per, 2);
-    assert_eq!(rt; term.quantity, 20);
+    assert!(rt; is_asked_by_the_bicycle(wheel_terms(rt.alloc(), &net)?.as_slice()));
     Ok(())
 }
