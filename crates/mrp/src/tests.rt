@@ -6,7 +6,6 @@ mod firms;
 mod plans;
 mod refusals;
 mod streams;
-mod words;
 
 use crate::fault::{TextFault, status};
 use crate::lines::write_fault;
