@@ -1,6 +1,6 @@
 -- What the rows of a command have where no step of the parse fails: each has a value, each value
 -- passes the parser of an argument of its name, and is read as it was written.
-use Rattle.std.proofs.Common.{◌≡◌, ◌∙◌, ◌&&◌, ◌||◌, ◌==◌, ℕ, Bool, cond, true, false, not, zero, suc, List, [], ◌∷◌, ◌++◌, Option, Some, None, codes, length, drop, option_map, refl, sym, ap, ap₂, subst, is_some, true≢false}
+use Rattle.std.proofs.Common.{◌≡◌, ◌∙◌, ◌&&◌, ◌||◌, ℕ, Bool, cond, true, false, not, zero, suc, List, [], ◌∷◌, ◌++◌, Option, Some, None, codes, length, drop, option_map, refl, sym, ap, ap₂, subst, is_some, true≢false}
 use Rattle.std.specs.Prelude.{encode_utf8, find, fold, nat_lt, option_and_then, slice_get}
 use Rattle.std.specs.List.{list_all, list_any}
 use Rattle.std.specs.Option.{option_map_or}
@@ -13,8 +13,8 @@ use Rattle.clap.specs.Values.{read_as, refused_kind}
 use Rattle.clap.specs.ValueTests.{accepts}
 use Rattle.clap.specs.Kinds.{Kinds, or_else, range_kinds, values_kinds}
 use Rattle.clap.specs.Takes.{is_given, value_passes, values_pass}
-use Rattle.clap.specs.Walk.{Held, Names, Outcome, Row, Rule, Step, Text, Waiting, Walk, action_of, after_flag, after_step, arg_by_id, arg_by_index, arg_by_long, arg_by_short, at_row, attached_value, bundle, bundle_met, default_rows, done, finished, flag_met, has_row, idle, is_pending, long_met, long_or_other, more_values, most_values, next, nothing_held, option, option_met, option_word, plain, plain_word, positional, reacted, reading_by, refused, row_text, rows_after, settled, settled_rows, short_met, short_or_plain, subcommand, subcommand_met, subcommand_or_other, takes_several, takes_values, to_positional, trailing, used, used_as, value, values_or_missing, waits, walk, walk_from, walked, walked_from, with_default, with_values, without, word_met}
-use Rattle.clap.specs.Faults.{action_fault, bundle_fault, flag_word_fault, flags_fault, long_fault, option_fault, other_fault, positional_fault, react_fault, repeat_fault, settle_fault, short_fault, step_fault, turn_fault, use_fault, values_fault, walk_fault, word_fault}
+use Rattle.clap.specs.Walk.{Held, Names, Outcome, Row, Rule, Step, Text, Waiting, Walk, action_of, after_flag, after_step, arg_by_id, arg_by_index, arg_by_long, arg_by_short, at_row, attached_value, bundle, bundle_met, default_rows, done, flag_met, has_row, is_pending, long_met, long_or_other, more_values, most_values, next, nothing_held, option, option_met, option_word, plain, plain_word, reacted, reading_by, row_text, rows_after, settled, settled_rows, short_met, short_or_plain, subcommand, subcommand_met, subcommand_or_other, takes_several, takes_values, to_positional, trailing, used, used_as, value, values_or_missing, waits, walk, walk_from, walked, walked_from, with_default, with_values, without, word_met}
+use Rattle.clap.specs.Faults.{action_fault, bundle_fault, flag_word_fault, flags_fault, long_fault, option_fault, other_fault, react_fault, repeat_fault, settle_fault, short_fault, step_fault, turn_fault, use_fault, values_fault, walk_fault, word_fault}
 use Rattle.clap.specs.Simple.{Shape}
 use Rattle.clap.specs.declared.builder.action.ArgAction.{ArgAction}
 use Rattle.clap.specs.declared.builder.action.ArgAction.TheVariants.{Set, SetTrue, Help}

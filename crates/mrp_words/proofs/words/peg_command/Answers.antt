@@ -2,7 +2,6 @@ use Rattle.std.proofs.Common.{◌≡◌, ◌∙◌, ◌||◌, rules, ap₂, code
 use Rattle.std.proofs.lemmas.Result.{IfOk-weaker}
 use Rattle.clap.specs.Words.{app_of, new_app, with_rule}
 use Rattle.clap.specs.declared.builder.command.Command.TheViews.{out-Command}
-use Rattle.mrp_words.specs.CommandLine.{plant, item, period}
 use Rattle.mrp_words.proofs.words.peg_command.Goals as goal
 
 pub returns : goal.returns

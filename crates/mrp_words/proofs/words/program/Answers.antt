@@ -1,7 +1,7 @@
 use Rattle.std.proofs.Common.{◌≡◌, ◌∙◌, rules, ap, ap₂, codes}
 use Rattle.std.proofs.lemmas.Result.{IfOk-weaker}
 use Rattle.clap.specs.Words.{App, app_of, with_subcommand}
-use Rattle.mrp_words.specs.CommandLine.{check_words, mrp, peg_words, plan_words, program_words}
+use Rattle.mrp_words.specs.CommandLine.{mrp, program_words}
 use Rattle.mrp_words.proofs.words.program.Goals as goal
 
 pub returns : goal.returns
