@@ -96,12 +96,15 @@ that takes it from this one.\n\
 
 const PEG_EXAMPLE: &str = "Example: mrp peg P1 WHEEL 2 < bicycle.csv";
 
-/// Reads the words of a command line, of which the first is the program's name.
+/// Reads the words of a command line, of which the first is the program's name: the choice is the
+/// subcommand that `clap` reads in them, with its values. It is made only of words in which `clap`
+/// finds no fault.
 ///
 /// # Errors
 ///
-/// [`ChooseFault::Words`] where `clap` refuses the words, was asked for help or ran out of memory;
-/// [`ChooseFault::Memory`] where a growth was refused.
+/// [`ChooseFault::Words`] where `clap` refuses the words, was asked for help or ran out of memory: the
+/// error has one of the kinds that the words have, or `OutOfMemory`. [`ChooseFault::Memory`] where a
+/// growth was refused. Where `clap` takes the words, memory alone is missing.
 pub fn choose<'a>(alloc: Global, words: &'a [&'a str]) -> Result<Choice<'a>, ChooseFault>
     ensures range { IfOk result IsInRange }
     ensures choice { IfOk result (IsChosenBy (texts_of words.now)) }
