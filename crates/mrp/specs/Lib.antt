@@ -1,4 +1,3 @@
 pub mod Fault
 pub mod Lines
-pub mod Choice
 pub mod Text

@@ -4,20 +4,19 @@
 //! and write a report; [`lines`] has the lines that report a fault.
 #![tactic(auto)]
 
-ghost use Rattle.mrp.specs.Choice.{IsInRange};
+ghost use Rattle.mrp_words.specs.Choice.{IsInRange};
 
 mod fault;
 mod lines;
 #[cfg(test)]
 mod tests;
 mod text;
-mod words;
 
 use crate::fault::{TextFault, status};
 use crate::lines::write_fault;
 use crate::text::{check_text, drive_text, peg_text};
-use crate::words::{Choice, ChooseFault, choose};
 use clap::error::ErrorKind;
+use mrp_words::{Choice, ChooseFault, choose};
 use std::alloc::AllocError;
 use std::process::ExitCode;
 use std::rt::Env;

@@ -11,7 +11,6 @@ mod plans;
 mod reading;
 mod refusals;
 mod streams;
-mod words;
 
 use crate::fault::{TextFault, status};
 use crate::lines::write_fault;

@@ -3,7 +3,7 @@ ghost use Rattle.mrp_tables.specs.Table.{IsTable, IsPair, horizon};
 ghost use Rattle.mrp_loops.specs.Loop.{AreCodes, IsLoopFree};
 ghost use Rattle.mrp.specs.Fault.{IsBeforeWriting, IsLate};
 ghost use Rattle.mrp.specs.Text.{Writes, OfTable, IsTableOf, IsPlannable, IsPlanReport, IsCodeReport, IsPegReport, IsPegs, IsCalled, AreCalled, IsLoopRefusal, IsBoundRefusal, IsRefusal, IsPegRefusal, IsReadRefusal, IsTextRefusal};
-ghost use Rattle.mrp.specs.declared.text.TheConstants.{MOST_CAPACITY};
+ghost use Rattle.mrp_words.specs.declared.words.TheConstants.{MOST_CAPACITY};
 
 use crate::fault::{PairName, TextFault};
 use mrp_loops::{BoundFault, Levels, LoopFault, SizedNet, bound, check};
@@ -11,11 +11,9 @@ use mrp_net::{Network, PairNo};
 use mrp_plan::{peg, plan_all};
 use mrp_report::{code_rows, late_rows, peg_rows, plan_rows};
 use mrp_tables::read_tables_uncounted;
+use mrp_words::MOST_CAPACITY;
 use std::alloc::Global;
 use std::io::{Read, Write};
-
-/// The most records that a mailbox between two plants may hold.
-pub const MOST_CAPACITY: u64 = 65_536;
 
 /// Reads a table and writes its plan: a row for each pair and period, then a row for each late order.
 ///

@@ -1,4 +1,4 @@
-use crate::words::{Choice, ChooseFault, choose};
+use crate::{Choice, ChooseFault, choose};
 use clap::error::ErrorKind;
 use std::alloc::Global;
 

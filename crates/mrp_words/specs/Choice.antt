@@ -1,0 +1,69 @@
+-- What the program is asked to do.
+use Rattle.std.specs.Prelude.{◌≡◌, ◌≤◌, ℕ, Bool, false, List, Option, Some, None, codes}
+use Rattle.std.specs.Prelude.{map, option_map}
+use Rattle.std.specs.Borrow.{Bor}
+use Rattle.std.specs.Option.{option_map_or}
+use Rattle.std.specs.Str.{bytes_eq}
+use Rattle.std.specs.Str.Parse.{digits_value, without_leading_plus}
+use Rattle.clap.specs.Words.{HasKind, Row, Text, fault_of, first_of, kind_of, subcommand_of}
+use Rattle.clap.specs.declared.error.kind.ErrorKind.TheVariants.{OutOfMemory}
+use Rattle.mrp_words.specs.CommandLine.{mrp}
+use Rattle.mrp_words.specs.declared.words.Choice.{Choice}
+use Rattle.mrp_words.specs.declared.words.Choice.TheVariants.{Plan, Check, Peg}
+use Rattle.mrp_words.specs.declared.words.ChooseFault.{ChooseFault}
+use Rattle.mrp_words.specs.declared.words.ChooseFault.TheVariants.{Words, Memory}
+use Rattle.mrp_words.specs.declared.words.TheConstants.{MOST_CAPACITY}
+
+-- the numbers of a choice are in their ranges
+abbrev pub IsInRange : Choice → Type 0
+IsInRange (Plan workers capacity single) = (1 ≤ workers) × (workers ≤ 64) × (1 ≤ capacity) × (capacity ≤ MOST_CAPACITY)
+IsInRange Check = Unit {0}
+IsInRange (Peg plant item period) = period ≤ 103
+
+-- the texts of the words
+abbrev pub texts_of : List (Bor Text) → List Text
+texts_of = map (λ word. word.now)
+
+-- the text of an argument is the first value that clap found for it
+abbrev pub text_at : Text → List Row → Option Text
+text_at = first_of
+
+-- the number of an argument is what its digits spell
+abbrev pub number_at : Text → List Row → Option ℕ
+number_at name rows =
+    option_map (λ text. digits_value 10 (without_leading_plus text)) (text_at name rows)
+
+-- a flag is given where its value is `true`
+abbrev pub flag_at : Text → List Row → Bool
+flag_at name rows = option_map_or (λ text. bytes_eq text (codes "true")) (text_at name rows) false
+
+-- the choice that a subcommand and its values are
+abbrev pub IsCommand : Text → List Row → Choice → Type 0
+IsCommand name rows (Plan workers capacity single) =
+    (name ≡ codes "plan") × (number_at (codes "workers") rows ≡ Some workers)
+    × (number_at (codes "capacity") rows ≡ Some capacity)
+    × (flag_at (codes "single") rows ≡ single)
+IsCommand name rows Check = name ≡ codes "check"
+IsCommand name rows (Peg plant item period) =
+    (name ≡ codes "peg") × (text_at (codes "plant") rows ≡ Some plant.now)
+    × (text_at (codes "item") rows ≡ Some item.now)
+    × (number_at (codes "period") rows ≡ Some period)
+
+-- the same, where there is a subcommand
+abbrev pub IsMeantBy : Option (Text × List Row) → Choice → Type 0
+IsMeantBy None choice = ⊥
+IsMeantBy (Some command) choice = IsCommand command.0 command.1 choice
+
+-- the choice is the one that clap reads in the words
+abbrev pub IsChosenBy : List Text → Choice → Type 0
+IsChosenBy words = IsMeantBy (subcommand_of mrp words)
+
+-- a growth was refused, in clap or here
+abbrev pub IsMemory : ChooseFault → Type 0
+IsMemory (Words error) = kind_of error ≡ OutOfMemory
+IsMemory Memory = Unit {0}
+
+-- clap's refusal has a kind that these words have, or memory was refused
+abbrev pub IsRefusalOf : List Text → ChooseFault → Type 0
+IsRefusalOf words (Words error) = HasKind (fault_of mrp words) error
+IsRefusalOf words Memory = Unit {0}

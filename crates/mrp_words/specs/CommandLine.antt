@@ -1,0 +1,79 @@
+-- The whole command line, as clap reads it.
+use Rattle.std.specs.Prelude.{◌≡◌, ℕ, Some, true, false, [], ◌∷◌, codes}
+use Rattle.clap.specs.Words.{App, Rule, Text, app_of, new_app, new_rule, rule_of, with_rule, with_subcommand}
+use Rattle.clap.specs.declared.builder.action.ArgAction.TheVariants.{SetTrue}
+use Rattle.clap.specs.declared.builder.arg.Arg.{Arg}
+use Rattle.clap.specs.declared.builder.command.Command.{Command}
+use Rattle.clap.specs.declared.builder.command.Command.TheViews.{out-Command}
+use Rattle.clap.specs.declared.builder.value_parser.ValueParser.TheVariants.{Unsigned}
+use Rattle.mrp_words.specs.declared.words.TheConstants.{MOST_CAPACITY}
+
+-- a positional argument that has to be there
+abbrev pub wanted : Text → Rule
+wanted name = record (new_rule name) { value_names = 1; required = true }
+
+-- the same, of a number from `least` to `most`
+abbrev pub wanted_number : Text → ℕ → ℕ → Rule
+wanted_number name least most = record (wanted name) { parser = Some (Unsigned least most) }
+
+-- an option with a number from `least` to `most`, and the number where the option is left out
+abbrev pub number_option : Text → ℕ → ℕ → Text → Rule
+number_option name least most otherwise = record (new_rule name) {
+  long = Some name;
+  value_names = 1;
+  parser = Some (Unsigned least most);
+  defaults = otherwise ∷ [];
+}
+
+-- an option without a value
+abbrev pub flag : Text → Rule
+flag name = record (new_rule name) { long = Some name; action = Some SetTrue }
+
+abbrev pub workers : Rule
+workers = number_option (codes "workers") 1 64 (codes "1")
+
+abbrev pub capacity : Rule
+capacity = number_option (codes "capacity") 1 MOST_CAPACITY (codes "64")
+
+abbrev pub single : Rule
+single = flag (codes "single")
+
+abbrev pub plant : Rule
+plant = wanted (codes "plant")
+
+abbrev pub item : Rule
+item = wanted (codes "item")
+
+abbrev pub period : Rule
+period = wanted_number (codes "period") 0 103
+
+-- `plan [--workers W] [--capacity C] [--single]`
+abbrev pub plan_words : App
+plan_words = with_rule (with_rule (with_rule (new_app (codes "plan")) workers) capacity) single
+
+-- `check`
+abbrev pub check_words : App
+check_words = new_app (codes "check")
+
+-- `peg PLANT ITEM PERIOD`
+abbrev pub peg_words : App
+peg_words = with_rule (with_rule (with_rule (new_app (codes "peg")) plant) item) period
+
+-- a program of that name, which has to be given a subcommand
+abbrev pub program_words : Text → App
+program_words name =
+    record (new_app name) { top = record (new_app name).top { subcommand_required = true } }
+
+-- the command line
+unfoldable pub mrp : App
+mrp = with_subcommand
+    (with_subcommand (with_subcommand (program_words (codes "mrp")) plan_words.top) check_words.top)
+    peg_words.top
+
+-- the argument has this rule, at its own command alone
+abbrev pub IsRuled : Rule → Arg → Type 0
+IsRuled rule arg = (rule_of arg ≡ rule) × (arg.global ≡ false)
+
+-- the command has the words of `app`, and no argument that its subcommands share
+abbrev pub IsWorded : App → Command → Type 0
+IsWorded app command = (app_of command ≡ app) × ((out-Command command).has_globals ≡ false)

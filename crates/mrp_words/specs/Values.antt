@@ -1,0 +1,51 @@
+-- What the values of a command have, where clap takes the words.
+use Rattle.std.specs.Prelude.{◌≡◌, ◌⊎◌, ◌<◌, ◌≤◌, ◌^◌, ℕ, Bool, List, Option, Some, None, IfSome, codes}
+use Rattle.std.specs.Str.Parse.{IsNumeral, digits_value, without_leading_plus}
+use Rattle.clap.specs.Words.{Row, Text, one_of}
+use Rattle.clap.specs.Values.{bool_text}
+use Rattle.mrp_words.specs.Choice.{number_at, text_at}
+use Rattle.mrp_words.specs.declared.words.TheConstants.{MOST_CAPACITY}
+
+-- the argument has a value, which is read as it was written
+abbrev pub HasText : Text → Text → List Row → Type 0
+HasText name text rows = (text_at name rows ≡ Some text) × (one_of name rows ≡ Some text)
+
+-- the value spells a number of 64 bits
+abbrev pub IsNumber : Text → Type 0
+IsNumber text = IsNumeral 10 (without_leading_plus text)
+    × (digits_value 10 (without_leading_plus text) < 2 ^ 64)
+
+abbrev pub HasNumber : Text → List Row → Type 0
+HasNumber name rows = (text : Text) × HasText name text rows × IsNumber text
+
+abbrev pub HasFlag : Text → List Row → Type 0
+HasFlag name rows = (given : Bool) × HasText name (bool_text given) rows
+
+abbrev pub HasName : Text → List Row → Type 0
+HasName name rows = (text : Text) × (text_at name rows ≡ Some text)
+
+-- the number lies between the two
+abbrev pub IsWithin : ℕ → ℕ → Option ℕ → Type 0
+IsWithin least most number = IfSome number (λ n. (least ≤ n) × (n ≤ most))
+
+pub record HasPlanValues (rows : List Row) : Type 0 where
+  pub workers : HasNumber (codes "workers") rows
+  pub workers_within : IsWithin 1 64 (number_at (codes "workers") rows)
+  pub capacity : HasNumber (codes "capacity") rows
+  pub capacity_within : IsWithin 1 MOST_CAPACITY (number_at (codes "capacity") rows)
+  pub single : HasFlag (codes "single") rows
+
+pub record HasPegValues (rows : List Row) : Type 0 where
+  pub plant : HasName (codes "plant") rows
+  pub item : HasName (codes "item") rows
+  pub period : HasNumber (codes "period") rows
+  pub period_within : IsWithin 0 103 (number_at (codes "period") rows)
+
+-- the command is one of the three, with its values
+abbrev pub IsWhole : Text → List Row → Type 0
+IsWhole name rows = ((name ≡ codes "plan") × HasPlanValues rows)
+    ⊎ ((name ≡ codes "check") ⊎ ((name ≡ codes "peg") × HasPegValues rows))
+
+abbrev pub IsWholeCommand : Option (Text × List Row) → Type 0
+IsWholeCommand None = ⊥
+IsWholeCommand (Some command) = IsWhole command.0 command.1

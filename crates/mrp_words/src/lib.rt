@@ -1,0 +1,11 @@
+//! The command line of `mrp`: which words the program takes, and what each choice of words asks for.
+//!
+//! The command line is written out in `specs/CommandLine.antt`, and `specs/Choice.antt` says which
+//! choice a subcommand and its values are.
+#![tactic(auto)]
+
+#[cfg(test)]
+mod tests;
+mod words;
+
+pub use words::{Choice, ChooseFault, MOST_CAPACITY, choose};

@@ -1,0 +1,301 @@
+ghost use Rattle.std.specs.Prelude.{◌≡◌, Some, true, false, [], codes, IfOk, IfErr};
+ghost use Rattle.clap.specs.Words.{app_of, fault_of, found_of, rows_of, subcommand_rows_of, takes};
+ghost use Rattle.mrp_words.specs.Choice.{IsChosenBy, IsCommand, IsInRange, IsMeantBy, IsMemory, IsRefusalOf, flag_at, number_at, text_at, texts_of};
+ghost use Rattle.mrp_words.specs.CommandLine.{IsRuled, IsWorded, check_words, mrp, peg_words, plan_words};
+ghost use Rattle.mrp_words.specs.CommandLine as rule;
+ghost use Rattle.mrp_words.specs.Values.{HasFlag, HasName, HasNumber, HasPlanValues, HasPegValues, IsWholeCommand};
+
+use clap::{Arg, ArgAction, ArgMatches, Command, value_parser};
+use std::alloc::{AllocError, Global};
+use thiserror::Error;
+
+/// The most records that a mailbox between two plants may hold.
+pub const MOST_CAPACITY: u64 = 65_536;
+
+/// What the program is asked to do.
+#[derive(Clone, Copy, Debug, PartialEq, Eq)]
+pub enum Choice<'a> {
+    /// Write the plan.
+    Plan {
+        /// Worker threads of each plant, 1 to 64.
+        workers: u64,
+        /// Records that the mailbox between two plants holds, 1 to 65,536.
+        capacity: u64,
+        /// One thread plans all plants.
+        single: bool,
+    },
+    /// Write the low-level codes.
+    Check,
+    /// Write what a gross requirement consists of.
+    Peg {
+        /// The name of the plant.
+        plant: &'a str,
+        /// The name of the item.
+        item: &'a str,
+        /// The period, 0 to 103.
+        period: u64,
+    },
+}
+
+/// Why no choice was made.
+#[derive(Debug, Drop, Error)]
+pub enum ChooseFault {
+    /// The words are refused, or help was asked for: `clap` has the text and says which.
+    #[error("{0}")]
+    Words(clap::Error),
+    /// A growth was refused.
+    #[error("out of memory")]
+    Memory,
+}
+
+const ABOUT: &str = "Plans the material of all plants of a firm. The table is read from standard \
+input, and the report is written to standard output.";
+
+const AFTER: &str = "A table is comma-separated rows of eight fields, kind by kind:\n\
+\n\
+  run,FIRST,DAYS,PERIODS,,,,\n\
+  plant,PLANT,,,,,,\n\
+  pair,PLANT,ITEM,SUPPLY,RULE,LEAD,ONHAND,SAFETY\n\
+  bill,PLANT,PARENT,COMPONENT,PER,,,\n\
+  demand,PLANT,ITEM,PERIOD,QUANTITY,,,\n\
+  receipt,PLANT,ITEM,PERIOD,QUANTITY,,,\n\
+  ship,FROM,TO,ITEM,PERIOD,QUANTITY,,\n\
+  cum,FROM,TO,ITEM,FIGURE,,,\n\
+  reset,FROM,TO,ITEM,PERIOD,,,\n\
+\n\
+SUPPLY is make, buy, from:PLANT, or from: with two to four plants and their shares in thousandths, \
+as from:B:600:C:400. RULE is lot, fixed:Q, periods:K or min:M:K. Periods count from 0.\n\
+\n\
+Statuses: 0 done, 1 the table is refused, 2 the words are refused, 3 reading, writing or memory \
+failed. After 1 and 3 one line on standard error says why.";
+
+const PLAN: &str =
+    "Writes the plan: for each pair of a plant and an item, period by period, a row\n\
+\n\
+  plan,PLANT,ITEM,PERIOD,DATE,GROSS,INCOMING,ORDER,RELEASE,AVAILABLE\n\
+\n\
+and then a row for each order that would have had to be released before period 0:\n\
+\n\
+  late,PLANT,ITEM,PERIOD,QUANTITY,BY";
+
+const PLAN_EXAMPLE: &str = "Example: mrp plan < bicycle.csv > bicycle.plan.csv";
+
+const CHECK: &str = "Writes the low-level code of each pair: the length of the longest chain of \
+demanders above it. Refuses a table with a loop, or with quantities above 10^15.\n\
+\n\
+  code,PLANT,ITEM,CODE";
+
+const CHECK_EXAMPLE: &str = "Example: mrp check < bicycle.csv";
+
+const PEG: &str =
+    "Writes what the gross requirement of a pair in a period consists of, a row for each \
+source: demand for its own demand rows, bill for a parent at its plant, plant for the item at a plant \
+that takes it from this one.\n\
+\n\
+  peg,SOURCE,PLANT,ITEM,RELEASE,PER,QUANTITY";
+
+const PEG_EXAMPLE: &str = "Example: mrp peg P1 WHEEL 2 < bicycle.csv";
+
+/// Reads the words of a command line, of which the first is the program's name: the choice is the
+/// subcommand that `clap` reads in them, with its values. It is made only of words in which `clap`
+/// finds no fault.
+///
+/// # Errors
+///
+/// [`ChooseFault::Words`] where `clap` refuses the words, was asked for help or ran out of memory: the
+/// error has one of the kinds that the words have, or `OutOfMemory`. [`ChooseFault::Memory`] where a
+/// growth was refused. Where `clap` takes the words, memory alone is missing.
+pub fn choose<'a>(alloc: Global, words: &'a [&'a str]) -> Result<Choice<'a>, ChooseFault>
+    ensures range { IfOk result IsInRange }
+    ensures choice { IfOk result (IsChosenBy (texts_of words.now)) }
+    ensures free { IfOk result (λ _. fault_of mrp (texts_of words.now) ≡ []) }
+    ensures taken { takes mrp (texts_of words.now) ≡ true → IfErr result IsMemory }
+    ensures refused { IfErr result (IsRefusalOf (texts_of words.now)) }
+{
+    let Ok(command) = program(alloc) else {
+        return Err(ChooseFault::Memory);
+    };
+    match command.try_get_matches_from(words) {
+        Ok(matches) => Ok(chosen(&matches)),
+        Err(error) => Err(ChooseFault::Words(error)),
+    }
+}
+
+/// The whole command line.
+fn program<'a>(alloc: Global) -> Result<Command<'a>, AllocError>
+    ensures { IfOk result (λ command. app_of command ≡ mrp) }
+{
+    Command::new(alloc, "mrp")
+        .about(ABOUT)
+        .after_help(AFTER)
+        .subcommand_required(true)
+        .subcommand(plan_command(alloc)?)?
+        .subcommand(check_command(alloc))?
+        .subcommand(peg_command(alloc)?)
+}
+
+/// `plan`.
+fn plan_command<'a>(alloc: Global) -> Result<Command<'a>, AllocError>
+    ensures { IfOk result (IsWorded plan_words) }
+{
+    Command::new(alloc, "plan")
+        .about(PLAN)
+        .after_help(PLAN_EXAMPLE)
+        .arg(workers_option(alloc))?
+        .arg(capacity_option(alloc))?
+        .arg(single_flag(alloc))
+}
+
+/// `--workers`.
+fn workers_option<'a>(alloc: Global) -> Arg<'a>
+    ensures { IsRuled rule.workers result }
+{
+    Arg::new(alloc, "workers")
+        .long("workers")
+        .value_name("W")
+        .value_parser(value_parser!(u64).range(1..65))
+        .default_value("1")
+        .help("Worker threads of each plant, 1 to 64")
+}
+
+/// `--capacity`.
+fn capacity_option<'a>(alloc: Global) -> Arg<'a>
+    ensures { IsRuled rule.capacity result }
+{
+    Arg::new(alloc, "capacity")
+        .long("capacity")
+        .value_name("C")
+        .value_parser(value_parser!(u64).range(1..65_537))
+        .default_value("64")
+        .help("Records that wait between two plants at most, 1 to 65536")
+}
+
+/// `--single`.
+fn single_flag<'a>(alloc: Global) -> Arg<'a>
+    ensures { IsRuled rule.single result }
+{
+    Arg::new(alloc, "single")
+        .long("single")
+        .action(ArgAction::SetTrue)
+        .help("Plan all plants on one thread")
+}
+
+/// `check`.
+fn check_command<'a>(alloc: Global) -> Command<'a>
+    ensures { IsWorded check_words result }
+{
+    Command::new(alloc, "check")
+        .about(CHECK)
+        .after_help(CHECK_EXAMPLE)
+}
+
+/// `peg`.
+fn peg_command<'a>(alloc: Global) -> Result<Command<'a>, AllocError>
+    ensures { IfOk result (IsWorded peg_words) }
+{
+    Command::new(alloc, "peg")
+        .about(PEG)
+        .after_help(PEG_EXAMPLE)
+        .arg(plant_argument(alloc))?
+        .arg(item_argument(alloc))?
+        .arg(period_argument(alloc))
+}
+
+/// The plant of `peg`.
+fn plant_argument<'a>(alloc: Global) -> Arg<'a>
+    ensures { IsRuled rule.plant result }
+{
+    Arg::new(alloc, "plant")
+        .value_name("PLANT")
+        .required(true)
+        .help("The name of the plant")
+}
+
+/// The item of `peg`.
+fn item_argument<'a>(alloc: Global) -> Arg<'a>
+    ensures { IsRuled rule.item result }
+{
+    Arg::new(alloc, "item")
+        .value_name("ITEM")
+        .required(true)
+        .help("The name of the item")
+}
+
+/// The period of `peg`.
+fn period_argument<'a>(alloc: Global) -> Arg<'a>
+    ensures { IsRuled rule.period result }
+{
+    Arg::new(alloc, "period")
+        .value_name("PERIOD")
+        .required(true)
+        .value_parser(value_parser!(u64).range(0..104))
+        .help("The period, 0 to 103")
+}
+
+/// The choice that the matches name.
+fn chosen<'a>(matches: &ArgMatches<'a>) -> Choice<'a>
+    requires { IsWholeCommand (subcommand_rows_of matches.now) }
+    ensures range { IsInRange result }
+    ensures choice { IsMeantBy (subcommand_rows_of matches.now) result }
+{
+    let Some((name, values)) = matches.subcommand() else {
+        unreachable!()
+    };
+    if name == "plan" {
+        planning(values)
+    } else if name == "check" {
+        Choice::Check
+    } else {
+        pegging(values)
+    }
+}
+
+/// The values of `plan`.
+fn planning<'a>(values: &ArgMatches<'a>) -> Choice<'a>
+    requires { HasPlanValues (rows_of (found_of values.now)) }
+    ensures range { IsInRange result }
+    ensures choice { IsCommand (codes "plan") (rows_of (found_of values.now)) result }
+{
+    Choice::Plan {
+        workers: number(values, "workers"),
+        capacity: number(values, "capacity"),
+        single: is_given(values, "single"),
+    }
+}
+
+/// The values of `peg`.
+fn pegging<'a>(values: &ArgMatches<'a>) -> Choice<'a>
+    requires { HasPegValues (rows_of (found_of values.now)) }
+    ensures range { IsInRange result }
+    ensures choice { IsCommand (codes "peg") (rows_of (found_of values.now)) result }
+{
+    Choice::Peg {
+        plant: text(values, "plant"),
+        item: text(values, "item"),
+        period: number(values, "period"),
+    }
+}
+
+/// The number of an argument that has one.
+fn number(values: &ArgMatches<'_>, name: &str) -> u64
+    requires { HasNumber name.now (rows_of (found_of values.now)) }
+    ensures { number_at name.now (rows_of (found_of values.now)) ≡ Some result }
+{
+    values.get_one::<u64>(name).unwrap()
+}
+
+/// Whether a flag is given.
+fn is_given(values: &ArgMatches<'_>, name: &str) -> bool
+    requires { HasFlag name.now (rows_of (found_of values.now)) }
+    ensures { flag_at name.now (rows_of (found_of values.now)) ≡ result }
+{
+    values.get_flag(name)
+}
+
+/// The text of an argument that has one.
+fn text<'a>(values: &ArgMatches<'a>, name: &str) -> &'a str
+    requires { HasName name.now (rows_of (found_of values.now)) }
+    ensures { text_at name.now (rows_of (found_of values.now)) ≡ Some result.now }
+{
+    values.get_str(name).unwrap()
+}
