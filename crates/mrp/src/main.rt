@@ -4,26 +4,26 @@
 //! and write a report; [`lines`] has the lines that report a fault.
 #![tactic(auto)]
 
-ghost use Rattle.mrp_words.specs.Choice.{IsInRange};
+ghost use Rattle.std.specs.Prelude.{◌≡◌, ◌∷◌, codes, drop, map, IfOk};
+ghost use Rattle.std.specs.String.{string_bytes};
 
+mod answer;
 mod fault;
 mod lines;
 #[cfg(test)]
 mod tests;
 mod text;
 
-use crate::fault::{TextFault, status};
+use crate::answer::{answer, exit_status};
+use crate::fault::TextFault;
 use crate::lines::write_fault;
-use crate::text::{check_text, drive_text, peg_text};
 use clap::error::ErrorKind;
-use mrp_words::{Choice, ChooseFault, choose};
+use mrp_report::send;
+use mrp_words::{ChooseFault, choose};
 use std::alloc::AllocError;
 use std::process::ExitCode;
 use std::rt::Env;
 use std::{env, io};
-
-/// The status after a failure of the machine.
-const FAILED: u8 = 3;
 
 /// The status where the words are refused.
 const REFUSED: u8 = 2;
@@ -31,15 +31,18 @@ const REFUSED: u8 = 2;
 fn main(rt: HostRuntime) -> ExitCode {
     let arguments = match arguments(&rt) {
         Ok(arguments) => arguments,
-        Err(error) => return unread(&error),
+        Err(error) => return unread(&rt, &error),
     };
     let Ok(words) = named_words(&rt, arguments.as_slice()) else {
-        return ExitCode::from(FAILED);
+        return ended(&rt, &Err(TextFault::Memory));
     };
     match choose(rt.alloc(), words.as_slice()) {
-        Ok(choice) => ended(&rt, run(&rt, choice)),
+        Ok(choice) => {
+            let done = answer(rt.alloc(), choice, rt.reader(), &mut rt.stdout());
+            ended(&rt, &done)
+        }
         Err(ChooseFault::Words(error)) => refused(&rt, &error),
-        Err(ChooseFault::Memory) => ExitCode::from(FAILED),
+        Err(ChooseFault::Memory) => ended(&rt, &Err(TextFault::Memory)),
     }
 }
 
@@ -52,62 +55,62 @@ fn arguments<R: Env + AllocGlobal>(rt: &R) -> io::Result<Vec<String>> {
 fn named_words<'a, R: AllocGlobal>(
     rt: &R,
     arguments: &'a [String],
-) -> Result<Vec<&'a str>, AllocError> {
+) -> Result<Vec<&'a str>, AllocError>
+    ensures { IfOk result (λ words. map (λ word. word.now) words.items ≡ codes "mrp" ∷ map string_bytes (drop 1 arguments.now)) }
+{
     let mut words = Vec::with_capacity(rt.alloc(), arguments.len())?;
     words.push("mrp")?;
-    for argument in arguments.iter().skip(1) {
+    let given = after_the_first(arguments);
+    'given: for argument in given {
         words.push(argument.as_str())?;
     }
     Ok(words)
 }
 
-/// Does what was chosen.
-fn run(rt: &HostRuntime, choice: Choice<'_>) -> Result<(), TextFault>
-    requires { IsInRange choice }
+/// The arguments without the first, which is the program's name.
+fn after_the_first(arguments: &[String]) -> &[String]
+    ensures { result.now ≡ drop 1 arguments.now }
 {
-    let alloc = rt.alloc();
-    let table = rt.reader();
-    let mut report = rt.stdout();
-    match choice {
-        Choice::Plan { capacity, .. } => drive_text(alloc, table, &mut report, capacity),
-        Choice::Check => check_text(alloc, table, &mut report),
-        Choice::Peg {
-            plant,
-            item,
-            period,
-        } => peg_text(alloc, table, &mut report, plant, item, period),
+    if arguments.is_empty() {
+        arguments
+    } else {
+        &arguments[1..]
     }
 }
 
 /// The status after the work, and the line that reports a fault.
-fn ended(rt: &HostRuntime, answer: Result<(), TextFault>) -> ExitCode {
-    match answer {
-        Ok(()) => ExitCode::SUCCESS,
-        Err(fault) => {
-            write_fault(&fault, &mut rt.stderr());
-            ExitCode::from(status(&fault))
-        }
+fn ended(rt: &HostRuntime, done: &Result<(), TextFault>) -> ExitCode {
+    if let Err(fault) = done {
+        write_fault(fault, &mut rt.stderr());
     }
+    ExitCode::from(exit_status(done))
 }
 
 /// Prints what `clap` has to say: the status is 0 after help that was asked for, 2 where the words
-/// are refused, 3 where memory or the printing failed.
+/// are refused, 3 where memory was refused or help could not be printed.
 fn refused(rt: &HostRuntime, error: &clap::Error) -> ExitCode {
-    if error.kind() == ErrorKind::OutOfMemory || error.print(rt).is_err() {
-        return ExitCode::from(FAILED);
+    if error.kind() == ErrorKind::OutOfMemory {
+        return ended(rt, &Err(TextFault::Memory));
     }
+    let printed = error.print(rt);
     if error.use_stderr() {
-        ExitCode::from(REFUSED)
-    } else {
-        ExitCode::SUCCESS
+        return ExitCode::from(REFUSED);
+    }
+    match printed {
+        Ok(()) => ExitCode::SUCCESS,
+        Err(_) => ended(rt, &Err(TextFault::WriteFault)),
     }
 }
 
 /// The status where the arguments can't be read: one that is no text is a word that is refused.
-fn unread(error: &io::Error) -> ExitCode {
+fn unread(rt: &HostRuntime, error: &io::Error) -> ExitCode {
     if error.kind() == io::ErrorKind::InvalidData {
+        let _ = send(
+            b"mrp: a word of the command is not UTF-8\n",
+            &mut rt.stderr(),
+        );
         ExitCode::from(REFUSED)
     } else {
-        ExitCode::from(FAILED)
+        ended(rt, &Err(TextFault::Memory))
     }
 }

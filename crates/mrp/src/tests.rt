@@ -10,6 +10,7 @@ mod planning;
 mod plans;
 mod reading;
 mod refusals;
+mod shipping;
 mod streams;
 
 use crate::fault::{TextFault, status};

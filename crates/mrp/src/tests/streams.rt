@@ -1,10 +1,18 @@
 use super::{BICYCLE, BICYCLE_PLAN};
-use crate::fault::{TextFault, status};
-use crate::text::drive_text;
+use crate::fault::TextFault;
+use crate::text::{check_text, drive_text, peg_text};
 use mrp_tables::TableFaultKind;
+use std::alloc::Global;
 use std::io;
 use std::io::{ErrorKind, Read, Write};
 use std::test::Fail;
+
+/// An order that is due within its lead time.
+const LATE: &str =
+    "run,2026-01-05,7,2,,,,\nplant,A,,,,,,\npair,A,X,buy,lot,3,0,0\ndemand,A,X,1,7,,,\n";
+
+const LATE_PLAN: &str =
+    "plan,A,X,0,2026-01-05,0,0,0,7,0\nplan,A,X,1,2026-01-12,7,0,7,0,0\nlate,A,X,1,7,2\n";
 
 /// A reader of a text, `step` bytes a call, whose call number `fails` fails.
 #[derive(Drop)]
@@ -58,50 +66,125 @@ impl Write for Sink {
     }
 }
 
+/// A reader of the bicycle, seven bytes a call, whose call number `fails` fails.
+fn failing(fails: usize) -> Source<'static> {
+    Source {
+        left: BICYCLE.as_bytes(),
+        step: 7,
+        call: 0,
+        fails,
+    }
+}
+
+/// The row that a failed read is reported for, if the answer is one and nothing was written.
+fn failed_row(answer: &Result<(), TextFault>, written: &[u8]) -> Option<u64> {
+    match answer {
+        Err(TextFault::Table(fault))
+            if fault.kind == TableFaultKind::ReadFault && written.is_empty() => { Some(fault.row) }
+        _ => None,
+    }
+}
+
+/// The row that is being read at that read: a row is handed out once the read after its end came.
+fn row_at(fails: usize) -> u64 {
+    let bytes = BICYCLE.as_bytes();
+    let count = fails.saturating_sub(1).saturating_mul(7);
+    let mut row = 1;
+    for byte in &bytes[..count.min(bytes.len())] {
+        if *byte == b'\n' && row < u64::MAX {
+            row += 1;
+        }
+    }
+    row
+}
+
 #[test]
 fn a_reader_that_fails(rt: HostRuntime) {
-    let alloc = rt.alloc();
-    for fails in 0..20 {
-        let source = Source {
-            left: BICYCLE.as_bytes(),
-            step: 7,
-            call: 0,
-            fails,
-        };
-        let mut written = Vec::new(alloc);
-        let answer = drive_text(alloc, source, &mut written, 64);
-        match answer {
-            Err(TextFault::Table(fault)) => {
-                assert_eq!(rt; fault.kind, TableFaultKind::ReadFault, "at read {fails}");
-                assert_eq!(rt; status(&TextFault::Table(fault)), 3);
-            }
-            _ => assert!(rt; false, "at read {fails}"),
-        }
-        assert!(rt; written.is_empty(), "at read {fails}");
+    for fails in 0..21usize {
+        let mut written = Vec::new(rt.alloc());
+        let answer = drive_text(rt.alloc(), failing(fails), &mut written, 64);
+        let row = failed_row(&answer, written.as_slice());
+        assert_eq!(rt; row, Some(row_at(fails)), "at read {fails}");
     }
+}
+
+#[test]
+fn a_reader_that_fails_before_codes_and_pegs(rt: HostRuntime) {
+    for fails in 0..21usize {
+        let mut written = Vec::new(rt.alloc());
+        let answer = check_text(rt.alloc(), failing(fails), &mut written);
+        let row = failed_row(&answer, written.as_slice());
+        assert_eq!(rt; row, Some(row_at(fails)), "codes, at read {fails}");
+        let answer = peg_text(rt.alloc(), failing(fails), &mut written, "P1", "WHEEL", 2);
+        let row = failed_row(&answer, written.as_slice());
+        assert_eq!(rt; row, Some(row_at(fails)), "pegs, at read {fails}");
+    }
+}
+
+/// A writer that takes ten bytes a call; its call number `ends` fails, or takes nothing.
+fn ending(alloc: Global, ends: usize, takes_nothing: bool) -> Sink {
+    Sink {
+        taken: Vec::new(alloc),
+        step: 10,
+        call: 0,
+        ends,
+        takes_nothing,
+    }
+}
+
+/// Whether the writer ended at its call number `ends` with the front of the text that it took.
+fn ended_in_front(answer: &Result<(), TextFault>, sink: &Sink, text: &[u8]) -> bool {
+    let front = &text[..sink.ends.saturating_mul(10).min(text.len())];
+    matches!(answer, Err(TextFault::WriteFault)) && sink.taken.as_slice() == front
 }
 
 #[test]
 fn a_writer_that_ends(rt: HostRuntime) {
     let alloc = rt.alloc();
-    let text = BICYCLE_PLAN.as_bytes();
     for takes_nothing in [false, true] {
-        for ends in 0..30 {
-            let mut sink = Sink {
-                taken: Vec::new(alloc),
-                step: 10,
-                call: 0,
-                ends,
-                takes_nothing,
-            };
+        for ends in 0..30usize {
+            let mut sink = ending(alloc, ends, takes_nothing);
             let answer = drive_text(alloc, BICYCLE.as_bytes(), &mut sink, 64);
-            assert!(rt;
-                matches!(&answer, Err(TextFault::WriteFault)),
-                "at write {ends}"
-            );
-            let front = &text[..(10 * ends).min(text.len())];
-            assert_eq!(rt; sink.taken.as_slice(), front, "at write {ends}");
+            let ended = ended_in_front(&answer, &sink, BICYCLE_PLAN.as_bytes());
+            assert!(rt; ended, "at write {ends}");
         }
+    }
+}
+
+#[test]
+fn a_writer_that_ends_in_the_late_rows(rt: HostRuntime) {
+    let alloc = rt.alloc();
+    // The 64 bytes of the plan rows take seven writes, the 15 of the late row two.
+    for ends in 0..9usize {
+        let mut sink = ending(alloc, ends, false);
+        let answer = drive_text(alloc, LATE.as_bytes(), &mut sink, 64);
+        assert!(rt;
+            matches!(answer, Err(TextFault::WriteFault)),
+            "at write {ends}"
+        );
+        let taken = sink.taken.as_slice();
+        assert!(rt; LATE_PLAN.as_bytes().starts_with(taken), "at write {ends}");
+    }
+}
+
+#[test]
+fn a_writer_that_ends_in_codes_and_pegs(rt: HostRuntime) {
+    let alloc = rt.alloc();
+    for ends in 0..3usize {
+        let mut sink = ending(alloc, ends, false);
+        let answer = check_text(alloc, BICYCLE.as_bytes(), &mut sink);
+        let codes = b"code,P1,BIKE,0\ncode,P1,WHEEL,1\n";
+        assert!(rt;
+            ended_in_front(&answer, &sink, codes),
+            "codes, at write {ends}"
+        );
+        let mut sink = ending(alloc, ends, false);
+        let answer = peg_text(alloc, BICYCLE.as_bytes(), &mut sink, "P1", "WHEEL", 2);
+        let pegs = b"peg,bill,P1,BIKE,10,2,20\n";
+        assert!(rt;
+            ended_in_front(&answer, &sink, pegs),
+            "pegs, at write {ends}"
+        );
     }
 }
 
