@@ -48,51 +48,51 @@ pub enum ChooseFault {
     Memory,
 }
 
-const ABOUT: &str = "Plans the material of all plants of a firm. The table is read from standard \
+const ABOUT: &str = "Plans the material of all plants of a firm. The table is read from standard\n\
 input, and the report is written to standard output.";
 
-const AFTER: &str = "A table is comma-separated rows of eight fields, kind by kind:\n\
-\n\
-  run,FIRST,DAYS,PERIODS,,,,\n\
-  plant,PLANT,,,,,,\n\
-  pair,PLANT,ITEM,SUPPLY,RULE,LEAD,ONHAND,SAFETY\n\
-  bill,PLANT,PARENT,COMPONENT,PER,,,\n\
-  demand,PLANT,ITEM,PERIOD,QUANTITY,,,\n\
-  receipt,PLANT,ITEM,PERIOD,QUANTITY,,,\n\
-  ship,FROM,TO,ITEM,PERIOD,QUANTITY,,\n\
-  cum,FROM,TO,ITEM,FIGURE,,,\n\
-  reset,FROM,TO,ITEM,PERIOD,,,\n\
-\n\
-SUPPLY is make, buy, from:PLANT, or from: with two to four plants and their shares in thousandths, \
-as from:B:600:C:400. RULE is lot, fixed:Q, periods:K or min:M:K. Periods count from 0.\n\
-\n\
-Statuses: 0 done, 1 the table is refused, 2 the words are refused, 3 reading, writing or memory \
-failed. After 1 and 3 one line on standard error says why.";
+const AFTER: &str = "A table is comma-separated rows of eight fields, kind by kind:\n\n  \
+run,FIRST,DAYS,PERIODS,,,,\n  \
+plant,PLANT,,,,,,\n  \
+pair,PLANT,ITEM,SUPPLY,RULE,LEAD,ONHAND,SAFETY\n  \
+bill,PLANT,PARENT,COMPONENT,PER,,,\n  \
+demand,PLANT,ITEM,PERIOD,QUANTITY,,,\n  \
+receipt,PLANT,ITEM,PERIOD,QUANTITY,,,\n  \
+ship,FROM,TO,ITEM,PERIOD,QUANTITY,,\n  \
+cum,FROM,TO,ITEM,FIGURE,,,\n  \
+reset,FROM,TO,ITEM,PERIOD,,,\n\n\
+SUPPLY is make, buy, from:PLANT, or from: with two to four plants and their\n\
+shares in thousandths, as from:B:600:C:400. RULE is lot, fixed:Q, periods:K or\n\
+min:M:K. Periods count from 0.\n\n\
+Statuses: 0 done, 1 the table is refused, 2 the words are refused, 3 reading,\n\
+writing or memory failed. After 1 and 3 one line on standard error says why.";
 
-const PLAN: &str =
-    "Writes the plan: for each pair of a plant and an item, period by period, a row\n\
-\n\
-  plan,PLANT,ITEM,PERIOD,DATE,GROSS,INCOMING,ORDER,RELEASE,AVAILABLE\n\
-\n\
-and then a row for each order that would have had to be released before period 0:\n\
-\n\
-  late,PLANT,ITEM,PERIOD,QUANTITY,BY";
+const PLAN: &str = "Write the plan of each pair, period by period, and the late orders";
+
+const PLAN_LONG: &str =
+    "Writes the plan: for each pair of a plant and an item, period by period, a row\n\n  \
+plan,PLANT,ITEM,PERIOD,DATE,GROSS,INCOMING,ORDER,RELEASE,AVAILABLE\n\n\
+and then, for each order that should have been released before period 0, a row\n\n  \
+late,PLANT,ITEM,PERIOD,QUANTITY,BY";
 
 const PLAN_EXAMPLE: &str = "Example: mrp plan < bicycle.csv > bicycle.plan.csv";
 
-const CHECK: &str = "Writes the low-level code of each pair: the length of the longest chain of \
-demanders above it. Refuses a table with a loop, or with quantities above 10^15.\n\
-\n\
-  code,PLANT,ITEM,CODE";
+const CHECK: &str = "Write the low-level code of each pair";
+
+const CHECK_LONG: &str =
+    "Writes the low-level code of each pair: the length of the longest chain of\n\
+demanders above it. Refuses a table with a loop, or with quantities above 10^15.\n\n  \
+code,PLANT,ITEM,CODE";
 
 const CHECK_EXAMPLE: &str = "Example: mrp check < bicycle.csv";
 
-const PEG: &str =
-    "Writes what the gross requirement of a pair in a period consists of, a row for each \
-source: demand for its own demand rows, bill for a parent at its plant, plant for the item at a plant \
-that takes it from this one.\n\
-\n\
-  peg,SOURCE,PLANT,ITEM,RELEASE,PER,QUANTITY";
+const PEG: &str = "Write what the gross requirement of a pair in a period consists of";
+
+const PEG_LONG: &str =
+    "Writes what the gross requirement of a pair in a period consists of, a row for\n\
+each source: demand for its own demand rows, bill for a parent at its plant,\n\
+plant for the item at a plant that takes it from this one.\n\n  \
+peg,SOURCE,PLANT,ITEM,RELEASE,PER,QUANTITY";
 
 const PEG_EXAMPLE: &str = "Example: mrp peg P1 WHEEL 2 < bicycle.csv";
 
@@ -140,6 +140,7 @@ fn plan_command<'a>(alloc: Global) -> Result<Command<'a>, AllocError>
 {
     Command::new(alloc, "plan")
         .about(PLAN)
+        .long_about(PLAN_LONG)
         .after_help(PLAN_EXAMPLE)
         .arg(workers_option(alloc))?
         .arg(capacity_option(alloc))?
@@ -155,7 +156,7 @@ fn workers_option<'a>(alloc: Global) -> Arg<'a>
         .value_name("W")
         .value_parser(value_parser!(u64).range(1..65))
         .default_value("1")
-        .help("Worker threads of each plant, 1 to 64")
+        .help("Worker threads of each plant, 1 to 64; no effect yet")
 }
 
 /// `--capacity`.
@@ -167,7 +168,7 @@ fn capacity_option<'a>(alloc: Global) -> Arg<'a>
         .value_name("C")
         .value_parser(value_parser!(u64).range(1..65_537))
         .default_value("64")
-        .help("Records that wait between two plants at most, 1 to 65536")
+        .help("Records that wait between two plants, 1 to 65536; no effect yet")
 }
 
 /// `--single`.
@@ -177,7 +178,7 @@ fn single_flag<'a>(alloc: Global) -> Arg<'a>
     Arg::new(alloc, "single")
         .long("single")
         .action(ArgAction::SetTrue)
-        .help("Plan all plants on one thread")
+        .help("Plan all plants on one thread; for now always so")
 }
 
 /// `check`.
@@ -186,6 +187,7 @@ fn check_command<'a>(alloc: Global) -> Command<'a>
 {
     Command::new(alloc, "check")
         .about(CHECK)
+        .long_about(CHECK_LONG)
         .after_help(CHECK_EXAMPLE)
 }
 
@@ -195,6 +197,7 @@ fn peg_command<'a>(alloc: Global) -> Result<Command<'a>, AllocError>
 {
     Command::new(alloc, "peg")
         .about(PEG)
+        .long_about(PEG_LONG)
         .after_help(PEG_EXAMPLE)
         .arg(plant_argument(alloc))?
         .arg(item_argument(alloc))?
