@@ -1,6 +1,6 @@
 -- Pieces of a line that are sent one after the other.
-use Rattle.std.proofs.Common.{◌≡◌, ℕ, ◌+◌, ◌<◌, List, [], ◌∷◌, ◌++◌, Option, length, take, drop, get_or, subst, sym, ap, ◌∙◌, arith, refl, Result, Ok, Err}
-use Rattle.std.proofs.lemmas.List.{take-append-drop, drop_more, append-nil}
+use Rattle.std.proofs.Common.{◌≡◌, ℕ, ◌+◌, ◌<◌, List, ◌++◌, Option, length, take, drop, get_or, subst, sym, ap, ◌∙◌, refl, Result, Ok, Err}
+use Rattle.std.proofs.lemmas.List.{take-append-drop, drop_more}
 use Rattle.std.proofs.lemmas.Grind.{flat_map-append}
 use Rattle.std.specs.List.{flat_map}
 use Rattle.std.specs.Io.KnownBytes.{Appends}

@@ -1,5 +1,9 @@
 -- What the program answers to a choice of words.
-use Rattle.std.specs.Prelude.{ℕ, List, Result, Ok, Err}
+use Rattle.std.specs.Prelude.{◌≡◌, ◌⊎◌, ℕ, List, Result, Ok, Err}
+use Rattle.std.specs.declared.io.ErrorKind.{ErrorKind}
+use Rattle.std.specs.declared.io.ErrorKind.TheVariants as cause
+use Rattle.clap.specs.declared.error.kind.ErrorKind.{ErrorKind as WordsFault}
+use Rattle.clap.specs.declared.error.kind.ErrorKind.TheVariants as words
 use Rattle.mrp_tables.specs.Table.{Table}
 use Rattle.mrp_words.specs.declared.words.Choice.{Choice}
 use Rattle.mrp_words.specs.declared.words.Choice.TheVariants.{Plan, Check, Peg}
@@ -23,3 +27,16 @@ IsAnswerRefusal (Peg plant item period) = IsPegRefusal plant.now item.now period
 abbrev pub exit_status_of : {U : Type 0} → Result U TextFault → ℕ
 exit_status_of (Ok done) = 0
 exit_status_of (Err fault) = status_of fault
+
+-- after the words were refused: 3 for want of memory, 0 after help (3 where it could not be printed),
+-- and else 2
+abbrev pub IsStatusOfRefusal : WordsFault → ℕ → Type 0
+IsStatusOfRefusal words.OutOfMemory status = status ≡ 3
+IsStatusOfRefusal words.DisplayHelp status = (status ≡ 0) ⊎ (status ≡ 3)
+IsStatusOfRefusal words.DisplayVersion status = (status ≡ 0) ⊎ (status ≡ 3)
+IsStatusOfRefusal _ status = status ≡ 2
+
+-- where the words can't be read: 2 for a word that is no text, and else 3
+abbrev pub IsStatusOfUnread : ErrorKind → ℕ → Type 0
+IsStatusOfUnread cause.InvalidData status = status ≡ 2
+IsStatusOfUnread _ status = status ≡ 3

@@ -1,5 +1,5 @@
 -- The lines that faults are reported by.
-use Rattle.std.specs.Prelude.{◌≡◌, ℕ, List, [], ◌∷◌, ◌++◌, decimal, codes, string_bytes, Option, Result, MatchResult}
+use Rattle.std.specs.Prelude.{ℕ, List, [], ◌∷◌, ◌++◌, decimal, codes, string_bytes, Option, Result, MatchResult}
 use Rattle.std.specs.Io.KnownBytes.{Appends}
 use Rattle.mrp_report.specs.Sending.{AppendsFront}
 use Rattle.std.specs.List.{flat_map}

@@ -4,8 +4,12 @@
 //! and write a report; [`lines`] has the lines that report a fault.
 #![tactic(auto)]
 
-ghost use Rattle.std.specs.Prelude.{◌≡◌, ◌∷◌, codes, drop, map, IfOk};
+ghost use Rattle.std.specs.Prelude.{◌≡◌, ◌≢◌, ◌∷◌, codes, drop, map, IfOk};
+ghost use Rattle.std.specs.IoError.{error_kind};
+ghost use Rattle.std.specs.Process.{exit_status};
 ghost use Rattle.std.specs.String.{string_bytes};
+ghost use Rattle.clap.specs.Words.{kind_of};
+ghost use Rattle.mrp.specs.Answer.{IsStatusOfRefusal, IsStatusOfUnread, exit_status_of};
 
 mod answer;
 mod fault;
@@ -79,7 +83,9 @@ fn after_the_first(arguments: &[String]) -> &[String]
 }
 
 /// The status after the work, and the line that reports a fault.
-fn ended(rt: &HostRuntime, done: &Result<(), TextFault>) -> ExitCode {
+fn ended(rt: &HostRuntime, done: &Result<(), TextFault>) -> ExitCode
+    ensures { exit_status result ≡ exit_status_of done.now }
+{
     if let Err(fault) = done {
         write_fault(fault, &mut rt.stderr());
     }
@@ -88,7 +94,9 @@ fn ended(rt: &HostRuntime, done: &Result<(), TextFault>) -> ExitCode {
 
 /// Prints what `clap` has to say: the status is 0 after help that was asked for, 2 where the words
 /// are refused, 3 where memory was refused or help could not be printed.
-fn refused(rt: &HostRuntime, error: &clap::Error) -> ExitCode {
+fn refused(rt: &HostRuntime, error: &clap::Error) -> ExitCode
+    ensures { IsStatusOfRefusal (kind_of error.now) (exit_status result) }
+{
     if error.kind() == ErrorKind::OutOfMemory {
         return ended(rt, &Err(TextFault::Memory));
     }
@@ -97,13 +105,15 @@ fn refused(rt: &HostRuntime, error: &clap::Error) -> ExitCode {
         return ExitCode::from(REFUSED);
     }
     match printed {
-        Ok(()) => ExitCode::SUCCESS,
+        Ok(()) => ExitCode::from(0),
         Err(_) => ended(rt, &Err(TextFault::WriteFault)),
     }
 }
 
 /// The status where the arguments can't be read: one that is no text is a word that is refused.
-fn unread(rt: &HostRuntime, error: &io::Error) -> ExitCode {
+fn unread(rt: &HostRuntime, error: &io::Error) -> ExitCode
+    ensures { IsStatusOfUnread (error_kind error.now) (exit_status result) }
+{
     if error.kind() == io::ErrorKind::InvalidData {
         let _ = send(
             b"mrp: a word of the command is not UTF-8\n",

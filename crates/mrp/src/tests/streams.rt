@@ -1,5 +1,5 @@
 use super::{BICYCLE, BICYCLE_PLAN};
-use crate::fault::TextFault;
+use crate::fault::{TextFault, status};
 use crate::text::{check_text, drive_text, peg_text};
 use mrp_tables::TableFaultKind;
 use std::alloc::Global;
@@ -76,49 +76,68 @@ fn failing(fails: usize) -> Source<'static> {
     }
 }
 
-/// The row that a failed read is reported for, if the answer is one and nothing was written.
-fn failed_row(answer: &Result<(), TextFault>, written: &[u8]) -> Option<u64> {
-    match answer {
-        Err(TextFault::Table(fault))
-            if fault.kind == TableFaultKind::ReadFault && written.is_empty() => { Some(fault.row) }
+/// The row of a failed read.
+fn row_of(fault: &TextFault) -> Option<u64> {
+    match fault {
+        TextFault::Table(fault) if fault.kind == TableFaultKind::ReadFault => Some(fault.row),
         _ => None,
     }
 }
 
-/// The row that is being read at that read: a row is handed out once the read after its end came.
-fn row_at(fails: usize) -> u64 {
+/// How many rows of the bicycle have come whole before that read.
+fn rows_before(fails: usize) -> u64 {
     let bytes = BICYCLE.as_bytes();
-    let count = fails.saturating_sub(1).saturating_mul(7);
-    let mut row = 1;
-    for byte in &bytes[..count.min(bytes.len())] {
-        if *byte == b'\n' && row < u64::MAX {
-            row += 1;
+    let count = fails.saturating_mul(7).min(bytes.len());
+    let mut rows = 0;
+    for byte in &bytes[..count] {
+        if *byte == b'\n' && rows < u64::MAX {
+            rows += 1;
         }
     }
-    row
+    rows
+}
+
+/// Whether the answer is that the read failed, with status 3, with nothing written, and at the row
+/// that was awaited: the one after those that had come, or the last of these, since reading goes a
+/// piece ahead.
+fn tells_the_read(answer: &Result<(), TextFault>, written: &[u8], fails: usize) -> bool {
+    let Err(fault) = answer else {
+        return false;
+    };
+    let come = rows_before(fails);
+    let awaited = row_of(fault) == Some(come) || row_of(fault) == Some(come.saturating_add(1));
+    awaited && status(fault) == 3 && written.is_empty()
 }
 
 #[test]
 fn a_reader_that_fails(rt: HostRuntime) {
-    for fails in 0..21usize {
+    for fails in 0..22usize {
         let mut written = Vec::new(rt.alloc());
         let answer = drive_text(rt.alloc(), failing(fails), &mut written, 64);
-        let row = failed_row(&answer, written.as_slice());
-        assert_eq!(rt; row, Some(row_at(fails)), "at read {fails}");
+        let told = tells_the_read(&answer, written.as_slice(), fails);
+        assert!(rt; told, "at read {fails}");
     }
 }
 
 #[test]
 fn a_reader_that_fails_before_codes_and_pegs(rt: HostRuntime) {
-    for fails in 0..21usize {
+    for fails in 0..22usize {
         let mut written = Vec::new(rt.alloc());
         let answer = check_text(rt.alloc(), failing(fails), &mut written);
-        let row = failed_row(&answer, written.as_slice());
-        assert_eq!(rt; row, Some(row_at(fails)), "codes, at read {fails}");
+        let told = tells_the_read(&answer, written.as_slice(), fails);
+        assert!(rt; told, "codes, at read {fails}");
         let answer = peg_text(rt.alloc(), failing(fails), &mut written, "P1", "WHEEL", 2);
-        let row = failed_row(&answer, written.as_slice());
-        assert_eq!(rt; row, Some(row_at(fails)), "pegs, at read {fails}");
+        let told = tells_the_read(&answer, written.as_slice(), fails);
+        assert!(rt; told, "pegs, at read {fails}");
     }
+}
+
+#[test]
+fn a_reader_that_fails_after_the_end(rt: HostRuntime) {
+    let mut written = Vec::new(rt.alloc());
+    let answer = drive_text(rt.alloc(), failing(22), &mut written, 64);
+    assert!(rt; answer.is_ok());
+    assert_eq!(rt; written.as_slice(), BICYCLE_PLAN.as_bytes());
 }
 
 /// A writer that takes ten bytes a call; its call number `ends` fails, or takes nothing.
@@ -151,10 +170,24 @@ fn a_writer_that_ends(rt: HostRuntime) {
     }
 }
 
+/// What that many writes take of the late plan: the plan rows are sent first, 64 bytes in seven
+/// writes, then the late row, 15 bytes in two.
+fn late_front(writes: usize) -> &'static [u8] {
+    let count = if writes < 7 {
+        writes.saturating_mul(10)
+    } else {
+        writes
+            .saturating_sub(7)
+            .saturating_mul(10)
+            .saturating_add(64)
+    };
+    let text = LATE_PLAN.as_bytes();
+    &text[..count.min(text.len())]
+}
+
 #[test]
 fn a_writer_that_ends_in_the_late_rows(rt: HostRuntime) {
     let alloc = rt.alloc();
-    // The 64 bytes of the plan rows take seven writes, the 15 of the late row two.
     for ends in 0..9usize {
         let mut sink = ending(alloc, ends, false);
         let answer = drive_text(alloc, LATE.as_bytes(), &mut sink, 64);
@@ -163,7 +196,7 @@ fn a_writer_that_ends_in_the_late_rows(rt: HostRuntime) {
             "at write {ends}"
         );
         let taken = sink.taken.as_slice();
-        assert!(rt; LATE_PLAN.as_bytes().starts_with(taken), "at write {ends}");
+        assert_eq!(rt; taken, late_front(ends), "at write {ends}");
     }
 }
 

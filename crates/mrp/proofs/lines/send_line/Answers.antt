@@ -1,4 +1,3 @@
-use Rattle.mrp.specs.Lines.{fault_line}
 use Rattle.mrp.proofs.lines.send_line.Goals as goal
 
 pub returns-in-SupplyTooLarge : goal.returns-in-SupplyTooLarge

@@ -1,4 +1,4 @@
-use Rattle.mrp.specs.Lines.{row_line, kind_word}
+use Rattle.mrp.specs.Lines.{row_line}
 use Rattle.mrp.proofs.lines.send_row_line.Goals as goal
 
 pub returns : goal.returns

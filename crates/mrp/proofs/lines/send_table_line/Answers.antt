@@ -1,4 +1,4 @@
-use Rattle.mrp.specs.Lines.{table_line, table_line_of, row_line}
+use Rattle.mrp.specs.Lines.{table_line}
 use Rattle.mrp.proofs.LineFacts.{table_line-row}
 use Rattle.mrp.proofs.lines.send_table_line.Goals as goal
 
