@@ -1,5 +1,5 @@
 use Rattle.std.proofs.Common.{◌∙◌}
-use Rattle.mrp_loops.proofs.Planning.{visit_from_placed, planning_from_visit}
+use Rattle.mrp_loops.proofs.Planning.{visit_from_placed, planning_from_visit, in_code_order}
 use Rattle.mrp_loops.proofs.Needed.{bound_fault}
 use Rattle.std.proofs.lemmas.Result.{err_from_is_err_and}
 use Rattle.mrp_loops.proofs.sized.bound.Goals as goal
@@ -21,6 +21,7 @@ invariant_of-result c =
         within = c.in_ok-needs.ensures.within;
       },
       planning_from_visit N order visit (c.in_ok-order.ensures.size ∙ c.requires.size),
+      in_code_order N c.args.levels.now order c.in_ok-order.ensures,
     )
 
 pub returns-in_err-needs-clause-fault : goal.returns-in_err-needs-clause-fault

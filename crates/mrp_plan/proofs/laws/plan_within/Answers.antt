@@ -5,8 +5,8 @@ use Rattle.mrp_plan.proofs.laws.plan_within.Goals as goal
 
 pub returns-clause-together : goal.returns-clause-together
 returns-clause-together c =
-    plans_within c.args.net.now (map (λ (x : PairNo). x.0) c.in_code_order-order.result.now) c.network-network.ensures.sized c.in_code_order-order.ensures
+    plans_within c.args.net.now (map (λ (x : PairNo). x.0) c.in_code_order-order.result.now) c.network-network.ensures.sized c.in_code_order-order.ensures.planning
 
 pub returns-clause-each : goal.returns-clause-each
 returns-clause-each c =
-    quantities_within c.args.net.now (map (λ (x : PairNo). x.0) c.in_code_order-order.result.now) c.network-network.ensures.sized c.in_code_order-order.ensures
+    quantities_within c.args.net.now (map (λ (x : PairNo). x.0) c.in_code_order-order.result.now) c.network-network.ensures.sized c.in_code_order-order.ensures.planning
