@@ -11,3 +11,5 @@ pub mod Needed
 pub mod Upstream
 pub mod Ordered
 pub mod Coded
+pub mod Orders
+pub mod OnePlan

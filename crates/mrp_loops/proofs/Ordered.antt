@@ -5,10 +5,13 @@ use Rattle.std.proofs.lemmas.Bool.{cases_lt}
 use Rattle.std.proofs.lemmas.List.FromFn.{get_or-map-range_with_len, length-map-range_with_len}
 use Rattle.std.proofs.lemmas.List.{length-replicate}
 use Rattle.mrp_tables.specs.declared.numbers.PairNo.{PairNo}
+use Rattle.mrp_tables.specs.Table.{Table, IsTable}
+use Rattle.mrp_loops.specs.Loop.{AreCodes}
 use Rattle.mrp_loops.specs.Order.{rank, IsPlaced}
+use Rattle.mrp_loops.specs.Sized.{IsPlanningOrder}
 use Rattle.mrp_loops.specs.Laws.{NeedsExist}
 use Rattle.mrp_loops.proofs.Needed.{needs_extended, solved_none}
-use Rattle.mrp_loops.proofs.Planning.{rank_at, visit_from_placed}
+use Rattle.mrp_loops.proofs.Planning.{rank_at, visit_from_placed, planning_from_visit}
 use Rattle.mrp_loops.proofs.Ranks.{rank_apart, rank_within}
 
 -- the pair of rank k
@@ -36,6 +39,12 @@ ordered_placed codes = record {
       let r = pair_of_rank codes k (cases_lt k (length codes)) short in
       ap (λ (z : PairNo). z.0) at ∙ rank_apart codes (pair_at_rank codes k).0 y r.0 l r.1;
 }
+
+pub planning_order : (N : Table) (codes : List ℕ) → IsTable N → AreCodes N codes → (order : List ℕ) × IsPlanningOrder N order
+planning_order N codes table are =
+    let order = ordered codes in
+    let placed = ordered_placed codes in
+    (map (λ z. z.0) order, planning_from_visit N order (visit_from_placed N codes order placed table are) (placed.size ∙ are.size))
 
 pub needs_exist : NeedsExist
 needs_exist N codes table are =

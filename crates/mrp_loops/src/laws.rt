@@ -1,7 +1,7 @@
-//! Laws of codes, of networks without loops, and of needs. Each is the contract of a function that
+//! Laws of codes, of networks without loops, of needs, and of plans. Each is the contract of a function that
 //! does nothing.
 
-ghost use Rattle.mrp_loops.specs.Laws.{CodesRise, CodedIsLoopFree, CodesExist, CodesAreOne, SetsHaveAFirst, DemandersDecide, NeedsExist, NeedsAreOne};
+ghost use Rattle.mrp_loops.specs.Laws.{CodesRise, CodedIsLoopFree, CodesExist, CodesAreOne, SetsHaveAFirst, DemandersDecide, NeedsExist, NeedsAreOne, OnePlan};
 
 /// Low-level codes rise along edges: a pair's code is above that of each of its demanders. So a
 /// network with codes has no loop. A network without loops has codes, and none has two lists of them.
@@ -28,4 +28,10 @@ pub fn demanders_decide()
 pub fn needs_are_one()
     ensures exist { NeedsExist }
     ensures one { NeedsAreOne }
+{}
+
+/// The plan of a network without loops obeys the rules at every pair, and is the only table of plans
+/// that does.
+pub fn one_plan()
+    ensures { OnePlan }
 {}

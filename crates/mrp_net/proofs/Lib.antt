@@ -9,3 +9,4 @@ pub mod Sharing
 pub mod Covering
 pub mod Local
 pub mod Asking
+pub mod Periods

@@ -20,9 +20,9 @@ use Rattle.mrp_loops.specs.Need.{AreNeeds, AreWithin}
 use Rattle.mrp_loops.specs.Sized.{IsPlanningOrder}
 use Rattle.mrp_plan.specs.Explosion.{asked, asked_total}
 use Rattle.mrp_plan.specs.Progress.{CanPlan, HasRooms, IsPlannedTo}
-use Rattle.mrp_plan.proofs.Periods.{demands-le, incomings-le}
+use Rattle.mrp_net.proofs.Periods.{demands-le, incomings-le}
 use Rattle.mrp_plan.proofs.Asked.{no_edge, asked_sum-le}
-use Rattle.mrp_plan.proofs.Orders.{places_apart, place_in_table, place_of, demander_before}
+use Rattle.mrp_loops.proofs.Orders.{places_apart, place_in_table, place_of, demander_before}
 
 -- sums of terms that are the same, or not greater, at each element
 sum_by-same_all : {X : Type 0} (f g : X → ℕ) (d : X) (xs : List X) → ((i : ℕ) → i < length xs → f (slice_index_or xs i d) ≡ g (slice_index_or xs i d)) → sum_by f xs ≡ sum_by g xs
@@ -83,7 +83,7 @@ asked_total-le N needs order k table is within planned =
     sum_by-le_all (λ (e : Edge). e.per * sum (rows_at table e.demander.0).release) (λ (e : Edge). e.per * slice_index needs e.demander.0) no_edge (demanders N x)
     (λ i h.
     let e = slice_index_or (demanders N x) i no_edge in
-    let before = demander_before N order is k within i h in
+    let before = demander_before N order is k within i no_edge h in
     let own = planned.releases before.0 before.1 in
     let P : ℕ → Type 0 = λ y. sum (rows_at table y).release ≤ slice_index needs y in
     mul-le-mul_left e.per (subst P before.2 own))
@@ -92,7 +92,7 @@ asked_total-le N needs order k table is within planned =
 pub demander_release : (N : Table) (needs order : List ℕ) (k : ℕ) (table : List PlanRows) → IsPlanningOrder N order → k < length order → IsPlannedTo N needs order k table
     → (i : ℕ) → i < length (demanders N (slice_index order k)) → length (rows_at table (slice_index_or (demanders N (slice_index order k)) i no_edge).demander.0).release ≡ horizon N
 demander_release N needs order k table is within planned i h =
-    let before = demander_before N order is k within i h in
+    let before = demander_before N order is k within i no_edge h in
     let P : ℕ → Type 0 = λ y. length (rows_at table y).release ≡ horizon N in
     subst P before.2 (ap (λ (r : PlanRows). length r.release) (planned.rows before.0 before.1) ∙ pair_plan-release N table (slice_index order before.0))
 
@@ -173,7 +173,7 @@ IsPlannedTo-more N needs order k table rows is within planned plan releases =
     let elsewhere = λ (y : ℕ) (ne : y ≢ x). let e : rows_at new y ≡ rows_at table y = get_or-set_other table x y rows no_rows ne in e in
     let earlier = λ (j : ℕ) (h : j < k). elsewhere (slice_index order j) (places_apart N order is j k h within) in
     let demanders_stay = λ (j : ℕ) (h : j ≤ k) (i : ℕ) (edge : i < length (demanders N (slice_index order j))).
-    let before = demander_before N order is j (omega arith) i edge in
+    let before = demander_before N order is j (omega arith) i no_edge edge in
     let P : ℕ → Type 0 = λ y. rows_at new y ≡ rows_at table y in
     subst P before.2 (earlier before.0 (omega (arith, before.1))) in
     let stays = λ (j : ℕ) (h : j ≤ k). pair_plan-same N table new (slice_index order j) (demanders_stay j h) in

@@ -10,7 +10,7 @@ use Rattle.mrp_net.specs.Sums.{incoming, params_at, row_of}
 use Rattle.mrp_net.specs.Plan.{rows_at, gross, Fits}
 use Rattle.mrp_loops.specs.Sized.{Sized, IsSized, IsPlanningOrder}
 use Rattle.mrp_plan.specs.Within.{PlansAreWithin, QuantitiesAreWithin}
-use Rattle.mrp_plan.proofs.Orders.{place_of}
+use Rattle.mrp_loops.proofs.Orders.{place_of}
 use Rattle.mrp_plan.proofs.Planning.{can_plan, fits_to, one-gross, one-incoming, pair_within}
 
 -- the rows that the network and the plan give a pair are within the bound

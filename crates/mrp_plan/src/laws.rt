@@ -1,17 +1,8 @@
 //! Laws of the plan of a network. Each is the contract of a function that does nothing else.
 
-ghost use Rattle.mrp_net.specs.Plan.{HasOnePlan};
 ghost use Rattle.mrp_plan.specs.Within.{PlansAreWithin, QuantitiesAreWithin};
 
 use mrp_loops::SizedNet;
-
-/// The plan of a sized network obeys the rules at every pair, and is the only table of plans that
-/// does.
-pub fn one_plan(net: &SizedNet)
-    ensures { HasOnePlan net.now.network }
-{
-    let _order = net.in_code_order();
-}
 
 /// In a plan of a sized network the quantities of each pair (on hand, all receipts, all gross
 /// requirements, safety stock and those of the rule) are together at most 10^15 pieces. So no row of

@@ -9,7 +9,7 @@ use Rattle.std.proofs.lemmas.Map.Keys.{apart_from_distinct, IsDistinct-IsPermuta
 use Rattle.mrp_tables.specs.Table.{Table}
 use Rattle.mrp_net.specs.Edges.{demanders}
 use Rattle.mrp_loops.specs.Sized.{IsPlanningOrder}
-use Rattle.mrp_plan.proofs.Asked.{no_edge}
+use Rattle.mrp_net.specs.declared.edge.Edge.{Edge}
 
 flips : (x y : ℕ) → (x == y) ≡ (y == x)
 flips x y =
@@ -45,11 +45,11 @@ place_of N order is x within =
     (found.0, found.1, get_or_default order found.0 0 x found.1 ∙ found.2)
 
 -- the demander of an edge has a place before its pair
-pub demander_before : (N : Table) (order : List ℕ) → IsPlanningOrder N order → (k : ℕ) → k < length order → (i : ℕ) → i < length (demanders N (slice_index order k))
-    → (j : ℕ) × (j < k) × (slice_index order j ≡ (slice_index_or (demanders N (slice_index order k)) i no_edge).demander.0)
-demander_before N order is k within i edge =
-    let found = is.demanders_first k within i no_edge edge in
+pub demander_before : (N : Table) (order : List ℕ) → IsPlanningOrder N order → (k : ℕ) → k < length order → (i : ℕ) (d : Edge) → i < length (demanders N (slice_index order k))
+    → (j : ℕ) × (j < k) × (slice_index order j ≡ (slice_index_or (demanders N (slice_index order k)) i d).demander.0)
+demander_before N order is k within i d edge =
+    let found = is.demanders_first k within i d edge in
     let size = length-take k order in
     let early : found.0 < k = omega (arith, found.1, size) in
-    let d = (slice_index_or (demanders N (slice_index order k)) i no_edge).demander.0 in
-    (found.0, early, sym (get_or-take k order found.0 0 early) ∙ get_or_default (take k order) found.0 0 d found.1 ∙ found.2)
+    let y = (slice_index_or (demanders N (slice_index order k)) i d).demander.0 in
+    (found.0, early, sym (get_or-take k order found.0 0 early) ∙ get_or_default (take k order) found.0 0 y found.1 ∙ found.2)
