@@ -13,3 +13,4 @@ pub mod Ordered
 pub mod Coded
 pub mod Orders
 pub mod OnePlan
+pub mod Within

@@ -10,3 +10,4 @@ pub mod Covering
 pub mod Local
 pub mod Asking
 pub mod Periods
+pub mod Totals

@@ -1,4 +1,3 @@
 pub mod Asked
 pub mod Pegs
 pub mod Planning
-pub mod Sizes
