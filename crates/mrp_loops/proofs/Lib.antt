@@ -1,4 +1,3 @@
-pub mod Members
 pub mod Counts
 pub mod Edges
 pub mod Taken

@@ -19,7 +19,7 @@ use Rattle.mrp_loops.specs.declared.sized.BoundFault.{BoundFault}
 use Rattle.mrp_loops.specs.declared.sized.BoundFault.TheVariants.{SupplyTooLarge, NeedTooLarge, Memory}
 use Rattle.mrp_loops.proofs.Planning.{place_rank}
 use Rattle.mrp_loops.proofs.Ranks.{rank_by_code, rank_by_place}
-use Rattle.mrp_loops.proofs.Members.{In, Contains-from_in}
+use Rattle.mrp_net.proofs.Members.{In, Contains-from_in}
 
 sum_agree : {X : Type 0} (f g : X → ℕ) (xs : List X) → ((x : X) → In xs x → f x ≡ g x) → sum_by f xs ≡ sum_by g xs
 sum_agree f g [] each = refl

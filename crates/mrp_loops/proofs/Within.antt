@@ -24,7 +24,7 @@ use Rattle.mrp_loops.specs.Sized.{Sized, IsSized}
 use Rattle.mrp_loops.specs.Within.{ReleasesAreWithinNeed, GrossIsWithinNeed, SupplyAndReleasesAreWithin, FiguresAreWithin, PlansAreWithin, QuantitiesAreWithin}
 use Rattle.mrp_loops.proofs.Codes.{loop_free}
 use Rattle.mrp_loops.proofs.Edges.{demanders_only, HasEdge-from_in, HasEdge-pairs}
-use Rattle.mrp_loops.proofs.Members.{In}
+use Rattle.mrp_net.proofs.Members.{In}
 use Rattle.mrp_loops.proofs.Upstream.{demanders_decide}
 
 sum_in-le : {X : Type 0} (f g : X → ℕ) (xs : List X) → ((x : X) → In xs x → f x ≤ g x) → sum_by f xs ≤ sum_by g xs

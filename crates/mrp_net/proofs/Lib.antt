@@ -1,3 +1,4 @@
+pub mod Members
 pub mod Grouping
 pub mod Sorting
 pub mod Adding
@@ -11,3 +12,7 @@ pub mod Local
 pub mod Asking
 pub mod Periods
 pub mod Totals
+pub mod Pieces
+pub mod Twos
+pub mod EdgesOnce
+pub mod Arriving
