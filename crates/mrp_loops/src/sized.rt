@@ -5,7 +5,7 @@ ghost use Rattle.mrp_tables.specs.Table.{IsPair};
 ghost use Rattle.mrp_net.specs.Sums.{supply};
 ghost use Rattle.mrp_loops.specs.Loop.{AreCodes};
 ghost use Rattle.mrp_loops.specs.Need.{AreNeeds, AreWithin};
-ghost use Rattle.mrp_loops.specs.Order.{IsInCodeOrder, IsVisit};
+ghost use Rattle.mrp_loops.specs.Order.{IsInCodeOrder};
 ghost use Rattle.mrp_loops.specs.BoundFaults.{IsBoundFault, IsSupplyTooLarge, IsNeedFault};
 ghost use Rattle.mrp_loops.specs.Sized.{IsSized, IsPlanningOrder};
 
@@ -136,7 +136,7 @@ fn first_oversupplied(network: &Network) -> Option<PairNo>
 
 /// The need of each pair; tests that supply and need together are within the bound.
 fn test_needs(alloc: Global, network: &Network, order: &[PairNo]) -> Result<Vec<u64>, BoundFault>
-    requires { IsVisit network.now order.now }
+    requires { IsPlanningOrder network.now (map (λ x. x.0) order.now) }
     ensures needs { IfOk result (λ needs. AreNeeds network.now needs.items) }
     ensures within { IfOk result (λ needs. AreWithin network.now needs.items) }
     ensures fault { IfErr result (λ fault. IsNeedFault network.now order.now fault) }
