@@ -13,12 +13,11 @@ use Rattle.mrp_loops.specs.Loop.{HasChain, IsLoopFree}
 use Rattle.mrp_loops.specs.Taking.{is_in}
 use Rattle.mrp_loops.specs.Walk.{Climbs, IsApart}
 use Rattle.mrp_loops.specs.Laws.{CodesExist}
-use Rattle.mrp_loops.proofs.Members.{In}
+use Rattle.mrp_net.proofs.Members.{In, any_some}
 use Rattle.mrp_loops.proofs.Edges.{demanders_edge, demanders_only, HasEdge-from_in, HasEdge-pairs}
 use Rattle.mrp_loops.proofs.Needed.{place_in}
 use Rattle.mrp_loops.proofs.Rings.{climbs_more, path_short, ring_from_walk}
 use Rattle.mrp_loops.proofs.Taken.{Apart-push}
-use Rattle.mrp_loops.proofs.Upstream.{any_some}
 
 -- whether a chain of so many edges ends in x
 abbrev has_chain : Table → ℕ → ℕ → Bool

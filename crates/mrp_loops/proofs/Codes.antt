@@ -8,7 +8,7 @@ use Rattle.mrp_net.specs.Edges.{demanders}
 use Rattle.mrp_loops.specs.Loop.{HasEdge, LeadsTo, IsLoopFree, AreCodes}
 use Rattle.mrp_loops.specs.Taking.{waiting, IsTaken}
 use Rattle.mrp_loops.specs.Walk.{IsStuck}
-use Rattle.mrp_loops.proofs.Members.{Contains-from_in}
+use Rattle.mrp_net.proofs.Members.{Contains-from_in}
 use Rattle.mrp_loops.proofs.Edges.{HasEdge-pairs, demanders_only, edge_pairs}
 use Rattle.mrp_loops.proofs.Taken.{waiting-some, edges_to-none, length-apart}
 use Rattle.mrp_loops.proofs.Steps.{longest_taken}

@@ -7,7 +7,7 @@ use Rattle.mrp_tables.specs.declared.rows.SourceRow.{SourceRow}
 use Rattle.mrp_net.specs.declared.edge.Edge.{Edge}
 use Rattle.mrp_net.specs.Edges.{edges, demanders, suppliers, bill_edge, source_edge}
 use Rattle.mrp_loops.specs.Loop.{HasEdge}
-use Rattle.mrp_loops.proofs.Members.{In, In-from_contains, Contains-from_in, In-append_cases, In-filter, filter_only, In-flat_map, flat_map_only, In-range, map_only, All-in}
+use Rattle.mrp_net.proofs.Members.{In, In-from_contains, Contains-from_in, In-append_cases, In-filter, filter_only, In-flat_map, flat_map_only, In-range, map_only, All-in}
 use Rattle.mrp_loops.proofs.Counts.{count-sorted, count-filter_swap}
 
 -- an edge joins pairs of the table

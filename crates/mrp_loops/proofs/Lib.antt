@@ -1,4 +1,3 @@
-pub mod Members
 pub mod Counts
 pub mod Edges
 pub mod Taken
@@ -11,3 +10,6 @@ pub mod Needed
 pub mod Upstream
 pub mod Ordered
 pub mod Coded
+pub mod Orders
+pub mod OnePlan
+pub mod Within

@@ -1,7 +1,7 @@
 -- The needs, found in an order in which demanders come first.
-use Rattle.std.proofs.Common.{◌≡◌, ◌≢◌, ℕ, zero, suc, ◌+◌, ◌-◌, ◌*◌, ◌<◌, ◌≤◌, ◌==◌, true, inl, inr, ⊎_elim, List, [], ◌∷◌, length, get_or, set, take, min, refl, sym, ap, subst, ◌∙◌, arith, slice_index, sum_by, length-set}
+use Rattle.std.proofs.Common.{◌≡◌, ◌≢◌, ℕ, zero, suc, ◌+◌, ◌-◌, ◌*◌, ◌<◌, ◌≤◌, ◌==◌, true, inl, inr, ⊎_elim, List, [], ◌∷◌, length, map, get_or, set, min, refl, sym, ap, subst, ◌∙◌, arith, slice_index, sum_by, length-set}
 use Rattle.std.proofs.lemmas.Bool.{eqb-true, cases_eq, or_cases, true≢false}
-use Rattle.std.proofs.lemmas.List.{get_or-take, get_or_default, length-take, get_or-set_same, get_or-set_other}
+use Rattle.std.proofs.lemmas.List.{get_or_default, get_or-set_same, get_or-set_other}
 use Rattle.std.proofs.lemmas.List.Sums.{sum_by-cons}
 use Rattle.mrp_qty.specs.declared.quantity.TheConstants.{MOST}
 use Rattle.mrp_lot.specs.Lot.{rule_quantities}
@@ -12,14 +12,16 @@ use Rattle.mrp_net.specs.Edges.{demanders}
 use Rattle.mrp_net.specs.Sums.{pair_at, demand_total, supply}
 use Rattle.mrp_loops.specs.Need.{need_at, AreNeeds, AreWithin}
 use Rattle.mrp_loops.specs.Taking.{is_in}
-use Rattle.mrp_loops.specs.Order.{IsVisit, IsFound, IsSolved, IsFirstAbove, IsPlaced, rank}
+use Rattle.mrp_loops.specs.Order.{IsFound, IsSolved, IsFirstAbove, IsPlaced, rank}
 use Rattle.mrp_loops.specs.Loop.{AreCodes}
+use Rattle.mrp_loops.specs.Sized.{IsPlanningOrder}
 use Rattle.mrp_loops.specs.BoundFaults.{IsNeedTooLarge, IsNeedFault, IsBoundFault}
 use Rattle.mrp_loops.specs.declared.sized.BoundFault.{BoundFault}
 use Rattle.mrp_loops.specs.declared.sized.BoundFault.TheVariants.{SupplyTooLarge, NeedTooLarge, Memory}
 use Rattle.mrp_loops.proofs.Planning.{place_rank}
+use Rattle.mrp_loops.proofs.Orders.{pair_placed, pairs_apart, pair_place, demander_place}
 use Rattle.mrp_loops.proofs.Ranks.{rank_by_code, rank_by_place}
-use Rattle.mrp_loops.proofs.Members.{In, Contains-from_in}
+use Rattle.mrp_net.proofs.Members.{In}
 
 sum_agree : {X : Type 0} (f g : X → ℕ) (xs : List X) → ((x : X) → In xs x → f x ≡ g x) → sum_by f xs ≡ sum_by g xs
 sum_agree f g [] each = refl
@@ -41,23 +43,12 @@ place_in (z ∷ zs) x t = ⊎_elim
     (λ later. let c = place_in zs x later in (suc c.0, omega arith, c.2))
     (or_cases (z.0 == x) (is_in zs x) t)
 
-pub place_before : (order : List PairNo) (k x : ℕ) → is_in (take k order) x ≡ true → (j : ℕ) × (j < k) × (j < length order) × ((d : PairNo) → (get_or order j d).0 ≡ x)
-place_before order k x t =
-    let c = place_in (take k order) x t in
-    let low : c.0 < k = omega (arith, length-take k order, c.1) in
-    (c.0, low, omega (arith, length-take k order, c.1), λ d. ap (λ (z : PairNo). z.0) (sym (get_or-take k order c.0 d low)) ∙ c.2 d)
-
-module _ (N : Table) (order : List PairNo) (visit : IsVisit N order) where
-  -- a demander of the pair at k stands before k
-  pub demander_place : (k : ℕ) (d : PairNo) (e : Edge) → k < length order → In (demanders N (get_or order k d).0) e
-      → (j : ℕ) × (j < k) × (j < length order) × ((d : PairNo) → (get_or order j d).0 ≡ e.demander.0)
-  demander_place k d e l h = place_before order k e.demander.0 (visit.demanders_first k d e l (Contains-from_in (demanders N (get_or order k d).0) e h))
-
+module _ (N : Table) (order : List PairNo) (planning : IsPlanningOrder N (map (λ z. z.0) order)) where
   -- two lists that agree at the first k pairs give the pair at k, or before, one need
   pub need_same : (a b : List ℕ) (k j : ℕ) (d : PairNo) → ((i : ℕ) (d : PairNo) → i < k → slice_index a (get_or order i d).0 ≡ slice_index b (get_or order i d).0)
       → j ≤ k → j < length order → need_at N a (get_or order j d).0 ≡ need_at N b (get_or order j d).0
   need_same a b k j d same jk jl = need_agrees N a b (get_or order j d).0 (λ e h.
-      let c = demander_place j d e jl h in
+      let c = demander_place N order planning j d e jl h in
       let at = c.3 d in
       subst (λ (w : ℕ). slice_index a w ≡ slice_index b w) at (same c.0 d (omega (arith, c.1))))
 
@@ -69,12 +60,12 @@ module _ (N : Table) (order : List PairNo) (visit : IsVisit N order) where
   pub needs_kept : (k : ℕ) (needs : List ℕ) (x : PairNo) (value : ℕ) → k < length order → (get_or order k x).0 ≡ x.0
       → (j : ℕ) (d : PairNo) → j < k → slice_index (set needs x.0 value) (get_or order j d).0 ≡ slice_index needs (get_or order j d).0
   needs_kept k needs x value kl at j d jk =
-      get_or-set_other needs x.0 (get_or order j d).0 value 0 (λ e. visit.apart j k d jk kl (e ∙ sym (same_place k x d kl at)))
+      get_or-set_other needs x.0 (get_or order j d).0 value 0 (λ e. pairs_apart N order planning j k d jk kl (e ∙ sym (same_place k x d kl at)))
 
   need_written : (k : ℕ) (needs : List ℕ) (x : PairNo) (value : ℕ) → k < length order → (get_or order k x).0 ≡ x.0 → IsFound N order k needs
       → slice_index (set needs x.0 value) x.0 ≡ value
   need_written k needs x value kl at f =
-      let pair : IsPair N x.0 = subst (λ (w : ℕ). IsPair N w) at (visit.pairs k x kl) in
+      let pair : IsPair N x.0 = subst (λ (w : ℕ). IsPair N w) at (pair_placed N order planning k x kl) in
       get_or-set_same needs x.0 value 0 (omega (arith, f.size))
 
   -- one need more is found
@@ -129,14 +120,14 @@ module _ (N : Table) (order : List PairNo) (visit : IsVisit N order) where
     size = f.size;
     need = λ x pair.
         let no_pair : PairNo = record { 0 = 0 } in
-        let c = place_in order x (visit.every x pair) in
+        let c = pair_place N order planning x pair in
         subst (λ (w : ℕ). slice_index needs w ≡ need_at N needs w) (c.2 no_pair) (f.solved c.0 no_pair (omega (arith, c.1)));
   }
 
   pub within_from_solved : (k : ℕ) (needs : List ℕ) → length order ≤ k → IsSolved N order k needs → AreWithin N needs
   within_from_solved k needs all s x pair =
       let no_pair : PairNo = record { 0 = 0 } in
-      let c = place_in order x (visit.every x pair) in
+      let c = pair_place N order planning x pair in
       subst (λ (w : ℕ). supply N w + slice_index needs w ≤ MOST) (c.2 no_pair) (s.within c.0 no_pair (omega (arith, c.1)))
 
   -- the needs of all pairs, which are those that are found at the first pairs
@@ -162,15 +153,15 @@ pub cap_above : (cap most supply need s n t : ℕ) → most < cap → s ≡ min 
 cap_above cap most supply need s n t small es en et high = omega arith
 
 -- the first pair above the bound in the order of the codes
-pub need_too_large : (N : Table) (codes : List ℕ) (order : List PairNo) (x : PairNo) → IsPlaced codes (length codes) order → IsVisit N order → AreCodes N codes
+pub need_too_large : (N : Table) (codes : List ℕ) (order : List PairNo) (x : PairNo) → IsPlaced codes (length codes) order → IsPlanningOrder N (map (λ z. z.0) order) → AreCodes N codes
     → ((y : ℕ) → IsPair N y → supply N y ≤ MOST) → IsFirstAbove N order x → IsNeedTooLarge N codes x.0
-need_too_large N codes order x placed visit are supplies first =
+need_too_large N codes order x placed planning are supplies first =
     let k = first.place in
     let needs = first.needs in
-    let all = needs_extended N order visit (length order - k) k needs (let l = first.short in omega arith) first.solved.are_found in
-    let same = need_same N order visit all.0 needs k k x all.2 (omega arith) first.short in
+    let all = needs_extended N order planning (length order - k) k needs (let l = first.short in omega arith) first.solved.are_found in
+    let same = need_same N order planning all.0 needs k k x all.2 (omega arith) first.short in
     let same' : need_at N all.0 x.0 ≡ need_at N needs x.0 = subst (λ (w : ℕ). need_at N all.0 w ≡ need_at N needs w) first.at same in
-    let pair : IsPair N x.0 = subst (λ (w : ℕ). IsPair N w) first.at (visit.pairs k x first.short) in
+    let pair : IsPair N x.0 = subst (λ (w : ℕ). IsPair N w) first.at (pair_placed N order planning k x first.short) in
     let is = all.1.need x.0 pair in
     let short : k < length codes = omega (arith, first.short, placed.size) in
     let place = place_rank N codes order placed k x short in
@@ -196,8 +187,8 @@ need_too_large N codes order x placed visit are supplies first =
           subst (λ (w : ℕ). supply N w + slice_index all.0 w ≤ MOST) at (omega arith);
     }
 
-pub bound_fault : (N : Table) (codes : List ℕ) (order : List PairNo) → IsPlaced codes (length codes) order → IsVisit N order → AreCodes N codes
+pub bound_fault : (N : Table) (codes : List ℕ) (order : List PairNo) → IsPlaced codes (length codes) order → IsPlanningOrder N (map (λ z. z.0) order) → AreCodes N codes
     → ((y : ℕ) → IsPair N y → supply N y ≤ MOST) → (fault : BoundFault) → IsNeedFault N order fault → IsBoundFault N codes fault
-bound_fault N codes order placed visit are supplies (SupplyTooLarge x) h = absurd h
-bound_fault N codes order placed visit are supplies (NeedTooLarge x) h = need_too_large N codes order x placed visit are supplies h
-bound_fault N codes order placed visit are supplies Memory h = tt
+bound_fault N codes order placed planning are supplies (SupplyTooLarge x) h = absurd h
+bound_fault N codes order placed planning are supplies (NeedTooLarge x) h = need_too_large N codes order x placed planning are supplies h
+bound_fault N codes order placed planning are supplies Memory h = tt

@@ -5,10 +5,13 @@ use Rattle.std.proofs.lemmas.Bool.{cases_lt}
 use Rattle.std.proofs.lemmas.List.FromFn.{get_or-map-range_with_len, length-map-range_with_len}
 use Rattle.std.proofs.lemmas.List.{length-replicate}
 use Rattle.mrp_tables.specs.declared.numbers.PairNo.{PairNo}
+use Rattle.mrp_tables.specs.Table.{Table, IsTable}
+use Rattle.mrp_loops.specs.Loop.{AreCodes}
 use Rattle.mrp_loops.specs.Order.{rank, IsPlaced}
+use Rattle.mrp_loops.specs.Sized.{IsPlanningOrder}
 use Rattle.mrp_loops.specs.Laws.{NeedsExist}
 use Rattle.mrp_loops.proofs.Needed.{needs_extended, solved_none}
-use Rattle.mrp_loops.proofs.Planning.{rank_at, visit_from_placed}
+use Rattle.mrp_loops.proofs.Planning.{rank_at, planning_from_placed}
 use Rattle.mrp_loops.proofs.Ranks.{rank_apart, rank_within}
 
 -- the pair of rank k
@@ -37,11 +40,16 @@ ordered_placed codes = record {
       ap (λ (z : PairNo). z.0) at ∙ rank_apart codes (pair_at_rank codes k).0 y r.0 l r.1;
 }
 
+pub planning_order : (N : Table) (codes : List ℕ) → IsTable N → AreCodes N codes → (order : List ℕ) × IsPlanningOrder N order
+planning_order N codes table are =
+    let order = ordered codes in
+    (map (λ z. z.0) order, planning_from_placed N codes order (ordered_placed codes) table are)
+
 pub needs_exist : NeedsExist
 needs_exist N codes table are =
     let order = ordered codes in
-    let visit = visit_from_placed N codes order (ordered_placed codes) table are in
+    let planning = planning_from_placed N codes order (ordered_placed codes) table are in
     let zeros = replicate (length N.pairs) 0 in
-    let start = solved_none N order visit zeros (length-replicate (length N.pairs) 0) in
-    let all = needs_extended N order visit (length order) 0 zeros (omega arith) start.are_found in
+    let start = solved_none N order planning zeros (length-replicate (length N.pairs) 0) in
+    let all = needs_extended N order planning (length order) 0 zeros (omega arith) start.are_found in
     (all.0, all.1)

@@ -10,7 +10,7 @@ use Rattle.mrp_tables.specs.declared.numbers.PairNo.{PairNo}
 use Rattle.mrp_net.specs.declared.edge.Edge.{Edge}
 use Rattle.mrp_net.specs.Edges.{demanders}
 use Rattle.mrp_loops.specs.Taking.{is_in}
-use Rattle.mrp_loops.proofs.Members.{In-from_contains}
+use Rattle.mrp_net.proofs.Members.{In-from_contains}
 use Rattle.mrp_loops.proofs.Edges.{demanders_only, HasEdge-from_in, edge_pairs}
 use Rattle.mrp_loops.proofs.Taken.{is_in-push_same, is_in-push_other, Apart-push, length-apart}
 use Rattle.std.proofs.lemmas.List.Elements.{Contains-get_or, All-push}

@@ -13,7 +13,7 @@ use Rattle.mrp_tables.specs.declared.numbers.PairNo.{PairNo}
 use Rattle.mrp_net.specs.declared.edge.Edge.{Edge}
 use Rattle.mrp_net.specs.Edges.{demanders, suppliers}
 use Rattle.mrp_loops.specs.Taking.{is_in, waiting, edges_to}
-use Rattle.mrp_loops.proofs.Members.{In}
+use Rattle.mrp_net.proofs.Members.{In}
 use Rattle.mrp_loops.proofs.Counts.{count-cons, count_split, count_all, count-zero, count-some}
 use Rattle.mrp_loops.proofs.Edges.{count_between}
 

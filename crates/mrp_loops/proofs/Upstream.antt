@@ -1,7 +1,7 @@
 -- Upstream of a pair there is a last one of each set, where the network has no loop.
-use Rattle.std.proofs.Common.{◌≡◌, ℕ, zero, suc, ◌+◌, ◌==◌, Bool, true, false, not, inl, inr, ⊎_elim, List, [], ◌∷◌, ◌++◌, reverse, length, refl, sym, ap, ◌∙◌, arith, All, slice_index}
+use Rattle.std.proofs.Common.{◌≡◌, ℕ, zero, suc, ◌+◌, ◌==◌, Bool, true, false, not, ⊎_elim, List, [], ◌∷◌, ◌++◌, reverse, length, refl, sym, ap, ◌∙◌, arith, All, slice_index}
 use Rattle.std.specs.List.{list_any}
-use Rattle.std.proofs.lemmas.Bool.{eq-eqb, eqb-true, cases_Bool, or_cases, or_parts, true≢false, both_ways}
+use Rattle.std.proofs.lemmas.Bool.{eq-eqb, eqb-true, cases_Bool, or_parts, true≢false, both_ways}
 use Rattle.std.proofs.lemmas.List.{length_push}
 use Rattle.std.proofs.lemmas.List.Elements.{All-push, All-nil}
 use Rattle.std.proofs.lemmas.Grind.{same_number_lists}
@@ -13,19 +13,11 @@ use Rattle.mrp_loops.specs.Loop.{HasEdge, IsLoopFree}
 use Rattle.mrp_loops.specs.Taking.{is_in}
 use Rattle.mrp_loops.specs.Walk.{Climbs, IsApart}
 use Rattle.mrp_loops.specs.Laws.{CodesAreOne, SetsHaveAFirst, DemandersDecide, NeedsAreOne}
-use Rattle.mrp_loops.proofs.Members.{In}
+use Rattle.mrp_net.proofs.Members.{In, any_some}
 use Rattle.mrp_loops.proofs.Edges.{demanders_edge, demanders_only, HasEdge-from_in, HasEdge-pairs}
 use Rattle.mrp_loops.proofs.Taken.{Apart-push}
 use Rattle.mrp_loops.proofs.Rings.{climbs_more, path_short, ring_from_walk}
 use Rattle.mrp_loops.proofs.Needed.{place_in, need_agrees}
-
--- a test that passes somewhere
-pub any_some : {X : Type 0} (p : X → Bool) (xs : List X) → list_any p xs ≡ true → (x : X) × In xs x × (p x ≡ true)
-any_some p [] t = absurd (true≢false (sym t))
-any_some p (x ∷ xs) t = ⊎_elim
-    (λ here. (x, inl refl, here))
-    (λ later. let c = any_some p xs later in (c.0, inr c.1, c.2))
-    (or_cases (p x) (list_any p xs) t)
 
 any_none : {X : Type 0} (p : X → Bool) (xs : List X) (x : X) → list_any p xs ≡ false → In xs x → p x ≡ false
 any_none p [] x f h = absurd h

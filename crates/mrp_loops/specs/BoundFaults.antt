@@ -1,5 +1,5 @@
 -- What the refusals of the bound say.
-use Rattle.std.specs.Prelude.{◌≡◌, ℕ, ◌+◌, ◌<◌, ◌≤◌, ◌⊎◌, List, slice_index}
+use Rattle.std.specs.Prelude.{ℕ, ◌+◌, ◌<◌, ◌≤◌, List, slice_index}
 use Rattle.mrp_qty.specs.declared.quantity.TheConstants.{MOST}
 use Rattle.mrp_tables.specs.Table.{Table, IsPair}
 use Rattle.mrp_tables.specs.declared.numbers.PairNo.{PairNo}
@@ -7,12 +7,7 @@ use Rattle.mrp_net.specs.Sums.{supply}
 use Rattle.mrp_loops.specs.declared.sized.BoundFault.{BoundFault}
 use Rattle.mrp_loops.specs.declared.sized.BoundFault.TheVariants.{SupplyTooLarge, NeedTooLarge, Memory}
 use Rattle.mrp_loops.specs.Need.{AreNeeds}
-use Rattle.mrp_loops.specs.Order.{IsFirstAbove}
-
--- x has a lower code than y, or the same code and an earlier place in the table
-abbrev pub ComesBefore : List ℕ → ℕ → ℕ → Type 0
-ComesBefore codes x y =
-    (slice_index codes x < slice_index codes y) ⊎ ((slice_index codes x ≡ slice_index codes y) × (x < y))
+use Rattle.mrp_loops.specs.Order.{ComesBefore, IsFirstAbove}
 
 -- the supply of x is above the bound, and that of no pair before it in the table
 pub record IsSupplyTooLarge (N : Table) (x : ℕ) : Type 0 where
@@ -20,8 +15,8 @@ pub record IsSupplyTooLarge (N : Table) (x : ℕ) : Type 0 where
   pub above : MOST < supply N x
   pub first : (y : ℕ) → y < x → supply N y ≤ MOST
 
--- every supply is within the  Supply and need of x together are above it, and those of no pair
--- before x by code, then table order
+-- every supply is within the bound; supply and need of x together are above it, and those of no pair
+-- that comes before x by code and then in the table
 pub record IsNeedTooLarge (N : Table) (codes : List ℕ) (x : ℕ) : Type 0 where
   pub pair : IsPair N x
   pub supplies : (y : ℕ) → IsPair N y → supply N y ≤ MOST

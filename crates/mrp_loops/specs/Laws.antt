@@ -1,6 +1,7 @@
--- Laws of codes, of networks without loops, and of needs.
+-- Laws of codes, of networks without loops, of needs, and of plans.
 use Rattle.std.specs.Prelude.{◌≡◌, ℕ, ◌<◌, Bool, true, false, List, slice_index}
 use Rattle.mrp_tables.specs.Table.{Table, IsTable, IsPair}
+use Rattle.mrp_net.specs.Plan.{HasOnePlan}
 use Rattle.mrp_loops.specs.Loop.{HasEdge, IsLoopFree, AreCodes}
 use Rattle.mrp_loops.specs.Need.{AreNeeds}
 
@@ -43,3 +44,7 @@ NeedsAreOne = (N : Table) → IsTable N → IsLoopFree N → (a b : List ℕ) �
 -- a network whose pairs have codes has needs
 abbrev pub NeedsExist : Type 0
 NeedsExist = (N : Table) (codes : List ℕ) → IsTable N → AreCodes N codes → (needs : List ℕ) × AreNeeds N needs
+
+-- the plan of a network without loops obeys the rules at every pair, and no other table of plans does
+abbrev pub OnePlan : Type 0
+OnePlan = (N : Table) → IsTable N → IsLoopFree N → HasOnePlan N

@@ -6,4 +6,5 @@ pub mod Order
 pub mod Need
 pub mod Sized
 pub mod BoundFaults
+pub mod Within
 pub mod Laws

@@ -1,7 +1,8 @@
-//! Laws of codes, of networks without loops, and of needs. Each is the contract of a function that
+//! Laws of codes, of networks without loops, of needs, and of plans. Each is the contract of a function that
 //! does nothing.
 
-ghost use Rattle.mrp_loops.specs.Laws.{CodesRise, CodedIsLoopFree, CodesExist, CodesAreOne, SetsHaveAFirst, DemandersDecide, NeedsExist, NeedsAreOne};
+ghost use Rattle.mrp_loops.specs.Laws.{CodesRise, CodedIsLoopFree, CodesExist, CodesAreOne, SetsHaveAFirst, DemandersDecide, NeedsExist, NeedsAreOne, OnePlan};
+ghost use Rattle.mrp_loops.specs.Within.{ReleasesAreWithinNeed, GrossIsWithinNeed, SupplyAndReleasesAreWithin, FiguresAreWithin, PlansAreWithin, QuantitiesAreWithin};
 
 /// Low-level codes rise along edges: a pair's code is above that of each of its demanders. So a
 /// network with codes has no loop. A network without loops has codes, and none has two lists of them.
@@ -28,4 +29,29 @@ pub fn demanders_decide()
 pub fn needs_are_one()
     ensures exist { NeedsExist }
     ensures one { NeedsAreOne }
+{}
+
+/// The plan of a network without loops obeys the rules at every pair, and is the only table of plans
+/// that does.
+pub fn one_plan()
+    ensures { OnePlan }
+{}
+
+/// In the plan of a sized network the planned order releases of a pair, and its gross requirements
+/// with safety stock and the rule's quantities, are over all periods at most its need. So supply and
+/// releases together are at most 10^15 pieces, and so is each cumulative figure: opening figure,
+/// shipments and releases.
+pub fn releases_within_need()
+    ensures releases { ReleasesAreWithinNeed }
+    ensures gross { GrossIsWithinNeed }
+    ensures supply { SupplyAndReleasesAreWithin }
+    ensures figures { FiguresAreWithin }
+{}
+
+/// In the plan of a sized network on hand, what comes in, gross requirements, safety stock and the
+/// rule's quantities of a pair are together at most 10^15 pieces. So no row of it has a quantity or a
+/// balance above.
+pub fn plan_within()
+    ensures together { PlansAreWithin }
+    ensures each { QuantitiesAreWithin }
 {}

@@ -5,7 +5,7 @@ ghost use Rattle.mrp_tables.specs.Table.{IsPair};
 ghost use Rattle.mrp_net.specs.Sums.{supply};
 ghost use Rattle.mrp_loops.specs.Loop.{AreCodes};
 ghost use Rattle.mrp_loops.specs.Need.{AreNeeds, AreWithin};
-ghost use Rattle.mrp_loops.specs.Order.{IsVisit};
+ghost use Rattle.mrp_loops.specs.Order.{IsInCodeOrder};
 ghost use Rattle.mrp_loops.specs.BoundFaults.{IsBoundFault, IsSupplyTooLarge, IsNeedFault};
 ghost use Rattle.mrp_loops.specs.Sized.{IsSized, IsPlanningOrder};
 
@@ -60,13 +60,14 @@ pub struct SizedNet<'a> {
 
 impl<'a> Model for SizedNet<'a> {
     ghost use Rattle.std.specs.Prelude.{map};
+    ghost use Rattle.mrp_loops.specs.Order.{IsInCodeOrder};
     ghost use Rattle.mrp_loops.specs.Sized.{Sized, IsSized, IsPlanningOrder};
 
     ghost Value = { Sized };
 
     ghost view = { λ s. record { network = s.network.now; codes = s.levels.now; needs = s.needs.items } };
 
-    ghost invariant = { λ s. IsSized (record { network = s.network.now; codes = s.levels.now; needs = s.needs.items }) × IsPlanningOrder s.network.now (map (λ x. x.0) s.order.items) };
+    ghost invariant = { λ s. IsSized (record { network = s.network.now; codes = s.levels.now; needs = s.needs.items }) × IsPlanningOrder s.network.now (map (λ x. x.0) s.order.items) × IsInCodeOrder s.levels.now (map (λ x. x.0) s.order.items) };
 }
 
 impl<'a> SizedNet<'a> {
@@ -80,7 +81,8 @@ impl<'a> SizedNet<'a> {
 
     /// All pairs, by rising low-level code and within a code in table order.
     pub fn in_code_order(&self) -> &[PairNo]
-        ensures { IsPlanningOrder self.now.network (map (λ x. x.0) result.now) }
+        ensures planning { IsPlanningOrder self.now.network (map (λ x. x.0) result.now) }
+        ensures by_code { IsInCodeOrder self.now.codes (map (λ x. x.0) result.now) }
     {
         self.order.as_slice()
     }
@@ -103,6 +105,7 @@ pub fn bound<'a>(
 ) -> Result<SizedNet<'a>, BoundFault>
     requires { AreCodes network.now levels.now }
     ensures sized { IfOk result (λ s. (s.network ≡ network.now) × (s.codes ≡ levels.now)) }
+    ensures within { IfOk result (λ s. IsSized s) }
     ensures fault { IfErr result (λ fault. IsBoundFault network.now levels.now fault) }
 {
     if let Some(x) = first_oversupplied(network) {
@@ -133,7 +136,7 @@ fn first_oversupplied(network: &Network) -> Option<PairNo>
 
 /// The need of each pair; tests that supply and need together are within the bound.
 fn test_needs(alloc: Global, network: &Network, order: &[PairNo]) -> Result<Vec<u64>, BoundFault>
-    requires { IsVisit network.now order.now }
+    requires { IsPlanningOrder network.now (map (λ x. x.0) order.now) }
     ensures needs { IfOk result (λ needs. AreNeeds network.now needs.items) }
     ensures within { IfOk result (λ needs. AreWithin network.now needs.items) }
     ensures fault { IfErr result (λ fault. IsNeedFault network.now order.now fault) }

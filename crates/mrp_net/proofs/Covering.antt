@@ -41,13 +41,13 @@ sum_by-same f g [] same = refl
 sum_by-same f g (x ∷ xs) same =
     omega (arith, sum_by-cons f x xs, sum_by-cons g x xs, All-head (λ x. f x ≡ g x) x xs same, sum_by-same f g xs (All-tail (λ x. f x ≡ g x) x xs same))
 
-sum-flat_map : {X Y : Type 0} (f : Y → ℕ) (g : X → List Y) (xs : List X) → sum_by f (flat_map g xs) ≡ sum_by (λ x. sum_by f (g x)) xs
+pub sum-flat_map : {X Y : Type 0} (f : Y → ℕ) (g : X → List Y) (xs : List X) → sum_by f (flat_map g xs) ≡ sum_by (λ x. sum_by f (g x)) xs
 sum-flat_map f g [] = refl
 sum-flat_map f g (x ∷ xs) =
     omega (arith, sum_by-append f (g x) (flat_map g xs), sum_by-cons (λ x. sum_by f (g x)) x xs, sum-flat_map f g xs)
 
 -- the sum over the groups of a key is the sum over all rows
-sum_groups : {X : Type 0} (f : X → ℕ) (key : X → ℕ) (n : ℕ) (xs : List X) → All (λ x. key x < n) xs → sum_by (λ k. sum_by f (group key k xs)) (range_with_len 0 n) ≡ sum_by f xs
+pub sum_groups : {X : Type 0} (f : X → ℕ) (key : X → ℕ) (n : ℕ) (xs : List X) → All (λ x. key x < n) xs → sum_by (λ k. sum_by f (group key k xs)) (range_with_len 0 n) ≡ sum_by f xs
 sum_groups f key n xs h = sym (sum-flat_map f (λ k. group key k xs) (range_with_len 0 n)) ∙ sum-sorted_by f key n xs h
 
 -- a source's two plants are plants of the table

@@ -1,3 +1,4 @@
+pub mod Members
 pub mod Grouping
 pub mod Sorting
 pub mod Adding
@@ -9,3 +10,9 @@ pub mod Sharing
 pub mod Covering
 pub mod Local
 pub mod Asking
+pub mod Periods
+pub mod Totals
+pub mod Pieces
+pub mod Twos
+pub mod EdgesOnce
+pub mod Arriving

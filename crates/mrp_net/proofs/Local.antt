@@ -64,12 +64,12 @@ source_edge_crosses N s takes pair other =
     ∙ sym (eqb-true (pair_at N s.pair.0).plant.0 (pair_at N (source_pair N s)).plant.0 same)
     ∙ sym (plant_is N s.pair.0 takes))) ∙ other))
 
-bill_edges_are_local : (N : Table) → IsTable N → All (λ e. is_local N e ≡ true) (map bill_edge N.bills)
+pub bill_edges_are_local : (N : Table) → IsTable N → All (λ e. is_local N e ≡ true) (map bill_edge N.bills)
 bill_edges_are_local N is =
     All-map (λ e. is_local N e ≡ true) bill_edge N.bills
     (λ k d h. let row = is.read.bills k d h in bill_edge_is_local N (get_or N.bills k d) row.parent row.component (is.sourced.plants k d h))
 
-source_edges_cross : (N : Table) → IsTable N → All (λ e. is_local N e ≡ false) (map (source_edge N) N.sources)
+pub source_edges_cross : (N : Table) → IsTable N → All (λ e. is_local N e ≡ false) (map (source_edge N) N.sources)
 source_edges_cross N is =
     All-map (λ e. is_local N e ≡ false) (source_edge N) N.sources
     (λ k d h. source_edge_crosses N (get_or N.sources k d) (is.read.sources k d h).pair (is.source_pairs k d h) (is.sourced.others k d h))

@@ -1,6 +1,6 @@
 -- Laws of every accepted table.
-use Rattle.std.specs.Prelude.{◌≡◌, ℕ, ◌+◌, ◌*◌, ◌==◌, if◌then◌else◌, Bool, true, List, [], length, map, filter, sum_by, slice_index, All}
-use Rattle.std.specs.List.{IsDistinct, range_with_len}
+use Rattle.std.specs.Prelude.{◌≡◌, ◌≢◌, ℕ, ◌+◌, ◌*◌, ◌<◌, ◌==◌, ◌&&◌, if◌then◌else◌, Bool, true, false, List, [], length, map, filter, sum_by, slice_index, All, Contains}
+use Rattle.std.specs.List.{AllPairs, IsDistinct, range_with_len}
 use Rattle.mrp_lot.specs.One.{PlanRows}
 use Rattle.mrp_tables.specs.declared.numbers.ItemNo.{ItemNo}
 use Rattle.mrp_tables.specs.declared.rows.BillRow.{BillRow}
@@ -9,11 +9,14 @@ use Rattle.mrp_tables.specs.declared.rows.Supply.TheVariants.{From, Buy}
 use Rattle.mrp_tables.specs.Table.{Table, IsTable, IsPair, pair_no, source_pair, sources_of_pair}
 use Rattle.mrp_net.specs.declared.edge.Edge.{Edge}
 use Rattle.mrp_net.specs.declared.lane.Lane.{Lane}
+use Rattle.mrp_net.specs.declared.lane.LaneKind.{LaneKind}
+use Rattle.mrp_net.specs.declared.lane.LaneKind.TheVariants.{Despatch, Schedule}
+use Rattle.mrp_net.specs.declared.lane.Shipment.{Shipment}
 use Rattle.mrp_net.specs.Edges.{part, edge_need, bill_edge, source_edge, edges, demanders, suppliers}
 use Rattle.mrp_net.specs.Groups.{sorted_by}
-use Rattle.mrp_net.specs.Lanes.{taken_over, item_of, lane_items}
+use Rattle.mrp_net.specs.Lanes.{lanes, lane_at, taken_over, item_of, lane_items, shipments}
 use Rattle.mrp_net.specs.Plan.{rows_at, gross, pair_plan}
-use Rattle.mrp_net.specs.Sums.{pair_at, demand}
+use Rattle.mrp_net.specs.Sums.{pair_at, demand, incoming, received}
 
 -- the parts of a release over the sources of a pair that is taken from plants are the release
 abbrev pub PartsAreWhole : Type 0
@@ -90,6 +93,75 @@ OneSourceBringsAnItem =
 
 abbrev pub LaneItemsStandOnce : Type 0
 LaneItemsStandOnce = (N : Table) → IsTable N → (lane : Lane) → IsDistinct is_same_item (lane_items N lane)
+
+-- the despatch lane of a source, from its plant to the plant of the pair, and the schedule lane back
+abbrev pub despatch_lane : Table → SourceRow → Lane
+despatch_lane N s = record { kind = Despatch; sender = s.plant; receiver = (pair_at N s.pair.0).plant }
+
+abbrev pub schedule_lane : Table → SourceRow → Lane
+schedule_lane N s = record { kind = Schedule; sender = (pair_at N s.pair.0).plant; receiver = s.plant }
+
+-- both are among the lanes and have the source's item
+pub record HasBothLanes (N : Table) (s : SourceRow) : Type 0 where
+  pub despatch : Contains (lanes N) (despatch_lane N s)
+  pub schedule : Contains (lanes N) (schedule_lane N s)
+  pub despatched : Contains (lane_items N (despatch_lane N s)) (item_of N s)
+  pub scheduled : Contains (lane_items N (schedule_lane N s)) (item_of N s)
+
+abbrev pub SourcesHaveLanes : Type 0
+SourcesHaveLanes = (N : Table) → IsTable N → All (HasBothLanes N) N.sources
+
+-- a despatch lane and the schedule lane of the same two plants
+pub record AreBothLanes (despatch schedule : Lane) : Type 0 where
+  pub first : despatch.kind ≡ Despatch
+  pub second : schedule.kind ≡ Schedule
+  pub customer : schedule.sender ≡ despatch.receiver
+  pub supplier : schedule.receiver ≡ despatch.sender
+
+-- an even place among the lanes has a despatch lane, and the place after it the schedule lane of the
+-- same two plants
+abbrev pub LanesComeInTwos : Type 0
+LanesComeInTwos =
+    (N : Table) (k : ℕ) → 2 * k < length (lanes N)
+    → (2 * k + 1 < length (lanes N)) × AreBothLanes (lane_at N (2 * k)) (lane_at N (2 * k + 1))
+
+-- no lane stands twice
+abbrev pub LanesStandOnce : Type 0
+LanesStandOnce = (N : Table) → AllPairs (λ a b. a ≢ b) (lanes N)
+
+-- the despatch lanes to a plant
+abbrev pub is_despatch : LaneKind → Bool
+is_despatch Despatch = true
+is_despatch Schedule = false
+
+abbrev pub despatches_to : Table → ℕ → List Lane
+despatches_to N plant = filter (λ lane. is_despatch lane.kind && (lane.receiver.0 == plant)) (lanes N)
+
+-- what arrives of shipments in a period
+abbrev pub arriving : ℕ → List Shipment → ℕ
+arriving t ships = sum_by (λ s. if s.period == t then s.quantity else 0) ships
+
+-- what comes in for a pair is its receipts, and what arrives of its item over the despatch lanes to its plant
+abbrev pub IncomingComesOverLanes : Type 0
+IncomingComesOverLanes =
+    (N : Table) → IsTable N → (x t : ℕ) → IsPair N x
+    → incoming N x t ≡ received N x t + sum_by (λ lane. arriving t (shipments N lane (pair_at N x).item)) (despatches_to N (pair_at N x).plant.0)
+
+-- and a lane that doesn't have the item has no shipments of it
+abbrev pub ShipmentsAreOfItems : Type 0
+ShipmentsAreOfItems =
+    (N : Table) → IsTable N → (lane : Lane) (item : ItemNo) → ¬ Contains (lane_items N lane) item → shipments N lane item ≡ []
+
+-- ---- edges
+
+-- no two edges join the same two pairs
+abbrev pub OneEdgeJoinsTwoPairs : Type 0
+OneEdgeJoinsTwoPairs =
+    (N : Table) → IsTable N → AllPairs (λ e f. ¬ ((e.demander.0 ≡ f.demander.0) × (e.pair.0 ≡ f.pair.0))) (edges N)
+
+-- no pair stands twice among the demanders of a pair
+abbrev pub DemandersStandOnce : Type 0
+DemandersStandOnce = (N : Table) → IsTable N → (x : ℕ) → AllPairs (λ e f. e.demander.0 ≢ f.demander.0) (demanders N x)
 
 -- ---- plans
 

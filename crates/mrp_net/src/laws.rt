@@ -1,9 +1,10 @@
-//! Laws of sources and shares and of the pairs of a table, of routes, and of edges within a plant.
+//! Laws of sources and shares and of the pairs of a table, of routes and lanes, and of edges.
 //! Each is the contract of a function that does nothing.
 
 ghost use Rattle.mrp_net.specs.Laws.{PartsAreWhole, NeedsAreWhole, OthersHaveNoSources, OthersHaveComponents, BoughtHaveNoEdges, PairsAreFound};
 ghost use Rattle.mrp_net.specs.Laws.{RoutesCoverCustomers, RoutesCoverSuppliers, RoutesCoverSources, OneSourceBringsAnItem, LaneItemsStandOnce, PlansLookAtDemanders};
 ghost use Rattle.mrp_net.specs.Laws.{SourcePairsAreThere, LocalEdgesAreBills, LocalEdgesAreWhole, LocalDemandersAreWhole, GrossIsLocalAndCalled};
+ghost use Rattle.mrp_net.specs.Laws.{SourcesHaveLanes, LanesComeInTwos, LanesStandOnce, IncomingComesOverLanes, ShipmentsAreOfItems, OneEdgeJoinsTwoPairs, DemandersStandOnce};
 
 /// The parts of a release over the sources of a pair that is taken from plants add up to the release,
 /// and so does what it asks of its suppliers: nothing is lost or made up by rounding.
@@ -62,4 +63,29 @@ pub fn local_edges_are_whole()
 /// the routes on which the plant is the supplier.
 pub fn gross_is_local_and_called()
     ensures { GrossIsLocalAndCalled }
+{}
+
+/// Among the lanes an even place has a despatch lane, and the place after it the schedule lane of the
+/// same two plants. No lane stands twice.
+pub fn lanes_come_in_twos()
+    ensures twos { LanesComeInTwos }
+    ensures once { LanesStandOnce }
+{}
+
+/// Each source has its despatch lane and its schedule lane, and its item is on both.
+pub fn sources_have_lanes()
+    ensures { SourcesHaveLanes }
+{}
+
+/// What comes in for a pair in a period is its receipts and what arrives of its item over the despatch
+/// lanes to its plant; a lane that doesn't have the item has no shipments of it.
+pub fn shipments_come_over_lanes()
+    ensures incoming { IncomingComesOverLanes }
+    ensures items { ShipmentsAreOfItems }
+{}
+
+/// At most one edge joins two given pairs, so no pair stands twice among the demanders of another.
+pub fn one_edge_joins_two_pairs()
+    ensures edges { OneEdgeJoinsTwoPairs }
+    ensures demanders { DemandersStandOnce }
 {}

@@ -1,5 +1,5 @@
 -- One more pair is planned.
-use Rattle.std.proofs.Common.{◌≡◌, ℕ, ◌+◌, ◌*◌, ◌<◌, ◌≤◌, ◌≢◌, List, [], ◌∷◌, length, sum, sum_by, slice_index, slice_index_or, slice_set, zero, suc, arith, refl, ap, sym, ◌∙◌, ⊎_elim, subst}
+use Rattle.std.proofs.Common.{◌≡◌, ℕ, ◌+◌, ◌*◌, ◌<◌, ◌≤◌, ◌≢◌, List, [], ◌∷◌, length, sum, sum_by, slice_index, slice_index_or, slice_set, suc, arith, refl, ap, sym, ◌∙◌, ⊎_elim, subst}
 use Rattle.std.specs.List.{range_with_len}
 use Rattle.std.proofs.lemmas.Bool.{cases_eq}
 use Rattle.std.proofs.lemmas.List.{get_or_default, get_or-set_same, get_or-set_other, length-set}
@@ -9,20 +9,20 @@ use Rattle.std.proofs.Math.Nat.{mul-le-mul_left}
 use Rattle.mrp_lot.specs.Lot.{rule_quantities}
 use Rattle.mrp_lot.specs.One.{PlanRows, IsWithin, one, release_at}
 use Rattle.mrp_lot.specs.OneLaws.{releases-le}
-use Rattle.mrp_lot.specs.RangeLaws.{map-range-same, sum_by-add}
+use Rattle.mrp_lot.specs.RangeLaws.{map-range-same}
 use Rattle.mrp_tables.specs.Table.{Table, IsTable, horizon}
 use Rattle.mrp_net.specs.Edges.{demanders, edge_need}
 use Rattle.mrp_net.specs.Sums.{demand, demand_total, incoming, params_at, pair_at, row_of, no_pair}
 use Rattle.mrp_net.specs.Plan.{rows_at, no_rows, gross, pair_plan, Fits}
 use Rattle.mrp_net.specs.declared.edge.Edge.{Edge}
-use Rattle.mrp_net.proofs.Joining.{edges_join, demanders_join}
 use Rattle.mrp_loops.specs.Need.{AreNeeds, AreWithin}
 use Rattle.mrp_loops.specs.Sized.{IsPlanningOrder}
 use Rattle.mrp_plan.specs.Explosion.{asked, asked_total}
 use Rattle.mrp_plan.specs.Progress.{CanPlan, HasRooms, IsPlannedTo}
-use Rattle.mrp_plan.proofs.Periods.{demands-le, incomings-le}
-use Rattle.mrp_plan.proofs.Asked.{no_edge, asked_sum-le}
-use Rattle.mrp_plan.proofs.Orders.{places_apart, place_in_table, place_of, demander_before}
+use Rattle.mrp_net.proofs.Periods.{incomings-le}
+use Rattle.mrp_net.proofs.Totals.{gross_sum-le}
+use Rattle.mrp_plan.proofs.Asked.{no_edge}
+use Rattle.mrp_loops.proofs.Orders.{places_apart, place_in_table, place_of, demander_before}
 
 -- sums of terms that are the same, or not greater, at each element
 sum_by-same_all : {X : Type 0} (f g : X → ℕ) (d : X) (xs : List X) → ((i : ℕ) → i < length xs → f (slice_index_or xs i d) ≡ g (slice_index_or xs i d)) → sum_by f xs ≡ sum_by g xs
@@ -83,7 +83,7 @@ asked_total-le N needs order k table is within planned =
     sum_by-le_all (λ (e : Edge). e.per * sum (rows_at table e.demander.0).release) (λ (e : Edge). e.per * slice_index needs e.demander.0) no_edge (demanders N x)
     (λ i h.
     let e = slice_index_or (demanders N x) i no_edge in
-    let before = demander_before N order is k within i h in
+    let before = demander_before N order is k within i no_edge h in
     let own = planned.releases before.0 before.1 in
     let P : ℕ → Type 0 = λ y. sum (rows_at table y).release ≤ slice_index needs y in
     mul-le-mul_left e.per (subst P before.2 own))
@@ -92,29 +92,13 @@ asked_total-le N needs order k table is within planned =
 pub demander_release : (N : Table) (needs order : List ℕ) (k : ℕ) (table : List PlanRows) → IsPlanningOrder N order → k < length order → IsPlannedTo N needs order k table
     → (i : ℕ) → i < length (demanders N (slice_index order k)) → length (rows_at table (slice_index_or (demanders N (slice_index order k)) i no_edge).demander.0).release ≡ horizon N
 demander_release N needs order k table is within planned i h =
-    let before = demander_before N order is k within i h in
+    let before = demander_before N order is k within i no_edge h in
     let P : ℕ → Type 0 = λ y. length (rows_at table y).release ≡ horizon N in
     subst P before.2 (ap (λ (r : PlanRows). length r.release) (planned.rows before.0 before.1) ∙ pair_plan-release N table (slice_index order before.0))
 
 -- a row has a quantity for each period
 pub length-row_of : (N : Table) (amount : ℕ → ℕ) → length (row_of N amount) ≡ horizon N
 length-row_of N amount = length-map-range_with_len amount 0 (horizon N)
-
--- the shares of the edges to a pair are in range
-pub shares_end : (N : Table) (x : ℕ) → IsTable N → (i : ℕ) → i < length (demanders N x) → (slice_index_or (demanders N x) i no_edge).high ≤ 1000
-shares_end N x is i h = let edge = demanders_join N x (edges_join N is) i no_edge h in edge.ends
-
--- the gross requirements together are within the demand rows and what the demanders would ask
-pub gross_sum-le : (N : Table) (table : List PlanRows) (x : ℕ) → IsTable N → sum (row_of N (gross N table x)) ≤ demand_total N x + asked_total table (demanders N x)
-gross_sum-le N table x is =
-    omega (
-      arith,
-      sum-map (gross N table x) (range_with_len 0 (horizon N)),
-      sum_by-add (demand N x) (asked table (demanders N x)) (range_with_len 0 (horizon N)),
-      sum-map (demand N x) (range_with_len 0 (horizon N)),
-      demands-le N x,
-      asked_sum-le table (horizon N) (demanders N x) (shares_end N x is),
-    )
 
 -- the rows of a pair that can be planned are within the bound
 pub is_within : (N : Table) (table : List PlanRows) (x : ℕ) (row : List ℕ) → CanPlan N table x → length row ≡ horizon N
@@ -173,7 +157,7 @@ IsPlannedTo-more N needs order k table rows is within planned plan releases =
     let elsewhere = λ (y : ℕ) (ne : y ≢ x). let e : rows_at new y ≡ rows_at table y = get_or-set_other table x y rows no_rows ne in e in
     let earlier = λ (j : ℕ) (h : j < k). elsewhere (slice_index order j) (places_apart N order is j k h within) in
     let demanders_stay = λ (j : ℕ) (h : j ≤ k) (i : ℕ) (edge : i < length (demanders N (slice_index order j))).
-    let before = demander_before N order is j (omega arith) i edge in
+    let before = demander_before N order is j (omega arith) i no_edge edge in
     let P : ℕ → Type 0 = λ y. rows_at new y ≡ rows_at table y in
     subst P before.2 (earlier before.0 (omega (arith, before.1))) in
     let stays = λ (j : ℕ) (h : j ≤ k). pair_plan-same N table new (slice_index order j) (demanders_stay j h) in
@@ -245,22 +229,6 @@ next_kept N needs order k table tables are_needs are_within is within planned ke
 pub fits_rooms : (N : Table) (table : List PlanRows) → Fits N table → HasRooms N table
 fits_rooms N table fits x in_table =
     ap (λ (r : PlanRows). length r.gross) (fits.rows x in_table) ∙ ap (λ (r : List ℕ). length r) (one-gross N table x) ∙ length-row_of N (gross N table x)
-
--- a table that fits is planned as far as one looks
-pub fits_to : (N : Table) (needs order : List ℕ) (table : List PlanRows) → IsTable N → AreNeeds N needs → AreWithin N needs → IsPlanningOrder N order → Fits N table
-    → (k : ℕ) → k ≤ length order → IsPlannedTo N needs order k table
-fits_to N needs order table tables are_needs are_within is fits zero within = record {
-  size = fits.size;
-  rooms = fits_rooms N table fits;
-  rows = λ j h. absurd (omega arith);
-  releases = λ j h. absurd (omega arith);
-}
-fits_to N needs order table tables are_needs are_within is fits (suc k) within =
-    let before = fits_to N needs order table tables are_needs are_within is fits k (omega arith) in
-    let in_table = place_in_table N order is k (omega arith) in
-    let next : k + 1 ≡ suc k = omega arith in
-    subst (λ (j : ℕ). IsPlannedTo N needs order j table) next
-    (next_kept N needs order k table tables are_needs are_within is (omega arith) before (fits.rows (slice_index order k) in_table))
 
 -- with all places of the order planned, the table fits
 pub all_planned : (N : Table) (needs order : List ℕ) (k : ℕ) (table : List PlanRows) → IsPlanningOrder N order → length order ≤ k → IsPlannedTo N needs order k table → Fits N table

@@ -1,4 +1,3 @@
 pub mod Explosion
 pub mod Peg
 pub mod Progress
-pub mod Within

@@ -3,7 +3,6 @@
 
 mod explosion;
 mod fitting;
-pub mod laws;
 mod pegging;
 mod plan;
 mod terms;

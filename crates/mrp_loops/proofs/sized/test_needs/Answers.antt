@@ -4,6 +4,7 @@ use Rattle.mrp_qty.specs.declared.quantity.TheConstants.{MOST}
 use Rattle.mrp_tables.specs.declared.numbers.PairNo.{PairNo}
 use Rattle.mrp_net.specs.Sums.{supply}
 use Rattle.mrp_loops.specs.Need.{need_at}
+use Rattle.mrp_loops.proofs.Orders.{pair_placed}
 use Rattle.mrp_loops.proofs.Needed.{solved_none, solved_more, needs_from_found, within_from_solved, cap_exact}
 use Rattle.mrp_loops.proofs.sized.test_needs.Goals as goal
 
@@ -27,3 +28,14 @@ returns-clause-needs c = needs_from_found c.args.network.now c.args.order.now c.
 
 pub returns-clause-within : goal.returns-clause-within
 returns-clause-within c = within_from_solved c.args.network.now c.args.order.now c.requires c.loop-x.x-index c.loop-x.needs.items (omega arith) c.loop-x.invariant
+
+pub need-need-requires-clause-pair : goal.need-need-requires-clause-pair
+need-need-requires-clause-pair c = pair_placed c.args.network.now c.args.order.now c.requires c.loop-x.x-index (record { 0 = 0 }) c.loop-x-test.true
+
+pub supply-requires : goal.supply-requires
+supply-requires c = pair_placed c.args.network.now c.args.order.now c.requires c.loop-x.x-index (record { 0 = 0 }) c.loop-x-test.true
+
+pub index_mut-requires : goal.index_mut-requires
+index_mut-requires c =
+    let here = pair_placed c.args.network.now c.args.order.now c.requires c.loop-x.x-index (record { 0 = 0 }) c.loop-x-test.true in
+    omega (arith, here, c.loop-x.invariant.are_found.size)

@@ -1,5 +1,6 @@
 use Rattle.std.proofs.Common.{◌≡◌, length, slice_index, arith, ap}
-use Rattle.mrp_plan.proofs.Asked.{sum-le_each, edge_need-le}
+use Rattle.mrp_net.proofs.Totals.{edge_need-le}
+use Rattle.mrp_plan.proofs.Asked.{sum-le_each}
 use Rattle.mrp_plan.proofs.explosion.explode.Goals as goal
 
 pub returns-clause-total : goal.returns-clause-total

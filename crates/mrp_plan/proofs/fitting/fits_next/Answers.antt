@@ -4,7 +4,7 @@ use Rattle.mrp_tables.specs.Table.{Table}
 use Rattle.mrp_tables.specs.declared.numbers.PairNo.{PairNo}
 use Rattle.mrp_net.specs.Plan.{rows_at, pair_plan}
 use Rattle.mrp_plan.specs.Progress.{CanPlan}
-use Rattle.mrp_plan.proofs.Orders.{place_in_table}
+use Rattle.mrp_loops.proofs.Orders.{place_in_table}
 use Rattle.mrp_plan.proofs.Planning.{can_plan, next_kept}
 use Rattle.mrp_plan.proofs.fitting.fits_next.Goals as goal
 

@@ -7,8 +7,8 @@ use Rattle.mrp_net.specs.Plan.{gross}
 use Rattle.mrp_net.specs.declared.edge.Edge.{Edge}
 use Rattle.mrp_plan.specs.Explosion.{asked}
 use Rattle.mrp_plan.proofs.Asked.{asked-le}
-use Rattle.mrp_plan.proofs.Periods.{demand-le, row_reads}
-use Rattle.mrp_plan.proofs.Planning.{shares_end}
+use Rattle.mrp_net.proofs.Periods.{demand-le, row_reads}
+use Rattle.mrp_net.proofs.Totals.{shares_end}
 use Rattle.mrp_plan.proofs.fitting.has_gross.Goals as goal
 
 pub asked_in-requires-clause-within : goal.asked_in-requires-clause-within

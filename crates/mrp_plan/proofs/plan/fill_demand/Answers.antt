@@ -2,7 +2,7 @@ use Rattle.std.proofs.Common.{arith}
 use Rattle.std.proofs.lemmas.List.FromFn.{fill_by_all}
 use Rattle.mrp_tables.specs.Table.{horizon}
 use Rattle.mrp_net.specs.Sums.{demand}
-use Rattle.mrp_plan.proofs.Periods.{demand-le}
+use Rattle.mrp_net.proofs.Periods.{demand-le}
 use Rattle.mrp_plan.proofs.plan.fill_demand.Goals as goal
 
 pub of-requires : goal.of-requires

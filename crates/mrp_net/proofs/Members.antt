@@ -1,7 +1,7 @@
 -- Membership in a list by recursion, through filters, maps, ranges and joined lists.
 use Rattle.std.proofs.Common.{◌≡◌, ℕ, zero, suc, ◌+◌, ◌<◌, ◌≤◌, Bool, true, ◌⊎◌, inl, inr, ⊎_elim, List, [], ◌∷◌, ◌++◌, length, map, get_or, refl, sym, ap, subst, ◌∙◌, arith, All, Contains}
-use Rattle.std.specs.List.{filter, flat_map, range_with_len}
-use Rattle.std.proofs.lemmas.Bool.{cond_both, both_ways}
+use Rattle.std.specs.List.{filter, flat_map, list_any, range_with_len}
+use Rattle.std.proofs.lemmas.Bool.{cond_both, both_ways, or_cases, true≢false}
 use Rattle.std.proofs.lemmas.List.Elements.{All-contains}
 
 abbrev pub In : {X : Type 0} → List X → X → Type 0
@@ -81,3 +81,11 @@ range_only a (suc n) x h =
 
 pub All-in : {X : Type 0} (P : X → Type 0) (xs : List X) (x : X) → All P xs → In xs x → P x
 All-in P xs x all h = All-contains P xs x all (Contains-from_in xs x h)
+
+-- a test that passes somewhere
+pub any_some : {X : Type 0} (p : X → Bool) (xs : List X) → list_any p xs ≡ true → (x : X) × In xs x × (p x ≡ true)
+any_some p [] t = absurd (true≢false (sym t))
+any_some p (x ∷ xs) t = ⊎_elim
+    (λ here. (x, inl refl, here))
+    (λ later. let c = any_some p xs later in (c.0, inr c.1, c.2))
+    (or_cases (p x) (list_any p xs) t)

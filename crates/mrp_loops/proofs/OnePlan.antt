@@ -1,5 +1,5 @@
--- The plan of a network with a planning order fits it, and is the only table that does.
-use Rattle.std.proofs.Common.{◌≡◌, ℕ, ◌<◌, ◌≤◌, List, length, slice_index, zero, suc, arith, refl, sym, ◌∙◌, subst}
+-- The plan of a network without loops fits it, and is the only table that does.
+use Rattle.std.proofs.Common.{◌≡◌, ℕ, ◌<◌, ◌≤◌, List, length, slice_index, zero, suc, arith, refl, sym, ap, ◌∙◌, subst}
 use Rattle.std.specs.List.{range_with_len}
 use Rattle.std.proofs.lemmas.List.{ext_get_or}
 use Rattle.std.proofs.lemmas.List.FromFn.{get_or-map-range_with_len, length-map-range_with_len, length-range_with_len}
@@ -8,8 +8,11 @@ use Rattle.mrp_lot.specs.One.{PlanRows}
 use Rattle.mrp_tables.specs.Table.{Table, IsPair}
 use Rattle.mrp_net.specs.Plan.{rows_at, no_rows, pair_plan, Fits, rounds, plan_of, HasOnePlan}
 use Rattle.mrp_loops.specs.Sized.{IsPlanningOrder}
-use Rattle.mrp_plan.proofs.Orders.{place_in_table, place_of, demander_before}
-use Rattle.mrp_plan.proofs.Planning.{pair_plan-same}
+use Rattle.mrp_loops.specs.Laws.{OnePlan}
+use Rattle.mrp_loops.proofs.Coded.{codes_exist}
+use Rattle.mrp_loops.proofs.Ordered.{planning_order}
+use Rattle.mrp_loops.proofs.Orders.{place_in_table, place_of, demander_before}
+use Rattle.mrp_net.proofs.Covering.{plans_look_at_demanders}
 
 -- a round plans each pair beside the round before
 round_rows : (N : Table) (k x : ℕ) → IsPair N x → rows_at (rounds N (suc k)) x ≡ pair_plan N (rounds N k) x
@@ -20,11 +23,11 @@ same_demanders : (N : Table) (order : List ℕ) → IsPlanningOrder N order → 
     → ((j : ℕ) → j < k → rows_at new (slice_index order j) ≡ rows_at old (slice_index order j))
     → pair_plan N new (slice_index order k) ≡ pair_plan N old (slice_index order k)
 same_demanders N order is old new k within same =
-    pair_plan-same N old new (slice_index order k)
-    (λ i h.
-    let before = demander_before N order is k within i h in
-    let P : ℕ → Type 0 = λ y. rows_at new y ≡ rows_at old y in
-    subst P before.2 (same before.0 before.1))
+    plans_look_at_demanders N new old (slice_index order k)
+    (λ i d h.
+    let before = demander_before N order is k within i d h in
+    let P : ℕ → Type 0 = λ y. (rows_at new y).release ≡ (rows_at old y).release in
+    subst P before.2 (ap (λ (r : PlanRows). r.release) (same before.0 before.1)))
 
 -- the places before k are settled after k rounds
 settled : (N : Table) (order : List ℕ) → IsPlanningOrder N order → (k j m : ℕ) → j < k → k ≤ m → j < length order
@@ -66,8 +69,8 @@ plan_fits N order is =
           subst P place.2 here;
     }
 
-pub one_plan : (N : Table) (order : List ℕ) → IsPlanningOrder N order → HasOnePlan N
-one_plan N order is = record {
+pub one_plan_by : (N : Table) (order : List ℕ) → IsPlanningOrder N order → HasOnePlan N
+one_plan_by N order is = record {
   fits = plan_fits N order is;
   only = λ table fits.
       ext_get_or no_rows table (plan_of N) (fits.size ∙ sym (rounds_size N (length N.pairs) refl))
@@ -76,3 +79,9 @@ one_plan N order is = record {
       let P : ℕ → Type 0 = λ y. rows_at table y ≡ rows_at (plan_of N) y in
       subst P place.2 (agree N order is table (plan_of N) fits (plan_fits N order is) (suc place.0) place.0 (omega arith) place.1));
 }
+
+pub one_plan : OnePlan
+one_plan N table free =
+    let codes = codes_exist N table free in
+    let order = planning_order N codes.0 table codes.1 in
+    one_plan_by N order.0 order.1
