@@ -1,37 +1,46 @@
-ghost use Rattle.std.specs.Prelude.{◌≡◌, ◌++◌, ◌<◌, ℕ, List, map, length, Err, IfOk, OnOk, IfErr, slice_index};
-ghost use Rattle.mrp_lot.specs.One.{PlanRows};
+ghost use Rattle.std.specs.Prelude.{◌≡◌, ◌+◌, ◌++◌, ◌∷◌, ◌<◌, ◌≤◌, map, drop, length, decimal, Err, IfOk, OnOk, IfErr};
+ghost use Rattle.csv.specs.Writing.{comma};
 ghost use Rattle.mrp_net.specs.Plan.{Fits};
 ghost use Rattle.mrp_report.specs.Rows.{IsBetweenRows, written};
-ghost use Rattle.mrp_report.specs.Dates.{dates_of};
 ghost use Rattle.mrp_report.specs.Sending.{Sends};
-ghost use Rattle.mrp_report.specs.Report.{HasPeriod, HasPeriods, period_at, plan_row, pair_text, plan_text};
+ghost use Rattle.mrp_report.specs.Parts.{figures_part, first_parts, pair_part, parts_text, period_part};
+ghost use Rattle.mrp_report.specs.Report.{HasPeriod, HasPeriods, period_at, plan_text};
 
 use crate::ReportFault;
 use crate::rows::{put_row, room_for, text_of};
 use crate::writing::send;
 use csv::Writer;
-use itoa::Buffer;
+use itoa::{Buffer, write_digits};
 use mrp_cal::Calendar;
 use mrp_loops::SizedNet;
 use mrp_net::PairNo;
 use mrp_netting::PairPlan;
 use mrp_plan::Plan;
+use mrp_qty::Qty;
 use std::alloc::Global;
 use std::io::Write;
 
-/// The most bytes of a row: the word, two names of 20, a period of 3 digits, a date, five quantities
-/// of 16, the commas and the line feed.
-const LONGEST_ROW: usize = 147;
+/// The most bytes of what the rows of a pair share: the word, two names of 20 and the commas between.
+const LONGEST_PAIR: usize = 46;
+
+/// The most bytes of what the rows of a period share: a period of 3 digits, a comma and a date.
+const LONGEST_PERIOD: usize = 14;
+
+/// The most bytes of the figures of a row: five quantities of 16 and the commas between.
+const LONGEST_FIGURES: usize = 84;
+
+/// The most bytes of a row: its parts, two commas and the line feed.
+const LONGEST_ROW: usize = LONGEST_PAIR + LONGEST_PERIOD + LONGEST_FIGURES + 3;
 
 /// The figures of one period of a plan, in pieces.
 #[derive(Clone, Copy, Debug)]
 pub(crate) struct Period {
     pub(crate) number: usize,
-    pub(crate) gross: u64,
-    pub(crate) incoming: u64,
-    pub(crate) order: u64,
-    pub(crate) release: u64,
-    pub(crate) available: u64,
+    pub(crate) gross: Qty,
+    pub(crate) incoming: Qty,
+    pub(crate) order: Qty,
+    pub(crate) release: Qty,
+    pub(crate) available: Qty,
 }
 
 /// Writes a row for each pair in table order and each period in rising order: `plan`, plant, item,
@@ -64,51 +73,80 @@ fn plan_text(alloc: Global, net: &SizedNet<'_>, plan: &Plan) -> Result<Vec<u8>, 
     ensures fault { IfErr result (λ fault. fault ≡ ReportFault.Memory) }
 {
     let network = net.network();
-    let dates = date_texts(alloc, network.calendar())?;
-    let count = network.pairs().saturating_mul(dates.len());
+    let periods = period_parts(alloc, network.calendar())?;
+    let count = network.pairs().saturating_mul(periods.len());
+    let mut pair = Vec::with_capacity(alloc, LONGEST_PAIR)?;
     let mut rows = room_for(alloc, count, LONGEST_ROW)?;
     'pairs: for x in 0..network.pairs() {
         let (plant, item) = network.pair_name(PairNo(x));
+        name_pair(&mut pair, plant, item)?;
         put_pair(
             &mut rows,
-            plant,
-            item,
-            dates.as_slice(),
+            pair.as_slice(),
+            periods.as_slice(),
             plan.pair(PairNo(x)),
         )?;
     }
     text_of(rows)
 }
 
-/// The text of each period's date.
-fn date_texts(alloc: Global, calendar: &Calendar) -> Result<Vec<[u8; 10]>, ReportFault>
-    ensures dates { IfOk result (λ dates. dates.items ≡ dates_of calendar.now) }
+/// What the rows of each period share: its number and its date.
+fn period_parts(alloc: Global, calendar: &Calendar) -> Result<Vec<Vec<u8>>, ReportFault>
+    ensures parts { IfOk result (λ parts. map (λ part. part.items) parts.items ≡ first_parts calendar.now calendar.now.periods) }
     ensures fault { IfErr result (λ fault. fault ≡ ReportFault.Memory) }
 {
     let periods = calendar.horizon().get() as usize;
-    let mut dates = Vec::with_capacity(alloc, periods)?;
+    let mut parts = Vec::with_capacity(alloc, periods)?;
     'periods: for t in 0..periods {
-        dates.push(calendar.text(t))?;
+        parts.push(period_part(alloc, calendar, t)?)?;
     }
-    Ok(dates)
+    Ok(parts)
+}
+
+/// What the rows of period `t` share.
+fn period_part(alloc: Global, calendar: &Calendar, t: usize) -> Result<Vec<u8>, ReportFault>
+    requires { t < calendar.now.periods }
+    ensures part { IfOk result (λ part. part.items ≡ period_part calendar.now t) }
+    ensures fault { IfErr result (λ fault. fault ≡ ReportFault.Memory) }
+{
+    let mut number = Buffer::new();
+    let mut part = Vec::with_capacity(alloc, LONGEST_PERIOD)?;
+    part.extend_from_slice(number.format(t).as_bytes())?;
+    part.push(b',')?;
+    part.extend_from_slice(&calendar.text(t))?;
+    Ok(part)
+}
+
+/// Makes the text what the rows of a pair share.
+fn name_pair(text: &mut Vec<u8>, plant: &str, item: &str) -> Result<(), ReportFault>
+    ensures part { OnOk result (text.new.items ≡ pair_part plant.now item.now) }
+    ensures fault { IfErr result (λ fault. fault ≡ ReportFault.Memory) }
+{
+    text.clear();
+    text.extend_from_slice(b"plan,")?;
+    text.extend_from_slice(plant.as_bytes())?;
+    text.push(b',')?;
+    text.extend_from_slice(item.as_bytes())?;
+    Ok(())
 }
 
 /// Adds the rows of a pair.
 fn put_pair(
     rows: &mut Writer<Vec<u8>>,
-    plant: &str,
-    item: &str,
-    dates: &[[u8; 10]],
+    pair: &[u8],
+    periods: &[Vec<u8>],
     plan: &PairPlan,
 ) -> Result<(), ReportFault>
     requires between { IsBetweenRows rows.old }
-    requires periods { HasPeriods plan.now (length dates.now) }
-    ensures rows { OnOk result (written rows.new ≡ written rows.old ++ pair_text plant.now item.now dates.now plan.now) }
+    requires periods { HasPeriods plan.now (length periods.now) }
+    ensures rows { OnOk result (written rows.new ≡ written rows.old ++ parts_text pair.now (map (λ part. part.items) periods.now) plan.now) }
     ensures between { OnOk result (IsBetweenRows rows.new) }
     ensures fault { IfErr result (λ fault. fault ≡ ReportFault.Memory) }
 {
-    'periods: for t in 0..dates.len() {
-        put_period(rows, plant, item, &dates[t], period_at(plan, t))?;
+    let mut figures = [0; LONGEST_FIGURES];
+    'periods: for t in 0..periods.len() {
+        let start = put_figures(&mut figures, period_at(plan, t));
+        put_row(rows, &[pair, periods[t].as_slice(), &figures[start..]])?;
     }
     Ok(())
 }
@@ -120,46 +158,46 @@ fn period_at(plan: &PairPlan, t: usize) -> Period
 {
     Period {
         number: t,
-        gross: plan.gross().get(t).get(),
-        incoming: plan.incoming().get(t).get(),
-        order: plan.order().get(t).get(),
-        release: plan.release().get(t).get(),
-        available: plan.available().get(t).get(),
+        gross: plan.gross().get(t),
+        incoming: plan.incoming().get(t),
+        order: plan.order().get(t),
+        release: plan.release().get(t),
+        available: plan.available().get(t),
     }
 }
 
-/// Adds the row of one period of a pair.
-fn put_period<'a>(
-    rows: &mut Writer<Vec<u8>>,
-    plant: &'a str,
-    item: &'a str,
-    date: &'a [u8],
-    period: Period,
-) -> Result<(), ReportFault>
-    requires { IsBetweenRows rows.old }
-    ensures row { OnOk result (written rows.new ≡ written rows.old ++ plan_row plant.now item.now date.now period) }
-    ensures between { OnOk result (IsBetweenRows rows.new) }
-    ensures fault { IfErr result (λ fault. fault ≡ ReportFault.Memory) }
+/// Writes the figures of a row at the end of the text, the last one first, and returns where they
+/// start.
+fn put_figures(text: &mut [u8; LONGEST_FIGURES], period: Period) -> usize
+    ensures within { result ≤ LONGEST_FIGURES }
+    ensures part { drop result text.new ≡ figures_part period }
 {
-    let mut number = Buffer::new();
-    let mut gross = Buffer::new();
-    let mut incoming = Buffer::new();
-    let mut order = Buffer::new();
-    let mut release = Buffer::new();
-    let mut available = Buffer::new();
-    put_row(
-        rows,
-        &[
-            b"plan",
-            plant.as_bytes(),
-            item.as_bytes(),
-            number.format(period.number).as_bytes(),
-            date,
-            gross.format(period.gross).as_bytes(),
-            incoming.format(period.incoming).as_bytes(),
-            order.format(period.order).as_bytes(),
-            release.format(period.release).as_bytes(),
-            available.format(period.available).as_bytes(),
-        ],
-    )
+    let available = put_figure(text, LONGEST_FIGURES, period.available);
+    let release = put_before(text, available, period.release);
+    let order = put_before(text, release, period.order);
+    let incoming = put_before(text, order, period.incoming);
+    put_before(text, incoming, period.gross)
+}
+
+/// Writes a figure so that it ends before `end`, and returns where it starts.
+fn put_figure(text: &mut [u8; LONGEST_FIGURES], end: usize, figure: Qty) -> usize
+    requires room { 16 ≤ end }
+    requires within { end ≤ LONGEST_FIGURES }
+    ensures before { result ≤ end }
+    ensures longest { end ≤ result + 16 }
+    ensures part { drop result text.new ≡ decimal figure ++ drop end text.old }
+{
+    write_digits(figure.get(), text, end)
+}
+
+/// Writes a figure and a comma before what starts at `next`, and returns where the figure starts.
+fn put_before(text: &mut [u8; LONGEST_FIGURES], next: usize, figure: Qty) -> usize
+    requires room { 17 ≤ next }
+    requires within { next ≤ LONGEST_FIGURES }
+    ensures before { result ≤ next }
+    ensures longest { next ≤ result + 17 }
+    ensures part { drop result text.new ≡ decimal figure ++ comma ∷ drop next text.old }
+{
+    text[next - 1] = b',';
+    put_figure(text, next - 1, figure)
 }
