@@ -12,7 +12,7 @@ use Rattle.csv.specs.declared.writer.WriterBuilder.{WriterBuilder}
 use Rattle.std.proofs.Common.{Vec, Global, Result, IfOk}
 use Rattle.std.proofs.lemmas.Result.{IfOk-weaker}
 use Rattle.std.proofs.lemmas.Option.{get_or_from_slice_get}
-use Rattle.std.proofs.lemmas.List.FromFn.{length-map-range_with_len}
+use Rattle.std.proofs.lemmas.List.FromFn.{length-map-range_with_len, map-range_with_len_more}
 use Rattle.mrp_lot.specs.One.{PlanRows, one}
 use Rattle.mrp_lot.specs.declared.params.PairParams.{PairParams}
 use Rattle.mrp_tables.specs.Table.{Table, IsPair, horizon}
@@ -20,6 +20,9 @@ use Rattle.mrp_net.specs.Names.{IsNamed}
 use Rattle.mrp_net.specs.Sums.{params_at, row_of, incoming}
 use Rattle.mrp_net.specs.Plan.{Fits, gross, rows_at}
 use Rattle.mrp_report.specs.Rows.{joined, plain_writer, row}
+use Rattle.mrp_cal.specs.Calendar.{CalendarTerms, first_day}
+use Rattle.mrp_cal.specs.Days.{day_text}
+use Rattle.mrp_report.specs.Dates.{first_dates, period_date}
 use Rattle.mrp_report.specs.Report.{HasPeriods, plant_of, item_of}
 
 -- fields after the first, with a comma before each
@@ -73,6 +76,14 @@ pub front-more : (a b c : Option (List ℕ)) (bytes : List ℕ) (sent taken : �
 front-more a b c bytes sent taken first next =
     let P : List ℕ → Type 0 = λ t. Appends a c t in
     subst P (sym (take-add sent taken bytes)) (appends-more a b c _ _ first next)
+
+-- one more date
+pub dates-more : (calendar : CalendarTerms) (dates more : List (List ℕ)) (date : List ℕ) (n : ℕ) → dates ≡ first_dates calendar n
+    → more ≡ dates ++ date ∷ [] → date ≡ day_text (first_day calendar n) → more ≡ first_dates calendar (n + 1)
+unfolding period_date
+dates-more calendar dates more date n so_far adds here =
+    adds ∙ ap (λ xs. xs ++ date ∷ []) so_far ∙ ap (λ d. first_dates calendar n ++ d ∷ []) here
+    ∙ sym (map-range_with_len_more (λ t. day_text (first_day calendar t)) 0 n n (omega arith))
 
 -- the names of a pair
 pub plant_is : (N : Table) (x : ℕ) (plant item : List ℕ) → IsNamed N x plant item → plant_of N x ≡ plant

@@ -8,6 +8,10 @@ use Rattle.mrp_cal.specs.Days.{day_text}
 unfoldable pub period_date : CalendarTerms → ℕ → List ℕ
 period_date calendar t = day_text (first_day calendar t)
 
+-- the dates of the first periods
+abbrev pub first_dates : CalendarTerms → ℕ → List (List ℕ)
+first_dates calendar count = map (period_date calendar) (range_with_len 0 count)
+
 -- the dates of all periods
 abbrev pub dates_of : CalendarTerms → List (List ℕ)
-dates_of calendar = map (period_date calendar) (range_with_len 0 calendar.periods)
+dates_of calendar = first_dates calendar calendar.periods

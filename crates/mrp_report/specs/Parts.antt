@@ -1,35 +1,25 @@
--- Parts that rows of the plan report share, each as one text.
-use Rattle.std.specs.Prelude.{ℕ, List, [], ◌∷◌, map, length, slice_index_or, decimal, codes as text_bytes}
+-- The two parts of a row of the plan report, each as one text.
+use Rattle.std.specs.Prelude.{ℕ, List, [], ◌∷◌, length, decimal, codes as text_bytes}
 use Rattle.std.specs.List.{flat_map, range_with_len}
 use Rattle.mrp_lot.specs.One.{PlanRows}
-use Rattle.mrp_cal.specs.Calendar.{CalendarTerms}
 use Rattle.mrp_report.specs.declared.plan.Period.{Period}
 use Rattle.mrp_report.specs.Rows.{joined, row}
-use Rattle.mrp_report.specs.Dates.{period_date}
-use Rattle.mrp_report.specs.Report.{period_at}
+use Rattle.mrp_report.specs.Report.{date_at, period_at}
 
 -- what all rows of a pair begin with: the word, its plant and its item
 abbrev pub pair_part : List ℕ → List ℕ → List ℕ
 pair_part plant item = joined (text_bytes "plan" ∷ plant ∷ item ∷ [])
 
--- what all rows of a period have next: its number and its first day
-abbrev pub period_part : CalendarTerms → ℕ → List ℕ
-period_part calendar t = joined (decimal t ∷ period_date calendar t ∷ [])
+-- what a row has of its period: the number, the date and the figures
+abbrev pub period_part : List ℕ → Period → List ℕ
+period_part date period =
+    joined (decimal period.number ∷ date ∷ decimal period.gross ∷ decimal period.incoming ∷ decimal period.order ∷ decimal period.release ∷ decimal period.available ∷ [])
 
--- those of the first periods
-abbrev pub first_parts : CalendarTerms → ℕ → List (List ℕ)
-first_parts calendar count = map (period_part calendar) (range_with_len 0 count)
-
--- the figures of a row
-abbrev pub figures_part : Period → List ℕ
-figures_part period =
-    joined (decimal period.gross ∷ decimal period.incoming ∷ decimal period.order ∷ decimal period.release ∷ decimal period.available ∷ [])
-
--- a row of its parts
+-- a row of these parts
 unfoldable pub parts_row : List ℕ → List ℕ → Period → List ℕ
-parts_row pair period figures = row (pair ∷ period ∷ figures_part figures ∷ [])
+parts_row pair date period = row (pair ∷ period_part date period ∷ [])
 
--- the rows of a pair, one for each part of a period
+-- the rows of a pair, one for each date, in rising period
 unfoldable pub parts_text : List ℕ → List (List ℕ) → PlanRows → List ℕ
-parts_text pair periods rows =
-    flat_map (λ t. parts_row pair (slice_index_or periods t []) (period_at rows t)) (range_with_len 0 (length periods))
+parts_text pair dates rows =
+    flat_map (λ t. parts_row pair (date_at dates t) (period_at rows t)) (range_with_len 0 (length dates))

@@ -3,14 +3,15 @@ ghost use Rattle.csv.specs.Writing.{comma};
 ghost use Rattle.mrp_net.specs.Plan.{Fits};
 ghost use Rattle.mrp_report.specs.Rows.{IsBetweenRows, written};
 ghost use Rattle.mrp_report.specs.Sending.{Sends};
-ghost use Rattle.mrp_report.specs.Parts.{figures_part, first_parts, pair_part, parts_text, period_part};
+ghost use Rattle.mrp_report.specs.Dates.{dates_of};
+ghost use Rattle.mrp_report.specs.Parts.{pair_part, parts_text, period_part};
 ghost use Rattle.mrp_report.specs.Report.{HasPeriod, HasPeriods, period_at, plan_text};
 
 use crate::ReportFault;
 use crate::rows::{put_row, room_for, text_of};
 use crate::writing::send;
 use csv::Writer;
-use itoa::{Buffer, write_digits};
+use itoa::write_digits;
 use mrp_cal::Calendar;
 use mrp_loops::SizedNet;
 use mrp_net::PairNo;
@@ -20,17 +21,17 @@ use mrp_qty::Qty;
 use std::alloc::Global;
 use std::io::Write;
 
-/// The most bytes of what the rows of a pair share: the word, two names of 20 and the commas between.
+/// The most bytes of what all rows of a pair begin with: the word, two names of 20 and the commas
+/// between.
 const LONGEST_PAIR: usize = 46;
 
-/// The most bytes of what the rows of a period share: a period of 3 digits, a comma and a date.
-const LONGEST_PERIOD: usize = 14;
+/// The most bytes of what a row has of its period: a number of 20 digits, a date, five quantities of
+/// 16 and the commas between.
+const LONGEST_PERIOD: usize = 116;
 
-/// The most bytes of the figures of a row: five quantities of 16 and the commas between.
-const LONGEST_FIGURES: usize = 84;
-
-/// The most bytes of a row: its parts, two commas and the line feed.
-const LONGEST_ROW: usize = LONGEST_PAIR + LONGEST_PERIOD + LONGEST_FIGURES + 3;
+/// The most bytes of a row: the word, two names of 20, a period of 3 digits, a date, five quantities
+/// of 16, the commas and the line feed.
+const LONGEST_ROW: usize = 147;
 
 /// The figures of one period of a plan, in pieces.
 #[derive(Clone, Copy, Debug)]
@@ -73,8 +74,8 @@ fn plan_text(alloc: Global, net: &SizedNet<'_>, plan: &Plan) -> Result<Vec<u8>, 
     ensures fault { IfErr result (λ fault. fault ≡ ReportFault.Memory) }
 {
     let network = net.network();
-    let periods = period_parts(alloc, network.calendar())?;
-    let count = network.pairs().saturating_mul(periods.len());
+    let dates = date_texts(alloc, network.calendar())?;
+    let count = network.pairs().saturating_mul(dates.len());
     let mut pair = Vec::with_capacity(alloc, LONGEST_PAIR)?;
     let mut rows = room_for(alloc, count, LONGEST_ROW)?;
     'pairs: for x in 0..network.pairs() {
@@ -83,41 +84,27 @@ fn plan_text(alloc: Global, net: &SizedNet<'_>, plan: &Plan) -> Result<Vec<u8>, 
         put_pair(
             &mut rows,
             pair.as_slice(),
-            periods.as_slice(),
+            dates.as_slice(),
             plan.pair(PairNo(x)),
         )?;
     }
     text_of(rows)
 }
 
-/// What the rows of each period share: its number and its date.
-fn period_parts(alloc: Global, calendar: &Calendar) -> Result<Vec<Vec<u8>>, ReportFault>
-    ensures parts { IfOk result (λ parts. map (λ part. part.items) parts.items ≡ first_parts calendar.now calendar.now.periods) }
+/// The text of each period's date.
+fn date_texts(alloc: Global, calendar: &Calendar) -> Result<Vec<[u8; 10]>, ReportFault>
+    ensures dates { IfOk result (λ dates. dates.items ≡ dates_of calendar.now) }
     ensures fault { IfErr result (λ fault. fault ≡ ReportFault.Memory) }
 {
     let periods = calendar.horizon().get() as usize;
-    let mut parts = Vec::with_capacity(alloc, periods)?;
+    let mut dates = Vec::with_capacity(alloc, periods)?;
     'periods: for t in 0..periods {
-        parts.push(period_part(alloc, calendar, t)?)?;
+        dates.push(calendar.text(t))?;
     }
-    Ok(parts)
+    Ok(dates)
 }
 
-/// What the rows of period `t` share.
-fn period_part(alloc: Global, calendar: &Calendar, t: usize) -> Result<Vec<u8>, ReportFault>
-    requires { t < calendar.now.periods }
-    ensures part { IfOk result (λ part. part.items ≡ period_part calendar.now t) }
-    ensures fault { IfErr result (λ fault. fault ≡ ReportFault.Memory) }
-{
-    let mut number = Buffer::new();
-    let mut part = Vec::with_capacity(alloc, LONGEST_PERIOD)?;
-    part.extend_from_slice(number.format(t).as_bytes())?;
-    part.push(b',')?;
-    part.extend_from_slice(&calendar.text(t))?;
-    Ok(part)
-}
-
-/// Makes the text what the rows of a pair share.
+/// Makes the text what all rows of a pair begin with.
 fn name_pair(text: &mut Vec<u8>, plant: &str, item: &str) -> Result<(), ReportFault>
     ensures part { OnOk result (text.new.items ≡ pair_part plant.now item.now) }
     ensures fault { IfErr result (λ fault. fault ≡ ReportFault.Memory) }
@@ -130,23 +117,23 @@ fn name_pair(text: &mut Vec<u8>, plant: &str, item: &str) -> Result<(), ReportFa
     Ok(())
 }
 
-/// Adds the rows of a pair.
+/// Adds the rows of a pair, which begin with `pair`.
 fn put_pair(
     rows: &mut Writer<Vec<u8>>,
     pair: &[u8],
-    periods: &[Vec<u8>],
+    dates: &[[u8; 10]],
     plan: &PairPlan,
 ) -> Result<(), ReportFault>
     requires between { IsBetweenRows rows.old }
-    requires periods { HasPeriods plan.now (length periods.now) }
-    ensures rows { OnOk result (written rows.new ≡ written rows.old ++ parts_text pair.now (map (λ part. part.items) periods.now) plan.now) }
+    requires periods { HasPeriods plan.now (length dates.now) }
+    ensures rows { OnOk result (written rows.new ≡ written rows.old ++ parts_text pair.now dates.now plan.now) }
     ensures between { OnOk result (IsBetweenRows rows.new) }
     ensures fault { IfErr result (λ fault. fault ≡ ReportFault.Memory) }
 {
-    let mut figures = [0; LONGEST_FIGURES];
-    'periods: for t in 0..periods.len() {
-        let start = put_figures(&mut figures, period_at(plan, t));
-        put_row(rows, &[pair, periods[t].as_slice(), &figures[start..]])?;
+    let mut text = [0; LONGEST_PERIOD];
+    'periods: for t in 0..dates.len() {
+        let start = put_period(&mut text, &dates[t], period_at(plan, t));
+        put_row(rows, &[pair, &text[start..]])?;
     }
     Ok(())
 }
@@ -166,23 +153,25 @@ fn period_at(plan: &PairPlan, t: usize) -> Period
     }
 }
 
-/// Writes the figures of a row at the end of the text, the last one first, and returns where they
-/// start.
-fn put_figures(text: &mut [u8; LONGEST_FIGURES], period: Period) -> usize
-    ensures within { result ≤ LONGEST_FIGURES }
-    ensures part { drop result text.new ≡ figures_part period }
+/// Writes what a row has of its period at the end of the text, the last figure first, and returns
+/// where it starts.
+fn put_period(text: &mut [u8; LONGEST_PERIOD], date: &[u8; 10], period: Period) -> usize
+    ensures within { result ≤ LONGEST_PERIOD }
+    ensures part { drop result text.new ≡ period_part date.now period }
 {
-    let available = put_figure(text, LONGEST_FIGURES, period.available);
+    let available = put_figure(text, LONGEST_PERIOD, period.available);
     let release = put_before(text, available, period.release);
     let order = put_before(text, release, period.order);
     let incoming = put_before(text, order, period.incoming);
-    put_before(text, incoming, period.gross)
+    let gross = put_before(text, incoming, period.gross);
+    let day = put_date(text, gross, date);
+    put_number(text, day, period.number)
 }
 
 /// Writes a figure so that it ends before `end`, and returns where it starts.
-fn put_figure(text: &mut [u8; LONGEST_FIGURES], end: usize, figure: Qty) -> usize
+fn put_figure(text: &mut [u8; LONGEST_PERIOD], end: usize, figure: Qty) -> usize
     requires room { 16 ≤ end }
-    requires within { end ≤ LONGEST_FIGURES }
+    requires within { end ≤ LONGEST_PERIOD }
     ensures before { result ≤ end }
     ensures longest { end ≤ result + 16 }
     ensures part { drop result text.new ≡ decimal figure ++ drop end text.old }
@@ -191,13 +180,37 @@ fn put_figure(text: &mut [u8; LONGEST_FIGURES], end: usize, figure: Qty) -> usiz
 }
 
 /// Writes a figure and a comma before what starts at `next`, and returns where the figure starts.
-fn put_before(text: &mut [u8; LONGEST_FIGURES], next: usize, figure: Qty) -> usize
+fn put_before(text: &mut [u8; LONGEST_PERIOD], next: usize, figure: Qty) -> usize
     requires room { 17 ≤ next }
-    requires within { next ≤ LONGEST_FIGURES }
+    requires within { next ≤ LONGEST_PERIOD }
     ensures before { result ≤ next }
     ensures longest { next ≤ result + 17 }
     ensures part { drop result text.new ≡ decimal figure ++ comma ∷ drop next text.old }
 {
     text[next - 1] = b',';
     put_figure(text, next - 1, figure)
+}
+
+/// Writes a date and a comma before what starts at `next`, and returns where the date starts.
+fn put_date(text: &mut [u8; LONGEST_PERIOD], next: usize, date: &[u8; 10]) -> usize
+    requires room { 11 ≤ next }
+    requires within { next ≤ LONGEST_PERIOD }
+    ensures start { result + 11 ≡ next }
+    ensures part { drop result text.new ≡ date.now ++ comma ∷ drop next text.old }
+{
+    let start = next - 11;
+    text[next - 1] = b',';
+    text[start..next - 1].copy_from_slice(date);
+    start
+}
+
+/// Writes a number and a comma before what starts at `next`, and returns where the number starts.
+fn put_number(text: &mut [u8; LONGEST_PERIOD], next: usize, number: usize) -> usize
+    requires room { 21 ≤ next }
+    requires within { next ≤ LONGEST_PERIOD }
+    ensures before { result ≤ next }
+    ensures part { drop result text.new ≡ decimal number ++ comma ∷ drop next text.old }
+{
+    text[next - 1] = b',';
+    write_digits(number as u64, text, next - 1)
 }

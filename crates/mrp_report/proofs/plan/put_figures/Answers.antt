@@ -1,8 +1,0 @@
-use Rattle.std.proofs.Common.{◌≡◌, drop, [], append-nil, arith, refl}
-use Rattle.std.proofs.lemmas.List.{drop_all}
-use Rattle.mrp_report.proofs.plan.put_figures.Goals as goal
-
-pub returns-clause-part : goal.returns-clause-part
-returns-clause-part c =
-    let none : drop 84 c.args.text.now ≡ [] = drop_all 84 c.args.text.now (omega arith) in
-    rw (c.put_before.ensures.part, c.put_before-incoming.ensures.part, c.put_before-order.ensures.part, c.put_before-release.ensures.part, c.put_figure-available.ensures.part, none, append-nil) refl
