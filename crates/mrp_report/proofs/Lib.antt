@@ -1,2 +1,3 @@
 pub mod RowFacts
 pub mod Fronts
+pub mod PartFacts

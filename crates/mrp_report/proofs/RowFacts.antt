@@ -1,11 +1,12 @@
 -- What csv's writer adds, and rows one after the other.
-use Rattle.std.proofs.Common.{◌≡◌, ℕ, zero, suc, ◌+◌, ◌<◌, ◌≤◌, List, [], ◌∷◌, ◌++◌, Option, Some, length, take, drop, get_or, subst, sym, ap, ◌∙◌, refl, arith, add-one, append_assoc}
+use Rattle.std.proofs.Common.{◌≡◌, ℕ, zero, suc, ◌+◌, ◌<◌, ◌≤◌, List, [], ◌∷◌, ◌++◌, Option, Some, length, take, drop, get_or, subst, sym, ap, ◌∙◌, arith, append-nil}
 use Rattle.std.proofs.lemmas.List.{flat_map_more, take_more}
 use Rattle.std.proofs.Math.Seq.{take-add}
 use Rattle.std.specs.List.{flat_map, range_with_len}
 use Rattle.std.specs.Io.KnownBytes.{Appends}
 use Rattle.csv.proofs.WriteFacts.{appends-more}
-use Rattle.csv.specs.Writing.{row_text, default_writer}
+use Rattle.csv.specs.Machine.{line_feed}
+use Rattle.csv.specs.Writing.{comma, fields_text, is_blank, row_text}
 use Rattle.csv.specs.declared.writer.QuoteStyle.TheVariants as style
 use Rattle.csv.specs.declared.writer.WriterBuilder.{WriterBuilder}
 use Rattle.std.proofs.Common.{Vec, Global, Result, IfOk}
@@ -18,19 +19,32 @@ use Rattle.mrp_tables.specs.Table.{Table, IsPair, horizon}
 use Rattle.mrp_net.specs.Names.{IsNamed}
 use Rattle.mrp_net.specs.Sums.{params_at, row_of, incoming}
 use Rattle.mrp_net.specs.Plan.{Fits, gross, rows_at}
-use Rattle.mrp_report.specs.Rows.{row}
+use Rattle.mrp_report.specs.Rows.{joined, plain_writer, row}
 use Rattle.mrp_cal.specs.Calendar.{CalendarTerms, first_day}
 use Rattle.mrp_cal.specs.Days.{day_text}
 use Rattle.mrp_report.specs.Dates.{first_dates, period_date}
 use Rattle.mrp_report.specs.Report.{HasPeriods, plant_of, item_of}
 
--- a writer with the default settings adds a row
-pub row_added : (setup : WriterBuilder) (old new : List ℕ) (fields : List (List ℕ)) → setup ≡ default_writer
+-- fields after the first, with a comma before each
+fields_joined : (first : List ℕ) (rest : List (List ℕ)) → first ++ fields_text plain_writer rest ≡ joined (first ∷ rest)
+unfolding fields_text
+fields_joined first [] = append-nil first
+fields_joined first (next ∷ rest) = ap (λ t. first ++ comma ∷ t) (fields_joined next rest)
+
+-- what csv's writer writes of a row of two fields and more
+row_plain : (fields : List (List ℕ)) → 2 ≤ length fields → row_text plain_writer fields ≡ row fields
+unfolding row is_blank
+row_plain [] few = absurd (omega arith)
+row_plain (first ∷ []) few = absurd (omega arith)
+row_plain (first ∷ next ∷ rest) few = ap (λ t. t ++ line_feed ∷ []) (fields_joined first (next ∷ rest))
+
+-- a writer that quotes nothing adds a row
+pub row_added : (setup : WriterBuilder) (old new : List ℕ) (fields : List (List ℕ)) → setup ≡ plain_writer → 2 ≤ length fields
     → ((setup.style ≡ style.NonNumeric → ⊥) → Appends (Some old) (Some new) (row_text setup fields)) → new ≡ old ++ row fields
-unfolding row
-row_added setup old new fields same said =
+row_added setup old new fields same many said =
     let P : WriterBuilder → Type 0 = λ s. (s.style ≡ style.NonNumeric → ⊥) → Appends (Some old) (Some new) (row_text s fields) in
-    subst P same said (λ e. cc)
+    let added : new ≡ old ++ row_text plain_writer fields = subst P same said (λ e. cc) in
+    added ∙ ap (λ t. old ++ t) (row_plain fields many)
 
 -- the numbers from a on, and one more
 pub range-more : (a n : ℕ) → range_with_len a (suc n) ≡ range_with_len a n ++ (a + n) ∷ []

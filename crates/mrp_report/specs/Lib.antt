@@ -2,3 +2,4 @@ pub mod Sending
 pub mod Rows
 pub mod Dates
 pub mod Report
+pub mod Parts

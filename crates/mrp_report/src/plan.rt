@@ -1,23 +1,33 @@
-ghost use Rattle.std.specs.Prelude.{◌≡◌, ◌++◌, ◌<◌, ℕ, List, map, length, Err, IfOk, OnOk, IfErr, slice_index};
-ghost use Rattle.mrp_lot.specs.One.{PlanRows};
+ghost use Rattle.std.specs.Prelude.{◌≡◌, ◌+◌, ◌++◌, ◌∷◌, ◌<◌, ◌≤◌, map, drop, length, decimal, Err, IfOk, OnOk, IfErr};
+ghost use Rattle.csv.specs.Writing.{comma};
 ghost use Rattle.mrp_net.specs.Plan.{Fits};
 ghost use Rattle.mrp_report.specs.Rows.{IsBetweenRows, written};
-ghost use Rattle.mrp_report.specs.Dates.{dates_of};
 ghost use Rattle.mrp_report.specs.Sending.{Sends};
-ghost use Rattle.mrp_report.specs.Report.{HasPeriod, HasPeriods, period_at, plan_row, pair_text, plan_text};
+ghost use Rattle.mrp_report.specs.Dates.{dates_of};
+ghost use Rattle.mrp_report.specs.Parts.{pair_part, parts_text, period_part};
+ghost use Rattle.mrp_report.specs.Report.{HasPeriod, HasPeriods, period_at, plan_text};
 
 use crate::ReportFault;
 use crate::rows::{put_row, room_for, text_of};
 use crate::writing::send;
 use csv::Writer;
-use itoa::Buffer;
+use itoa::write_digits;
 use mrp_cal::Calendar;
 use mrp_loops::SizedNet;
 use mrp_net::PairNo;
 use mrp_netting::PairPlan;
 use mrp_plan::Plan;
+use mrp_qty::Qty;
 use std::alloc::Global;
 use std::io::Write;
+
+/// The most bytes of what all rows of a pair begin with: the word, two names of 20 and the commas
+/// between.
+const LONGEST_PAIR: usize = 46;
+
+/// The most bytes of what a row has of its period: a number of 20 digits, a date, five quantities of
+/// 16 and the commas between.
+const LONGEST_PERIOD: usize = 116;
 
 /// The most bytes of a row: the word, two names of 20, a period of 3 digits, a date, five quantities
 /// of 16, the commas and the line feed.
@@ -27,11 +37,11 @@ const LONGEST_ROW: usize = 147;
 #[derive(Clone, Copy, Debug)]
 pub(crate) struct Period {
     pub(crate) number: usize,
-    pub(crate) gross: u64,
-    pub(crate) incoming: u64,
-    pub(crate) order: u64,
-    pub(crate) release: u64,
-    pub(crate) available: u64,
+    pub(crate) gross: Qty,
+    pub(crate) incoming: Qty,
+    pub(crate) order: Qty,
+    pub(crate) release: Qty,
+    pub(crate) available: Qty,
 }
 
 /// Writes a row for each pair in table order and each period in rising order: `plan`, plant, item,
@@ -66,13 +76,14 @@ fn plan_text(alloc: Global, net: &SizedNet<'_>, plan: &Plan) -> Result<Vec<u8>, 
     let network = net.network();
     let dates = date_texts(alloc, network.calendar())?;
     let count = network.pairs().saturating_mul(dates.len());
+    let mut pair = Vec::with_capacity(alloc, LONGEST_PAIR)?;
     let mut rows = room_for(alloc, count, LONGEST_ROW)?;
     'pairs: for x in 0..network.pairs() {
         let (plant, item) = network.pair_name(PairNo(x));
+        name_pair(&mut pair, plant, item)?;
         put_pair(
             &mut rows,
-            plant,
-            item,
+            pair.as_slice(),
             dates.as_slice(),
             plan.pair(PairNo(x)),
         )?;
@@ -93,22 +104,36 @@ fn date_texts(alloc: Global, calendar: &Calendar) -> Result<Vec<[u8; 10]>, Repor
     Ok(dates)
 }
 
-/// Adds the rows of a pair.
+/// Makes the text what all rows of a pair begin with.
+fn name_pair(text: &mut Vec<u8>, plant: &str, item: &str) -> Result<(), ReportFault>
+    ensures part { OnOk result (text.new.items ≡ pair_part plant.now item.now) }
+    ensures fault { IfErr result (λ fault. fault ≡ ReportFault.Memory) }
+{
+    text.clear();
+    text.extend_from_slice(b"plan,")?;
+    text.extend_from_slice(plant.as_bytes())?;
+    text.push(b',')?;
+    text.extend_from_slice(item.as_bytes())?;
+    Ok(())
+}
+
+/// Adds the rows of a pair, which begin with `pair`.
 fn put_pair(
     rows: &mut Writer<Vec<u8>>,
-    plant: &str,
-    item: &str,
+    pair: &[u8],
     dates: &[[u8; 10]],
     plan: &PairPlan,
 ) -> Result<(), ReportFault>
     requires between { IsBetweenRows rows.old }
     requires periods { HasPeriods plan.now (length dates.now) }
-    ensures rows { OnOk result (written rows.new ≡ written rows.old ++ pair_text plant.now item.now dates.now plan.now) }
+    ensures rows { OnOk result (written rows.new ≡ written rows.old ++ parts_text pair.now dates.now plan.now) }
     ensures between { OnOk result (IsBetweenRows rows.new) }
     ensures fault { IfErr result (λ fault. fault ≡ ReportFault.Memory) }
 {
+    let mut text = [0; LONGEST_PERIOD];
     'periods: for t in 0..dates.len() {
-        put_period(rows, plant, item, &dates[t], period_at(plan, t))?;
+        let start = put_period(&mut text, &dates[t], period_at(plan, t));
+        put_row(rows, &[pair, &text[start..]])?;
     }
     Ok(())
 }
@@ -120,46 +145,72 @@ fn period_at(plan: &PairPlan, t: usize) -> Period
 {
     Period {
         number: t,
-        gross: plan.gross().get(t).get(),
-        incoming: plan.incoming().get(t).get(),
-        order: plan.order().get(t).get(),
-        release: plan.release().get(t).get(),
-        available: plan.available().get(t).get(),
+        gross: plan.gross().get(t),
+        incoming: plan.incoming().get(t),
+        order: plan.order().get(t),
+        release: plan.release().get(t),
+        available: plan.available().get(t),
     }
 }
 
-/// Adds the row of one period of a pair.
-fn put_period<'a>(
-    rows: &mut Writer<Vec<u8>>,
-    plant: &'a str,
-    item: &'a str,
-    date: &'a [u8],
-    period: Period,
-) -> Result<(), ReportFault>
-    requires { IsBetweenRows rows.old }
-    ensures row { OnOk result (written rows.new ≡ written rows.old ++ plan_row plant.now item.now date.now period) }
-    ensures between { OnOk result (IsBetweenRows rows.new) }
-    ensures fault { IfErr result (λ fault. fault ≡ ReportFault.Memory) }
+/// Writes what a row has of its period at the end of the text, the last figure first, and returns
+/// where it starts.
+fn put_period(text: &mut [u8; LONGEST_PERIOD], date: &[u8; 10], period: Period) -> usize
+    ensures within { result ≤ LONGEST_PERIOD }
+    ensures part { drop result text.new ≡ period_part date.now period }
 {
-    let mut number = Buffer::new();
-    let mut gross = Buffer::new();
-    let mut incoming = Buffer::new();
-    let mut order = Buffer::new();
-    let mut release = Buffer::new();
-    let mut available = Buffer::new();
-    put_row(
-        rows,
-        &[
-            b"plan",
-            plant.as_bytes(),
-            item.as_bytes(),
-            number.format(period.number).as_bytes(),
-            date,
-            gross.format(period.gross).as_bytes(),
-            incoming.format(period.incoming).as_bytes(),
-            order.format(period.order).as_bytes(),
-            release.format(period.release).as_bytes(),
-            available.format(period.available).as_bytes(),
-        ],
-    )
+    let available = put_figure(text, LONGEST_PERIOD, period.available);
+    let release = put_before(text, available, period.release);
+    let order = put_before(text, release, period.order);
+    let incoming = put_before(text, order, period.incoming);
+    let gross = put_before(text, incoming, period.gross);
+    let day = put_date(text, gross, date);
+    put_number(text, day, period.number)
+}
+
+/// Writes a figure so that it ends before `end`, and returns where it starts.
+fn put_figure(text: &mut [u8; LONGEST_PERIOD], end: usize, figure: Qty) -> usize
+    requires room { 16 ≤ end }
+    requires within { end ≤ LONGEST_PERIOD }
+    ensures before { result ≤ end }
+    ensures longest { end ≤ result + 16 }
+    ensures part { drop result text.new ≡ decimal figure ++ drop end text.old }
+{
+    write_digits(figure.get(), text, end)
+}
+
+/// Writes a figure and a comma before what starts at `next`, and returns where the figure starts.
+fn put_before(text: &mut [u8; LONGEST_PERIOD], next: usize, figure: Qty) -> usize
+    requires room { 17 ≤ next }
+    requires within { next ≤ LONGEST_PERIOD }
+    ensures before { result ≤ next }
+    ensures longest { next ≤ result + 17 }
+    ensures part { drop result text.new ≡ decimal figure ++ comma ∷ drop next text.old }
+{
+    text[next - 1] = b',';
+    put_figure(text, next - 1, figure)
+}
+
+/// Writes a date and a comma before what starts at `next`, and returns where the date starts.
+fn put_date(text: &mut [u8; LONGEST_PERIOD], next: usize, date: &[u8; 10]) -> usize
+    requires room { 11 ≤ next }
+    requires within { next ≤ LONGEST_PERIOD }
+    ensures start { result + 11 ≡ next }
+    ensures part { drop result text.new ≡ date.now ++ comma ∷ drop next text.old }
+{
+    let start = next - 11;
+    text[next - 1] = b',';
+    text[start..next - 1].copy_from_slice(date);
+    start
+}
+
+/// Writes a number and a comma before what starts at `next`, and returns where the number starts.
+fn put_number(text: &mut [u8; LONGEST_PERIOD], next: usize, number: usize) -> usize
+    requires room { 21 ≤ next }
+    requires within { next ≤ LONGEST_PERIOD }
+    ensures before { result ≤ next }
+    ensures part { drop result text.new ≡ decimal number ++ comma ∷ drop next text.old }
+{
+    text[next - 1] = b',';
+    write_digits(number as u64, text, next - 1)
 }

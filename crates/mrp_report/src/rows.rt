@@ -1,8 +1,8 @@
-ghost use Rattle.std.specs.Prelude.{◌≡◌, ◌++◌, map, IfOk, OnOk, IfErr, [], length};
+ghost use Rattle.std.specs.Prelude.{◌≡◌, ◌≤◌, ◌++◌, map, IfOk, OnOk, IfErr, [], length};
 ghost use Rattle.mrp_report.specs.Rows.{row, IsBetweenRows, written};
 
 use crate::ReportFault;
-use csv::Writer;
+use csv::{QuoteStyle, Writer, WriterBuilder};
 use std::alloc::Global;
 
 /// Room for so many rows of at most so many bytes each.
@@ -16,12 +16,17 @@ pub(crate) fn room_for(
     ensures fault { IfErr result (λ fault. fault ≡ ReportFault.Memory) }
 {
     let text = Vec::with_capacity(alloc, rows.saturating_mul(longest))?;
-    Ok(Writer::from_writer(text))
+    Ok(
+        WriterBuilder::new()
+            .quote_style(QuoteStyle::Never)
+            .from_writer(text),
+    )
 }
 
-/// Adds a row of these fields.
+/// Adds a row of these fields, of which there are two and more.
 pub(crate) fn put_row(rows: &mut Writer<Vec<u8>>, fields: &[&[u8]]) -> Result<(), ReportFault>
-    requires { IsBetweenRows rows.old }
+    requires between { IsBetweenRows rows.old }
+    requires many { 2 ≤ length fields.now }
     ensures row { OnOk result (written rows.new ≡ written rows.old ++ row (map (λ field. field.now) fields.now)) }
     ensures between { OnOk result (IsBetweenRows rows.new) }
     ensures fault { IfErr result (λ fault. fault ≡ ReportFault.Memory) }

@@ -1,5 +1,4 @@
-use Rattle.std.proofs.Common.{◌≡◌, ◌++◌, length, arith, rules, sym, ap, ◌∙◌, List, get_or, take_all}
-use Rattle.mrp_report.specs.Rows.{written}
+use Rattle.std.proofs.Common.{◌≡◌, arith, sym, get_or}
 use Rattle.mrp_report.specs.Report.{late_row}
 use Rattle.mrp_report.proofs.RowFacts.{rows_of-more}
 use Rattle.mrp_report.proofs.late.put_orders.Goals as goal

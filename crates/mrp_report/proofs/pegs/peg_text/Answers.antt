@@ -1,6 +1,6 @@
-use Rattle.std.proofs.Common.{◌≡◌, length, arith, take}
+use Rattle.std.proofs.Common.{◌≡◌, arith, take}
 use Rattle.std.proofs.lemmas.List.{take_all}
-use Rattle.mrp_report.specs.Report.{peg_row, peg_text}
+use Rattle.mrp_report.specs.Report.{peg_text}
 use Rattle.mrp_report.proofs.RowFacts.{all_rows}
 use Rattle.mrp_report.proofs.pegs.peg_text.Goals as goal
 

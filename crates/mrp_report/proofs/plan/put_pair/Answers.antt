@@ -1,18 +1,26 @@
-use Rattle.std.proofs.Common.{◌≡◌, length, arith}
-use Rattle.mrp_report.specs.Report.{date_at, pair_text, plan_row, period_at}
+use Rattle.std.proofs.Common.{◌≡◌, ◌-◌, drop, length, length-drop, take, arith, ap, ◌∙◌}
+use Rattle.std.proofs.lemmas.List.{take_all}
+use Rattle.mrp_report.specs.Parts.{parts_row, parts_text, period_part}
+use Rattle.mrp_report.specs.Report.{date_at, period_at}
 use Rattle.mrp_report.proofs.RowFacts.{rows-more}
 use Rattle.mrp_report.proofs.plan.put_pair.Goals as goal
 
 pub periods-preserved : goal.periods-preserved
-periods-preserved c = record {
-  between = c.in_ok-put_period.ensures.between;
-  so_far = rows-more (λ t. plan_row c.args.plant.now c.args.item.now (date_at c.args.dates.now t) (period_at c.args.plan.now t))
-      _ _ _ c.periods.t c.periods.invariant.so_far
-      (rw (← c.period_at.ensures) c.in_ok-put_period.ensures.row);
-}
+unfolding parts_row
+periods-preserved c =
+    let text = c.put_period-start.new.text in
+    let start = c.put_period-start.result in
+    let part : take (116 - start) (drop start text) ≡ period_part (date_at c.args.dates.now c.periods.t) (period_at c.args.plan.now c.periods.t) =
+    take_all _ _ (omega (arith, length-drop start text)) ∙ c.put_period-start.ensures.part ∙ ap (period_part (date_at c.args.dates.now c.periods.t)) c.period_at.ensures in
+    record {
+      between = c.in_ok-put_row.ensures.between;
+      so_far = rows-more (λ t. parts_row c.args.pair.now (date_at c.args.dates.now t) (period_at c.args.plan.now t))
+          _ _ _ c.periods.t c.periods.invariant.so_far
+          (rw part at c.in_ok-put_row.ensures.row);
+    }
 
 pub returns-clause-rows : goal.returns-clause-rows
-unfolding pair_text
+unfolding parts_text
 returns-clause-rows c =
     let at_end : c.periods.t ≡ length c.args.dates.now = omega arith in
     rw (← at_end) c.periods.invariant.so_far

@@ -1,4 +1,4 @@
-use Rattle.std.proofs.Common.{◌≤◌, arith, take, drop, length, length-drop}
+use Rattle.std.proofs.Common.{◌≤◌, arith, drop, length, length-drop}
 use Rattle.std.proofs.lemmas.List.{take_rest}
 use Rattle.mrp_report.proofs.RowFacts.{front-more}
 use Rattle.mrp_report.proofs.writing.send.Goals as goal
