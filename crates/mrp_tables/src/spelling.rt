@@ -1,6 +1,7 @@
 ghost use Rattle.std.specs.Prelude.{◌≡◌, ◌≤◌, length, IfOk, IfSome};
 ghost use Rattle.std.specs.List.{list_all};
 ghost use Rattle.mrp_tables.specs.Digits.{digits_of};
+ghost use Rattle.mrp_tables.specs.Table.{IsName};
 ghost use Rattle.mrp_tables.specs.Spelling.{is_name, is_name_byte, number_of, number_within};
 ghost use Rattle.mrp_tables.specs.Grammar.{name_of, ranged, seen};
 
@@ -30,6 +31,7 @@ pub(crate) fn is_name(text: &str) -> bool
 /// The text itself, where it is a name.
 pub(crate) fn name(text: &str) -> Result<&str, TableFaultKind>
     ensures exact { seen (λ found. found.now) result ≡ name_of text.now }
+    ensures named { IfOk result (λ found. IsName found.now) }
 {
     if is_name(text) {
         Ok(text)
