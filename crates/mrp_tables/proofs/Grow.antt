@@ -5,7 +5,7 @@ use Rattle.std.specs.Str.{bytes_eq}
 use Rattle.std.proofs.lemmas.List.Elements.{All-push, All-weaker}
 use Rattle.std.proofs.lemmas.List.{length_push}
 use Rattle.mrp_tables.specs.declared.rows.TheConstants.{MOST_BILLS, MOST_OF_A_KIND, MOST_PAIRS, MOST_PLANTS, MOST_SOURCES}
-use Rattle.mrp_tables.specs.Table.{Table, IsRead, IsLimited, horizon, IsPairRow, IsSourceRow, IsBillRow, IsDemandRow, IsReceiptRow, IsShipRow, IsCumRow, IsResetRow}
+use Rattle.mrp_tables.specs.Table.{Table, IsName, IsRead, IsLimited, horizon, IsPairRow, IsSourceRow, IsBillRow, IsDemandRow, IsReceiptRow, IsShipRow, IsCumRow, IsResetRow}
 use Rattle.mrp_tables.specs.Lists.{add_item, with_plant, with_item, with_pair, with_source, with_bill, with_demand, with_receipt, with_ship, with_cum, with_reset}
 use Rattle.mrp_tables.specs.declared.rows.PairRow.{PairRow}
 use Rattle.mrp_tables.specs.declared.rows.SourceRow.{SourceRow}
@@ -42,19 +42,19 @@ pub bills_grow : (N M : Table) → Grows N M → (xs : List BillRow) → All (Is
 bills_grow N M g xs h = All-weaker (IsBillRow N) (IsBillRow M) (bill_grows N M g) xs h
 
 pub demand_grows : (N M : Table) → Grows N M → (x : DemandRow) → IsDemandRow N x → IsDemandRow M x
-demand_grows N M g x h = record { pair = omega (arith, g.pairs, h.pair); period = omega (arith, g.periods, h.period); quantity = h.quantity }
+demand_grows N M g x h = record { pair = omega (arith, g.pairs, h.pair); period = omega (arith, g.periods, h.period); some = h.some; quantity = h.quantity }
 
 pub demands_grow : (N M : Table) → Grows N M → (xs : List DemandRow) → All (IsDemandRow N) xs → All (IsDemandRow M) xs
 demands_grow N M g xs h = All-weaker (IsDemandRow N) (IsDemandRow M) (demand_grows N M g) xs h
 
 pub receipt_grows : (N M : Table) → Grows N M → (x : ReceiptRow) → IsReceiptRow N x → IsReceiptRow M x
-receipt_grows N M g x h = record { pair = omega (arith, g.pairs, h.pair); period = omega (arith, g.periods, h.period); quantity = h.quantity }
+receipt_grows N M g x h = record { pair = omega (arith, g.pairs, h.pair); period = omega (arith, g.periods, h.period); some = h.some; quantity = h.quantity }
 
 pub receipts_grow : (N M : Table) → Grows N M → (xs : List ReceiptRow) → All (IsReceiptRow N) xs → All (IsReceiptRow M) xs
 receipts_grow N M g xs h = All-weaker (IsReceiptRow N) (IsReceiptRow M) (receipt_grows N M g) xs h
 
 pub ship_grows : (N M : Table) → Grows N M → (x : ShipRow) → IsShipRow N x → IsShipRow M x
-ship_grows N M g x h = record { from = omega (arith, g.plants, h.from); pair = omega (arith, g.pairs, h.pair); period = omega (arith, g.periods, h.period); quantity = h.quantity }
+ship_grows N M g x h = record { from = omega (arith, g.plants, h.from); pair = omega (arith, g.pairs, h.pair); period = omega (arith, g.periods, h.period); some = h.some; quantity = h.quantity }
 
 pub ships_grow : (N M : Table) → Grows N M → (xs : List ShipRow) → All (IsShipRow N) xs → All (IsShipRow M) xs
 ships_grow N M g xs h = All-weaker (IsShipRow N) (IsShipRow M) (ship_grows N M g) xs h
@@ -71,13 +71,15 @@ reset_grows N M g x h = record { from = omega (arith, g.plants, h.from); pair = 
 pub resets_grow : (N M : Table) → Grows N M → (xs : List ResetRow) → All (IsResetRow N) xs → All (IsResetRow M) xs
 resets_grow N M g xs h = All-weaker (IsResetRow N) (IsResetRow M) (reset_grows N M g) xs h
 
-pub read-with_plant : (N : Table) (x : List ℕ) → IsRead N → length N.plants < MOST_PLANTS → IsRead (with_plant N x)
-read-with_plant N x read room =
+pub read-with_plant : (N : Table) (x : List ℕ) → IsRead N → IsName x → length N.plants < MOST_PLANTS → IsRead (with_plant N x)
+read-with_plant N x read named room =
     let M = with_plant N x in
     let longer : length M.plants ≡ length N.plants + 1 = length_push N.plants x in
     let g : Grows N M = record { periods = refl; plants = omega (arith, longer); items = omega arith; pairs = omega arith } in
     record {
       limits = record { some_periods = read.limits.some_periods; periods = read.limits.periods; plants = omega (arith, longer, room); items = read.limits.items; pairs = read.limits.pairs; sources = read.limits.sources; bills = read.limits.bills; demands = read.limits.demands; receipts = read.limits.receipts; ships = read.limits.ships; cums = read.limits.cums; resets = read.limits.resets };
+      plants = All-push IsName N.plants x read.plants named;
+      items = read.items;
       pairs = pairs_grow N M g N.pairs read.pairs;
       sources = sources_grow N M g N.sources read.sources;
       bills = bills_grow N M g N.bills read.bills;
@@ -95,6 +97,8 @@ read-with_pair N x read row room =
     let g : Grows N M = record { periods = refl; plants = omega arith; items = omega arith; pairs = omega (arith, longer) } in
     record {
       limits = record { some_periods = read.limits.some_periods; periods = read.limits.periods; plants = read.limits.plants; items = read.limits.items; pairs = omega (arith, longer, room); sources = read.limits.sources; bills = read.limits.bills; demands = read.limits.demands; receipts = read.limits.receipts; ships = read.limits.ships; cums = read.limits.cums; resets = read.limits.resets };
+      plants = read.plants;
+      items = read.items;
       pairs = All-push (IsPairRow M) N.pairs x (pairs_grow N M g N.pairs read.pairs) (pair_grows N M g x row);
       sources = sources_grow N M g N.sources read.sources;
       bills = bills_grow N M g N.bills read.bills;
@@ -112,6 +116,8 @@ read-with_source N x read row room =
     let g : Grows N M = record { periods = refl; plants = omega arith; items = omega arith; pairs = omega arith } in
     record {
       limits = record { some_periods = read.limits.some_periods; periods = read.limits.periods; plants = read.limits.plants; items = read.limits.items; pairs = read.limits.pairs; sources = omega (arith, longer, room); bills = read.limits.bills; demands = read.limits.demands; receipts = read.limits.receipts; ships = read.limits.ships; cums = read.limits.cums; resets = read.limits.resets };
+      plants = read.plants;
+      items = read.items;
       pairs = pairs_grow N M g N.pairs read.pairs;
       sources = All-push (IsSourceRow M) N.sources x (sources_grow N M g N.sources read.sources) (source_grows N M g x row);
       bills = bills_grow N M g N.bills read.bills;
@@ -129,6 +135,8 @@ read-with_bill N x read row room =
     let g : Grows N M = record { periods = refl; plants = omega arith; items = omega arith; pairs = omega arith } in
     record {
       limits = record { some_periods = read.limits.some_periods; periods = read.limits.periods; plants = read.limits.plants; items = read.limits.items; pairs = read.limits.pairs; sources = read.limits.sources; bills = omega (arith, longer, room); demands = read.limits.demands; receipts = read.limits.receipts; ships = read.limits.ships; cums = read.limits.cums; resets = read.limits.resets };
+      plants = read.plants;
+      items = read.items;
       pairs = pairs_grow N M g N.pairs read.pairs;
       sources = sources_grow N M g N.sources read.sources;
       bills = All-push (IsBillRow M) N.bills x (bills_grow N M g N.bills read.bills) (bill_grows N M g x row);
@@ -146,6 +154,8 @@ read-with_demand N x read row room =
     let g : Grows N M = record { periods = refl; plants = omega arith; items = omega arith; pairs = omega arith } in
     record {
       limits = record { some_periods = read.limits.some_periods; periods = read.limits.periods; plants = read.limits.plants; items = read.limits.items; pairs = read.limits.pairs; sources = read.limits.sources; bills = read.limits.bills; demands = omega (arith, longer, room); receipts = read.limits.receipts; ships = read.limits.ships; cums = read.limits.cums; resets = read.limits.resets };
+      plants = read.plants;
+      items = read.items;
       pairs = pairs_grow N M g N.pairs read.pairs;
       sources = sources_grow N M g N.sources read.sources;
       bills = bills_grow N M g N.bills read.bills;
@@ -163,6 +173,8 @@ read-with_receipt N x read row room =
     let g : Grows N M = record { periods = refl; plants = omega arith; items = omega arith; pairs = omega arith } in
     record {
       limits = record { some_periods = read.limits.some_periods; periods = read.limits.periods; plants = read.limits.plants; items = read.limits.items; pairs = read.limits.pairs; sources = read.limits.sources; bills = read.limits.bills; demands = read.limits.demands; receipts = omega (arith, longer, room); ships = read.limits.ships; cums = read.limits.cums; resets = read.limits.resets };
+      plants = read.plants;
+      items = read.items;
       pairs = pairs_grow N M g N.pairs read.pairs;
       sources = sources_grow N M g N.sources read.sources;
       bills = bills_grow N M g N.bills read.bills;
@@ -180,6 +192,8 @@ read-with_ship N x read row room =
     let g : Grows N M = record { periods = refl; plants = omega arith; items = omega arith; pairs = omega arith } in
     record {
       limits = record { some_periods = read.limits.some_periods; periods = read.limits.periods; plants = read.limits.plants; items = read.limits.items; pairs = read.limits.pairs; sources = read.limits.sources; bills = read.limits.bills; demands = read.limits.demands; receipts = read.limits.receipts; ships = omega (arith, longer, room); cums = read.limits.cums; resets = read.limits.resets };
+      plants = read.plants;
+      items = read.items;
       pairs = pairs_grow N M g N.pairs read.pairs;
       sources = sources_grow N M g N.sources read.sources;
       bills = bills_grow N M g N.bills read.bills;
@@ -197,6 +211,8 @@ read-with_cum N x read row room =
     let g : Grows N M = record { periods = refl; plants = omega arith; items = omega arith; pairs = omega arith } in
     record {
       limits = record { some_periods = read.limits.some_periods; periods = read.limits.periods; plants = read.limits.plants; items = read.limits.items; pairs = read.limits.pairs; sources = read.limits.sources; bills = read.limits.bills; demands = read.limits.demands; receipts = read.limits.receipts; ships = read.limits.ships; cums = omega (arith, longer, room); resets = read.limits.resets };
+      plants = read.plants;
+      items = read.items;
       pairs = pairs_grow N M g N.pairs read.pairs;
       sources = sources_grow N M g N.sources read.sources;
       bills = bills_grow N M g N.bills read.bills;
@@ -214,6 +230,8 @@ read-with_reset N x read row room =
     let g : Grows N M = record { periods = refl; plants = omega arith; items = omega arith; pairs = omega arith } in
     record {
       limits = record { some_periods = read.limits.some_periods; periods = read.limits.periods; plants = read.limits.plants; items = read.limits.items; pairs = read.limits.pairs; sources = read.limits.sources; bills = read.limits.bills; demands = read.limits.demands; receipts = read.limits.receipts; ships = read.limits.ships; cums = read.limits.cums; resets = omega (arith, longer, room) };
+      plants = read.plants;
+      items = read.items;
       pairs = pairs_grow N M g N.pairs read.pairs;
       sources = sources_grow N M g N.sources read.sources;
       bills = bills_grow N M g N.bills read.bills;
@@ -232,13 +250,22 @@ length-add_item-le items name =
       | false ↦ (omega (arith, length_push items name), omega (arith, length_push items name))
     ]
 
-pub read-with_item : (N : Table) (name : List ℕ) → IsRead N → length N.items < MOST_PAIRS → IsRead (with_item N name)
-read-with_item N name read room =
+pub names-add_item : (items : List (List ℕ)) (name : List ℕ) → All IsName items → IsName name → All IsName (add_item items name)
+names-add_item items name names named =
+    elim (list_any (bytes_eq name) items) as (λ b. All IsName (if b then items else items ++ name ∷ [])) [
+      | true ↦ names
+      | false ↦ All-push IsName items name names named
+    ]
+
+pub read-with_item : (N : Table) (name : List ℕ) → IsRead N → IsName name → length N.items < MOST_PAIRS → IsRead (with_item N name)
+read-with_item N name read named room =
     let M = with_item N name in
     let bounds = length-add_item-le N.items name in
     let g : Grows N M = record { periods = refl; plants = omega arith; items = bounds.0; pairs = omega arith } in
     record {
       limits = record { some_periods = read.limits.some_periods; periods = read.limits.periods; plants = read.limits.plants; items = omega (arith, bounds.1, room); pairs = read.limits.pairs; sources = read.limits.sources; bills = read.limits.bills; demands = read.limits.demands; receipts = read.limits.receipts; ships = read.limits.ships; cums = read.limits.cums; resets = read.limits.resets };
+      plants = read.plants;
+      items = names-add_item N.items name read.items named;
       pairs = pairs_grow N M g N.pairs read.pairs;
       sources = sources_grow N M g N.sources read.sources;
       bills = bills_grow N M g N.bills read.bills;

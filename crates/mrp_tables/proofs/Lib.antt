@@ -17,6 +17,5 @@ pub mod Whole
 pub mod Starting
 pub mod Apart
 pub mod Arrivals
-pub mod Digits
 pub mod NewPair
 pub mod Shares

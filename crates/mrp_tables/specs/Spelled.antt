@@ -15,6 +15,7 @@ use Rattle.mrp_tables.specs.declared.spelled.SpelledAmount.{SpelledAmount}
 use Rattle.mrp_tables.specs.declared.spelled.SpelledLane.{SpelledLane}
 use Rattle.mrp_tables.specs.declared.spelled.SpelledRun.{SpelledRun}
 use Rattle.mrp_tables.specs.Spelling.{SourceTerms, SupplyTerms, MakeTerms, BuyTerms, FromTerms}
+use Rattle.mrp_tables.specs.Table.{IsName}
 use Rattle.mrp_tables.specs.Grammar.{AmountTerms, BillTerms, LaneTerms, PairTerms, RunTerms}
 
 -- a share that ends after it begins, and within the whole
@@ -36,8 +37,9 @@ HasSources Make = Unit {0}
 HasSources Buy = Unit {0}
 HasSources (From sources) = AreSources sources.items
 
--- a pair row whose numbers are in their ranges
+-- a pair row whose item is a name, and whose numbers are in their ranges
 pub record IsSpelledPair (p : SpelledPair) : Type 0 where
+  pub item : IsName p.item.now
   pub supply : HasSources p.supply
   pub rule : IsRule p.rule
   pub lead : p.lead ≤ LONGEST_LEAD

@@ -19,6 +19,7 @@ use Rattle.mrp_tables.specs.declared.rows.ShipRow.{ShipRow}
 use Rattle.mrp_tables.specs.declared.rows.SourceRow.{SourceRow}
 use Rattle.mrp_tables.specs.declared.rows.Supply.{Supply}
 use Rattle.mrp_tables.specs.declared.rows.Supply.TheVariants as supply
+use Rattle.mrp_tables.specs.Spelling.{is_name}
 
 -- The lists of rows, each in table order. A name is the list of its bytes; everywhere else a plant,
 -- an item or a pair is its place in its list.
@@ -47,6 +48,10 @@ pair_no N plant item = unwrap_or (position (λ p. (p.plant.0 == plant) && (p.ite
 abbrev pub IsPair : Table → ℕ → Type 0
 IsPair N x = x < length N.pairs
 
+-- a name: 1 to 20 letters, digits, `-`, `_` and `.`
+abbrev pub IsName : List ℕ → Type 0
+IsName text = is_name text ≡ true
+
 -- an amount of a row: at most 10^12 pieces
 abbrev pub IsAmount : ℕ → Type 0
 IsAmount quantity = quantity ≤ MOST_IN_ROW
@@ -74,17 +79,20 @@ pub record IsBillRow (N : Table) (b : BillRow) : Type 0 where
 pub record IsDemandRow (N : Table) (d : DemandRow) : Type 0 where
   pub pair : IsPair N d.pair.0
   pub period : d.period < horizon N
+  pub some : 1 ≤ d.quantity
   pub quantity : IsAmount d.quantity
 
 pub record IsReceiptRow (N : Table) (r : ReceiptRow) : Type 0 where
   pub pair : IsPair N r.pair.0
   pub period : r.period < horizon N
+  pub some : 1 ≤ r.quantity
   pub quantity : IsAmount r.quantity
 
 pub record IsShipRow (N : Table) (s : ShipRow) : Type 0 where
   pub from : s.from.0 < length N.plants
   pub pair : IsPair N s.pair.0
   pub period : s.period < horizon N
+  pub some : 1 ≤ s.quantity
   pub quantity : IsAmount s.quantity
 
 pub record IsCumRow (N : Table) (c : CumRow) : Type 0 where
@@ -112,9 +120,11 @@ pub record IsLimited (N : Table) : Type 0 where
   pub cums : length N.cums ≤ MOST_OF_A_KIND
   pub resets : length N.resets ≤ MOST_SOURCES
 
--- what the rows read so far say: each is in range and names what is there
+-- what the rows read so far say: names are names, and each row is in range and names what is there
 pub record IsRead (N : Table) : Type 0 where
   pub limits : IsLimited N
+  pub plants : All IsName N.plants
+  pub items : All IsName N.items
   pub pairs : All (IsPairRow N) N.pairs
   pub sources : All (IsSourceRow N) N.sources
   pub bills : All (IsBillRow N) N.bills

@@ -10,7 +10,7 @@ impl Draft {
     ghost use Rattle.std.specs.Prelude.{◌≡◌, ◌+◌, ◌≤◌, ◌<◌, length, option_map, Some, false, OnOk, IfOk, IfSome};
     ghost use Rattle.csv.specs.Records.{fields_of};
     ghost use Rattle.mrp_tables.specs.declared.rows.TheConstants.{MOST_BILLS, MOST_OF_A_KIND, MOST_PER};
-    ghost use Rattle.mrp_tables.specs.Grammar.{bill_fits, bill_of, bill_row, demand_of, demand_row, has_bill, is_made, known_pair, plant_no, receipt_of, receipt_row, Tells};
+    ghost use Rattle.mrp_tables.specs.Grammar.{bill_fits, bill_of, bill_row, demand_of, demand_row, has_bill, is_made, known_pair, plant_no, receipt_of, receipt_row, seen, Tells};
     ghost use Rattle.mrp_tables.specs.Spelled.{bill_view};
     ghost use Rattle.mrp_tables.specs.Table.{IsBillRow, IsDemandRow, IsReceiptRow};
     ghost use Rattle.mrp_tables.specs.Lists.{IsDraft, AddsRow, AreRows, table_of};
@@ -131,30 +131,31 @@ impl Draft {
         ensures exact { Tells result (demand_row (table_of self.old.lists) (fields_of row.now)) (table_of self.new.lists) }
         ensures adds { OnOk result (AddsRow self.old self.new) }
     {
-        let demand = self.demand_of(row)?;
-        self.near = self.lists.pairs[demand.pair.0].plant.0;
+        let (demand, plant) = self.demand_of(row)?;
+        self.near = plant.0;
         self.lists.add_demand(demand)?;
         Ok(())
     }
 
-    /// What a demand row says.
+    /// What a demand row says, with the plant that it names.
     #[tactic(auto, unfolding(crate::specs::Grammar::demand_of))]
-    fn demand_of(&self, row: &StringRecord) -> Result<DemandRow, TableFaultKind>
+    fn demand_of(&self, row: &StringRecord) -> Result<(DemandRow, PlantNo), TableFaultKind>
         requires draft { IsDraft self.now }
-        ensures exact { result ≡ demand_of (table_of self.now.lists) (fields_of row.now) }
-        ensures row { IfOk result (IsDemandRow (table_of self.now.lists)) }
+        ensures exact { seen (λ found. found.0) result ≡ demand_of (table_of self.now.lists) (fields_of row.now) }
+        ensures row { IfOk result (λ found. IsDemandRow (table_of self.now.lists) found.0) }
         ensures room { OnOk result (length self.now.lists.demands.items < MOST_OF_A_KIND) }
     {
         let spelled = spelled_amount(row, self.lists.calendar.horizon())?;
-        let (_, pair) = self.known_pair(spelled.plant, spelled.item)?;
+        let (plant, pair) = self.known_pair(spelled.plant, spelled.item)?;
         if self.lists.demands.len() >= MOST_OF_A_KIND {
             return Err(TableFaultKind::TooMany);
         }
-        Ok(DemandRow {
+        let demand = DemandRow {
             pair,
             period: spelled.period,
             quantity: Qty::of(spelled.quantity),
-        })
+        };
+        Ok((demand, plant))
     }
 
     /// Adds a receipt row.
@@ -163,29 +164,30 @@ impl Draft {
         ensures exact { Tells result (receipt_row (table_of self.old.lists) (fields_of row.now)) (table_of self.new.lists) }
         ensures adds { OnOk result (AddsRow self.old self.new) }
     {
-        let receipt = self.receipt_of(row)?;
-        self.near = self.lists.pairs[receipt.pair.0].plant.0;
+        let (receipt, plant) = self.receipt_of(row)?;
+        self.near = plant.0;
         self.lists.add_receipt(receipt)?;
         Ok(())
     }
 
-    /// What a receipt row says.
+    /// What a receipt row says, with the plant that it names.
     #[tactic(auto, unfolding(crate::specs::Grammar::receipt_of))]
-    fn receipt_of(&self, row: &StringRecord) -> Result<ReceiptRow, TableFaultKind>
+    fn receipt_of(&self, row: &StringRecord) -> Result<(ReceiptRow, PlantNo), TableFaultKind>
         requires draft { IsDraft self.now }
-        ensures exact { result ≡ receipt_of (table_of self.now.lists) (fields_of row.now) }
-        ensures row { IfOk result (IsReceiptRow (table_of self.now.lists)) }
+        ensures exact { seen (λ found. found.0) result ≡ receipt_of (table_of self.now.lists) (fields_of row.now) }
+        ensures row { IfOk result (λ found. IsReceiptRow (table_of self.now.lists) found.0) }
         ensures room { OnOk result (length self.now.lists.receipts.items < MOST_OF_A_KIND) }
     {
         let spelled = spelled_amount(row, self.lists.calendar.horizon())?;
-        let (_, pair) = self.known_pair(spelled.plant, spelled.item)?;
+        let (plant, pair) = self.known_pair(spelled.plant, spelled.item)?;
         if self.lists.receipts.len() >= MOST_OF_A_KIND {
             return Err(TableFaultKind::TooMany);
         }
-        Ok(ReceiptRow {
+        let receipt = ReceiptRow {
             pair,
             period: spelled.period,
             quantity: Qty::of(spelled.quantity),
-        })
+        };
+        Ok((receipt, plant))
     }
 }

@@ -22,7 +22,7 @@ impl Draft {
     ghost use Rattle.mrp_tables.specs.Grammar.{has_plant, knows_sources, pair_fits, pair_row, plant_of, plant_row, seen, source_row, Tells, with_pair_terms};
     ghost use Rattle.mrp_tables.specs.Lists.{IsDraft, AddsRow, AreRows, Fits, AddsSource, AddsSources, table_of, with_source};
     ghost use Rattle.mrp_tables.specs.Spelled.{pair_view, source_view, AreSources, IsSource, IsSpelledPair};
-    ghost use Rattle.mrp_tables.specs.Table.{is_taken_from};
+    ghost use Rattle.mrp_tables.specs.Table.{is_taken_from, IsName};
 
     /// Adds a plant row.
     pub(crate) fn add_plant(
@@ -43,6 +43,7 @@ impl Draft {
     #[tactic(auto, unfolding(crate::specs::Grammar::plant_of))]
     fn plant_of<'r>(&self, row: &'r StringRecord) -> Result<&'r str, TableFaultKind>
         ensures exact { seen (λ name. name.now) result ≡ plant_of (table_of self.now.lists) (fields_of row.now) }
+        ensures named { IfOk result (λ name. IsName name.now) }
         ensures fresh { IfOk result (λ name. has_plant (table_of self.now.lists) name.now ≡ false) }
         ensures room { OnOk result (length self.now.lists.plants.keys < MOST_PLANTS) }
     {

@@ -43,7 +43,7 @@ impl RowLists {
     ghost use Rattle.mrp_tables.specs.declared.fault.TableFaultKind.TheVariants.{Memory};
     ghost use Rattle.mrp_tables.specs.Grammar.{has_plant, pair_named, plant_no};
     ghost use Rattle.mrp_tables.specs.Lists.{AreRows, table_of, lacks_pair, with_plant, with_item, with_pair, with_source, with_bill, with_demand, with_receipt, with_ship, with_cum, with_reset};
-    ghost use Rattle.mrp_tables.specs.Table.{item_at, IsPairRow, IsSourceRow, IsBillRow, IsDemandRow, IsReceiptRow, IsShipRow, IsCumRow, IsResetRow};
+    ghost use Rattle.mrp_tables.specs.Table.{item_at, IsName, IsPairRow, IsSourceRow, IsBillRow, IsDemandRow, IsReceiptRow, IsShipRow, IsCumRow, IsResetRow};
 
     /// The lists after the run row.
     pub(crate) fn new(alloc: Global, calendar: Calendar) -> RowLists
@@ -71,6 +71,7 @@ impl RowLists {
     /// Adds a plant.
     pub(crate) fn add_plant(&mut self, alloc: Global, name: &str) -> Result<(), TableFaultKind>
         requires rows { AreRows self.old }
+        requires named { IsName name.now }
         requires fresh { has_plant (table_of self.old) name.now ≡ false }
         requires room { length self.old.plants.keys < MOST_PLANTS }
         ensures rows { OnOk result (AreRows self.new) }
@@ -84,6 +85,7 @@ impl RowLists {
     /// The item of that name, which is new where no pair row has named it.
     pub(crate) fn item_no(&mut self, alloc: Global, name: &str) -> Result<ItemNo, TableFaultKind>
         requires rows { AreRows self.old }
+        requires named { IsName name.now }
         requires room { length self.old.items.keys < MOST_PAIRS }
         ensures rows { OnOk result (AreRows self.new) }
         ensures memory { IfErr result (λ fault. fault ≡ Memory) }

@@ -5,6 +5,7 @@ ghost use Rattle.mrp_tables.specs.declared.rows.TheConstants.{MOST_IN_ROW, MOST_
 ghost use Rattle.csv.specs.Records.{fields_of};
 ghost use Rattle.mrp_tables.specs.Grammar.{amount_terms, bill_terms, cum_terms, field, is_empty_from, is_free, kind_of, lane_terms, pair_terms, plant_terms, reset_terms, row_kind, run_terms, seen, ship_terms, TellsSeen};
 ghost use Rattle.mrp_tables.specs.Spelled.{amount_view, bill_view, lane_view, pair_view, run_view, IsSpelledPair};
+ghost use Rattle.mrp_tables.specs.Table.{IsName};
 ghost use Rattle.mrp_tables.specs.Drafts.{TellsRun};
 
 use crate::TableFaultKind;
@@ -131,7 +132,8 @@ pub(crate) fn spelled_run(row: &StringRecord) -> Result<Calendar, TableFaultKind
 
 /// The name of a plant row.
 pub(crate) fn spelled_plant(row: &StringRecord) -> Result<&str, TableFaultKind>
-    ensures { seen (λ name. name.now) result ≡ plant_terms (fields_of row.now) }
+    ensures exact { seen (λ name. name.now) result ≡ plant_terms (fields_of row.now) }
+    ensures named { IfOk result (λ name. IsName name.now) }
 {
     name(field(row, 1))
 }
@@ -218,7 +220,7 @@ pub(crate) fn spelled_amount(
     horizon: Horizon,
 ) -> Result<SpelledAmount<'_>, TableFaultKind>
     ensures exact { seen amount_view result ≡ amount_terms (fields_of row.now) horizon }
-    ensures ranges { IfOk result (λ a. (a.period < horizon) × (a.quantity ≤ MOST_IN_ROW)) }
+    ensures ranges { IfOk result (λ a. (a.period < horizon) × (1 ≤ a.quantity) × (a.quantity ≤ MOST_IN_ROW)) }
 {
     let plant = name(field(row, 1))?;
     let item = name(field(row, 2))?;
@@ -258,7 +260,7 @@ pub(crate) fn spelled_ship(
     horizon: Horizon,
 ) -> Result<(SpelledLane<'_>, usize, u64), TableFaultKind>
     ensures exact { seen (λ s. (lane_view s.0, s.1, s.2)) result ≡ ship_terms (fields_of row.now) horizon }
-    ensures ranges { IfOk result (λ s. (s.1 < horizon) × (s.2 ≤ MOST_IN_ROW)) }
+    ensures ranges { IfOk result (λ s. (s.1 < horizon) × (1 ≤ s.2) × (s.2 ≤ MOST_IN_ROW)) }
 {
     let lane = spelled_lane(row)?;
     let period = ranged(field(row, 4), 0, horizon.get() - 1)? as usize;

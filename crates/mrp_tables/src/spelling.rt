@@ -1,7 +1,8 @@
-ghost use Rattle.std.specs.Prelude.{◌≡◌, ◌≤◌, IfOk, IfSome};
-ghost use Rattle.std.specs.Char.{is_ascii_digit};
+ghost use Rattle.std.specs.Prelude.{◌≡◌, ◌≤◌, length, IfOk, IfSome};
 ghost use Rattle.std.specs.List.{list_all};
-ghost use Rattle.mrp_tables.specs.Spelling.{is_name, is_name_byte, is_number, number_of, number_within};
+ghost use Rattle.mrp_tables.specs.Digits.{digits_of};
+ghost use Rattle.mrp_tables.specs.Table.{IsName};
+ghost use Rattle.mrp_tables.specs.Spelling.{is_name, is_name_byte, number_of, number_within};
 ghost use Rattle.mrp_tables.specs.Grammar.{name_of, ranged, seen};
 
 use crate::TableFaultKind;
@@ -30,6 +31,7 @@ pub(crate) fn is_name(text: &str) -> bool
 /// The text itself, where it is a name.
 pub(crate) fn name(text: &str) -> Result<&str, TableFaultKind>
     ensures exact { seen (λ found. found.now) result ≡ name_of text.now }
+    ensures named { IfOk result (λ found. IsName found.now) }
 {
     if is_name(text) {
         Ok(text)
@@ -38,34 +40,31 @@ pub(crate) fn name(text: &str) -> Result<&str, TableFaultKind>
     }
 }
 
-/// Whether each byte is a digit.
-fn has_digits(text: &[u8]) -> bool
-    ensures { result ≡ list_all is_ascii_digit text.now }
+/// The number that digits spell, where each byte is one.
+fn digits_value(text: &[u8]) -> Option<u64>
+    requires short { length text.now ≤ 16 }
+    ensures { result ≡ digits_of text.now }
 {
-    text.iter().all(|byte| byte.is_ascii_digit())
-}
-
-/// A number is `0`, or 1 to 16 digits of which the first is not `0`.
-fn is_number(text: &str) -> bool
-    ensures { result ≡ is_number text.now }
-{
-    let bytes = text.as_bytes();
-    if bytes.is_empty() || bytes.len() > 16 || (bytes[0] == b'0' && bytes.len() > 1) {
-        return false;
+    let mut value = 0;
+    for byte in text {
+        if !byte.is_ascii_digit() {
+            return None;
+        }
+        value = 10 * value + (*byte - b'0') as u64;
     }
-    has_digits(bytes)
+    Some(value)
 }
 
-/// The number that a text spells.
+/// The number that a text spells: `0`, or 1 to 16 digits of which the first is not `0`.
 #[tactic(auto, unfolding(crate::specs::Spelling::number_of))]
 pub(crate) fn number(text: &str) -> Option<u64>
     ensures { result ≡ number_of text.now }
 {
-    if is_number(text) {
-        text.parse().ok()
-    } else {
-        None
+    let bytes = text.as_bytes();
+    if bytes.is_empty() || bytes.len() > 16 || (bytes[0] == b'0' && bytes.len() > 1) {
+        return None;
     }
+    digits_value(bytes)
 }
 
 /// The number that a text spells, where it is `low` to `high`.

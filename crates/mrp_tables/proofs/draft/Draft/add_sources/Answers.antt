@@ -1,16 +1,31 @@
-use Rattle.std.proofs.Common.{◌≡◌, ◌<◌, [], false, map, length, get_or, ℕ, ◌∙◌, sym, ap, subst, arith}
+use Rattle.std.proofs.Common.{◌≡◌, ◌<◌, [], false, true, map, length, get_or, ℕ, ◌∙◌, sym, ap, subst, arith}
 use Rattle.std.specs.Str.{bytes_eq}
 use Rattle.std.proofs.lemmas.List.{length-map}
+use Rattle.std.proofs.lemmas.List.Sums.{AllPass-from_list_all}
 use Rattle.std.proofs.lemmas.Map.Keys.{apart_from_distinct}
 use Rattle.std.proofs.Math.ListN.{get_or-map}
 use Rattle.mrp_tables.specs.declared.terms.SpelledSource.{SpelledSource}
-use Rattle.mrp_tables.specs.Grammar.{source_row}
+use Rattle.mrp_tables.specs.Grammar.{has_plant, source_row}
 use Rattle.mrp_tables.specs.Lists.{table_of, with_source}
 use Rattle.mrp_tables.specs.Spelled.{is_same_plant, source_view}
 use Rattle.mrp_tables.specs.Spelling.{SourceTerms}
-use Rattle.mrp_tables.specs.Table.{is_taken_from}
+use Rattle.mrp_tables.specs.Table.{Table, is_taken_from}
 use Rattle.mrp_tables.proofs.NewPair.{sources_fresh, sources_more}
 use Rattle.mrp_tables.proofs.draft.Draft.add_sources.Goals as goal
+
+pub add_source-requires-clause-known : goal.add_source-requires-clause-known
+add_source-requires-clause-known c =
+    let xs = c.args.sources.now in
+    let i = c.loop-source.source-index in
+    let d : SpelledSource = record { plant = record { ref_ptr = (0, 0); now = [] }; low = 0; high = 0 } in
+    let N = table_of c.args.self.now.lists in
+    let lt : i < length xs = c.loop-source-test.true in
+    let size = length-map xs source_view in
+    let there : has_plant N (get_or (map source_view xs) i (source_view d)).plant ≡ true =
+    AllPass-from_list_all (λ (s : SourceTerms). has_plant N s.plant) (map source_view xs) c.requires.known i (source_view d) (omega (arith, lt, size)) in
+    let here : has_plant N (get_or xs i d).plant.now ≡ true =
+    subst (λ (s : SourceTerms). has_plant N s.plant ≡ true) (get_or-map source_view xs i d) there in
+    subst (λ (T : Table). has_plant T (get_or xs i d).plant.now ≡ true) (sym c.loop-source.invariant.1) here
 
 pub add_source-requires-clause-fresh : goal.add_source-requires-clause-fresh
 add_source-requires-clause-fresh c =
