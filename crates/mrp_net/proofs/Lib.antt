@@ -7,5 +7,6 @@ pub mod Naming
 pub mod Routing
 pub mod Sharing
 pub mod Covering
+pub mod Sourcing
 pub mod Local
 pub mod Asking

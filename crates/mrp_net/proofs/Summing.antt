@@ -1,5 +1,5 @@
 -- Sums of a table's rows are within 64 bits, so nothing is cut off them.
-use Rattle.std.proofs.Common.{◌≡◌, ℕ, ◌+◌, ◌-◌, ◌*◌, ◌^◌, ◌<◌, ◌≤◌, ◌&&◌, Bool, true, false, cond, eqb, List, [], ◌∷◌, length, get_or, map, take, drop, min, replicate, refl, sym, ap, ◌∙◌, subst, inl, inr, arith}
+use Rattle.std.proofs.Common.{◌≡◌, ℕ, ◌+◌, ◌*◌, ◌^◌, ◌<◌, ◌≤◌, ◌&&◌, Bool, true, false, cond, eqb, List, [], ◌∷◌, length, get_or, map, take, drop, replicate, refl, sym, ap, ◌∙◌, inl, inr, arith}
 use Rattle.std.specs.List.{All, AllByRecursion, IsDistinct, sum_by}
 use Rattle.std.proofs.lemmas.Bool.{cond_both, cases_Bool, and_from, and_parts, eq-eqb, eqb-true, false_from_ne_true, true≢false}
 use Rattle.std.proofs.lemmas.Grind.{same_number_lists}
@@ -17,10 +17,9 @@ use Rattle.mrp_tables.specs.declared.rows.ReceiptRow.{ReceiptRow}
 use Rattle.mrp_tables.specs.declared.rows.ShipRow.{ShipRow}
 use Rattle.mrp_tables.specs.declared.rows.CumRow.{CumRow}
 use Rattle.mrp_tables.specs.Table.{Table, IsTable, IsPair, horizon, is_same_cum}
-use Rattle.mrp_net.specs.Added.{sum_of, sum_in, AddsTotals, AddsAmounts}
-use Rattle.mrp_net.specs.Sums.{pair_at, no_pair, row_of, demand, demand_total, received, received_total, shipped, shipped_total, incoming, supply}
+use Rattle.mrp_net.specs.Added.{AddsTotals, AddsAmounts}
+use Rattle.mrp_net.specs.Sums.{pair_at, no_pair, row_of, demand, demand_total, received, shipped, incoming}
 use Rattle.mrp_net.specs.Lanes.{figure, shipped_from}
-use Rattle.mrp_net.specs.Routes.{AreSent}
 use Rattle.mrp_net.specs.Built.{AreTotals, ArePeriods, capped_supply}
 
 -- some of at most 10^6 amounts of at most 10^12 are at most 10^18
@@ -102,20 +101,6 @@ supplies_built N before with_receipts with_ships after is same1 same2 same3 adds
 pub shipped_from_within : (N : Table) → IsTable N → (x p : ℕ) → shipped_from N x p ≤ 10 ^ 18
 shipped_from_within N is x p = some_within (λ s. eqb s.pair.0 x && eqb s.from.0 p) (λ s. s.quantity) N.ships (λ k d h. (is.read.ships k d h).quantity) is.read.limits.ships
 
-pub sender_within : (N : Table) (amounts : List ℕ) (x p : ℕ) → length amounts ≡ length N.pairs * length N.plants → IsPair N x → p < length N.plants → x * length N.plants + p < length amounts
-sender_within N amounts x p size h g = omega (arith, size, mul-add-lt x (length N.plants) p (length N.pairs) h g, mul_comm (length N.plants) (length N.pairs))
-
-pub shipped_built : (N : Table) (before after : List ℕ) → IsTable N → before ≡ replicate (length N.pairs * length N.plants) 0 → length after ≡ length before → AddsAmounts (λ (s : ShipRow). s.pair.0) (λ s. s.from.0) (λ s. s.quantity) (length N.plants) N.ships before after → AreSent N (shipped_from N) after
-shipped_built N before after is zeros same adds =
-    let room : length before ≡ length N.pairs * length N.plants = ap length zeros ∙ length-replicate (length N.pairs * length N.plants) 0 in
-    record {
-      size = same ∙ room;
-      each = λ x p h g.
-          let within = sender_within N before x p room h g in
-          let was : get_or before (x * length N.plants + p) 0 ≡ 0 = ap (λ (z : List ℕ). get_or z (x * length N.plants + p) 0) zeros ∙ get_or-replicate (length N.pairs * length N.plants) (x * length N.plants + p) 0 0 (omega arith) in
-          omega (arith, adds x p g within, was, shipped_from_within N is x p);
-    }
-
 -- a plant's cumulative figure for a pair stands once, so it is that of one row at most
 abbrev is_of : ℕ → ℕ → CumRow → Bool
 is_of x p c = eqb c.pair.0 x && eqb c.from.0 p
@@ -145,14 +130,3 @@ one_figure x p (c ∷ rows) once small =
 
 pub figure_within : (N : Table) → IsTable N → (x p : ℕ) → figure N x p ≤ MOST
 figure_within N is x p = one_figure x p N.cums is.once.cums (λ k d h. (is.read.cums k d h).figure)
-
-pub figures_built : (N : Table) (before after : List ℕ) → IsTable N → before ≡ replicate (length N.pairs * length N.plants) 0 → length after ≡ length before → AddsAmounts (λ (c : CumRow). c.pair.0) (λ c. c.from.0) (λ c. c.figure) (length N.plants) N.cums before after → AreSent N (figure N) after
-figures_built N before after is zeros same adds =
-    let room : length before ≡ length N.pairs * length N.plants = ap length zeros ∙ length-replicate (length N.pairs * length N.plants) 0 in
-    record {
-      size = same ∙ room;
-      each = λ x p h g.
-          let within = sender_within N before x p room h g in
-          let was : get_or before (x * length N.plants + p) 0 ≡ 0 = ap (λ (z : List ℕ). get_or z (x * length N.plants + p) 0) zeros ∙ get_or-replicate (length N.pairs * length N.plants) (x * length N.plants + p) 0 0 (omega arith) in
-          omega (arith, adds x p g within, was, figure_within N is x p);
-    }

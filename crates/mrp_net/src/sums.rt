@@ -72,25 +72,6 @@ impl KeyOf<ShipRow> for ByPeriod {
     }
 }
 
-/// The sending plant of a row as its key.
-pub struct BySender;
-
-impl KeyOf<ShipRow> for BySender {
-    ghost key_of = { λ _ s. s.from.0 };
-
-    fn key(&self, row: &ShipRow) -> usize {
-        row.from.0
-    }
-}
-
-impl KeyOf<CumRow> for BySender {
-    ghost key_of = { λ _ c. c.from.0 };
-
-    fn key(&self, row: &CumRow) -> usize {
-        row.from.0
-    }
-}
-
 impl OfPair for DemandRow {
     ghost pair_of = { λ d. d.pair.0 };
 
