@@ -1,5 +1,5 @@
 -- The edges join pairs of the table, however they are grouped.
-use Rattle.std.proofs.Common.{◌≡◌, ℕ, ◌+◌, eqb, List, length, map, slice_index, slice_range, ap, ◌∙◌, arith}
+use Rattle.std.proofs.Common.{◌≡◌, ℕ, ◌+◌, ◌<◌, eqb, List, length, map, slice_index, slice_range, ap, ◌∙◌, arith}
 use Rattle.std.specs.List.{All, filter}
 use Rattle.std.proofs.lemmas.List.Elements.{All-append, All-map, All-filter}
 use Rattle.mrp_tables.specs.Table.{Table, IsTable, IsPair}
@@ -7,6 +7,7 @@ use Rattle.mrp_net.specs.declared.edge.Edge.{Edge}
 use Rattle.mrp_net.specs.Edges.{bill_edge, source_edge, edges, demanders, suppliers, IsEdge}
 use Rattle.mrp_net.specs.Groups.{sorted_by}
 use Rattle.mrp_net.specs.Built.{by_demander, by_pair, AreDemanders, AreSuppliers}
+use Rattle.mrp_net.proofs.Grouping.{before_key-all, length-sorted_by}
 use Rattle.mrp_net.proofs.Sorting.{filter-sorted_by, group-sorted_by, All-sorted_by, IsGrouped-slice}
 
 pub edges_join : (N : Table) → IsTable N → All (IsEdge N) (edges N)
@@ -20,6 +21,16 @@ by_demander_joins N all = All-sorted_by (IsEdge N) (λ e. e.demander.0) (length 
 
 pub by_pair_joins : (N : Table) → All (IsEdge N) (edges N) → All (IsEdge N) (by_pair N)
 by_pair_joins N all = All-sorted_by (IsEdge N) (λ e. e.pair.0) (length N.pairs) (by_demander N) (by_demander_joins N all)
+
+-- sorted, they are as many
+sorted_length : (N : Table) (key : Edge → ℕ) (rows : List Edge) → All (λ e. key e < length N.pairs) rows → length (sorted_by key (length N.pairs) rows) ≡ length rows
+sorted_length N key rows all = length-sorted_by key (length N.pairs) rows ∙ before_key-all key (length N.pairs) rows all
+
+pub by_demander_length : (N : Table) → IsTable N → length (by_demander N) ≡ length (edges N)
+by_demander_length N is = sorted_length N (λ e. e.demander.0) (edges N) (λ k d h. (edges_join N is k d h).demander)
+
+pub by_pair_length : (N : Table) → IsTable N → length (by_pair N) ≡ length (by_demander N)
+by_pair_length N is = sorted_length N (λ e. e.pair.0) (by_demander N) (λ k d h. (by_demander_joins N (edges_join N is) k d h).pair)
 
 -- the slices of the two lists are the edges to a pair and those from it
 pub demanders_slice : (N : Table) (rows : List Edge) (starts : List ℕ) (x : ℕ) → AreDemanders N rows starts → IsPair N x → slice_range rows (slice_index starts x) (slice_index starts (x + 1)) ≡ demanders N x

@@ -8,6 +8,7 @@ pub mod Naming
 pub mod Routing
 pub mod Sharing
 pub mod Covering
+pub mod Sourcing
 pub mod Local
 pub mod Asking
 pub mod Periods

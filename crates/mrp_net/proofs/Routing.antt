@@ -1,30 +1,24 @@
 -- Lanes and their items: what stands in the groups of the routes.
-use Rattle.std.proofs.Common.{◌≡◌, ℕ, suc, zero, ◌+◌, ◌-◌, ◌*◌, ◌^◌, ◌<◌, ◌≤◌, ◌&&◌, Bool, true, false, not, cond, eqb, ltb, List, [], ◌∷◌, ◌++◌, inl, inr, length, get_or, map, take, drop, min, replicate, slice_index, slice_range, Option, Some, None, refl, sym, ap, ◌∙◌, subst, arith, add-one}
-use Rattle.std.specs.List.{All, Contains, filter, flat_map, range_with_len, sum_by, position_or_len}
-use Rattle.std.proofs.lemmas.Bool.{cond_both, cases_lt, cases_eq, true≢false, cases_Bool, eq-eqb, eqb-true, ne_eqb, and_from, and_parts, false_from_ne_true}
-use Rattle.std.proofs.lemmas.List.{get_or_read, append-nil, append_assoc, length-append, length-map, length-replicate, get_or-replicate, get_or-map, take-map, drop-map}
+use Rattle.std.proofs.Common.{◌≡◌, ℕ, suc, zero, ◌+◌, ◌*◌, ◌<◌, ◌≤◌, ◌&&◌, Bool, cond, eqb, List, [], ◌∷◌, ◌++◌, inl, inr, length, get_or, map, take, drop, slice_index, slice_range, refl, sym, ap, ◌∙◌, subst, arith, add-one}
+use Rattle.std.specs.List.{All, filter, flat_map, range_with_len}
+use Rattle.std.proofs.lemmas.Bool.{cond_both, cases_eq, cases_Bool, eq-eqb, eqb-true, ne_eqb, and_from, and_parts, false_from_ne_true}
+use Rattle.std.proofs.lemmas.List.{append-nil, append_assoc, length-append, length-map, take-map, drop-map}
 use Rattle.std.proofs.lemmas.List.Concat.{flat_map-append}
-use Rattle.std.proofs.lemmas.List.Elements.{All-nil, All-head, All-tail, All-cons, All-append, All-filter, All-map, filter_passes}
+use Rattle.std.proofs.lemmas.List.Elements.{All-nil, All-head, All-tail, All-cons, All-append, All-filter, All-map}
 use Rattle.std.proofs.lemmas.Nat.{same_from_place, mul-add-lt}
 use Rattle.std.proofs.lemmas.Slice.{between_is}
 use Rattle.mrp_tables.specs.declared.numbers.ItemNo.{ItemNo}
 use Rattle.mrp_tables.specs.declared.rows.SourceRow.{SourceRow}
-use Rattle.mrp_tables.specs.declared.rows.ShipRow.{ShipRow}
-use Rattle.mrp_tables.specs.declared.rows.PairRow.{PairRow}
-use Rattle.mrp_tables.specs.Table.{Table, IsTable, IsPair, IsSourceRow, pair_no}
+use Rattle.mrp_tables.specs.Table.{Table, IsTable, IsSourceRow}
 use Rattle.mrp_net.specs.declared.lane.Lane.{Lane}
 use Rattle.mrp_net.specs.declared.lane.LaneKind.{LaneKind}
 use Rattle.mrp_net.specs.declared.lane.LaneKind.TheVariants.{Despatch, Schedule}
-use Rattle.mrp_net.specs.declared.lane.Shipment.{Shipment}
 use Rattle.mrp_net.specs.declared.lanes.Taken.{Taken}
 use Rattle.mrp_net.specs.Groups.{group, sorted_by, IsGrouped, ShowsGroups}
 use Rattle.mrp_net.specs.Sums.{pair_at, no_pair}
-use Rattle.mrp_net.specs.Lanes.{lanes, lanes_of, lanes_between, both_lanes, lane_items, pair_on, taken_over, item_of, shipment_of, ships_from, figure, shipped_from, opening, customer_of, supplier_of}
-use Rattle.mrp_net.specs.Routes.{route_no, taken, AreItems, AreShipments, AreSent, IsLane}
+use Rattle.mrp_net.specs.Lanes.{lanes, lanes_of, lanes_between, both_lanes, lane_items, pair_on, taken_over, item_of, figure, shipped_from, opening, customer_of, supplier_of}
+use Rattle.mrp_net.specs.Routes.{route_no, taken, AreItems, IsLane}
 use Rattle.mrp_net.proofs.Grouping.{range-suc, sorted_by-suc}
-use Rattle.std.proofs.lemmas.List.Sums.{fails_before_first}
-use Rattle.std.proofs.Math.Nat.{mul_comm}
-use Rattle.mrp_net.proofs.Naming.{place_of}
 use Rattle.mrp_net.proofs.Sorting.{IsGrouped-slice, IsGrouped-within}
 
 pub filter-map : {X Y : Type 0} (p : Y → Bool) (f : X → Y) (xs : List X) → filter p (map f xs) ≡ map f (filter (λ x. p (f x)) xs)
@@ -35,12 +29,12 @@ filter-map {X} {Y} p f (x ∷ xs) =
       | inr h ↦ ap (λ (b : Bool). cond b (f x ∷ filter p (map f xs)) (filter p (map f xs))) h ∙ filter-map p f xs ∙ sym (ap (λ (b : Bool). map f (cond b (x ∷ filter (λ x. p (f x)) xs) (filter (λ x. p (f x)) xs))) h)
     ]
 
-map-map : {X Y Z : Type 0} (f : Y → Z) (g : X → Y) (xs : List X) → map f (map g xs) ≡ map (λ x. f (g x)) xs
+pub map-map : {X Y Z : Type 0} (f : Y → Z) (g : X → Y) (xs : List X) → map f (map g xs) ≡ map (λ x. f (g x)) xs
 map-map f g [] = refl
 map-map {X} {Y} {Z} f g (x ∷ xs) = ap (λ (z : List Z). f (g x) ∷ z) (map-map f g xs)
 
 -- two tests that agree on a list's elements
-filter_same : {X : Type 0} (p q : X → Bool) (xs : List X) → All (λ x. p x ≡ q x) xs → filter p xs ≡ filter q xs
+pub filter_same : {X : Type 0} (p q : X → Bool) (xs : List X) → All (λ x. p x ≡ q x) xs → filter p xs ≡ filter q xs
 filter_same p q [] h = refl
 filter_same {X} p q (x ∷ xs) h =
     ap (λ (b : Bool). cond b (x ∷ filter p xs) (filter p xs)) (All-head (λ x. p x ≡ q x) x xs h)
@@ -90,9 +84,6 @@ ShowsGroups-length shown key n rows sorted starts k are h =
 pub route_within : (N : Table) (customer supplier : ℕ) → customer < length N.plants → supplier < length N.plants → route_no N customer supplier < length N.plants * length N.plants
 route_within N customer supplier h g = mul-add-lt customer (length N.plants) supplier (length N.plants) h g
 
-pub sender_place : (N : Table) (x supplier : ℕ) → IsPair N x → supplier < length N.plants → x * length N.plants + supplier < length N.pairs * length N.plants
-sender_place N x supplier h g = omega (arith, mul-add-lt x (length N.plants) supplier (length N.pairs) h g, mul_comm (length N.plants) (length N.pairs))
-
 -- the group of a route is what is taken over it
 pub taken_group : (N : Table) (customer supplier : ℕ) → IsTable N → supplier < length N.plants → group (λ t. t.route) (route_no N customer supplier) (map (taken N) N.sources) ≡ map (taken N) (taken_over N customer supplier)
 taken_group N customer supplier is h =
@@ -110,12 +101,6 @@ pub items_length : (N : Table) (rows : List ItemNo) (starts : List ℕ) (custome
 items_length N rows starts customer supplier is are h g =
     ShowsGroups-length (λ (t : Taken). t.item) (λ t. t.route) (length N.plants * length N.plants) (map (taken N) N.sources) rows starts (route_no N customer supplier) are (route_within N customer supplier h g)
     ∙ ap (λ (z : ℕ). slice_index starts (route_no N customer supplier) + z) (ap length (taken_group N customer supplier is g) ∙ length-map (taken_over N customer supplier) (taken N))
-
--- the shipments of a pair and a sender
-pub ships_group : (N : Table) (x supplier : ℕ) → IsTable N → supplier < length N.plants → group (λ s. s.pair.0 * length N.plants + s.from.0) (x * length N.plants + supplier) N.ships ≡ ships_from N x supplier
-ships_group N x supplier is h =
-    filter_same (λ s. eqb (s.pair.0 * length N.plants + s.from.0) (x * length N.plants + supplier)) (λ s. eqb s.pair.0 x && eqb s.from.0 supplier) N.ships
-    (λ k d lt. place_test (get_or N.ships k d).pair.0 (get_or N.ships k d).from.0 x supplier (length N.plants) (is.read.ships k d lt).from h)
 
 -- one number more in a range
 pub flat_map-range-more : {X : Type 0} (f : ℕ → List X) (k : ℕ) → flat_map f (range_with_len 0 (k + 1)) ≡ flat_map f (range_with_len 0 k) ++ f k
@@ -165,30 +150,6 @@ routes_within N is =
     (λ k d h. let row = is.read.sources k d h in
     mul-add-lt (pair_at N (get_or N.sources k d).pair.0).plant.0 (length N.plants) (get_or N.sources k d).plant.0 (length N.plants) (is.read.pairs (get_or N.sources k d).pair.0 no_pair row.pair).plant row.plant)
 
--- a pair of that plant and item has a number
-pub pair_no_within : (N : Table) (x plant item : ℕ) → IsPair N x → (pair_at N x).plant.0 ≡ plant → (pair_at N x).item.0 ≡ item → IsPair N (pair_no N plant item)
-pair_no_within N x plant item pair at_plant of_item =
-    let test = λ (row : PairRow). eqb row.plant.0 plant && eqb row.item.0 item in
-    let passes : test (pair_at N x) ≡ true = and_from (eqb (pair_at N x).plant.0 plant) (eqb (pair_at N x).item.0 item) (eq-eqb (pair_at N x).plant.0 plant at_plant) (eq-eqb (pair_at N x).item.0 item of_item) in
-    elim (cases_lt x (position_or_len test N.pairs)) as (λ _. pair_no N plant item < length N.pairs) [
-      | inl later ↦ absurd (true≢false (sym passes ∙ fails_before_first test N.pairs x no_pair later))
-      | inr here ↦ omega (arith, place_of test N.pairs, pair, here)
-    ]
-
--- the customer has a pair of each item of a lane
-pub item_has_pair : (N : Table) (lane : Lane) (item : ItemNo) → IsTable N → Contains (lane_items N lane) item → IsPair N (pair_on N lane item)
-item_has_pair N lane item is contains =
-    let some : SourceRow = record { pair = record { 0 = 0 }; plant = record { 0 = 0 }; low = 0; high = 0 } in
-    let k : ℕ = contains.0 in
-    let test = λ (s : SourceRow). eqb (pair_at N s.pair.0).plant.0 (customer_of lane) && eqb s.plant.0 (supplier_of lane) in
-    let over : List SourceRow = taken_over N (customer_of lane) (supplier_of lane) in
-    let short : k < length over = omega (arith, contains.1, length-map over (item_of N)) in
-    let source : SourceRow = get_or over k some in
-    let row = All-filter test (IsSourceRow N) N.sources is.read.sources k some short in
-    let parts = and_parts (eqb (pair_at N source.pair.0).plant.0 (customer_of lane)) (eqb source.plant.0 (supplier_of lane)) (filter_passes test N.sources k some short) in
-    let same : item_of N source ≡ item = sym (get_or-map (item_of N) over k some item short) ∙ contains.2 in
-    pair_no_within N source.pair.0 (customer_of lane) item.0 row.pair (eqb-true (pair_at N source.pair.0).plant.0 (customer_of lane) parts.0) (ap (λ (z : ItemNo). z.0) same)
-
 -- the items of a lane are the table's
 pub lane_items_within : (N : Table) (lane : Lane) → IsTable N → All (λ item. item.0 < length N.items) (lane_items N lane)
 lane_items_within N lane is =
@@ -196,12 +157,6 @@ lane_items_within N lane is =
     All-map (λ (item : ItemNo). item.0 < length N.items) (item_of N) (taken_over N (customer_of lane) (supplier_of lane))
     (λ k d h. let row = All-filter test (IsSourceRow N) N.sources is.read.sources k d h in
     (is.read.pairs (get_or (taken_over N (customer_of lane) (supplier_of lane)) k d).pair.0 no_pair row.pair).item)
-
--- the shipments of a pair and a sender are a slice
-pub shipments_slice : (N : Table) (rows : List Shipment) (starts : List ℕ) (x supplier : ℕ) → IsTable N → AreShipments N rows starts → IsPair N x → supplier < length N.plants → slice_range rows (slice_index starts (x * length N.plants + supplier)) (slice_index starts (x * length N.plants + supplier + 1)) ≡ map shipment_of (ships_from N x supplier)
-shipments_slice N rows starts x supplier is are h g =
-    ShowsGroups-slice shipment_of (λ (s : ShipRow). s.pair.0 * length N.plants + s.from.0) (length N.pairs * length N.plants) N.ships rows starts (x * length N.plants + supplier) are (sender_place N x supplier h g)
-    ∙ ap (map shipment_of) (ships_group N x supplier is g)
 
 -- where figures begin, by the kind of the lane
 pub opening_despatch : (N : Table) (lane : Lane) (item : ItemNo) → lane.kind ≡ Despatch → opening N lane item ≡ figure N (pair_on N lane item) (supplier_of lane)
@@ -217,8 +172,3 @@ opening_schedule N lane item h =
       | Despatch ↦ figure N (pair_on N lane item) (supplier_of lane)
       | Schedule ↦ figure N (pair_on N lane item) (supplier_of lane) + shipped_from N (pair_on N lane item) (supplier_of lane)
     ]) h
-
--- a read of an amount by pair and plant
-pub sent_at : (N : Table) (amount : ℕ → ℕ → ℕ) (amounts : List ℕ) (at x p v : ℕ) → AreSent N amount amounts → at ≡ x * length N.plants + p → IsPair N x → p < length N.plants → v ≡ get_or amounts at v → v ≡ amount x p
-sent_at N amount amounts at x p v are is h g read =
-    get_or_read amounts at v (omega (arith, are.size, is, sender_place N x p h g)) read 0 ∙ ap (λ (z : ℕ). get_or amounts z 0) is ∙ are.each x p h g

@@ -7,5 +7,6 @@ pub mod Counts
 pub mod Added
 pub mod Built
 pub mod Lanes
+pub mod Sources
 pub mod Routes
 pub mod Laws

@@ -1,16 +1,15 @@
 -- What the lists behind the lanes hold.
-use Rattle.std.specs.Prelude.{◌≡◌, ℕ, ◌+◌, ◌*◌, ◌<◌, List, length, map, slice_index}
+use Rattle.std.specs.Prelude.{◌≡◌, ℕ, ◌+◌, ◌*◌, ◌<◌, List, length, map}
 use Rattle.mrp_tables.specs.declared.numbers.ItemNo.{ItemNo}
 use Rattle.mrp_tables.specs.declared.rows.SourceRow.{SourceRow}
-use Rattle.mrp_tables.specs.declared.rows.ShipRow.{ShipRow}
-use Rattle.mrp_tables.specs.Table.{Table, IsPair}
+use Rattle.mrp_tables.specs.Table.{Table}
 use Rattle.mrp_net.specs.declared.lane.Lane.{Lane}
-use Rattle.mrp_net.specs.declared.lane.Shipment.{Shipment}
 use Rattle.mrp_net.specs.declared.lanes.LaneLists.{LaneLists}
 use Rattle.mrp_net.specs.declared.lanes.Taken.{Taken}
 use Rattle.mrp_net.specs.Groups.{ShowsGroups}
 use Rattle.mrp_net.specs.Sums.{pair_at}
-use Rattle.mrp_net.specs.Lanes.{lanes, taken_over, item_of, shipment_of, figure, shipped_from, customer_of, supplier_of}
+use Rattle.mrp_net.specs.Sources.{AreSourceStarts, AreShipments, AreSent}
+use Rattle.mrp_net.specs.Lanes.{lanes, item_of, figure, shipped_from, customer_of, supplier_of}
 
 -- the number of a route: by customer, then by supplier
 abbrev pub route_no : Table → ℕ → ℕ → ℕ
@@ -24,15 +23,6 @@ taken N s = record { route = route_no N (pair_at N s.pair.0).plant.0 s.plant.0; 
 abbrev pub AreItems : Table → List ItemNo → List ℕ → Type 0
 AreItems N rows starts = ShowsGroups (λ t. t.item) (λ t. t.route) (length N.plants * length N.plants) (map (taken N) N.sources) rows starts
 
--- the shipments to each pair from each plant
-abbrev pub AreShipments : Table → List Shipment → List ℕ → Type 0
-AreShipments N rows starts = ShowsGroups shipment_of (λ s. s.pair.0 * length N.plants + s.from.0) (length N.pairs * length N.plants) N.ships rows starts
-
--- an amount of each pair and plant, pair by pair
-pub record AreSent (N : Table) (amount : ℕ → ℕ → ℕ) (amounts : List ℕ) : Type 0 where
-  pub size : length amounts ≡ length N.pairs * length N.plants
-  pub each : (x p : ℕ) → IsPair N x → p < length N.plants → slice_index amounts (x * length N.plants + p) ≡ amount x p
-
 -- a lane joins plants of the table
 pub record IsLane (N : Table) (lane : Lane) : Type 0 where
   pub customer : customer_of lane < length N.plants
@@ -42,6 +32,7 @@ pub record IsLane (N : Table) (lane : Lane) : Type 0 where
 pub record AreLaneLists (N : Table) (l : LaneLists) : Type 0 where
   pub all : l.lanes.items ≡ lanes N
   pub items : AreItems N l.items.rows.items l.items.starts.items
+  pub sources : AreSourceStarts N l.sources.items
   pub shipments : AreShipments N l.shipments.rows.items l.shipments.starts.items
   pub openings : AreSent N (figure N) l.figures.items
   pub sent : AreSent N (shipped_from N) l.shipped.items

@@ -1,20 +1,23 @@
-ghost use Rattle.std.specs.Prelude.{◌≡◌, ◌+◌, ◌*◌, ◌^◌, ◌<◌, ◌++◌, length, map, IfOk};
-ghost use Rattle.mrp_net.specs.Lanes.{lanes, lanes_of, both_lanes, shipment_of, figure, shipped_from};
-ghost use Rattle.mrp_net.specs.Routes.{taken, AreItems, AreLaneLists, AreShipments, AreSent};
+ghost use Rattle.std.specs.Prelude.{◌≡◌, ◌+◌, ◌*◌, ◌^◌, ◌<◌, ◌++◌, true, length, map, All, IfOk};
+ghost use Rattle.mrp_tables.specs.Table.{is_taken_from};
+ghost use Rattle.mrp_net.specs.Added.{AddsTotals};
+ghost use Rattle.mrp_net.specs.Lanes.{lanes, lanes_of, both_lanes, figure, shipped_from};
+ghost use Rattle.mrp_net.specs.Routes.{taken, AreItems, AreLaneLists};
+ghost use Rattle.mrp_net.specs.Sources.{source_no, sent, AreSourceStarts, AreShipments, AreSent};
 
-use crate::group::{Groups, KeyOf, group};
+use crate::group::{Groups, KeyOf, group, starts};
 use crate::lane::{Lane, LaneKind, Shipment};
-use crate::sums::{BySender, add_amounts};
 use mrp_qty::Memory;
-use mrp_tables::{ItemNo, PlantNo, ShipRow, SourceRow, Tables};
+use mrp_tables::{ItemNo, PairNo, PlantNo, SourceRow, Tables};
 use std::alloc::Global;
 
-/// The lanes of a network, the items of each route, and what each plant sends to each pair: the
-/// shipments on their way, what it had shipped before them, and their sum.
+/// The lanes of a network, the items of each route, where the sources of each pair begin, and what
+/// comes by each source: the shipments on their way, what was shipped before them, and their sum.
 #[derive(Drop)]
 pub struct LaneLists {
     pub lanes: Vec<Lane>,
     pub items: Groups<ItemNo>,
+    pub sources: Vec<usize>,
     pub shipments: Groups<Shipment>,
     pub figures: Vec<u64>,
     pub shipped: Vec<u64>,
@@ -39,19 +42,32 @@ impl KeyOf<Taken> for ByRoute {
     }
 }
 
-/// Puts shipments into groups by the pair that receives and the plant that sends.
-#[derive(Drop)]
-struct ByPairAndSender {
-    plants: usize,
+/// A shipment and the number of the source by which it comes.
+#[derive(Clone, Copy, Debug)]
+struct Sent {
+    source: usize,
+    shipment: Shipment,
 }
 
-impl KeyOf<ShipRow> for ByPairAndSender {
-    ghost has_key = { λ b s. s.pair.0 * b.plants + s.from.0 < 2 ^ 64 };
+/// Puts shipments into groups by their sources.
+struct BySource;
 
-    ghost key_of = { λ b s. s.pair.0 * b.plants + s.from.0 };
+impl KeyOf<Sent> for BySource {
+    ghost key_of = { λ _ s. s.source };
 
-    fn key(&self, ship: &ShipRow) -> usize {
-        ship.pair.0 * self.plants + ship.from.0
+    fn key(&self, sent: &Sent) -> usize {
+        sent.source
+    }
+}
+
+/// Puts sources into groups by the pairs that take.
+struct ByTaker;
+
+impl KeyOf<SourceRow> for ByTaker {
+    ghost key_of = { λ _ s. s.pair.0 };
+
+    fn key(&self, source: &SourceRow) -> usize {
+        source.pair.0
     }
 }
 
@@ -147,28 +163,64 @@ fn all_lanes(alloc: Global, tables: &Tables, items: &Groups<ItemNo>) -> Result<V
     Ok(lanes)
 }
 
-/// The periods and quantities of ship rows.
-fn shipments_of(alloc: Global, ships: &[ShipRow]) -> Result<Vec<Shipment>, Memory>
-    ensures { IfOk result (λ v. v.items ≡ map shipment_of ships.now) }
+/// Where the sources of each pair begin.
+fn source_starts(alloc: Global, tables: &Tables) -> Result<Vec<usize>, Memory>
+    ensures { IfOk result (λ v. AreSourceStarts tables.now v.items) }
 {
-    let shipments: Vec<Shipment> = ships
-        .iter()
-        .map(|ship| Shipment {
-            period: ship.period,
-            quantity: ship.quantity,
-        })
-        .collect(alloc)?;
+    let pairs = tables.pairs().len();
+    let begins = starts(alloc, &ByTaker, tables.sources(), pairs)?;
+    Ok(begins)
+}
+
+/// The number of the source by which a pair takes from a plant: one of the at most four of the pair.
+pub fn source_of(tables: &Tables, starts: &[usize], pair: PairNo, plant: PlantNo) -> usize
+    requires starts { AreSourceStarts tables.now starts.now }
+    requires taken { is_taken_from tables.now pair.0 plant.0 ≡ true }
+    ensures value { result ≡ source_no tables.now pair.0 plant.0 }
+    ensures within { result < length tables.now.sources }
+{
+    let sources = tables.sources();
+    let mut at = starts[pair.0];
+    while sources[at].plant.0 != plant.0 {
+        at += 1;
+    }
+    at
+}
+
+/// All shipments and their sources.
+fn all_sent(alloc: Global, tables: &Tables, starts: &[usize]) -> Result<Vec<Sent>, Memory>
+    requires { AreSourceStarts tables.now starts.now }
+    ensures { IfOk result (λ v. v.items ≡ map (sent tables.now) tables.now.ships) }
+{
+    let ships = tables.ships();
+    let mut all = Vec::with_capacity(alloc, ships.len())?;
+    for ship in ships {
+        all.push(Sent {
+            source: source_of(tables, starts, ship.pair, ship.from),
+            shipment: Shipment {
+                period: ship.period,
+                quantity: ship.quantity,
+            },
+        })?;
+    }
+    Ok(all)
+}
+
+/// The shipments alone.
+fn shipments_of(alloc: Global, all: &[Sent]) -> Result<Vec<Shipment>, Memory>
+    ensures { IfOk result (λ v. v.items ≡ map (λ s. s.shipment) all.now) }
+{
+    let shipments: Vec<Shipment> = all.iter().map(|sent| sent.shipment).collect(alloc)?;
     Ok(shipments)
 }
 
-/// The shipments to each pair from each plant, in table order.
-fn shipments(alloc: Global, tables: &Tables) -> Result<Groups<Shipment>, Memory>
+/// The shipments by each source, in table order.
+fn shipments(alloc: Global, tables: &Tables, all: &[Sent]) -> Result<Groups<Shipment>, Memory>
+    requires { all.now ≡ map (sent tables.now) tables.now.ships }
     ensures { IfOk result (λ g. AreShipments tables.now g.rows.items g.starts.items) }
 {
-    let pairs = tables.pairs().len();
-    let plants = tables.plants();
-    let by = ByPairAndSender { plants };
-    let Groups { rows, starts } = group(alloc, &by, tables.ships(), pairs * plants)?;
+    let sources = tables.sources().len();
+    let Groups { rows, starts } = group(alloc, &BySource, all, sources)?;
     let shipments = shipments_of(alloc, rows.as_slice())?;
     Ok(Groups {
         rows: shipments,
@@ -176,23 +228,46 @@ fn shipments(alloc: Global, tables: &Tables) -> Result<Groups<Shipment>, Memory>
     })
 }
 
-/// What each plant had shipped to each pair before the shipments of the table.
-fn figures(alloc: Global, tables: &Tables) -> Result<Vec<u64>, Memory>
+/// Adds to the figure of each source what its cum rows say.
+fn add_figures(tables: &Tables, starts: &[usize], figures: &mut [u64])
+    requires starts { AreSourceStarts tables.now starts.now }
+    requires room { length figures.old ≡ length tables.now.sources }
+    ensures { AddsTotals (λ c. source_no tables.now c.pair.0 c.from.0) (λ c. c.figure) tables.now.cums figures.old figures.new }
+{
+    for cum in tables.cums() {
+        let source = source_of(tables, starts, cum.pair, cum.from);
+        figures[source] = figures[source].saturating_add(cum.figure.get());
+    }
+}
+
+/// What had come by each source before the shipments of the table.
+fn figures(alloc: Global, tables: &Tables, starts: &[usize]) -> Result<Vec<u64>, Memory>
+    requires { AreSourceStarts tables.now starts.now }
     ensures { IfOk result (λ v. AreSent tables.now (figure tables.now) v.items) }
 {
-    let plants = tables.plants();
-    let mut figures = vec![in alloc; 0; tables.pairs().len() * plants]?;
-    add_amounts(&BySender, tables.cums(), plants, figures.as_mut_slice());
+    let mut figures = vec![in alloc; 0; tables.sources().len()]?;
+    add_figures(tables, starts, figures.as_mut_slice());
     Ok(figures)
 }
 
-/// The shipments of each plant to each pair.
-fn shipped(alloc: Global, tables: &Tables) -> Result<Vec<u64>, Memory>
+/// Adds to the sum of each source the quantities of its shipments.
+fn add_shipped(all: &[Sent], shipped: &mut [u64])
+    requires { All (λ s. s.source < length shipped.old) all.now }
+    ensures { AddsTotals (λ s. s.source) (λ s. s.shipment.quantity) all.now shipped.old shipped.new }
+{
+    for sent in all {
+        let source = sent.source;
+        shipped[source] = shipped[source].saturating_add(sent.shipment.quantity.get());
+    }
+}
+
+/// The sum of the shipments by each source.
+fn shipped(alloc: Global, tables: &Tables, all: &[Sent]) -> Result<Vec<u64>, Memory>
+    requires { all.now ≡ map (sent tables.now) tables.now.ships }
     ensures { IfOk result (λ v. AreSent tables.now (shipped_from tables.now) v.items) }
 {
-    let plants = tables.plants();
-    let mut shipped = vec![in alloc; 0; tables.pairs().len() * plants]?;
-    add_amounts(&BySender, tables.ships(), plants, shipped.as_mut_slice());
+    let mut shipped = vec![in alloc; 0; tables.sources().len()]?;
+    add_shipped(all, shipped.as_mut_slice());
     Ok(shipped)
 }
 
@@ -202,12 +277,15 @@ pub fn lane_lists_of(alloc: Global, tables: &Tables) -> Result<LaneLists, Memory
 {
     let items = items(alloc, tables)?;
     let lanes = all_lanes(alloc, tables, &items)?;
-    let shipments = shipments(alloc, tables)?;
-    let figures = figures(alloc, tables)?;
-    let shipped = shipped(alloc, tables)?;
+    let sources = source_starts(alloc, tables)?;
+    let all = all_sent(alloc, tables, sources.as_slice())?;
+    let shipments = shipments(alloc, tables, all.as_slice())?;
+    let figures = figures(alloc, tables, sources.as_slice())?;
+    let shipped = shipped(alloc, tables, all.as_slice())?;
     Ok(LaneLists {
         lanes,
         items,
+        sources,
         shipments,
         figures,
         shipped,

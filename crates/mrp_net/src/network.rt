@@ -1,14 +1,15 @@
-ghost use Rattle.std.specs.Prelude.{◌≡◌, ◌<◌, ◌≤◌, ◌^◌, ◌-◌, ◌+◌, ◌*◌, ℕ, min, length, slice_get, Option, Some, None, IfSome, IfNone, IfOk, Contains, All};
-ghost use Rattle.mrp_tables.specs.Table.{Table, IsTable, horizon, IsPair};
+ghost use Rattle.std.specs.Prelude.{◌≡◌, ◌<◌, ◌≤◌, ◌^◌, ◌-◌, ◌+◌, ◌*◌, ℕ, true, min, length, slice_get, Option, Some, None, IfSome, IfNone, IfOk, Contains, All};
+ghost use Rattle.mrp_tables.specs.Table.{Table, IsTable, horizon, IsPair, is_taken_from};
 ghost use Rattle.mrp_net.specs.Edges.{demanders, suppliers, IsEdge};
-ghost use Rattle.mrp_net.specs.Sums.{pair_at, demand, demand_total, incoming, supply};
+ghost use Rattle.mrp_net.specs.Sums.{pair_at, row_of, demand, demand_total, incoming, supply};
 ghost use Rattle.mrp_net.specs.Names.{IsNamed};
 ghost use Rattle.mrp_net.specs.Lanes.{lanes, lane_at, lane_items, opening, shipments, pair_on, customer_of, supplier_of};
 ghost use Rattle.mrp_net.specs.Routes.{route_no, IsLane};
+ghost use Rattle.mrp_net.specs.Sources.{source_no};
 
 use crate::build::{Amounts, Edges};
 use crate::lane::{Lane, LaneKind, LaneNo, Shipment};
-use crate::lanes::LaneLists;
+use crate::lanes::{LaneLists, source_of};
 use crate::{Edge, build, lanes};
 use mrp_cal::Calendar;
 use mrp_qty::{Horizon, Memory};
@@ -153,6 +154,15 @@ impl Network {
         self.amounts.demand[x.0 * periods + t]
     }
 
+    /// The sums of the pair's demand rows, period by period, each at most 10^18 pieces.
+    pub fn demand_row(&self, x: PairNo) -> &[u64]
+        requires { IsPair self.now x.0 }
+        ensures { result.now ≡ row_of self.now (demand self.now x.0) }
+    {
+        let periods = self.horizon().get() as usize;
+        &self.amounts.demand[x.0 * periods..(x.0 + 1) * periods]
+    }
+
     /// The sum of the pair's demand rows, at most 10^18 pieces.
     pub fn demand_total(&self, x: PairNo) -> u64
         requires { IsPair self.now x.0 }
@@ -170,6 +180,15 @@ impl Network {
     {
         let periods = self.horizon().get() as usize;
         self.amounts.incoming[x.0 * periods + t]
+    }
+
+    /// What comes in for the pair, period by period: its receipt rows and the shipments to it, each at most 2 * 10^18 pieces.
+    pub fn incoming_row(&self, x: PairNo) -> &[u64]
+        requires { IsPair self.now x.0 }
+        ensures { result.now ≡ row_of self.now (incoming self.now x.0) }
+    {
+        let periods = self.horizon().get() as usize;
+        &self.amounts.incoming[x.0 * periods..(x.0 + 1) * periods]
     }
 
     /// On hand, receipts, shipments and opening figures of the pair, or 2^64 - 1 where they are more.
@@ -233,7 +252,7 @@ impl Network {
         ensures { result ≡ opening self.now (lane_at self.now l.0) item }
     {
         let lane = self.lane(l);
-        let at = self.place(lane, item);
+        let at = self.source(lane, item);
         match lane.kind {
             LaneKind::Despatch => self.lanes.figures[at],
             LaneKind::Schedule => self.lanes.figures[at] + self.lanes.shipped[at],
@@ -247,7 +266,7 @@ impl Network {
         requires item { Contains (lane_items self.now (lane_at self.now l.0)) item }
         ensures { result.now ≡ shipments self.now (lane_at self.now l.0) item }
     {
-        let at = self.place(self.lane(l), item);
+        let at = self.source(self.lane(l), item);
         self.lanes.shipments.get(at)
     }
 
@@ -260,14 +279,15 @@ impl Network {
         lane.customer().0 * self.plants() + lane.supplier().0
     }
 
-    /// The place of what a lane's supplier sends to the customer's pair of an item.
-    fn place(&self, lane: Lane, item: ItemNo) -> usize
-        requires plants { IsLane self.now lane }
-        requires item { Contains (lane_items self.now lane) item }
-        ensures value { result ≡ pair_on self.now lane item * length self.now.plants + supplier_of lane }
-        ensures pair { IsPair self.now (pair_on self.now lane item) }
+    /// The number of the source by which a lane's customer takes an item from its supplier.
+    fn source(&self, lane: Lane, item: ItemNo) -> usize
+        requires { Contains (lane_items self.now lane) item }
+        ensures value { result ≡ source_no self.now (pair_on self.now lane item) (supplier_of lane) }
+        ensures within { result < length self.now.sources }
+        ensures taken { is_taken_from self.now (pair_on self.now lane item) (supplier_of lane) ≡ true }
     {
         let x = self.tables.find_pair(lane.customer(), item).unwrap();
-        x.0 * self.plants() + lane.supplier().0
+        let starts = self.lanes.sources.as_slice();
+        source_of(&self.tables, starts, x, lane.supplier())
     }
 }

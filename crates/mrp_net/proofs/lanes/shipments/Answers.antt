@@ -1,18 +1,23 @@
-use Rattle.std.proofs.Common.{◌≡◌, ℕ, ◌+◌, ◌*◌, List, length, map, rules, sym, ap, ◌∙◌, subst}
-use Rattle.mrp_tables.specs.declared.rows.PairRow.{PairRow}
-use Rattle.mrp_tables.specs.declared.rows.ShipRow.{ShipRow}
+use Rattle.std.proofs.Common.{◌≡◌, ◌<◌, List, length, map, sym, ap, ◌∙◌, subst}
+use Rattle.std.specs.List.{All}
+use Rattle.mrp_net.specs.declared.lanes.Sent.{Sent}
 use Rattle.mrp_net.specs.Groups.{IsGrouped}
-use Rattle.mrp_net.specs.Lanes.{shipment_of}
+use Rattle.mrp_net.specs.Sources.{sent}
 use Rattle.mrp_net.proofs.Routing.{ShowsGroups-from_grouped}
+use Rattle.mrp_net.proofs.Sourcing.{sent_within}
 use Rattle.mrp_net.proofs.lanes.shipments.Goals as goal
+
+pub group-requires-clause-keys : goal.group-requires-clause-keys
+group-requires-clause-keys c =
+    let N = c.args.tables.now in
+    subst (λ (z : List Sent). All (λ t. t.source < length c.sources-sources.result.now) z) (sym c.requires)
+    (subst (λ z. All (λ t. t.source < length z) (map (sent N) N.ships)) (sym c.sources-sources.ensures.value) (sent_within N c.sources-sources.ensures.table))
 
 pub returns : goal.returns
 returns c =
     let N = c.args.tables.now in
     let found = c.in_ok-rows.field-0 in
-    let p : ℕ = c.plants-plants.result in
-    let by_ships = subst (λ (z : List ShipRow). IsGrouped (λ s. s.pair.0 * p + s.from.0) (length c.pairs-pairs.result.now * p) z found.rows.items found.starts.items) c.ships.ensures.value c.in_ok-rows.ensures in
-    let by_pairs = subst (λ (z : List PairRow). IsGrouped (λ s. s.pair.0 * p + s.from.0) (length z * p) N.ships found.rows.items found.starts.items) c.pairs-pairs.ensures.value by_ships in
-    let grouped = subst (λ (z : ℕ). IsGrouped (λ s. s.pair.0 * z + s.from.0) (length N.pairs * z) N.ships found.rows.items found.starts.items) c.plants-plants.ensures.value by_pairs in
-    let shown : c.in_ok-shipments.shipments.items ≡ map shipment_of found.rows.items = c.in_ok-shipments.ensures ∙ ap (map shipment_of) c.as_slice.ensures.value in
-    ShowsGroups-from_grouped shipment_of (λ s. s.pair.0 * length N.plants + s.from.0) (length N.pairs * length N.plants) N.ships found.rows.items c.in_ok-shipments.shipments.items found.starts.items grouped shown
+    let grouped = subst (λ z. IsGrouped (λ (t : Sent). t.source) (length z) (map (sent N) N.ships) found.rows.items found.starts.items) c.sources-sources.ensures.value
+    (subst (λ (z : List Sent). IsGrouped (λ t. t.source) (length c.sources-sources.result.now) z found.rows.items found.starts.items) c.requires c.in_ok-rows.ensures) in
+    let shown : c.in_ok-shipments.shipments.items ≡ map (λ (t : Sent). t.shipment) found.rows.items = c.in_ok-shipments.ensures ∙ ap (map (λ (t : Sent). t.shipment)) c.as_slice.ensures.value in
+    ShowsGroups-from_grouped (λ (t : Sent). t.shipment) (λ t. t.source) (length N.sources) (map (sent N) N.ships) found.rows.items c.in_ok-shipments.shipments.items found.starts.items grouped shown

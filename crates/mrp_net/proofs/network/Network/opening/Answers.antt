@@ -1,10 +1,11 @@
-use Rattle.std.proofs.Common.{◌≡◌, ◌<◌, ℕ, ◌+◌, ◌-◌, ◌*◌, ◌^◌, List, length, min, arith, sym, ap, ◌∙◌, subst}
+use Rattle.std.proofs.Common.{ℕ, ◌+◌, arith, sym, ap, ◌∙◌, subst}
 use Rattle.mrp_tables.specs.Table.{Table, IsTable}
 use Rattle.mrp_net.specs.declared.lane.Lane.{Lane}
-use Rattle.mrp_net.specs.Lanes.{lane_at, opening, figure, shipped_from, pair_on, supplier_of}
-use Rattle.mrp_net.specs.Routes.{AreSent}
+use Rattle.mrp_net.specs.Lanes.{opening, figure, shipped_from, pair_on, supplier_of}
+use Rattle.mrp_net.specs.Sources.{AreSent}
 use Rattle.mrp_net.proofs.Summing.{figure_within, shipped_from_within}
-use Rattle.mrp_net.proofs.Routing.{sent_at, opening_despatch, opening_schedule}
+use Rattle.mrp_net.proofs.Routing.{opening_despatch, opening_schedule}
+use Rattle.mrp_net.proofs.Sourcing.{sent_at}
 use Rattle.mrp_net.proofs.network.Network.opening.Goals as goal
 
 pub returns-in-Despatch : goal.returns-in-Despatch
@@ -14,7 +15,7 @@ returns-in-Despatch c =
     let x : ℕ = pair_on M lane c.args.item in
     let p : ℕ = supplier_of lane in
     let figures = subst (λ (z : Table). AreSent z (figure z) c.self.inside.lanes.figures.items) c.self.view_is c.self.invariant.lanes.openings in
-    let read = sent_at M (figure M) c.self.inside.lanes.figures.items c.place-at.result x p c.index.result.now figures c.place-at.ensures.value c.place-at.ensures.pair c.lane-lane.ensures.plants.supplier c.index.ensures in
+    let read = sent_at M (figure M) c.self.inside.lanes.figures.items c.source-at.result x p c.index.result.now figures c.source-at.ensures.value c.source-at.ensures.taken c.index.ensures in
     read
     ∙ sym (opening_despatch M lane c.args.item c.in-Despatch.is)
     ∙ ap (λ (z : Lane). opening M z c.args.item) c.lane-lane.ensures.value
@@ -27,8 +28,8 @@ returns-in-Schedule c =
     let p : ℕ = supplier_of lane in
     let figures = subst (λ (z : Table). AreSent z (figure z) c.self.inside.lanes.figures.items) c.self.view_is c.self.invariant.lanes.openings in
     let shipped = subst (λ (z : Table). AreSent z (shipped_from z) c.self.inside.lanes.shipped.items) c.self.view_is c.self.invariant.lanes.sent in
-    let one = sent_at M (figure M) c.self.inside.lanes.figures.items c.place-at.result x p c.index-in-Schedule.result.now figures c.place-at.ensures.value c.place-at.ensures.pair c.lane-lane.ensures.plants.supplier c.index-in-Schedule.ensures in
-    let two = sent_at M (shipped_from M) c.self.inside.lanes.shipped.items c.place-at.result x p c.index-in-Schedule-2.result.now shipped c.place-at.ensures.value c.place-at.ensures.pair c.lane-lane.ensures.plants.supplier c.index-in-Schedule-2.ensures in
+    let one = sent_at M (figure M) c.self.inside.lanes.figures.items c.source-at.result x p c.index-in-Schedule.result.now figures c.source-at.ensures.value c.source-at.ensures.taken c.index-in-Schedule.ensures in
+    let two = sent_at M (shipped_from M) c.self.inside.lanes.shipped.items c.source-at.result x p c.index-in-Schedule-2.result.now shipped c.source-at.ensures.value c.source-at.ensures.taken c.index-in-Schedule-2.ensures in
     ap (λ (z : ℕ). z + c.index-in-Schedule-2.result.now) one
     ∙ ap (λ (z : ℕ). figure M x p + z) two
     ∙ sym (opening_schedule M lane c.args.item c.in-Schedule.is)
@@ -43,6 +44,6 @@ overflow_add-result c =
     let table : IsTable M = subst IsTable c.self.view_is c.self.invariant.table in
     let figures = subst (λ (z : Table). AreSent z (figure z) c.self.inside.lanes.figures.items) c.self.view_is c.self.invariant.lanes.openings in
     let shipped = subst (λ (z : Table). AreSent z (shipped_from z) c.self.inside.lanes.shipped.items) c.self.view_is c.self.invariant.lanes.sent in
-    let one = sent_at M (figure M) c.self.inside.lanes.figures.items c.place-at.result x p c.index-in-Schedule.result.now figures c.place-at.ensures.value c.place-at.ensures.pair c.lane-lane.ensures.plants.supplier c.index-in-Schedule.ensures in
-    let two = sent_at M (shipped_from M) c.self.inside.lanes.shipped.items c.place-at.result x p c.index-in-Schedule-2.result.now shipped c.place-at.ensures.value c.place-at.ensures.pair c.lane-lane.ensures.plants.supplier c.index-in-Schedule-2.ensures in
+    let one = sent_at M (figure M) c.self.inside.lanes.figures.items c.source-at.result x p c.index-in-Schedule.result.now figures c.source-at.ensures.value c.source-at.ensures.taken c.index-in-Schedule.ensures in
+    let two = sent_at M (shipped_from M) c.self.inside.lanes.shipped.items c.source-at.result x p c.index-in-Schedule-2.result.now shipped c.source-at.ensures.value c.source-at.ensures.taken c.index-in-Schedule-2.ensures in
     omega (arith, one, two, figure_within M table x p, shipped_from_within M table x p)
