@@ -1,13 +1,15 @@
 -- Sums of a table's rows are within 64 bits, so nothing is cut off them.
-use Rattle.std.proofs.Common.{◌≡◌, ℕ, ◌+◌, ◌-◌, ◌*◌, ◌^◌, ◌<◌, ◌≤◌, ◌&&◌, Bool, true, false, cond, eqb, List, [], ◌∷◌, length, get_or, map, min, replicate, refl, sym, ap, ◌∙◌, subst, inl, inr, arith}
+use Rattle.std.proofs.Common.{◌≡◌, ℕ, ◌+◌, ◌-◌, ◌*◌, ◌^◌, ◌<◌, ◌≤◌, ◌&&◌, Bool, true, false, cond, eqb, List, [], ◌∷◌, length, get_or, map, take, drop, min, replicate, refl, sym, ap, ◌∙◌, subst, inl, inr, arith}
 use Rattle.std.specs.List.{All, AllByRecursion, IsDistinct, sum_by}
 use Rattle.std.proofs.lemmas.Bool.{cond_both, cases_Bool, and_from, and_parts, eq-eqb, eqb-true, false_from_ne_true, true≢false}
-use Rattle.std.proofs.lemmas.List.{get_or-replicate, get_or-map, length-replicate, length-map}
+use Rattle.std.proofs.lemmas.Grind.{same_number_lists}
+use Rattle.std.proofs.lemmas.List.{get_or-replicate, get_or-map, get_or-take, get_or-drop, length-replicate, length-map, length-take-le, length-drop}
+use Rattle.std.proofs.lemmas.List.FromFn.{get_or-map-range_with_len, length-map-range_with_len}
 use Rattle.std.proofs.lemmas.List.Elements.{All-head, All-tail}
 use Rattle.std.proofs.lemmas.List.Sums.{sum_by-cons, sum_by-le}
 use Rattle.std.proofs.lemmas.Map.Keys.{IsDistinct-head, IsDistinct-tail}
 use Rattle.std.proofs.lemmas.Nat.{mul-add-lt}
-use Rattle.std.proofs.Math.Nat.{mul_comm}
+use Rattle.std.proofs.Math.Nat.{mul_comm, mul-le-mul_left}
 use Rattle.mrp_qty.specs.declared.quantity.TheConstants.{MOST}
 use Rattle.mrp_tables.specs.declared.rows.TheConstants.{MOST_IN_ROW, MOST_OF_A_KIND}
 use Rattle.mrp_tables.specs.declared.rows.DemandRow.{DemandRow}
@@ -16,7 +18,7 @@ use Rattle.mrp_tables.specs.declared.rows.ShipRow.{ShipRow}
 use Rattle.mrp_tables.specs.declared.rows.CumRow.{CumRow}
 use Rattle.mrp_tables.specs.Table.{Table, IsTable, IsPair, horizon, is_same_cum}
 use Rattle.mrp_net.specs.Added.{sum_of, sum_in, AddsTotals, AddsAmounts}
-use Rattle.mrp_net.specs.Sums.{pair_at, no_pair, demand, demand_total, received, received_total, shipped, shipped_total, incoming, supply}
+use Rattle.mrp_net.specs.Sums.{pair_at, no_pair, row_of, demand, demand_total, received, received_total, shipped, shipped_total, incoming, supply}
 use Rattle.mrp_net.specs.Lanes.{figure, shipped_from}
 use Rattle.mrp_net.specs.Routes.{AreSent}
 use Rattle.mrp_net.specs.Built.{AreTotals, ArePeriods, capped_supply}
@@ -42,6 +44,18 @@ shipped_within N is x t = some_within (λ s. eqb s.pair.0 x && eqb s.period t) (
 -- a pair and a period have a place
 pub place_within : (N : Table) (amounts : List ℕ) (x t : ℕ) → length amounts ≡ length N.pairs * horizon N → IsPair N x → t < horizon N → x * horizon N + t < length amounts
 place_within N amounts x t size h g = omega (arith, size, mul-add-lt x (horizon N) t (length N.pairs) h g, mul_comm (horizon N) (length N.pairs))
+
+-- the amounts of a pair are its row
+pub row_in_periods : (N : Table) (amount : ℕ → ℕ → ℕ) (amounts : List ℕ) (x : ℕ) → ArePeriods N amount amounts → IsPair N x → take (horizon N) (drop (x * horizon N) amounts) ≡ row_of N (amount x)
+row_in_periods N amount amounts x are h =
+    let end : x * horizon N + horizon N ≤ length amounts = omega (arith, are.size, mul-le-mul_left (horizon N) h) in
+    let size : length (take (horizon N) (drop (x * horizon N) amounts)) ≡ horizon N = omega (arith, length-take-le (horizon N) (drop (x * horizon N) amounts), length-drop (x * horizon N) amounts) in
+    same_number_lists (take (horizon N) (drop (x * horizon N) amounts)) (row_of N (amount x)) (size ∙ sym (length-map-range_with_len (amount x) 0 (horizon N)))
+    (λ t lt. let g : t < horizon N = omega (arith, size) in
+    get_or-take (horizon N) (drop (x * horizon N) amounts) t 0 g
+    ∙ get_or-drop (x * horizon N) amounts t 0
+    ∙ are.each x t h g
+    ∙ sym (get_or-map-range_with_len (amount x) 0 (horizon N) t t 0 g (omega arith)))
 
 pub demand_built : (N : Table) (before after : List ℕ) → IsTable N → before ≡ replicate (length N.pairs * horizon N) 0 → length after ≡ length before → AddsAmounts (λ (d : DemandRow). d.pair.0) (λ d. d.period) (λ d. d.quantity) (horizon N) N.demands before after → ArePeriods N (demand N) after
 demand_built N before after is zeros same adds =

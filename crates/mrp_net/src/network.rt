@@ -1,7 +1,7 @@
 ghost use Rattle.std.specs.Prelude.{◌≡◌, ◌<◌, ◌≤◌, ◌^◌, ◌-◌, ◌+◌, ◌*◌, ℕ, min, length, slice_get, Option, Some, None, IfSome, IfNone, IfOk, Contains, All};
 ghost use Rattle.mrp_tables.specs.Table.{Table, IsTable, horizon, IsPair};
 ghost use Rattle.mrp_net.specs.Edges.{demanders, suppliers, IsEdge};
-ghost use Rattle.mrp_net.specs.Sums.{pair_at, demand, demand_total, incoming, supply};
+ghost use Rattle.mrp_net.specs.Sums.{pair_at, row_of, demand, demand_total, incoming, supply};
 ghost use Rattle.mrp_net.specs.Names.{IsNamed};
 ghost use Rattle.mrp_net.specs.Lanes.{lanes, lane_at, lane_items, opening, shipments, pair_on, customer_of, supplier_of};
 ghost use Rattle.mrp_net.specs.Routes.{route_no, IsLane};
@@ -153,6 +153,15 @@ impl Network {
         self.amounts.demand[x.0 * periods + t]
     }
 
+    /// The sums of the pair's demand rows, period by period, each at most 10^18 pieces.
+    pub fn demand_row(&self, x: PairNo) -> &[u64]
+        requires { IsPair self.now x.0 }
+        ensures { result.now ≡ row_of self.now (demand self.now x.0) }
+    {
+        let periods = self.horizon().get() as usize;
+        &self.amounts.demand[x.0 * periods..(x.0 + 1) * periods]
+    }
+
     /// The sum of the pair's demand rows, at most 10^18 pieces.
     pub fn demand_total(&self, x: PairNo) -> u64
         requires { IsPair self.now x.0 }
@@ -170,6 +179,15 @@ impl Network {
     {
         let periods = self.horizon().get() as usize;
         self.amounts.incoming[x.0 * periods + t]
+    }
+
+    /// What comes in for the pair, period by period: its receipt rows and the shipments to it, each at most 2 * 10^18 pieces.
+    pub fn incoming_row(&self, x: PairNo) -> &[u64]
+        requires { IsPair self.now x.0 }
+        ensures { result.now ≡ row_of self.now (incoming self.now x.0) }
+    {
+        let periods = self.horizon().get() as usize;
+        &self.amounts.incoming[x.0 * periods..(x.0 + 1) * periods]
     }
 
     /// On hand, receipts, shipments and opening figures of the pair, or 2^64 - 1 where they are more.
