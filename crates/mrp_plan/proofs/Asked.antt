@@ -24,6 +24,14 @@ part-le e release whole =
 pub edge_need-le : (e : Edge) (release : ℕ) → e.high ≤ 1000 → edge_need e release ≤ e.per * release
 edge_need-le e release whole = mul-le-mul_left e.per (part-le e release whole)
 
+-- a part that is the whole release
+pub edge_need-whole : (e : Edge) (release : ℕ) → e.low ≡ 0 → e.high ≡ 1000 → edge_need e release ≡ e.per * release
+edge_need-whole e release low high =
+    let ends : release * e.high ≡ release * 1000 = ap (λ (k : ℕ). release * k) high in
+    let begins : release * e.low ≡ release * 0 = ap (λ (k : ℕ). release * k) low in
+    let whole : part e release ≡ release = omega (arith, ends, begins) in
+    ap (λ (k : ℕ). e.per * k) whole
+
 -- a row that grew by no more than so many times another row in each period did so in all
 pub sum-le_each : (before after row : List ℕ) (per : ℕ) → length after ≡ length before → length row ≡ length before
     → ((t : ℕ) → t < length before → slice_index after t ≤ slice_index before t + per * slice_index row t)
