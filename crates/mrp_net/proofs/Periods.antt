@@ -1,8 +1,8 @@
 -- Sums of rows by period: no period, and not all periods together, have more than all rows.
-use Rattle.std.proofs.Common.{◌≡◌, ℕ, ◌+◌, ◌<◌, ◌≤◌, ◌==◌, ◌&&◌, if◌then◌else◌, Bool, true, false, List, [], ◌∷◌, sum, sum_by, slice_index, zero, suc, arith, refl, ap, ◌∙◌, ⊎_elim, eq-eqb, ne_eqb}
+use Rattle.std.proofs.Common.{◌≡◌, ℕ, ◌+◌, ◌<◌, ◌≤◌, ◌==◌, ◌&&◌, if◌then◌else◌, Bool, true, false, List, [], ◌∷◌, length, sum, sum_by, slice_index, slice_index_or, zero, suc, arith, refl, ap, ◌∙◌, ⊎_elim, eq-eqb, ne_eqb}
 use Rattle.std.specs.List.{range_with_len}
 use Rattle.std.proofs.lemmas.Bool.{cases_eq, cond-true, cond-false}
-use Rattle.std.proofs.lemmas.List.FromFn.{get_or-range_with_len, get_or-map-range_with_len, length-range_with_len}
+use Rattle.std.proofs.lemmas.List.FromFn.{get_or-range_with_len, get_or-map-range_with_len, length-range_with_len, length-map-range_with_len}
 use Rattle.std.proofs.lemmas.List.Sums.{sum_by-cons, get_or-le-sum_by, sum-map}
 use Rattle.mrp_lot.specs.RangeLaws.{sum_by-range-suc, sum_by-add, sum_by-none, sum_by-ext}
 use Rattle.mrp_tables.specs.Table.{Table, horizon}
@@ -86,3 +86,11 @@ incoming-le N x t within =
 -- an amount of a row that is written for all periods
 pub row_reads : (N : Table) (amount : ℕ → ℕ) (row : List ℕ) (t : ℕ) → row ≡ row_of N amount → t < horizon N → slice_index row t ≡ amount t
 row_reads N amount row t is within = ap (λ (r : List ℕ). slice_index r t) is ∙ get_or-map-range_with_len amount 0 (horizon N) t t 0 within (omega arith)
+
+-- so is each amount of such a row
+pub row_within : (N : Table) (amount : ℕ → ℕ) (row : List ℕ) (most : ℕ) → row ≡ row_of N amount → ((t : ℕ) → t < horizon N → amount t ≤ most)
+    → (k d : ℕ) → k < length row → slice_index_or row k d ≤ most
+row_within N amount row most is less k d below =
+    let here : k < horizon N = omega (arith, below, ap (λ (r : List ℕ). length r) is, length-map-range_with_len amount 0 (horizon N)) in
+    let read : slice_index_or row k d ≡ amount k = ap (λ (r : List ℕ). slice_index_or r k d) is ∙ get_or-map-range_with_len amount 0 (horizon N) k k d here (omega arith) in
+    omega (arith, read, less k here)

@@ -5,6 +5,7 @@ use Rattle.std.specs.List.{All}
 use Rattle.std.proofs.lemmas.List.Sums.{sum_by-cons}
 use Rattle.mrp_lot.specs.One.{PlanRows}
 use Rattle.mrp_lot.specs.RangeLaws.{sum_by-range-suc}
+use Rattle.mrp_net.specs.Edges.{edge_need, part}
 use Rattle.mrp_net.specs.Plan.{rows_at, no_rows}
 use Rattle.mrp_net.specs.declared.edge.Edge.{Edge}
 use Rattle.mrp_net.proofs.Totals.{asked_sum-le}
@@ -13,6 +14,14 @@ use Rattle.mrp_plan.specs.Explosion.{asked, asked_total}
 -- what a look-up past the edges reads
 abbrev pub no_edge : Edge
 no_edge = record { demander = record { 0 = 0 }; pair = record { 0 = 0 }; per = 0; low = 0; high = 0 }
+
+-- a part that is the whole release
+pub edge_need-whole : (e : Edge) (release : ℕ) → e.low ≡ 0 → e.high ≡ 1000 → edge_need e release ≡ e.per * release
+edge_need-whole e release low high =
+    let ends : release * e.high ≡ release * 1000 = ap (λ (k : ℕ). release * k) high in
+    let begins : release * e.low ≡ release * 0 = ap (λ (k : ℕ). release * k) low in
+    let whole : part e release ≡ release = omega (arith, ends, begins) in
+    ap (λ (k : ℕ). e.per * k) whole
 
 -- a row that grew by no more than so many times another row in each period did so in all
 pub sum-le_each : (before after row : List ℕ) (per : ℕ) → length after ≡ length before → length row ≡ length before

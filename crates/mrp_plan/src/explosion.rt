@@ -1,6 +1,6 @@
 //! Explosion: what the releases of a pair's demanders ask of it.
 
-ghost use Rattle.std.specs.Prelude.{◌≡◌, ◌+◌, ◌*◌, ◌<◌, ◌≤◌, ℕ, length, sum, sum_by, slice_index, All};
+ghost use Rattle.std.specs.Prelude.{◌≡◌, ◌+◌, ◌*◌, ◌<◌, ◌≤◌, ◌↔◌, ℕ, IsTrue, length, sum, sum_by, slice_index, All};
 ghost use Rattle.mrp_qty.specs.declared.quantity.TheConstants.{MOST};
 ghost use Rattle.mrp_net.specs.Edges.{part, edge_need};
 ghost use Rattle.mrp_net.specs.Plan.{rows_at};
@@ -10,6 +10,13 @@ use mrp_net::Edge;
 use mrp_netting::PairPlan;
 use mrp_qty::{Qty, Row};
 
+/// Whether the edge's part of a release is the whole of it.
+fn is_whole(edge: &Edge) -> bool
+    ensures { IsTrue result ↔ ((edge.now.low ≡ 0) × (edge.now.high ≡ 1000)) }
+{
+    edge.low == 0 && edge.high == 1000
+}
+
 /// The edge's part of a release of so many pieces.
 pub(crate) fn part_of(edge: &Edge, release: u64) -> u64
     requires shares { edge.now.low ≤ edge.now.high }
@@ -18,7 +25,7 @@ pub(crate) fn part_of(edge: &Edge, release: u64) -> u64
     ensures value { result ≡ part edge.now release }
     ensures part { result ≤ release }
 {
-    if edge.low == 0 && edge.high == 1000 {
+    if is_whole(edge) {
         return release;
     }
     release * edge.high / 1000 - release * edge.low / 1000
@@ -33,6 +40,23 @@ fn explode(edge: &Edge, release: &Row, gross: &mut Row)
     ensures each { (t : ℕ) → t < length gross.old →
         slice_index gross.new t ≡ slice_index gross.old t + edge_need edge.now (slice_index release.now t) }
     ensures total { sum gross.new ≤ sum gross.old + edge.now.per * sum release.now }
+    ensures size { length gross.new ≡ length gross.old }
+{
+    if is_whole(edge) {
+        gross.add_times(edge.per, release);
+    } else {
+        explode_part(edge, release, gross);
+    }
+}
+
+/// Adds to `gross` what the edge asks, part by part.
+fn explode_part(edge: &Edge, release: &Row, gross: &mut Row)
+    requires shares { edge.now.low ≤ edge.now.high }
+    requires whole { edge.now.high ≤ 1000 }
+    requires periods { length release.now ≡ length gross.old }
+    requires within { sum gross.old + edge.now.per * sum release.now ≤ MOST }
+    ensures each { (t : ℕ) → t < length gross.old →
+        slice_index gross.new t ≡ slice_index gross.old t + edge_need edge.now (slice_index release.now t) }
     ensures size { length gross.new ≡ length gross.old }
 {
     for (t, released) in release.as_slice().iter().enumerate() {

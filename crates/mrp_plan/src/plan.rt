@@ -11,7 +11,7 @@ use crate::explosion::explode_all;
 use mrp_loops::SizedNet;
 use mrp_net::{Network, PairNo};
 use mrp_netting::{PairPlan, plan_pair};
-use mrp_qty::{Horizon, Memory, Qty, Row};
+use mrp_qty::{Horizon, Memory, Row};
 use std::alloc::Global;
 use std::marker::Model;
 
@@ -151,9 +151,7 @@ fn fill_incoming(network: &Network, x: PairNo, row: &mut Row)
     requires within { received_total network.now x.0 + shipped_total network.now x.0 ≤ MOST }
     ensures { row.new ≡ row_of network.now (incoming network.now x.0) }
 {
-    for t in 0..row.len() {
-        row.set(t, Qty::of(network.incoming(x, t)));
-    }
+    row.copy_pieces(network.incoming_row(x));
 }
 
 /// Writes the demand rows of the pair.
@@ -163,7 +161,5 @@ fn fill_demand(network: &Network, x: PairNo, row: &mut Row)
     requires within { demand_total network.now x.0 ≤ MOST }
     ensures { row.new ≡ row_of network.now (demand network.now x.0) }
 {
-    for t in 0..row.len() {
-        row.set(t, Qty::of(network.demand(x, t)));
-    }
+    row.copy_pieces(network.demand_row(x));
 }

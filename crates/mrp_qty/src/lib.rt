@@ -7,6 +7,7 @@
 
 mod horizon;
 mod memory;
+mod periods;
 mod quantity;
 mod row;
 

@@ -1,9 +1,9 @@
-ghost use Rattle.std.specs.Prelude.{◌≡◌, ℕ, ◌+◌, ◌≤◌, ◌<◌, List, length, sum, replicate, slice_index, slice_set, IfOk, All};
+ghost use Rattle.std.specs.Prelude.{◌≡◌, ℕ, ◌+◌, ◌*◌, ◌≤◌, ◌<◌, List, length, sum, replicate, slice_index, slice_set, IfOk, All};
 ghost use Rattle.mrp_qty.specs.declared.quantity.TheConstants.{MOST};
 ghost use Rattle.mrp_qty.specs.declared.horizon.TheConstants.{LONGEST};
 ghost use Rattle.mrp_qty.specs.Row.{IsRow};
 
-use crate::{Horizon, Memory, Qty};
+use crate::{Horizon, Memory, Qty, periods};
 use std::alloc::Global;
 use std::marker::Model;
 
@@ -69,6 +69,18 @@ impl Row {
         self.amounts[t] = Qty::of(sum);
     }
 
+    /// Adds `times` each quantity of `other`, a row that is as long, to that of the same period. Each
+    /// sum is at most 10^15.
+    pub fn add_times(&mut self, times: u64, other: &Row)
+        requires periods { length self.old ≡ length other.now }
+        requires within { (t : ℕ) → t < length self.old → slice_index self.old t + times * slice_index other.now t ≤ MOST }
+        ensures each { (t : ℕ) → t < length self.old →
+            slice_index self.new t ≡ slice_index self.old t + times * slice_index other.now t }
+        ensures size { length self.new ≡ length self.old }
+    {
+        periods::add_times(self.amounts.as_mut_slice(), times, other.as_slice());
+    }
+
     /// The sum over all periods, at most 104 times 10^15.
     pub fn total(&self) -> u64
         ensures { result ≡ sum self.now }
@@ -93,6 +105,15 @@ impl Row {
         ensures { self.new ≡ replicate (length self.old) 0 }
     {
         self.amounts.as_mut_slice().fill(Qty::ZERO);
+    }
+
+    /// Makes the quantities that many pieces: a number for each period, each at most 10^15.
+    pub fn copy_pieces(&mut self, pieces: &[u64])
+        requires periods { length self.old ≡ length pieces.now }
+        requires within { All (λ quantity. quantity ≤ MOST) pieces.now }
+        ensures { self.new ≡ pieces.now }
+    {
+        periods::copy_pieces(self.amounts.as_mut_slice(), pieces);
     }
 
     /// Takes over the quantities of a row that is as long.

@@ -1,13 +1,17 @@
-use Rattle.std.proofs.Common.{arith}
-use Rattle.std.proofs.lemmas.List.FromFn.{fill_by_all}
+use Rattle.std.proofs.Common.{ℕ, List, length, arith, ap}
+use Rattle.std.proofs.lemmas.List.FromFn.{length-map-range_with_len}
+use Rattle.mrp_qty.specs.declared.quantity.TheConstants.{MOST}
 use Rattle.mrp_tables.specs.Table.{horizon}
 use Rattle.mrp_net.specs.Sums.{demand}
-use Rattle.mrp_net.proofs.Periods.{demand-le}
+use Rattle.mrp_net.proofs.Periods.{demand-le, row_within}
 use Rattle.mrp_plan.proofs.plan.fill_demand.Goals as goal
 
-pub of-requires : goal.of-requires
-of-requires c = omega (arith, demand-le c.args.network.now c.args.x.0 c.loop-t.t (omega arith), c.demand.ensures)
+pub copy_pieces-requires-clause-periods : goal.copy_pieces-requires-clause-periods
+copy_pieces-requires-clause-periods c =
+    let N = c.args.network.now in
+    omega (arith, c.requires.periods, ap (λ (r : List ℕ). length r) c.demand_row.ensures, length-map-range_with_len (demand N c.args.x.0) 0 (horizon N))
 
-pub returns : goal.returns
-returns c =
-    fill_by_all (demand c.args.network.now c.args.x.0) c.loop-t.row (horizon c.args.network.now) 0 c.loop-t.invariant.size (λ k h. c.loop-t.invariant.written k (omega arith))
+pub copy_pieces-requires-clause-within : goal.copy_pieces-requires-clause-within
+copy_pieces-requires-clause-within c =
+    let N = c.args.network.now in
+    row_within N (demand N c.args.x.0) c.demand_row.result.now MOST c.demand_row.ensures (λ t h. omega (arith, demand-le N c.args.x.0 t h, c.requires.within))

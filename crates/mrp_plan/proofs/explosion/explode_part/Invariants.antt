@@ -1,6 +1,6 @@
 use Rattle.std.proofs.Common.{◌≡◌, ℕ, ◌+◌, ◌<◌, ◌≤◌, length, slice_index}
 use Rattle.mrp_net.specs.Edges.{edge_need}
-use Rattle.mrp_plan.proofs.explosion.explode.Given as goal
+use Rattle.mrp_plan.proofs.explosion.explode_part.Given as goal
 
 -- the periods before this one have what the edge asks, and the others are as they were
 abbrev pub invariant-loop-t : goal.invariant-loop-t
