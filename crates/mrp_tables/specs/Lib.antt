@@ -8,3 +8,4 @@ pub mod Rows
 pub mod Spelled
 pub mod Spelling
 pub mod Table
+pub mod Turns

@@ -4,6 +4,7 @@ use Rattle.std.specs.List.{IsDistinct, list_all, list_any}
 use Rattle.std.specs.Str.{bytes_eq}
 use Rattle.std.specs.String.{string_bytes}
 use Rattle.mrp_tables.specs.Table.{Table, IsRead, source_pair}
+pub use Rattle.mrp_tables.specs.Turns.{row_count}
 use Rattle.mrp_tables.specs.declared.rows.TheConstants.{MOST_SOURCES_OF_PAIR}
 use Rattle.mrp_tables.specs.declared.rows.PairRow.{PairRow}
 use Rattle.mrp_tables.specs.declared.rows.SourceRow.{SourceRow}
@@ -88,11 +89,6 @@ with_cum N c = record N { cums = N.cums ++ c ∷ [] }
 
 abbrev pub with_reset : Table → ResetRow → Table
 with_reset N r = record N { resets = N.resets ++ r ∷ [] }
-
--- how many rows of the text there are
-abbrev pub row_count : Table → ℕ
-row_count N =
-    1 + length N.plants + length N.pairs + length N.bills + length N.demands + length N.receipts + length N.ships + length N.cums + length N.resets
 
 -- ---- the shipments of a source
 

@@ -1,8 +1,9 @@
-ghost use Rattle.std.specs.Prelude.{◌≡◌, ◌+◌, ◌≤◌, ◌<◌, true, MatchResult, IfOk, OnOk, option_map};
+ghost use Rattle.std.specs.Prelude.{◌≡◌, ◌+◌, ◌≤◌, ◌<◌, true, false, MatchResult, IfOk, OnOk, option_map};
 ghost use Rattle.csv.specs.Reading.{strip_bom};
 ghost use Rattle.csv.specs.Records.{AllText, fields_of};
 ghost use Rattle.mrp_tables.specs.Lists.{IsDraft};
 ghost use Rattle.mrp_tables.specs.Reading.{OfRecords, TellsRows};
+ghost use Rattle.mrp_tables.specs.Turns.{row_count};
 ghost use Rattle.mrp_tables.specs.Left.{fault_of, GivesAll, IsKept, OfLeft, TellsFirstAt, TellsNext, TellsRest, TellsTaken, left_of, state_of};
 
 use crate::draft::Draft;
@@ -16,7 +17,7 @@ use std::sync::ledger::{Blank, Ledger};
 /// The most turns of reading: a row of each kind up to its limit, and the end.
 pub const MAX_TURNS: u64 = 4_300_066;
 
-/// Reads a table. Each turn of reading is one step.
+/// Reads a table. Each turn of reading is one step: one a row, and one for the end of the table.
 ///
 /// # Errors
 ///
@@ -27,6 +28,7 @@ pub fn read_tables<R: Read + Drop, L: Ledger>(
     steps: &mut Steps<L>,
 ) -> Result<Tables, TableFault>
     ensures table { OfRecords (option_map strip_bom (R.remaining reader)) (TellsRows result) }
+    ensures counted { IfOk result (λ tables. steps.new ≡ steps.old + row_count tables + 1) }
     ensures turns { steps.new ≤ steps.old + MAX_TURNS }
 {
     let mut rows = ReaderBuilder::new()
@@ -66,6 +68,7 @@ fn read_rows<R: Read, L: Ledger>(
 ) -> Result<Tables, TableFault>
     requires gives { GivesAll rows.old }
     ensures table { OfLeft (left_of R.remaining rows.old) (TellsRows result) }
+    ensures counted { IfOk result (λ tables. steps.new ≡ steps.old + row_count tables + 1) }
     ensures turns { steps.new ≤ steps.old + MAX_TURNS }
 {
     let mut row = StringRecord::new(alloc);
@@ -110,6 +113,7 @@ fn read_rest<R: Read, L: Ledger>(
     ensures exact { TellsRest (left_of R.remaining rows.old) 2 (state_of draft.old) (state_of draft.new) result }
     ensures draft { OnOk result (IsDraft draft.new) }
     ensures kept { OnOk result (IsKept draft.new) }
+    ensures counted { OnOk result (steps.new ≡ steps.old + draft.new.rows) }
     ensures turns { steps.new + 1 ≤ steps.old + MAX_TURNS }
 {
     for number in 2..MAX_TURNS + 1 {
@@ -138,6 +142,7 @@ fn read_next<R: Read>(
     ensures draft { OnOk result (IsDraft draft.new) }
     ensures kept { OnOk result (IsKept draft.new) }
     ensures rows { IfOk result (λ found. found ≡ true → draft.new.rows ≡ draft.old.rows + 1) }
+    ensures ended { IfOk result (λ found. found ≡ false → draft.new.rows ≡ draft.old.rows) }
 {
     if !next_row(rows, row, number)? {
         return Ok(false);

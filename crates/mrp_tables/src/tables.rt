@@ -28,7 +28,7 @@ impl Model for Tables {
 }
 
 impl Tables {
-    ghost use Rattle.std.specs.Prelude.{◌≡◌, ◌<◌, ◌==◌, ◌&&◌, ◌↔◌, Some, Ok, Err, IsSome, IfSome, MatchResult, length, option_map, position, slice_get};
+    ghost use Rattle.std.specs.Prelude.{◌≡◌, ◌<◌, ◌==◌, ◌&&◌, ◌↔◌, Some, Ok, Err, IsSome, IfOk, IfSome, MatchResult, length, option_map, position, slice_get};
     ghost use Rattle.std.specs.Str.{bytes_eq};
     ghost use Rattle.mrp_tables.specs.Lists.{IsDraft, table_of};
     ghost use Rattle.mrp_tables.specs.Table.{IsOnce, IsPair, IsSourced, IsTable, horizon, pair_no};
@@ -40,6 +40,7 @@ impl Tables {
         requires once { IsOnce (table_of draft.lists) }
         requires sourced { IsSourced (table_of draft.lists) }
         ensures exact { MatchResult result (λ tables. waiting (table_of draft.lists) ≡ Ok tables) (λ e. waiting (table_of draft.lists) ≡ Err e) }
+        ensures same { IfOk result (λ tables. tables ≡ table_of draft.lists) }
     {
         if let Some(place) = draft.lists.first_lacking() {
             // The run and the plants stand before the pairs.

@@ -10,11 +10,11 @@ pub invariant_of-result : goal.invariant_of-result
 invariant_of-result c =
     (c.requires.draft.rows, table_is (table_of c.args.draft.lists) c.requires.draft.rows.read c.requires.once c.requires.sourced (sym c.in_default.ensures.place))
 
-pub returns-in-Some : goal.returns-in-Some
-returns-in-Some c =
+pub returns-in-Some-clause-exact : goal.returns-in-Some-clause-exact
+returns-in-Some-clause-exact c =
     let N = table_of c.args.draft.lists in
     let plants : length N.plants ≡ c.len-above.result = length-map c.args.draft.lists.plants.keys string_bytes ∙ sym c.len-above.ensures.len in
-    record { exact = waits_at N c.in-Some.place _ c.index.result.now (sym c.in-Some.ensures.place) c.index.ensures (omega (arith, plants)) }
+    waits_at N c.in-Some.place _ c.index.result.now (sym c.in-Some.ensures.place) c.index.ensures (omega (arith, plants))
 
-pub returns : goal.returns
-returns c = record { exact = none_waits (table_of c.args.draft.lists) (sym c.in_default.ensures.place) }
+pub returns-clause-exact : goal.returns-clause-exact
+returns-clause-exact c = none_waits (table_of c.args.draft.lists) (sym c.in_default.ensures.place)
