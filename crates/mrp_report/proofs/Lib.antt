@@ -1,3 +1,4 @@
 pub mod RowFacts
 pub mod Fronts
 pub mod PartFacts
+pub mod PieceFacts

@@ -63,6 +63,15 @@ rows-more f before now after n so_far more =
     ap (range_with_len 0) one ∙ range-more 0 n ∙ ap (λ k. range_with_len 0 n ++ k ∷ []) zero_more in
     more ∙ ap (λ xs. xs ++ f n) so_far ∙ flat_map_more f before (range_with_len 0 n) n ∙ ap (λ xs. before ++ flat_map f xs) (sym range)
 
+-- the same from any number on
+pub rows-more_from : (f : ℕ → List ℕ) (before now after : List ℕ) (a n next : ℕ) → a + n ≡ next → now ≡ before ++ flat_map f (range_with_len a n) → after ≡ now ++ f next
+    → after ≡ before ++ flat_map f (range_with_len a (n + 1))
+rows-more_from f before now after a n next here so_far more =
+    let one : n + 1 ≡ suc n = omega arith in
+    let range : range_with_len a (n + 1) ≡ range_with_len a n ++ next ∷ [] =
+    ap (range_with_len a) one ∙ range-more a n ∙ ap (λ k. range_with_len a n ++ k ∷ []) here in
+    more ∙ ap (λ xs. xs ++ f next) so_far ∙ flat_map_more f before (range_with_len a n) next ∙ ap (λ xs. before ++ flat_map f xs) (sym range)
+
 -- the rows of the first elements of a list, and that of the next
 pub rows_of-more : {A : Type 0} (f : A → List ℕ) (xs : List A) (d : A) (before now after : List ℕ) (i : ℕ) → i < length xs
     → now ≡ before ++ flat_map f (take i xs) → after ≡ now ++ f (get_or xs i d) → after ≡ before ++ flat_map f (take (i + 1) xs)

@@ -44,6 +44,11 @@ unfoldable pub pair_text : List ℕ → List ℕ → List (List ℕ) → PlanRow
 pair_text plant item dates rows =
     flat_map (λ t. plan_row plant item (date_at dates t) (period_at rows t)) (range_with_len 0 (length dates))
 
+-- the rows of so many pairs from one on, in table order
+unfoldable pub pairs_text : Table → List PlanRows → ℕ → ℕ → List ℕ
+pairs_text N table first count =
+    flat_map (λ x. pair_text (plant_of N x) (item_of N x) (dates_of N.calendar) (rows_at table x)) (range_with_len first count)
+
 -- the plan report: the rows of each pair, in table order
 unfoldable pub plan_text : Table → List PlanRows → List ℕ
 plan_text N table =

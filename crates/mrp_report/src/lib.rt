@@ -1,8 +1,8 @@
 //! Reports of a plan as comma-separated rows: the plan rows and the late orders of a plan, the terms
 //! of a gross requirement, and the low-level codes.
 //!
-//! A row ends with a line feed, and there is no header row. A report is built whole before its first
-//! byte is sent: a report that can't be built for want of memory leaves the writer as it was.
+//! A row ends with a line feed, and there is no header row. The room for a report is taken before its
+//! first byte is sent: where it is refused, the writer is as it was.
 #![tactic(auto)]
 
 mod codes;

@@ -1,25 +1,29 @@
-ghost use Rattle.std.specs.Prelude.{◌≡◌, ◌+◌, ◌++◌, ◌∷◌, ◌<◌, ◌≤◌, map, drop, length, decimal, Err, IfOk, OnOk, IfErr};
+ghost use Rattle.std.specs.Prelude.{◌≡◌, ◌+◌, ◌-◌, ◌++◌, ◌∷◌, ◌<◌, ◌≤◌, map, drop, length, decimal, Err, IfOk, OnOk, IfErr, OnErr};
 ghost use Rattle.csv.specs.Writing.{comma};
 ghost use Rattle.mrp_net.specs.Plan.{Fits};
 ghost use Rattle.mrp_report.specs.Rows.{IsBetweenRows, written};
-ghost use Rattle.mrp_report.specs.Sending.{Sends};
+ghost use Rattle.std.specs.Io.KnownBytes.{Appends};
+ghost use Rattle.mrp_report.specs.Sending.{AppendsFront, Sends};
 ghost use Rattle.mrp_report.specs.Dates.{dates_of};
 ghost use Rattle.mrp_report.specs.Parts.{pair_part, parts_text, period_part};
-ghost use Rattle.mrp_report.specs.Report.{HasPeriod, HasPeriods, period_at, plan_text};
+ghost use Rattle.mrp_report.specs.Report.{HasPeriod, HasPeriods, pairs_text, period_at, plan_text};
 
 use crate::ReportFault;
-use crate::rows::{put_row, room_for, text_of};
+use crate::rows::{put_row, rows_in, text_of};
 use crate::writing::send;
 use csv::Writer;
 use itoa::write_digits;
 use mrp_cal::Calendar;
 use mrp_loops::SizedNet;
-use mrp_net::PairNo;
+use mrp_net::{Network, PairNo};
 use mrp_netting::PairPlan;
 use mrp_plan::Plan;
 use mrp_qty::Qty;
 use std::alloc::Global;
 use std::io::Write;
+
+/// Of so many pairs the rows are written before they are sent.
+const PAIRS_AT_ONCE: usize = 16;
 
 /// The most bytes of what all rows of a pair begin with: the word, two names of 20 and the commas
 /// between.
@@ -63,30 +67,89 @@ pub fn plan_rows<W: Write>(
     ensures text { Sends (W.contents out.old) (W.contents out.new) result (plan_text net.now.network plan.now) }
     ensures untouched { result ≡ Err ReportFault.Memory → out.new ≡ out.old }
 {
-    let text = plan_text(alloc, net, plan)?;
-    send(text.as_slice(), out)
-}
-
-/// The plan rows as bytes.
-fn plan_text(alloc: Global, net: &SizedNet<'_>, plan: &Plan) -> Result<Vec<u8>, ReportFault>
-    requires fits { Fits net.now.network plan.now }
-    ensures text { IfOk result (λ text. text.items ≡ plan_text net.now.network plan.now) }
-    ensures fault { IfErr result (λ fault. fault ≡ ReportFault.Memory) }
-{
     let network = net.network();
     let dates = date_texts(alloc, network.calendar())?;
-    let count = network.pairs().saturating_mul(dates.len());
-    let mut pair = Vec::with_capacity(alloc, LONGEST_PAIR)?;
-    let mut rows = room_for(alloc, count, LONGEST_ROW)?;
-    'pairs: for x in 0..network.pairs() {
+    let mut names = Vec::with_capacity(alloc, LONGEST_PAIR)?;
+    let count = dates.len().saturating_mul(PAIRS_AT_ONCE);
+    let room = Vec::with_capacity(alloc, count.saturating_mul(LONGEST_ROW))?;
+    send_pieces(room, &mut names, network, dates.as_slice(), plan, out)
+}
+
+/// Sends the plan rows by pieces that are built in the room.
+fn send_pieces<W: Write>(
+    mut room: Vec<u8>,
+    names: &mut Vec<u8>,
+    network: &Network,
+    dates: &[[u8; 10]],
+    plan: &Plan,
+    out: &mut W,
+) -> Result<(), ReportFault>
+    requires fits { Fits network.now plan.now }
+    requires dates { dates.now ≡ dates_of network.now.calendar }
+    ensures text { Sends (W.contents out.old) (W.contents out.new) result (plan_text network.now plan.now) }
+    ensures fault { IfErr result (λ fault. fault ≡ ReportFault.WriteFault) }
+{
+    let mut sent = 0;
+    'pieces: while sent < network.pairs() {
+        let end = network.pairs().min(sent + PAIRS_AT_ONCE);
+        match send_piece(room, names, network, dates, plan, sent, end, out) {
+            Ok(text) => room = text,
+            Err(_) => return Err(ReportFault::WriteFault),
+        }
+        sent = end;
+    }
+    Ok(())
+}
+
+/// Sends the rows of the pairs from `first` on and before `end`, and gives the room back.
+fn send_piece<W: Write>(
+    room: Vec<u8>,
+    names: &mut Vec<u8>,
+    network: &Network,
+    dates: &[[u8; 10]],
+    plan: &Plan,
+    first: usize,
+    end: usize,
+    out: &mut W,
+) -> Result<Vec<u8>, ReportFault>
+    requires fits { Fits network.now plan.now }
+    requires dates { dates.now ≡ dates_of network.now.calendar }
+    requires order { first ≤ end }
+    requires pairs { end ≤ length network.now.pairs }
+    ensures whole { OnOk result (Appends (W.contents out.old) (W.contents out.new) (pairs_text network.now plan.now first (end - first))) }
+    ensures front { OnErr result (AppendsFront (W.contents out.old) (W.contents out.new) (pairs_text network.now plan.now first (end - first))) }
+{
+    let Ok(text) = pairs_text(room, names, network, dates, plan, first, end) else {
+        return Err(ReportFault::WriteFault);
+    };
+    match send(text.as_slice(), out) {
+        Ok(()) => Ok(text),
+        Err(fault) => Err(fault),
+    }
+}
+
+/// The rows of the pairs from `first` on and before `end`, in the room.
+fn pairs_text(
+    mut room: Vec<u8>,
+    names: &mut Vec<u8>,
+    network: &Network,
+    dates: &[[u8; 10]],
+    plan: &Plan,
+    first: usize,
+    end: usize,
+) -> Result<Vec<u8>, ReportFault>
+    requires fits { Fits network.now plan.now }
+    requires dates { dates.now ≡ dates_of network.now.calendar }
+    requires order { first ≤ end }
+    requires pairs { end ≤ length network.now.pairs }
+    ensures text { IfOk result (λ text. text.items ≡ pairs_text network.now plan.now first (end - first)) }
+{
+    room.clear();
+    let mut rows = rows_in(room);
+    'pairs: for x in first..end {
         let (plant, item) = network.pair_name(PairNo(x));
-        name_pair(&mut pair, plant, item)?;
-        put_pair(
-            &mut rows,
-            pair.as_slice(),
-            dates.as_slice(),
-            plan.pair(PairNo(x)),
-        )?;
+        name_pair(names, plant, item)?;
+        put_pair(&mut rows, names.as_slice(), dates, plan.pair(PairNo(x)))?;
     }
     text_of(rows)
 }

@@ -16,11 +16,17 @@ pub(crate) fn room_for(
     ensures fault { IfErr result (λ fault. fault ≡ ReportFault.Memory) }
 {
     let text = Vec::with_capacity(alloc, rows.saturating_mul(longest))?;
-    Ok(
-        WriterBuilder::new()
-            .quote_style(QuoteStyle::Never)
-            .from_writer(text),
-    )
+    Ok(rows_in(text))
+}
+
+/// A writer of rows, after those that the text has.
+pub(crate) fn rows_in(text: Vec<u8>) -> Writer<Vec<u8>>
+    ensures written { written result ≡ text.items }
+    ensures between { IsBetweenRows result }
+{
+    WriterBuilder::new()
+        .quote_style(QuoteStyle::Never)
+        .from_writer(text)
 }
 
 /// Adds a row of these fields, of which there are two and more.

@@ -1,0 +1,14 @@
+use Rattle.std.proofs.Common.{◌≡◌, ◌-◌, ◌++◌}
+use Rattle.std.specs.List.{flat_map, range_with_len}
+use Rattle.mrp_net.specs.Plan.{rows_at}
+use Rattle.mrp_report.specs.Rows.{IsBetweenRows, written}
+use Rattle.mrp_report.specs.Dates.{dates_of}
+use Rattle.mrp_report.specs.Report.{pair_text, plant_of, item_of}
+use Rattle.mrp_report.proofs.plan.pairs_text.Given as goal
+
+-- the rows of the pairs before x are there
+abbrev pub invariant-pairs : goal.invariant-pairs
+invariant-pairs l = record {
+  between : IsBetweenRows l.rows;
+  so_far : written l.rows ≡ written l.initial.rows ++ flat_map (λ x. pair_text (plant_of l.network x) (item_of l.network x) (dates_of l.network.calendar) (rows_at l.plan x)) (range_with_len l.first (l.x - l.first));
+}
