@@ -1,4 +1,4 @@
-use Rattle.std.proofs.Common.{◌≡◌, ℕ, ◌+◌, ◌*◌, ◌-◌, ◌^◌, ◌<◌, min, length, get_or, sym, ap, ◌∙◌, subst, arith}
+use Rattle.std.proofs.Common.{◌≡◌, ℕ, ◌+◌, ◌*◌, ◌-◌, ◌^◌, ◌<◌, min, get_or, sym, ap, ◌∙◌, subst}
 use Rattle.mrp_net.proofs.Adding.{AddsAmounts-more, AddsTotals-more}
 use Rattle.mrp_net.proofs.sums.add_both.Goals as goal
 
