@@ -48,6 +48,14 @@ pub(crate) struct Period {
     pub(crate) available: Qty,
 }
 
+/// What the plan rows are of: a plan, its network, and the text of each period's date.
+#[derive(Clone, Copy)]
+struct PlanReport<'a> {
+    network: &'a Network,
+    plan: &'a Plan,
+    dates: &'a [[u8; 10]],
+}
+
 /// Writes a row for each pair in table order and each period in rising order: `plan`, plant, item,
 /// period, its first day, gross requirement, incoming receipts, planned order receipt, planned order
 /// release and projected available.
@@ -72,27 +80,31 @@ pub fn plan_rows<W: Write>(
     let mut names = Vec::with_capacity(alloc, LONGEST_PAIR)?;
     let count = dates.len().saturating_mul(PAIRS_AT_ONCE);
     let room = Vec::with_capacity(alloc, count.saturating_mul(LONGEST_ROW))?;
-    send_pieces(room, &mut names, network, dates.as_slice(), plan, out)
+    let report = PlanReport {
+        network,
+        plan,
+        dates: dates.as_slice(),
+    };
+    send_pieces(room, &mut names, &report, out)
 }
 
 /// Sends the plan rows by pieces that are built in the room.
 fn send_pieces<W: Write>(
     mut room: Vec<u8>,
     names: &mut Vec<u8>,
-    network: &Network,
-    dates: &[[u8; 10]],
-    plan: &Plan,
+    report: &PlanReport<'_>,
     out: &mut W,
 ) -> Result<(), ReportFault>
-    requires fits { Fits network.now plan.now }
-    requires dates { dates.now ≡ dates_of network.now.calendar }
-    ensures text { Sends (W.contents out.old) (W.contents out.new) result (plan_text network.now plan.now) }
+    requires fits { Fits report.now.network.now report.now.plan.now }
+    requires dates { report.now.dates.now ≡ dates_of report.now.network.now.calendar }
+    ensures text { Sends (W.contents out.old) (W.contents out.new) result (plan_text report.now.network.now report.now.plan.now) }
     ensures fault { IfErr result (λ fault. fault ≡ ReportFault.WriteFault) }
 {
+    let pairs = report.network.pairs();
     let mut sent = 0;
-    'pieces: while sent < network.pairs() {
-        let end = network.pairs().min(sent + PAIRS_AT_ONCE);
-        match send_piece(room, names, network, dates, plan, sent, end, out) {
+    'pieces: while sent < pairs {
+        let end = pairs.min(sent + PAIRS_AT_ONCE);
+        match send_piece(room, names, report, sent, end, out) {
             Ok(text) => room = text,
             Err(_) => return Err(ReportFault::WriteFault),
         }
@@ -105,21 +117,19 @@ fn send_pieces<W: Write>(
 fn send_piece<W: Write>(
     room: Vec<u8>,
     names: &mut Vec<u8>,
-    network: &Network,
-    dates: &[[u8; 10]],
-    plan: &Plan,
+    report: &PlanReport<'_>,
     first: usize,
     end: usize,
     out: &mut W,
 ) -> Result<Vec<u8>, ReportFault>
-    requires fits { Fits network.now plan.now }
-    requires dates { dates.now ≡ dates_of network.now.calendar }
+    requires fits { Fits report.now.network.now report.now.plan.now }
+    requires dates { report.now.dates.now ≡ dates_of report.now.network.now.calendar }
     requires order { first ≤ end }
-    requires pairs { end ≤ length network.now.pairs }
-    ensures whole { OnOk result (Appends (W.contents out.old) (W.contents out.new) (pairs_text network.now plan.now first (end - first))) }
-    ensures front { OnErr result (AppendsFront (W.contents out.old) (W.contents out.new) (pairs_text network.now plan.now first (end - first))) }
+    requires pairs { end ≤ length report.now.network.now.pairs }
+    ensures whole { OnOk result (Appends (W.contents out.old) (W.contents out.new) (pairs_text report.now.network.now report.now.plan.now first (end - first))) }
+    ensures front { OnErr result (AppendsFront (W.contents out.old) (W.contents out.new) (pairs_text report.now.network.now report.now.plan.now first (end - first))) }
 {
-    let Ok(text) = pairs_text(room, names, network, dates, plan, first, end) else {
+    let Ok(text) = pairs_text(room, names, report, first, end) else {
         return Err(ReportFault::WriteFault);
     };
     match send(text.as_slice(), out) {
@@ -132,24 +142,23 @@ fn send_piece<W: Write>(
 fn pairs_text(
     mut room: Vec<u8>,
     names: &mut Vec<u8>,
-    network: &Network,
-    dates: &[[u8; 10]],
-    plan: &Plan,
+    report: &PlanReport<'_>,
     first: usize,
     end: usize,
 ) -> Result<Vec<u8>, ReportFault>
-    requires fits { Fits network.now plan.now }
-    requires dates { dates.now ≡ dates_of network.now.calendar }
+    requires fits { Fits report.now.network.now report.now.plan.now }
+    requires dates { report.now.dates.now ≡ dates_of report.now.network.now.calendar }
     requires order { first ≤ end }
-    requires pairs { end ≤ length network.now.pairs }
-    ensures text { IfOk result (λ text. text.items ≡ pairs_text network.now plan.now first (end - first)) }
+    requires pairs { end ≤ length report.now.network.now.pairs }
+    ensures text { IfOk result (λ text. text.items ≡ pairs_text report.now.network.now report.now.plan.now first (end - first)) }
 {
     room.clear();
     let mut rows = rows_in(room);
     'pairs: for x in first..end {
-        let (plant, item) = network.pair_name(PairNo(x));
+        let (plant, item) = report.network.pair_name(PairNo(x));
         name_pair(names, plant, item)?;
-        put_pair(&mut rows, names.as_slice(), dates, plan.pair(PairNo(x)))?;
+        let plan = report.plan.pair(PairNo(x));
+        put_pair(&mut rows, names.as_slice(), report.dates, plan)?;
     }
     text_of(rows)
 }

@@ -10,5 +10,5 @@ use Rattle.mrp_report.proofs.plan.pairs_text.Given as goal
 abbrev pub invariant-pairs : goal.invariant-pairs
 invariant-pairs l = record {
   between : IsBetweenRows l.rows;
-  so_far : written l.rows ≡ written l.initial.rows ++ flat_map (λ x. pair_text (plant_of l.network x) (item_of l.network x) (dates_of l.network.calendar) (rows_at l.plan x)) (range_with_len l.first (l.x - l.first));
+  so_far : written l.rows ≡ written l.initial.rows ++ flat_map (λ x. pair_text (plant_of l.report.network.now x) (item_of l.report.network.now x) (dates_of l.report.network.now.calendar) (rows_at l.report.plan.now x)) (range_with_len l.first (l.x - l.first));
 }

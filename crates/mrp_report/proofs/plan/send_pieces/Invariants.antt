@@ -6,9 +6,9 @@ use Rattle.mrp_report.proofs.plan.send_pieces.Given as goal
 -- the rows of the first pairs are sent
 abbrev pub invariant-pieces : goal.invariant-pieces
 invariant-pieces g l = record {
-  within : l.sent ≤ length l.network.pairs;
-  sent : Appends (g.W.Write.contents l.initial.out) (g.W.Write.contents l.out) (pairs_text l.network l.plan 0 l.sent);
+  within : l.sent ≤ length l.report.network.now.pairs;
+  sent : Appends (g.W.Write.contents l.initial.out) (g.W.Write.contents l.out) (pairs_text l.report.network.now l.report.plan.now 0 l.sent);
 }
 
 abbrev pub decreases-pieces : goal.decreases-pieces
-decreases-pieces g l = length l.network.pairs - l.sent
+decreases-pieces g l = length l.report.network.now.pairs - l.sent
