@@ -28,3 +28,15 @@ fn a_row_adds_up(rt: HostRuntime) -> Result<(), Fail> {
     assert_eq!(rt; row.total(), 0);
     Ok(())
 }
+
+#[test]
+fn rows_are_added_so_many_times(rt: HostRuntime) -> Result<(), Fail> {
+    let horizon = Horizon::new(2).ok_or("no horizon")?;
+    let mut once = Row::zero(rt.alloc(), horizon)?;
+    once.copy_pieces(&[3, 5]);
+    let mut row = Row::zero(rt.alloc(), horizon)?;
+    row.add_times(2, &once);
+    assert_eq!(rt; row.get(0).get(), 6);
+    assert_eq!(rt; row.total(), 16);
+    Ok(())
+}
