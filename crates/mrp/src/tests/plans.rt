@@ -155,3 +155,28 @@ peg,plant,C2,Z,25,1,25\n";
     );
     Ok(())
 }
+
+/// A table of so many pairs with a stock each and no demand, and its plan.
+fn stocked(rt: &HostRuntime, pairs: u64) -> Result<(String, String), Fail> {
+    let mut table = String::from_str(rt.alloc(), "run,2026-01-05,7,2,,,,\nplant,A,,,,,,\n")?;
+    let mut rows = String::from_str(rt.alloc(), "")?;
+    for pair in 0..pairs {
+        let row = format!(in rt.alloc(); "pair,A,I{pair},buy,lot,0,{pair},0\n")?;
+        table.push_str(row.as_str())?;
+        let first = format!(in rt.alloc(); "plan,A,I{pair},0,2026-01-05,0,0,0,0,{pair}\n")?;
+        rows.push_str(first.as_str())?;
+        let second = format!(in rt.alloc(); "plan,A,I{pair},1,2026-01-12,0,0,0,0,{pair}\n")?;
+        rows.push_str(second.as_str())?;
+    }
+    Ok((table, rows))
+}
+
+#[test]
+fn plans_are_sent_by_sixteen_pairs(rt: HostRuntime) -> Result<(), Fail> {
+    for pairs in [0, 1, 15, 16, 17, 32, 33] {
+        let (table, rows) = stocked(&rt, pairs)?;
+        let written = plan(rt.alloc(), table.as_str())?;
+        assert_eq!(rt; written.as_str(), rows.as_str(), "{pairs} pairs");
+    }
+    Ok(())
+}
