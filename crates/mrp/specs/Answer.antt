@@ -28,8 +28,12 @@ abbrev pub exit_status_of : {U : Type 0} → Result U TextFault → ℕ
 exit_status_of (Ok done) = 0
 exit_status_of (Err fault) = status_of fault
 
--- after the words were refused: 3 for want of memory, 0 after help (3 where it could not be printed),
--- and else 2
+-- after help: 0 where it was printed, and else 3
+abbrev pub help_status : {U E : Type 0} → Result U E → ℕ
+help_status (Ok printed) = 0
+help_status (Err failed) = 3
+
+-- after the words were refused: 3 for want of memory, the status of help after help, and else 2
 abbrev pub IsStatusOfRefusal : WordsFault → ℕ → Type 0
 IsStatusOfRefusal words.OutOfMemory status = status ≡ 3
 IsStatusOfRefusal words.DisplayHelp status = (status ≡ 0) ⊎ (status ≡ 3)

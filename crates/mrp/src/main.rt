@@ -9,7 +9,7 @@ ghost use Rattle.std.specs.IoError.{error_kind};
 ghost use Rattle.std.specs.Process.{exit_status};
 ghost use Rattle.std.specs.String.{string_bytes};
 ghost use Rattle.clap.specs.Words.{kind_of};
-ghost use Rattle.mrp.specs.Answer.{IsStatusOfRefusal, IsStatusOfUnread, exit_status_of};
+ghost use Rattle.mrp.specs.Answer.{IsStatusOfRefusal, IsStatusOfUnread, exit_status_of, help_status};
 
 mod answer;
 mod fault;
@@ -104,6 +104,13 @@ fn refused(rt: &HostRuntime, error: &clap::Error) -> ExitCode
     if error.use_stderr() {
         return ExitCode::from(REFUSED);
     }
+    after_help(rt, &printed)
+}
+
+/// The status after help: 0 where it was printed, and else 3.
+fn after_help(rt: &HostRuntime, printed: &io::Result<()>) -> ExitCode
+    ensures { exit_status result ≡ help_status printed.now }
+{
     match printed {
         Ok(()) => ExitCode::from(0),
         Err(_) => ended(rt, &Err(TextFault::WriteFault)),

@@ -172,7 +172,7 @@ fn source_starts(alloc: Global, tables: &Tables) -> Result<Vec<usize>, Memory>
     Ok(begins)
 }
 
-/// The number of the source by which a pair takes from a plant: one of the at most four of the pair.
+/// The number of the source by which a pair takes from a plant: one of the few of the pair, which stand together.
 pub fn source_of(tables: &Tables, starts: &[usize], pair: PairNo, plant: PlantNo) -> usize
     requires starts { AreSourceStarts tables.now starts.now }
     requires taken { is_taken_from tables.now pair.0 plant.0 ≡ true }

@@ -63,8 +63,9 @@ struct PlanReport<'a> {
 /// # Errors
 ///
 /// - [`ReportFault::WriteFault`] where a write fails or takes nothing; a front of the report is
-///   written.
-/// - [`ReportFault::Memory`] where the room for the report is refused; nothing is written.
+///   written. The rows go by pieces of some pairs; a piece fits the room that is taken for it, and if
+///   it had to grow and could not, this would be the fault too.
+/// - [`ReportFault::Memory`] where the room for a piece is refused; nothing is written.
 pub fn plan_rows<W: Write>(
     alloc: Global,
     net: &SizedNet<'_>,
