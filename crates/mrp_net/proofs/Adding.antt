@@ -1,10 +1,10 @@
 -- Adding up rows period by period: one row more changes one place.
 use Rattle.std.proofs.Common.{◌≡◌, ℕ, ◌+◌, ◌-◌, ◌*◌, ◌<◌, ◌^◌, ◌&&◌, Bool, true, false, cond, eqb, List, inl, inr, length, get_or, set, take, min, sym, ap, ◌∙◌, subst, arith}
-use Rattle.std.proofs.lemmas.Bool.{cases_eq, eq-eqb, eqb-true, ne_eqb, and_from, and_parts, false_from_ne_true}
+use Rattle.std.proofs.lemmas.Bool.{cases_eq, eq-eqb, eqb-true, and_from, and_parts, false_from_ne_true}
 use Rattle.std.proofs.lemmas.List.{get_or-set_same, get_or-set_other}
 use Rattle.std.proofs.lemmas.List.Sums.{sum_by_more}
 use Rattle.std.proofs.lemmas.Nat.{same_from_place}
-use Rattle.mrp_net.specs.Added.{sum_of, sum_in, AddsAmounts, AddsTotals}
+use Rattle.mrp_net.specs.Added.{sum_in, AddsAmounts, AddsTotals}
 
 sum_in-more : {R : Type 0} (pair period amount : R → ℕ) (x t : ℕ) (rows : List R) (i : ℕ) (r : R) → i < length rows → r ≡ get_or rows i r → (b : Bool) → (eqb (pair r) x && eqb (period r) t) ≡ b → sum_in pair period amount x t (take (i + 1) rows) ≡ sum_in pair period amount x t (take i rows) + cond b (amount r) 0
 sum_in-more {R} pair period amount x t rows i r lt here b test =
@@ -26,25 +26,6 @@ AddsAmounts-more pair period amount periods rows before now i r at v lt here was
           ne (ap (λ (z : ℕ). z * periods + t) (sym (eqb-true (pair r) x p.0)) ∙ ap (λ (z : ℕ). pair r * periods + z) (sym (eqb-true (period r) t p.1)) ∙ sym is)) in
           let more = sum_in-more pair period amount x t rows i r lt here false apart in
           omega (arith, get_or-set_other now at (x * periods + t) v 0 ne, was x t below within, more)
-    ]
-
-sum_of-more : {R : Type 0} (pair amount : R → ℕ) (x : ℕ) (rows : List R) (i : ℕ) (r : R) → i < length rows → r ≡ get_or rows i r → (b : Bool) → eqb (pair r) x ≡ b → sum_of pair amount x (take (i + 1) rows) ≡ sum_of pair amount x (take i rows) + cond b (amount r) 0
-sum_of-more {R} pair amount x rows i r lt here b test =
-    sum_by_more (λ r. cond (eqb (pair r) x) (amount r) 0) rows i r lt
-    ∙ ap (λ (z : R). sum_of pair amount x (take i rows) + cond (eqb (pair z) x) (amount z) 0) (sym here)
-    ∙ ap (λ (z : Bool). sum_of pair amount x (take i rows) + cond z (amount r) 0) test
-
-pub AddsTotals-more : {R : Type 0} (pair amount : R → ℕ) (rows : List R) (before now : List ℕ) (i : ℕ) (r : R) (at v : ℕ) → i < length rows → r ≡ get_or rows i r → AddsTotals pair amount (take i rows) before now → at ≡ pair r → length now ≡ length before → v ≡ min (get_or now at 0 + amount r) (2 ^ 64 - 1) → AddsTotals pair amount (take (i + 1) rows) before (set now at v)
-AddsTotals-more pair amount rows before now i r at v lt here was is same new x within =
-    elim (cases_eq x at) as (λ _. get_or (set now at v) x 0 ≡ min (get_or before x 0 + sum_of pair amount x (take (i + 1) rows)) (2 ^ 64 - 1)) [
-      | inl e ↦
-          let more = sum_of-more pair amount x rows i r lt here true (eq-eqb (pair r) x (sym (e ∙ is))) in
-          let there : get_or (set now at v) x 0 ≡ v = rw e (get_or-set_same now at v 0 (omega arith)) in
-          let had : get_or now at 0 ≡ min (get_or before x 0 + sum_of pair amount x (take i rows)) (2 ^ 64 - 1) = ap (λ (z : ℕ). get_or now z 0) (sym e) ∙ was x within in
-          omega (arith, there, new, had, more)
-      | inr ne ↦
-          let more = sum_of-more pair amount x rows i r lt here false (ne_eqb (pair r) x (λ e. ne (sym e ∙ sym is))) in
-          omega (arith, get_or-set_other now at x v 0 ne, was x within, more)
     ]
 
 -- the same rows, periods and first amounts under other names

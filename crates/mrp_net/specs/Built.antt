@@ -4,7 +4,6 @@ use Rattle.mrp_tables.specs.Table.{Table, IsTable, IsPair, horizon}
 use Rattle.mrp_net.specs.declared.edge.Edge.{Edge}
 use Rattle.mrp_net.specs.declared.build.Edges.{Edges}
 use Rattle.mrp_net.specs.declared.build.Amounts.{Amounts}
-use Rattle.mrp_net.specs.declared.build.DemandSums.{DemandSums}
 use Rattle.mrp_net.specs.declared.lanes.LaneLists.{LaneLists}
 use Rattle.mrp_net.specs.Edges.{edges}
 use Rattle.mrp_net.specs.Groups.{sorted_by, IsGrouped}
@@ -43,11 +42,6 @@ capped_supply N x = min (supply N x) (2 ^ 64 - 1)
 pub record AreEdges (N : Table) (e : Edges) : Type 0 where
   pub demanders : AreDemanders N e.demanders.rows.items e.demanders.starts.items
   pub suppliers : AreSuppliers N e.suppliers.rows.items e.suppliers.starts.items
-
--- what the demand rows add up to
-pub record AreDemandSums (N : Table) (d : DemandSums) : Type 0 where
-  pub each : ArePeriods N (demand N) d.by_period.items
-  pub all : AreTotals N (demand_total N) d.totals.items
 
 -- what the rows add up to
 pub record AreAmounts (N : Table) (a : Amounts) : Type 0 where

@@ -45,31 +45,6 @@ pub fn add_amounts<R: OfPair, K: KeyOf<R>>(by: &K, rows: &[R], width: usize, amo
     }
 }
 
-/// Both at once: adds the amounts of the rows to `amounts`, as [`add_amounts`] does, and to `totals`,
-/// as [`add_totals`] does.
-pub fn add_both<R: OfPair, K: KeyOf<R>>(
-    by: &K,
-    rows: &[R],
-    width: usize,
-    amounts: &mut [u64],
-    totals: &mut [u64],
-)
-    requires has { All (K.has_key by.now) rows.now }
-    requires places { All (λ r. R.pair_of r * width + K.key_of by.now r < length amounts.old) rows.now }
-    requires keys { All (λ r. K.key_of by.now r < width) rows.now }
-    requires pairs { All (λ r. R.pair_of r < length totals.old) rows.now }
-    ensures amounts { AddsAmounts R.pair_of (K.key_of by.now) R.amount_of width rows.now amounts.old amounts.new }
-    ensures totals { AddsTotals R.pair_of R.amount_of rows.now totals.old totals.new }
-{
-    for row in rows {
-        let x = row.pair();
-        let at = x * width + by.key(row);
-        let amount = row.amount();
-        amounts[at] = amounts[at].saturating_add(amount);
-        totals[x] = totals[x].saturating_add(amount);
-    }
-}
-
 /// The period of a row as its key.
 pub struct ByPeriod;
 
