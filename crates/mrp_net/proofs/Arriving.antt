@@ -11,7 +11,7 @@ use Rattle.mrp_tables.specs.Table.{Table, IsTable, IsPair, pair_no}
 use Rattle.mrp_net.specs.declared.lane.Lane.{Lane}
 use Rattle.mrp_net.specs.declared.lane.LaneKind.TheVariants.{Despatch, Schedule}
 use Rattle.mrp_net.specs.declared.lane.Shipment.{Shipment}
-use Rattle.mrp_net.specs.Groups.{group}
+use Rattle.mrp_group.specs.Groups.{group}
 use Rattle.mrp_net.specs.Lanes.{lanes, lanes_of, lanes_between, taken_over, item_of, lane_items, shipments, shipment_of, ships_from, pair_on, customer_of, supplier_of}
 use Rattle.mrp_net.specs.Laws.{is_despatch, despatches_to, arriving, over_plants, IncomingComesOverLanes, ShipmentsAreOfItems}
 use Rattle.mrp_net.specs.Sums.{pair_at, no_pair, received, shipped}
@@ -19,8 +19,9 @@ use Rattle.mrp_net.proofs.Covering.{sum_by-same, sum-flat_map, sum_groups}
 use Rattle.mrp_net.proofs.Local.{pair_of}
 use Rattle.mrp_net.proofs.Members.{In, Contains-from_in, In-filter, In-map, any_some}
 use Rattle.mrp_net.proofs.Routing.{no_lanes, some_lanes}
-use Rattle.mrp_net.proofs.Sharing.{sum_filter, sum_map, pairs_are_found}
-use Rattle.mrp_net.proofs.Sorting.{filter_none}
+use Rattle.mrp_group.proofs.Kept.{sum_filter}
+use Rattle.mrp_net.proofs.Sharing.{sum_map, pairs_are_found}
+use Rattle.mrp_group.proofs.Sorting.{filter_none}
 use Rattle.mrp_net.proofs.Twos.{some_in}
 
 -- ---- a lane without the item has no shipments of it

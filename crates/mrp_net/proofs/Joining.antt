@@ -5,10 +5,10 @@ use Rattle.std.proofs.lemmas.List.Elements.{All-append, All-map, All-filter}
 use Rattle.mrp_tables.specs.Table.{Table, IsTable, IsPair}
 use Rattle.mrp_net.specs.declared.edge.Edge.{Edge}
 use Rattle.mrp_net.specs.Edges.{bill_edge, source_edge, edges, demanders, suppliers, IsEdge}
-use Rattle.mrp_net.specs.Groups.{sorted_by}
+use Rattle.mrp_group.specs.Groups.{sorted_by}
 use Rattle.mrp_net.specs.Built.{by_demander, by_pair, AreDemanders, AreSuppliers}
-use Rattle.mrp_net.proofs.Grouping.{before_key-all, length-sorted_by}
-use Rattle.mrp_net.proofs.Sorting.{filter-sorted_by, group-sorted_by, All-sorted_by, IsGrouped-slice}
+use Rattle.mrp_group.proofs.Grouping.{before_key-all, length-sorted_by}
+use Rattle.mrp_group.proofs.Sorting.{filter-sorted_by, group-sorted_by, All-sorted_by}
 
 pub edges_join : (N : Table) → IsTable N → All (IsEdge N) (edges N)
 edges_join N is =
@@ -35,12 +35,12 @@ by_pair_length N is = sorted_length N (λ e. e.pair.0) (by_demander N) (λ k d h
 -- the slices of the two lists are the edges to a pair and those from it
 pub demanders_slice : (N : Table) (rows : List Edge) (starts : List ℕ) (x : ℕ) → AreDemanders N rows starts → IsPair N x → slice_range rows (slice_index starts x) (slice_index starts (x + 1)) ≡ demanders N x
 demanders_slice N rows starts x are h =
-    IsGrouped-slice (λ e. e.pair.0) (length N.pairs) (by_demander N) rows starts x are h
+    are.slices x h
     ∙ filter-sorted_by (λ e. eqb e.pair.0 x) (λ e. e.demander.0) (length N.pairs) (edges N)
 
 pub suppliers_slice : (N : Table) (rows : List Edge) (starts : List ℕ) (y : ℕ) → AreSuppliers N rows starts → IsPair N y → slice_range rows (slice_index starts y) (slice_index starts (y + 1)) ≡ suppliers N y
 suppliers_slice N rows starts y are h =
-    IsGrouped-slice (λ e. e.demander.0) (length N.pairs) (by_pair N) rows starts y are h
+    are.slices y h
     ∙ filter-sorted_by (λ e. eqb e.demander.0 y) (λ e. e.pair.0) (length N.pairs) (by_demander N)
     ∙ ap (sorted_by (λ e. e.pair.0) (length N.pairs)) (group-sorted_by (λ e. e.demander.0) y (length N.pairs) (edges N) h)
 

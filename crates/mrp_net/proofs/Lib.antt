@@ -1,7 +1,4 @@
 pub mod Members
-pub mod Grouping
-pub mod Sorting
-pub mod Adding
 pub mod Summing
 pub mod Joining
 pub mod Naming

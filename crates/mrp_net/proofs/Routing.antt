@@ -14,12 +14,12 @@ use Rattle.mrp_net.specs.declared.lane.Lane.{Lane}
 use Rattle.mrp_net.specs.declared.lane.LaneKind.{LaneKind}
 use Rattle.mrp_net.specs.declared.lane.LaneKind.TheVariants.{Despatch, Schedule}
 use Rattle.mrp_net.specs.declared.lanes.Taken.{Taken}
-use Rattle.mrp_net.specs.Groups.{group, sorted_by, IsGrouped, ShowsGroups}
+use Rattle.mrp_group.specs.Groups.{group, sorted_by, IsGrouped, ShowsGroups}
 use Rattle.mrp_net.specs.Sums.{pair_at, no_pair}
 use Rattle.mrp_net.specs.Lanes.{lanes, lanes_of, lanes_between, both_lanes, lane_items, pair_on, taken_over, item_of, figure, shipped_from, opening, customer_of, supplier_of}
 use Rattle.mrp_net.specs.Routes.{route_no, taken, AreItems, IsLane}
-use Rattle.mrp_net.proofs.Grouping.{range-suc, sorted_by-suc}
-use Rattle.mrp_net.proofs.Sorting.{IsGrouped-slice, IsGrouped-within}
+use Rattle.mrp_group.proofs.Grouping.{range-suc, sorted_by-suc}
+use Rattle.mrp_group.proofs.Sorting.{IsGrouped-from_begins, IsGrouped-within}
 
 pub filter-map : {X Y : Type 0} (p : Y → Bool) (f : X → Y) (xs : List X) → filter p (map f xs) ≡ map f (filter (λ x. p (f x)) xs)
 filter-map p f [] = refl
@@ -55,7 +55,7 @@ place_test a b c d w h g =
 
 -- what is shown of a group is a slice
 as_grouped : {X Y : Type 0} (shown : X → Y) (key : X → ℕ) (n : ℕ) (rows : List X) (sorted : List Y) (starts : List ℕ) → ShowsGroups shown key n rows sorted starts → IsGrouped key n rows (sorted_by key n rows) starts
-as_grouped shown key n rows sorted starts are = record { is = refl; size = are.size; begins = are.begins }
+as_grouped shown key n rows sorted starts are = IsGrouped-from_begins key n rows (sorted_by key n rows) starts refl are.size are.begins
 
 pub ShowsGroups-from_grouped : {X Y : Type 0} (shown : X → Y) (key : X → ℕ) (n : ℕ) (rows found : List X) (sorted : List Y) (starts : List ℕ) → IsGrouped key n rows found starts → sorted ≡ map shown found → ShowsGroups shown key n rows sorted starts
 ShowsGroups-from_grouped shown key n rows found sorted starts are e = record { is = e ∙ ap (map shown) are.is; size = are.size; begins = are.begins }
@@ -67,7 +67,7 @@ pub ShowsGroups-slice : {X Y : Type 0} (shown : X → Y) (key : X → ℕ) (n : 
 ShowsGroups-slice {X} {Y} shown key n rows sorted starts k are h =
     ap (λ (z : List Y). slice_range z (slice_index starts k) (slice_index starts (k + 1))) are.is
     ∙ slice_of_map shown (sorted_by key n rows) (slice_index starts k) (slice_index starts (k + 1))
-    ∙ ap (map shown) (IsGrouped-slice key n rows (sorted_by key n rows) starts k (as_grouped shown key n rows sorted starts are) h)
+    ∙ ap (map shown) ((as_grouped shown key n rows sorted starts are).slices k h)
 
 pub ShowsGroups-within : {X Y : Type 0} (shown : X → Y) (key : X → ℕ) (n : ℕ) (rows : List X) (sorted : List Y) (starts : List ℕ) (k : ℕ) → ShowsGroups shown key n rows sorted starts → k < n → (slice_index starts k ≤ slice_index starts (k + 1)) × (slice_index starts (k + 1) ≤ length sorted)
 ShowsGroups-within shown key n rows sorted starts k are h =

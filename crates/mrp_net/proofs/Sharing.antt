@@ -18,14 +18,15 @@ use Rattle.mrp_tables.specs.declared.rows.Supply.TheVariants.{Make, Buy, From}
 use Rattle.mrp_tables.specs.Table.{Table, IsTable, IsPair, IsSourceRow, AreShares, HasSupply, is_same_pair, pair_no, sources_of_pair, supply_at}
 use Rattle.mrp_net.specs.declared.edge.Edge.{Edge}
 use Rattle.mrp_net.specs.Edges.{part, edge_need, bill_edge, source_edge, edges, suppliers, IsEdge}
-use Rattle.mrp_net.specs.Groups.{group, sorted_by}
+use Rattle.mrp_group.specs.Groups.{group, sorted_by}
 use Rattle.mrp_net.specs.Laws.{PartsAreWhole, NeedsAreWhole, OthersHaveNoSources, OthersHaveComponents, BoughtHaveNoEdges, PairsAreFound}
 use Rattle.mrp_net.specs.Sums.{pair_at, no_pair}
-use Rattle.mrp_net.proofs.Grouping.{sorted_by-suc}
+use Rattle.mrp_group.proofs.Grouping.{sorted_by-suc}
+use Rattle.mrp_group.proofs.Kept.{sum-sorted_by}
 use Rattle.mrp_net.proofs.Joining.{edges_join}
 use Rattle.mrp_net.proofs.Naming.{place_of}
 use Rattle.mrp_net.proofs.Routing.{filter-map}
-use Rattle.mrp_net.proofs.Sorting.{filter_none}
+use Rattle.mrp_group.proofs.Sorting.{filter_none}
 
 -- a running share of a release rises with the share, and the whole share is the release
 share-le : (release low high : ℕ) → low ≤ high → release * low / 1000 ≤ release * high / 1000
@@ -59,53 +60,6 @@ shares_of N x table h from = subst (λ (z : Supply). HasSupply z (sources_of_pai
 pub parts_are_whole : PartsAreWhole
 parts_are_whole N table x h from release =
     omega (arith, zero_share release, rest_of_shares N release 0 (sources_of_pair N x) (shares_of N x table h from) (All-filter (λ s. eqb s.pair.0 x) (IsSourceRow N) N.sources table.read.sources) (omega arith))
-
--- a sum over sorted rows
-pub sum_filter : {X : Type 0} (f : X → ℕ) (p : X → Bool) (xs : List X) → sum_by f (filter p xs) ≡ sum_by (λ x. cond (p x) (f x) 0) xs
-sum_filter f p [] = refl
-sum_filter {X} f p (x ∷ xs) =
-    elim (cases_Bool (p x)) as (λ _. sum_by f (filter p (x ∷ xs)) ≡ sum_by (λ x. cond (p x) (f x) 0) (x ∷ xs)) [
-      | inl in_p ↦
-          ap (λ (b : Bool). sum_by f (cond b (x ∷ filter p xs) (filter p xs))) in_p
-          ∙ sum_by-cons f x (filter p xs)
-          ∙ omega (arith, sum_filter f p xs, sum_by-cons (λ x. cond (p x) (f x) 0) x xs, ap (λ (b : Bool). cond b (f x) 0) in_p)
-      | inr not_p ↦
-          ap (λ (b : Bool). sum_by f (cond b (x ∷ filter p xs) (filter p xs))) not_p
-          ∙ omega (arith, sum_filter f p xs, sum_by-cons (λ x. cond (p x) (f x) 0) x xs, ap (λ (b : Bool). cond b (f x) 0) not_p)
-    ]
-
-one_key_more : (a k n : ℕ) → cond (ltb a (suc k)) n 0 ≡ cond (ltb a k) n 0 + cond (eqb a k) n 0
-one_key_more a k n = grind (arith, nat_tests)
-
-keys_more : {X : Type 0} (f : X → ℕ) (key : X → ℕ) (k : ℕ) (xs : List X) → sum_by (λ x. cond (ltb (key x) (suc k)) (f x) 0) xs ≡ sum_by (λ x. cond (ltb (key x) k) (f x) 0) xs + sum_by (λ x. cond (eqb (key x) k) (f x) 0) xs
-keys_more f key k [] = refl
-keys_more f key k (x ∷ xs) =
-    omega (arith, sum_by-cons (λ x. cond (ltb (key x) (suc k)) (f x) 0) x xs, sum_by-cons (λ x. cond (ltb (key x) k) (f x) 0) x xs, sum_by-cons (λ x. cond (eqb (key x) k) (f x) 0) x xs, one_key_more (key x) k (f x), keys_more f key k xs)
-
-no_key : (a n : ℕ) → cond (ltb a 0) n 0 ≡ 0
-no_key a n = grind (arith, nat_tests)
-
-keys_none : {X : Type 0} (f : X → ℕ) (key : X → ℕ) (xs : List X) → sum_by (λ x. cond (ltb (key x) 0) (f x) 0) xs ≡ 0
-keys_none f key [] = refl
-keys_none f key (x ∷ xs) = omega (arith, sum_by-cons (λ x. cond (ltb (key x) 0) (f x) 0) x xs, no_key (key x) (f x), keys_none f key xs)
-
-sum_below : {X : Type 0} (f : X → ℕ) (key : X → ℕ) (n : ℕ) (xs : List X) → sum_by f (sorted_by key n xs) ≡ sum_by (λ x. cond (ltb (key x) n) (f x) 0) xs
-sum_below f key zero xs = sym (keys_none f key xs)
-sum_below f key (suc n) xs =
-    ap (sum_by f) (sorted_by-suc key n xs)
-    ∙ sum_by-append f (sorted_by key n xs) (group key n xs)
-    ∙ omega (arith, sum_below f key n xs, sum_filter f (λ x. eqb (key x) n) xs, keys_more f key n xs)
-
-key_below : (a k n : ℕ) → a < k → cond (ltb a k) n 0 ≡ n
-key_below a k n h = grind (arith, nat_tests)
-
-keys_all : {X : Type 0} (f : X → ℕ) (key : X → ℕ) (n : ℕ) (xs : List X) → All (λ x. key x < n) xs → sum_by (λ x. cond (ltb (key x) n) (f x) 0) xs ≡ sum_by f xs
-keys_all f key n [] h = refl
-keys_all f key n (x ∷ xs) h =
-    omega (arith, sum_by-cons (λ x. cond (ltb (key x) n) (f x) 0) x xs, sum_by-cons f x xs, key_below (key x) n (f x) (All-head (λ x. key x < n) x xs h), keys_all f key n xs (All-tail (λ x. key x < n) x xs h))
-
-pub sum-sorted_by : {X : Type 0} (f : X → ℕ) (key : X → ℕ) (n : ℕ) (xs : List X) → All (λ x. key x < n) xs → sum_by f (sorted_by key n xs) ≡ sum_by f xs
-sum-sorted_by f key n xs h = sum_below f key n xs ∙ keys_all f key n xs h
 
 -- the edges from a pair are those of its components and those of its sources
 made_is : (s : Supply) → s ≡ Make → s ≡ From → ⊥

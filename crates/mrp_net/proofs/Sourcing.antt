@@ -15,8 +15,8 @@ use Rattle.mrp_tables.specs.Table.{Table, IsTable, IsPair, IsSourceRow, is_taken
 use Rattle.mrp_net.specs.declared.lane.Lane.{Lane}
 use Rattle.mrp_net.specs.declared.lane.Shipment.{Shipment}
 use Rattle.mrp_net.specs.declared.lanes.Sent.{Sent}
-use Rattle.mrp_net.specs.Added.{AddsTotals}
-use Rattle.mrp_net.specs.Counts.{before_key}
+use Rattle.mrp_group.specs.Added.{AddsTotals}
+use Rattle.mrp_group.specs.Groups.{before_key}
 use Rattle.mrp_net.specs.Lanes.{figure, shipped_from, ships_from, shipment_of, lane_items, pair_on, taken_over, item_of, customer_of, supplier_of}
 use Rattle.mrp_net.specs.Sources.{source_no, AreSourceStarts, sent, AreShipments, AreSent}
 use Rattle.mrp_net.specs.Sums.{pair_at}

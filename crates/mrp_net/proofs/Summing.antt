@@ -17,7 +17,7 @@ use Rattle.mrp_tables.specs.declared.rows.ReceiptRow.{ReceiptRow}
 use Rattle.mrp_tables.specs.declared.rows.ShipRow.{ShipRow}
 use Rattle.mrp_tables.specs.declared.rows.CumRow.{CumRow}
 use Rattle.mrp_tables.specs.Table.{Table, IsTable, IsPair, horizon, is_same_cum}
-use Rattle.mrp_net.specs.Added.{AddsTotals, AddsAmounts}
+use Rattle.mrp_group.specs.Added.{AddsTotals, AddsAmounts}
 use Rattle.mrp_net.specs.Sums.{pair_at, no_pair, row_of, demand, demand_total, received, shipped, incoming}
 use Rattle.mrp_net.specs.Lanes.{figure, shipped_from}
 use Rattle.mrp_net.specs.Built.{AreTotals, ArePeriods, capped_supply}

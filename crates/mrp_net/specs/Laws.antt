@@ -13,7 +13,7 @@ use Rattle.mrp_net.specs.declared.lane.LaneKind.{LaneKind}
 use Rattle.mrp_net.specs.declared.lane.LaneKind.TheVariants.{Despatch, Schedule}
 use Rattle.mrp_net.specs.declared.lane.Shipment.{Shipment}
 use Rattle.mrp_net.specs.Edges.{part, edge_need, bill_edge, source_edge, edges, demanders, suppliers}
-use Rattle.mrp_net.specs.Groups.{sorted_by}
+use Rattle.mrp_group.specs.Groups.{sorted_by}
 use Rattle.mrp_net.specs.Lanes.{lanes, lane_at, taken_over, item_of, lane_items, shipments}
 use Rattle.mrp_net.specs.Plan.{rows_at, gross, pair_plan}
 use Rattle.mrp_net.specs.Sums.{pair_at, demand, incoming, received}

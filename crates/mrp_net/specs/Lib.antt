@@ -2,9 +2,6 @@ pub mod Edges
 pub mod Sums
 pub mod Plan
 pub mod Names
-pub mod Groups
-pub mod Counts
-pub mod Added
 pub mod Built
 pub mod Lanes
 pub mod Sources

@@ -5,8 +5,7 @@ use Rattle.mrp_tables.specs.declared.rows.ShipRow.{ShipRow}
 use Rattle.mrp_tables.specs.Table.{Table, is_taken_from}
 use Rattle.mrp_net.specs.declared.lane.Shipment.{Shipment}
 use Rattle.mrp_net.specs.declared.lanes.Sent.{Sent}
-use Rattle.mrp_net.specs.Counts.{AreStarts}
-use Rattle.mrp_net.specs.Groups.{ShowsGroups}
+use Rattle.mrp_group.specs.Groups.{AreStarts, ShowsGroups}
 use Rattle.mrp_net.specs.Lanes.{shipment_of}
 
 -- the number of the source by which a pair takes from a plant, or past the end where there is none

@@ -1,12 +1,12 @@
 ghost use Rattle.std.specs.Prelude.{◌≡◌, ◌+◌, ◌*◌, ◌^◌, ◌<◌, ◌++◌, true, length, map, All, IfOk};
 ghost use Rattle.mrp_tables.specs.Table.{is_taken_from};
-ghost use Rattle.mrp_net.specs.Added.{AddsTotals};
+ghost use Rattle.mrp_group.specs.Added.{AddsTotals};
 ghost use Rattle.mrp_net.specs.Lanes.{lanes, lanes_of, both_lanes, figure, shipped_from};
 ghost use Rattle.mrp_net.specs.Routes.{taken, AreItems, AreLaneLists};
 ghost use Rattle.mrp_net.specs.Sources.{source_no, sent, AreSourceStarts, AreShipments, AreSent};
 
-use crate::group::{Groups, KeyOf, group, starts};
 use crate::lane::{Lane, LaneKind, Shipment};
+use mrp_group::{Groups, KeyOf, group, starts};
 use mrp_qty::Memory;
 use mrp_tables::{ItemNo, PairNo, PlantNo, SourceRow, Tables};
 use std::alloc::Global;

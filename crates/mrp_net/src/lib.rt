@@ -6,7 +6,6 @@
 
 mod build;
 mod edge;
-mod group;
 mod lane;
 mod lanes;
 pub mod laws;

@@ -1,47 +1,38 @@
-ghost use Rattle.std.specs.Prelude.{◌≡◌, ℕ, ◌+◌, ◌*◌, ◌<◌, length, All};
-ghost use Rattle.mrp_net.specs.Added.{AddsTotals, AddsAmounts};
-
-use crate::group::KeyOf;
+use mrp_group::{AmountOf, KeyOf};
 use mrp_tables::{CumRow, DemandRow, ReceiptRow, ShipRow};
 
-/// A row that says an amount of a pair.
-pub trait OfPair {
-    ghost pair_of: { Self → ℕ };
+/// The pair of a row as its key.
+pub struct OfPair;
 
-    ghost amount_of: { Self → ℕ };
+impl KeyOf<DemandRow> for OfPair {
+    ghost key_of = { λ _ d. d.pair.0 };
 
-    /// The number of the pair.
-    fn pair(&self) -> usize
-        ensures { result ≡ pair_of self.now };
-
-    /// How many pieces.
-    fn amount(&self) -> u64
-        ensures { result ≡ amount_of self.now };
-}
-
-/// Adds the amounts of the rows to `totals`, which has a number for each pair. A sum past 2^64 - 1
-/// stays there.
-pub fn add_totals<R: OfPair>(rows: &[R], totals: &mut [u64])
-    requires { All (λ r. R.pair_of r < length totals.old) rows.now }
-    ensures { AddsTotals R.pair_of R.amount_of rows.now totals.old totals.new }
-{
-    for row in rows {
-        let x = row.pair();
-        totals[x] = totals[x].saturating_add(row.amount());
+    fn key(&self, row: &DemandRow) -> usize {
+        row.pair.0
     }
 }
 
-/// Adds the amounts of the rows to `amounts`, which has `width` numbers for each pair, pair by pair:
-/// the key of a row says which of them, as its period. A sum past 2^64 - 1 stays there.
-pub fn add_amounts<R: OfPair, K: KeyOf<R>>(by: &K, rows: &[R], width: usize, amounts: &mut [u64])
-    requires has { All (K.has_key by.now) rows.now }
-    requires places { All (λ r. R.pair_of r * width + K.key_of by.now r < length amounts.old) rows.now }
-    requires keys { All (λ r. K.key_of by.now r < width) rows.now }
-    ensures { AddsAmounts R.pair_of (K.key_of by.now) R.amount_of width rows.now amounts.old amounts.new }
-{
-    for row in rows {
-        let at = row.pair() * width + by.key(row);
-        amounts[at] = amounts[at].saturating_add(row.amount());
+impl KeyOf<ReceiptRow> for OfPair {
+    ghost key_of = { λ _ r. r.pair.0 };
+
+    fn key(&self, row: &ReceiptRow) -> usize {
+        row.pair.0
+    }
+}
+
+impl KeyOf<ShipRow> for OfPair {
+    ghost key_of = { λ _ s. s.pair.0 };
+
+    fn key(&self, row: &ShipRow) -> usize {
+        row.pair.0
+    }
+}
+
+impl KeyOf<CumRow> for OfPair {
+    ghost key_of = { λ _ c. c.pair.0 };
+
+    fn key(&self, row: &CumRow) -> usize {
+        row.pair.0
     }
 }
 
@@ -72,58 +63,37 @@ impl KeyOf<ShipRow> for ByPeriod {
     }
 }
 
-impl OfPair for DemandRow {
-    ghost pair_of = { λ d. d.pair.0 };
+/// The pieces that a row says as its amount.
+pub struct Pieces;
 
-    ghost amount_of = { λ d. d.quantity };
+impl AmountOf<DemandRow> for Pieces {
+    ghost amount_of = { λ _ d. d.quantity };
 
-    fn pair(&self) -> usize {
-        self.pair.0
-    }
-
-    fn amount(&self) -> u64 {
-        self.quantity.get()
+    fn amount(&self, row: &DemandRow) -> u64 {
+        row.quantity.get()
     }
 }
 
-impl OfPair for ReceiptRow {
-    ghost pair_of = { λ r. r.pair.0 };
+impl AmountOf<ReceiptRow> for Pieces {
+    ghost amount_of = { λ _ r. r.quantity };
 
-    ghost amount_of = { λ r. r.quantity };
-
-    fn pair(&self) -> usize {
-        self.pair.0
-    }
-
-    fn amount(&self) -> u64 {
-        self.quantity.get()
+    fn amount(&self, row: &ReceiptRow) -> u64 {
+        row.quantity.get()
     }
 }
 
-impl OfPair for ShipRow {
-    ghost pair_of = { λ s. s.pair.0 };
+impl AmountOf<ShipRow> for Pieces {
+    ghost amount_of = { λ _ s. s.quantity };
 
-    ghost amount_of = { λ s. s.quantity };
-
-    fn pair(&self) -> usize {
-        self.pair.0
-    }
-
-    fn amount(&self) -> u64 {
-        self.quantity.get()
+    fn amount(&self, row: &ShipRow) -> u64 {
+        row.quantity.get()
     }
 }
 
-impl OfPair for CumRow {
-    ghost pair_of = { λ c. c.pair.0 };
+impl AmountOf<CumRow> for Pieces {
+    ghost amount_of = { λ _ c. c.figure };
 
-    ghost amount_of = { λ c. c.figure };
-
-    fn pair(&self) -> usize {
-        self.pair.0
-    }
-
-    fn amount(&self) -> u64 {
-        self.figure.get()
+    fn amount(&self, row: &CumRow) -> u64 {
+        row.figure.get()
     }
 }

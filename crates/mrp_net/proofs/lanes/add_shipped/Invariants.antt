@@ -1,5 +1,5 @@
 use Rattle.std.proofs.Common.{take}
-use Rattle.mrp_net.specs.Added.{AddsTotals}
+use Rattle.mrp_group.specs.Added.{AddsTotals}
 use Rattle.mrp_net.proofs.lanes.add_shipped.Given as goal
 
 abbrev pub invariant-loop-sent : goal.invariant-loop-sent

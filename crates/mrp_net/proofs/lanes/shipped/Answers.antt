@@ -3,7 +3,7 @@ use Rattle.std.specs.List.{All}
 use Rattle.std.proofs.lemmas.List.{take_at, length-replicate}
 use Rattle.mrp_net.specs.declared.lanes.Sent.{Sent}
 use Rattle.mrp_net.specs.Sources.{sent}
-use Rattle.mrp_net.proofs.Adding.{AddsTotals-same}
+use Rattle.mrp_group.proofs.Adding.{AddsTotals-same}
 use Rattle.mrp_net.proofs.Sourcing.{sent_within, shipped_built}
 use Rattle.mrp_net.proofs.lanes.shipped.Goals as goal
 

@@ -4,7 +4,7 @@ use Rattle.mrp_tables.specs.Table.{Table, IsPair}
 use Rattle.mrp_net.specs.declared.edge.Edge.{Edge}
 use Rattle.mrp_net.specs.Edges.{demanders, IsEdge}
 use Rattle.mrp_net.specs.Built.{by_demander}
-use Rattle.mrp_net.proofs.Sorting.{IsGrouped-within}
+use Rattle.mrp_group.proofs.Sorting.{IsGrouped-within}
 use Rattle.mrp_net.proofs.Joining.{edges_join, demanders_slice, demanders_join}
 use Rattle.mrp_net.proofs.network.Network.demanders.Goals as goal
 

@@ -1,0 +1,5 @@
+pub mod Grouping
+pub mod Sorting
+pub mod Placing
+pub mod Kept
+pub mod Adding

@@ -1,0 +1,4 @@
+pub mod Groups
+pub mod Counts
+pub mod Added
+pub mod Laws
