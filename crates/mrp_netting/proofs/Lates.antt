@@ -5,6 +5,7 @@ use Rattle.std.proofs.lemmas.Bool.{cases_lt, cond-true, cond-false}
 use Rattle.std.proofs.lemmas.List.{append-nil}
 use Rattle.std.proofs.lemmas.List.Elements.{filter-append, All-filter, filter_passes}
 use Rattle.std.proofs.lemmas.List.FromFn.{get_or-range_with_len, length-range_with_len, get_or-map-range_with_len}
+use Rattle.std.proofs.lemmas.List.Sums.{count_by-le-length, length-filter}
 use Rattle.mrp_lot.specs.declared.params.PairParams.{PairParams}
 use Rattle.mrp_lot.specs.One.{order_at, late_at}
 use Rattle.mrp_lot.specs.RangeLaws.{filter_map-range-same}
@@ -82,6 +83,11 @@ are_late lead order k d h =
       All-filter (is_late lead order) (λ t. t < length order) (range_with_len 0 (length order)) (within_range (length order)) k d h,
       ltb-true x lead (and_first _ _ (filter_passes (is_late lead order) (range_with_len 0 (length order)) k d h)),
     )
+
+-- there is at most one a period
+pub late_few : (lead : ℕ) (order : List ℕ) → length (late_periods lead order (length order)) ≤ length order
+late_few lead order =
+    omega (arith, length-filter (is_late lead order) (range_with_len 0 (length order)), count_by-le-length (is_late lead order) (range_with_len 0 (length order)), length-range_with_len 0 (length order))
 
 map_filter : {X : Type 0} (p : ℕ → Bool) (f : ℕ → X) (xs : List ℕ) → map f (filter p xs) ≡ filter_map (λ x. cond (p x) (Some (f x)) None) xs
 map_filter p f [] = refl

@@ -28,7 +28,7 @@ impl Model for PairPlan {
 
     ghost view = { λ p. record { gross = p.gross; incoming = p.incoming; order = p.order; release = p.release; available = p.available; late = late_orders p.lead p.order p.late.items } };
 
-    ghost invariant = { λ p. (length p.incoming ≡ length p.gross) × (length p.order ≡ length p.gross) × (length p.release ≡ length p.gross) × (length p.available ≡ length p.gross) × (length p.gross ≤ vec_capacity p.late) × AreLate p.lead p.order p.late.items };
+    ghost invariant = { λ p. (length p.incoming ≡ length p.gross) × (length p.order ≡ length p.gross) × (length p.release ≡ length p.gross) × (length p.available ≡ length p.gross) × (length p.gross ≤ vec_capacity p.late) × AreLate p.lead p.order p.late.items × (length p.late.items ≤ length p.gross) };
 }
 
 impl PairPlan {
@@ -143,6 +143,21 @@ impl PairPlan {
         copy.lead = self.lead;
         copy.late.extend_from_slice(self.late.as_slice())?;
         Ok(copy)
+    }
+
+    /// Takes over what a plan of as many periods says, whatever this one said. Nothing is allocated.
+    pub fn copy_from(&mut self, other: &PairPlan)
+        requires { length self.old.gross ≡ length other.now.gross }
+        ensures { self.new ≡ other.now }
+    {
+        self.gross.copy_from(&other.gross);
+        self.incoming.copy_from(&other.incoming);
+        self.order.copy_from(&other.order);
+        self.release.copy_from(&other.release);
+        self.available.copy_from(&other.available);
+        self.lead = other.lead;
+        self.late.clear();
+        let _ = self.late.extend_from_slice(other.late.as_slice());
     }
 }
 

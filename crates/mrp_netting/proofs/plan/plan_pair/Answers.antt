@@ -2,7 +2,7 @@ use Rattle.std.proofs.Common.{◌≡◌, ℕ, List, length, sym, ◌∙◌, ap, 
 use Rattle.std.proofs.lemmas.List.FromFn.{length-map-range_with_len}
 use Rattle.mrp_lot.specs.One.{PlanRows}
 use Rattle.mrp_netting.specs.Plan.{AreLate, order_row, available_row, release_row, late_periods}
-use Rattle.mrp_netting.proofs.Lates.{are_late}
+use Rattle.mrp_netting.proofs.Lates.{are_late, late_few}
 use Rattle.mrp_netting.proofs.Plans.{length-order_row, order_row-le, plan_is}
 use Rattle.mrp_netting.proofs.plan.plan_pair.Goals as goal
 
@@ -67,6 +67,7 @@ invariant_of-into c =
       omega (arith, g, a),
       omega (arith, g, was, c.into.invariant.4, c.requires.room, c.note_late.ensures.room),
       subst (AreLate params.lead order) (sym late) (are_late params.lead order),
+      omega (arith, ap length late, late_few params.lead order, g, o),
     )
 
 pub returns : goal.returns

@@ -30,6 +30,7 @@ invariant_of-copy c =
       omega (arith, g, a, inv.3),
       omega (arith, g, zeros, counted, c.len.ensures.value, c.copy.invariant.4, c.extend_from_slice.ensures.capacity),
       lates,
+      omega (arith, g, ap length late, inv.6),
     )
 
 pub returns : goal.returns
