@@ -6,7 +6,9 @@ pub mod Routing
 pub mod Sharing
 pub mod Covering
 pub mod Sourcing
+pub mod Anew
 pub mod Local
+pub mod Behind
 pub mod Asking
 pub mod Periods
 pub mod Totals
@@ -14,3 +16,11 @@ pub mod Pieces
 pub mod Twos
 pub mod EdgesOnce
 pub mod Arriving
+pub mod Once
+pub mod Loading
+pub mod Pushing
+pub mod Seeing
+pub mod SeeingLanes
+pub mod Lengths
+pub mod Ends
+pub mod Views

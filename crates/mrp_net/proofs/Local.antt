@@ -1,5 +1,5 @@
 -- Edges within a plant are those of components.
-use Rattle.std.proofs.Common.{◌≡◌, ℕ, ◌-◌, ◌*◌, ◌/◌, ◌&&◌, true, false, eqb, List, ◌++◌, length, get_or, map, refl, sym, ap, ◌∙◌, arith}
+use Rattle.std.proofs.Common.{◌≡◌, ℕ, ◌-◌, ◌*◌, ◌/◌, ◌&&◌, true, false, not, eqb, List, ◌++◌, length, get_or, map, refl, sym, ap, ◌∙◌, arith}
 use Rattle.std.specs.List.{All, filter, position_or_len}
 use Rattle.std.specs.Option.{unwrap_or, option_map}
 use Rattle.std.proofs.lemmas.Bool.{eqb-true, eq-eqb, and_parts, true≢false, false_from_ne_true}
@@ -16,16 +16,16 @@ use Rattle.mrp_tables.specs.Table.{Table, IsTable, IsPair, pair_no, plant_at, it
 use Rattle.mrp_net.specs.declared.edge.Edge.{Edge}
 use Rattle.mrp_net.specs.Edges.{bill_edge, source_edge, edges}
 use Rattle.mrp_net.specs.Lanes.{item_of}
-use Rattle.mrp_net.specs.Laws.{SourcePairsAreThere, is_local, IsLocalEdge, LocalEdgesAreBills, LocalEdgesAreWhole, LocalDemandersAreWhole}
+use Rattle.mrp_net.specs.Laws.{SourcePairsAreThere, is_local, IsLocalEdge, LocalEdgesAreBills, LocalEdgesAreWhole, LocalDemandersAreWhole, CrossingEdgesAreSources}
 use Rattle.mrp_net.specs.Sums.{pair_at, no_pair}
 use Rattle.mrp_net.proofs.Naming.{place_of}
 use Rattle.mrp_net.proofs.Sharing.{share-whole, zero_share}
 use Rattle.mrp_group.proofs.Sorting.{filter_none, filter_whole, All-sorted_by}
 
-plant_is : (N : Table) (x : ℕ) → IsPair N x → plant_at N x ≡ (pair_at N x).plant.0
+pub plant_is : (N : Table) (x : ℕ) → IsPair N x → plant_at N x ≡ (pair_at N x).plant.0
 plant_is N x h = ap (λ o. unwrap_or (option_map (λ (p : PairRow). p.plant.0) o) 0) (slice_get-get_or N.pairs x no_pair h)
 
-item_is : (N : Table) (x : ℕ) → IsPair N x → item_at N x ≡ (pair_at N x).item.0
+pub item_is : (N : Table) (x : ℕ) → IsPair N x → item_at N x ≡ (pair_at N x).item.0
 item_is N x h = ap (λ o. unwrap_or (option_map (λ (p : PairRow). p.item.0) o) 0) (slice_get-get_or N.pairs x no_pair h)
 
 -- the pair of a plant and an item has them
@@ -80,6 +80,13 @@ local_edges_are_bills N is =
     ∙ ap (λ (z : List Edge). z ++ filter (is_local N) (map (source_edge N) N.sources)) (filter_whole (is_local N) (map bill_edge N.bills) (bill_edges_are_local N is))
     ∙ ap (λ (z : List Edge). map bill_edge N.bills ++ z) (filter_none (is_local N) (map (source_edge N) N.sources) (source_edges_cross N is))
     ∙ append-nil (map bill_edge N.bills)
+
+pub crossing_edges_are_sources : CrossingEdgesAreSources
+crossing_edges_are_sources N is =
+    let crosses = λ (e : Edge). not (is_local N e) in
+    filter-append crosses (map bill_edge N.bills) (map (source_edge N) N.sources)
+    ∙ ap (λ (z : List Edge). z ++ filter crosses (map (source_edge N) N.sources)) (filter_none crosses (map bill_edge N.bills) (λ k d h. ap not (bill_edges_are_local N is k d h)))
+    ∙ filter_whole crosses (map (source_edge N) N.sources) (λ k d h. ap not (source_edges_cross N is k d h))
 
 -- a bill edge is whole
 pub whole_need : (per release : ℕ) → per * (release * 1000 / 1000 - release * 0 / 1000) ≡ per * release

@@ -125,7 +125,7 @@ lanes_more N before now after customer supplier e f =
     ∙ ap (λ (z : List Lane). before ++ z) (sym (flat_map-range-more (lanes_between N customer) supplier))
 
 -- every lane joins plants of the table
-All-flat_map-range : {X : Type 0} (P : X → Type 0) (f : ℕ → List X) (n : ℕ) → ((k : ℕ) → k < n → All P (f k)) → All P (flat_map f (range_with_len 0 n))
+pub All-flat_map-range : {X : Type 0} (P : X → Type 0) (f : ℕ → List X) (n : ℕ) → ((k : ℕ) → k < n → All P (f k)) → All P (flat_map f (range_with_len 0 n))
 All-flat_map-range P f zero h = All-nil P
 All-flat_map-range P f (suc n) h =
     subst (All P) (ap (λ (z : ℕ). flat_map f (range_with_len 0 z)) (add-one n)) (subst (All P) (sym (flat_map-range-more f n)) (All-append P (flat_map f (range_with_len 0 n)) (f n) (All-flat_map-range P f n (λ k lt. h k (omega arith))) (h n (omega arith))))

@@ -67,6 +67,17 @@ demand_built N before after is zeros same adds =
           omega (arith, adds x t g within, was, demand_within N is x t);
     }
 
+pub received_built : (N : Table) (before after : List ℕ) → IsTable N → before ≡ replicate (length N.pairs * horizon N) 0 → length after ≡ length before → AddsAmounts (λ (r : ReceiptRow). r.pair.0) (λ r. r.period) (λ r. r.quantity) (horizon N) N.receipts before after → ArePeriods N (received N) after
+received_built N before after is zeros same adds =
+    let room : length before ≡ length N.pairs * horizon N = ap length zeros ∙ length-replicate (length N.pairs * horizon N) 0 in
+    record {
+      size = same ∙ room;
+      each = λ x t h g.
+          let within = place_within N before x t room h g in
+          let was : get_or before (x * horizon N + t) 0 ≡ 0 = ap (λ (z : List ℕ). get_or z (x * horizon N + t) 0) zeros ∙ get_or-replicate (length N.pairs * horizon N) (x * horizon N + t) 0 0 (omega arith) in
+          omega (arith, adds x t g within, was, received_within N is x t);
+    }
+
 pub incoming_built : (N : Table) (before between after : List ℕ) → IsTable N → before ≡ replicate (length N.pairs * horizon N) 0 → length between ≡ length before → length after ≡ length between → AddsAmounts (λ (r : ReceiptRow). r.pair.0) (λ r. r.period) (λ r. r.quantity) (horizon N) N.receipts before between → AddsAmounts (λ (s : ShipRow). s.pair.0) (λ s. s.period) (λ s. s.quantity) (horizon N) N.ships between after → ArePeriods N (incoming N) after
 incoming_built N before between after is zeros same again adds more =
     let room : length before ≡ length N.pairs * horizon N = ap length zeros ∙ length-replicate (length N.pairs * horizon N) 0 in

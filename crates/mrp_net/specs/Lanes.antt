@@ -1,13 +1,13 @@
 -- Lanes: the two ways of records between a plant that takes items and a plant that it takes them from.
-use Rattle.std.specs.Prelude.{◌≡◌, ℕ, ◌+◌, ◌<◌, ◌==◌, ◌&&◌, not, if◌then◌else◌, List, [], ◌∷◌, length, map, filter, sum_by, slice_index_or}
-use Rattle.std.specs.List.{flat_map, range_with_len}
+use Rattle.std.specs.Prelude.{ℕ, ◌+◌, ◌==◌, ◌&&◌, if◌then◌else◌, Bool, List, [], ◌∷◌, length, map, filter, sum_by, slice_index_or, Option, option_map}
+use Rattle.std.specs.List.{find, flat_map, range_with_len}
 use Rattle.mrp_tables.specs.declared.numbers.ItemNo.{ItemNo}
 use Rattle.mrp_tables.specs.declared.numbers.PlantNo.{PlantNo}
+use Rattle.mrp_tables.specs.declared.rows.ResetRow.{ResetRow}
 use Rattle.mrp_tables.specs.declared.rows.SourceRow.{SourceRow}
 use Rattle.mrp_tables.specs.declared.rows.ShipRow.{ShipRow}
 use Rattle.mrp_tables.specs.Table.{Table, pair_no}
 use Rattle.mrp_net.specs.declared.lane.Lane.{Lane}
-use Rattle.mrp_net.specs.declared.lane.LaneKind.{LaneKind}
 use Rattle.mrp_net.specs.declared.lane.LaneKind.TheVariants.{Despatch, Schedule}
 use Rattle.mrp_net.specs.declared.lane.Shipment.{Shipment}
 use Rattle.mrp_net.specs.Sums.{pair_at}
@@ -80,3 +80,14 @@ shipment_of s = record { period = s.period; quantity = s.quantity }
 
 abbrev pub shipments : Table → Lane → ItemNo → List Shipment
 shipments N lane item = map shipment_of (ships_from N (pair_on N lane item) (supplier_of lane))
+
+-- the period from which the figures between a supplier and a pair start anew, where one of the rows says so
+abbrev pub is_reset_of : ℕ → ℕ → ResetRow → Bool
+is_reset_of x supplier r = (r.pair.0 == x) && (r.from.0 == supplier)
+
+abbrev pub anew_in : List ResetRow → ℕ → ℕ → Option ℕ
+anew_in rows x supplier = option_map (λ r. r.period) (find (is_reset_of x supplier) rows)
+
+-- the period from which the figures of an item start anew, the same on both lanes of the two plants
+abbrev pub reset : Table → Lane → ItemNo → Option ℕ
+reset N lane item = anew_in N.resets (pair_on N lane item) (supplier_of lane)

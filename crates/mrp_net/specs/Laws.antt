@@ -1,5 +1,6 @@
 -- Laws of every accepted table.
-use Rattle.std.specs.Prelude.{◌≡◌, ◌≢◌, ℕ, ◌+◌, ◌*◌, ◌<◌, ◌==◌, ◌&&◌, if◌then◌else◌, Bool, true, false, List, [], length, map, filter, sum_by, slice_index, All, Contains}
+use Rattle.std.specs.Prelude.{◌≡◌, ◌≢◌, ℕ, ◌+◌, ◌*◌, ◌<◌, ◌≤◌, ◌==◌, ◌&&◌, not, if◌then◌else◌, Bool, true, false, List}
+use Rattle.std.specs.Prelude.{[], length, map, filter, sum_by, slice_index, All, Contains}
 use Rattle.std.specs.List.{AllPairs, IsDistinct, range_with_len}
 use Rattle.mrp_lot.specs.One.{PlanRows}
 use Rattle.mrp_tables.specs.declared.numbers.ItemNo.{ItemNo}
@@ -12,11 +13,12 @@ use Rattle.mrp_net.specs.declared.lane.Lane.{Lane}
 use Rattle.mrp_net.specs.declared.lane.LaneKind.{LaneKind}
 use Rattle.mrp_net.specs.declared.lane.LaneKind.TheVariants.{Despatch, Schedule}
 use Rattle.mrp_net.specs.declared.lane.Shipment.{Shipment}
-use Rattle.mrp_net.specs.Edges.{part, edge_need, bill_edge, source_edge, edges, demanders, suppliers}
+use Rattle.mrp_net.specs.Edges.{part, edge_need, bill_edge, source_edge, edges, demanders, suppliers, IsEdge}
 use Rattle.mrp_group.specs.Groups.{sorted_by}
-use Rattle.mrp_net.specs.Lanes.{lanes, lane_at, taken_over, item_of, lane_items, shipments}
+use Rattle.mrp_net.specs.Lanes.{lanes, lane_at, taken_over, item_of, lane_items, opening, shipments, pair_on, customer_of, supplier_of}
 use Rattle.mrp_net.specs.Plan.{rows_at, gross, pair_plan}
-use Rattle.mrp_net.specs.Sums.{pair_at, demand, incoming, received}
+use Rattle.mrp_net.specs.Sources.{source_on, supplied_on}
+use Rattle.mrp_net.specs.Sums.{pair_at, demand, incoming, received, supply}
 
 -- the parts of a release over the sources of a pair that is taken from plants are the release
 abbrev pub PartsAreWhole : Type 0
@@ -29,6 +31,10 @@ abbrev pub NeedsAreWhole : Type 0
 NeedsAreWhole =
     (N : Table) → IsTable N → (x : ℕ) → IsPair N x → (pair_at N x).supply ≡ From → (release : ℕ)
     → sum_by (λ e. edge_need e release) (suppliers N x) ≡ release
+
+-- no part of a release is more than the release
+abbrev pub PartsAreWithin : Type 0
+PartsAreWithin = (N : Table) (e : Edge) → IsEdge N e → (release : ℕ) → part e release ≤ release
 
 -- any other pair has no sources
 abbrev pub OthersHaveNoSources : Type 0
@@ -94,6 +100,25 @@ OneSourceBringsAnItem =
 abbrev pub LaneItemsStandOnce : Type 0
 LaneItemsStandOnce = (N : Table) → IsTable N → (lane : Lane) → IsDistinct is_same_item (lane_items N lane)
 
+-- the pair of a plant and an item
+pub record IsPairOf (N : Table) (x plant : ℕ) (item : ItemNo) : Type 0 where
+  pub pair : IsPair N x
+  pub at_plant : (pair_at N x).plant.0 ≡ plant
+  pub of_item : (pair_at N x).item ≡ item
+
+-- behind an item of a lane there is the source by which the customer's pair takes it from the
+-- supplier, and both have a pair of the item
+pub record HasSource (N : Table) (lane : Lane) (item : ItemNo) : Type 0 where
+  pub source : Contains N.sources (source_on N lane item)
+  pub taker : (source_on N lane item).pair.0 ≡ pair_on N lane item
+  pub plant : (source_on N lane item).plant.0 ≡ supplier_of lane
+  pub customer : IsPairOf N (pair_on N lane item) (customer_of lane) item
+  pub supplier : IsPairOf N (supplied_on N lane item) (supplier_of lane) item
+
+abbrev pub ItemsHaveSources : Type 0
+ItemsHaveSources =
+    (N : Table) → IsTable N → (lane : Lane) (item : ItemNo) → Contains (lane_items N lane) item → HasSource N lane item
+
 -- the despatch lane of a source, from its plant to the plant of the pair, and the schedule lane back
 abbrev pub despatch_lane : Table → SourceRow → Lane
 despatch_lane N s = record { kind = Despatch; sender = s.plant; receiver = (pair_at N s.pair.0).plant }
@@ -128,6 +153,20 @@ LanesComeInTwos =
 -- no lane stands twice
 abbrev pub LanesStandOnce : Type 0
 LanesStandOnce = (N : Table) → AllPairs (λ a b. a ≢ b) (lanes N)
+
+-- a lane joins two plants of the table, two different ones, and has items
+pub record JoinsTwo (N : Table) (lane : Lane) : Type 0 where
+  pub customer : customer_of lane < length N.plants
+  pub supplier : supplier_of lane < length N.plants
+  pub two : customer_of lane ≢ supplier_of lane
+  pub some : 1 ≤ length (lane_items N lane)
+
+abbrev pub LanesJoinTwoPlants : Type 0
+LanesJoinTwoPlants = (N : Table) → IsTable N → All (JoinsTwo N) (lanes N)
+
+-- an item's figures on a lane begin at no more than its customer's pair has without any order
+abbrev pub OpeningsAreSupplied : Type 0
+OpeningsAreSupplied = (N : Table) (lane : Lane) (item : ItemNo) → opening N lane item ≤ supply N (pair_on N lane item)
 
 -- the despatch lanes to a plant
 abbrev pub is_despatch : LaneKind → Bool
@@ -188,7 +227,11 @@ SourcePairsAreThere =
 abbrev pub LocalEdgesAreBills : Type 0
 LocalEdgesAreBills = (N : Table) → IsTable N → filter (is_local N) (edges N) ≡ map bill_edge N.bills
 
--- such an edge takes its part of the whole release, for a pair of the same plant
+-- and those between plants are those of sources
+abbrev pub CrossingEdgesAreSources : Type 0
+CrossingEdgesAreSources = (N : Table) → IsTable N → filter (λ e. not (is_local N e)) (edges N) ≡ map (source_edge N) N.sources
+
+-- an edge within a plant takes its part of the whole release, for a pair of the same plant
 pub record IsLocalEdge (N : Table) (e : Edge) : Type 0 where
   pub low : e.low ≡ 0
   pub high : e.high ≡ 1000

@@ -6,4 +6,9 @@ pub mod Built
 pub mod Lanes
 pub mod Sources
 pub mod Routes
+pub mod Texts
 pub mod Laws
+pub mod Loads
+pub mod View
+pub mod Seen
+pub mod ViewLaws

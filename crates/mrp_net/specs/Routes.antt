@@ -8,7 +8,7 @@ use Rattle.mrp_net.specs.declared.lanes.LaneLists.{LaneLists}
 use Rattle.mrp_net.specs.declared.lanes.Taken.{Taken}
 use Rattle.mrp_group.specs.Groups.{ShowsGroups}
 use Rattle.mrp_net.specs.Sums.{pair_at}
-use Rattle.mrp_net.specs.Sources.{AreSourceStarts, AreShipments, AreSent}
+use Rattle.mrp_net.specs.Sources.{AreSourceStarts, AreShipments, AreSent, AreResets}
 use Rattle.mrp_net.specs.Lanes.{lanes, item_of, figure, shipped_from, customer_of, supplier_of}
 
 -- the number of a route: by customer, then by supplier
@@ -36,3 +36,4 @@ pub record AreLaneLists (N : Table) (l : LaneLists) : Type 0 where
   pub shipments : AreShipments N l.shipments.rows.items l.shipments.starts.items
   pub openings : AreSent N (figure N) l.figures.items
   pub sent : AreSent N (shipped_from N) l.shipped.items
+  pub resets : AreResets N l.resets.items

@@ -1,9 +1,9 @@
-ghost use Rattle.std.specs.Prelude.{◌≡◌, ◌+◌, ◌*◌, ◌^◌, ◌<◌, ◌++◌, true, length, map, All, IfOk};
+ghost use Rattle.std.specs.Prelude.{◌≡◌, ◌+◌, ◌*◌, ◌^◌, ◌<◌, ◌++◌, true, length, map, replicate, All, IfOk};
 ghost use Rattle.mrp_tables.specs.Table.{is_taken_from};
 ghost use Rattle.mrp_group.specs.Added.{AddsTotals};
 ghost use Rattle.mrp_net.specs.Lanes.{lanes, lanes_of, both_lanes, figure, shipped_from};
 ghost use Rattle.mrp_net.specs.Routes.{taken, AreItems, AreLaneLists};
-ghost use Rattle.mrp_net.specs.Sources.{source_no, sent, AreSourceStarts, AreShipments, AreSent};
+ghost use Rattle.mrp_net.specs.Sources.{source_no, sent, AreSourceStarts, AreShipments, AreSent, AreResets, AreResetsOf};
 
 use crate::lane::{Lane, LaneKind, Shipment};
 use mrp_group::{Groups, KeyOf, group, starts};
@@ -12,7 +12,8 @@ use mrp_tables::{ItemNo, PairNo, PlantNo, SourceRow, Tables};
 use std::alloc::Global;
 
 /// The lanes of a network, the items of each route, where the sources of each pair begin, and what
-/// comes by each source: the shipments on their way, what was shipped before them, and their sum.
+/// comes by each source: the shipments on their way, what was shipped before them, their sum, and the
+/// period from which its figures start anew.
 #[derive(Drop)]
 pub struct LaneLists {
     pub lanes: Vec<Lane>,
@@ -21,6 +22,7 @@ pub struct LaneLists {
     pub shipments: Groups<Shipment>,
     pub figures: Vec<u64>,
     pub shipped: Vec<u64>,
+    pub resets: Vec<Option<u64>>,
 }
 
 /// An item that is taken over a route. The number of a route is its customer's times the number of
@@ -271,6 +273,29 @@ fn shipped(alloc: Global, tables: &Tables, all: &[Sent]) -> Result<Vec<u64>, Mem
     Ok(shipped)
 }
 
+/// Writes at each source the period of its reset row.
+fn put_resets(tables: &Tables, starts: &[usize], resets: &mut [Option<u64>])
+    requires starts { AreSourceStarts tables.now starts.now }
+    requires none { resets.old ≡ replicate (length tables.now.sources) None }
+    ensures { AreResetsOf tables.now tables.now.resets resets.new }
+{
+    let _pairs = tables.pairs();
+    for reset in tables.resets() {
+        let source = source_of(tables, starts, reset.pair, reset.from);
+        resets[source] = Some(reset.period as u64);
+    }
+}
+
+/// The period of each source from which its figures start anew.
+fn resets(alloc: Global, tables: &Tables, starts: &[usize]) -> Result<Vec<Option<u64>>, Memory>
+    requires { AreSourceStarts tables.now starts.now }
+    ensures { IfOk result (λ v. AreResets tables.now v.items) }
+{
+    let mut resets = vec![in alloc; None; tables.sources().len()]?;
+    put_resets(tables, starts, resets.as_mut_slice());
+    Ok(resets)
+}
+
 /// The lanes and what is sent over them.
 pub fn lane_lists_of(alloc: Global, tables: &Tables) -> Result<LaneLists, Memory>
     ensures { IfOk result (AreLaneLists tables.now) }
@@ -282,6 +307,7 @@ pub fn lane_lists_of(alloc: Global, tables: &Tables) -> Result<LaneLists, Memory
     let shipments = shipments(alloc, tables, all.as_slice())?;
     let figures = figures(alloc, tables, sources.as_slice())?;
     let shipped = shipped(alloc, tables, all.as_slice())?;
+    let resets = resets(alloc, tables, sources.as_slice())?;
     Ok(LaneLists {
         lanes,
         items,
@@ -289,5 +315,6 @@ pub fn lane_lists_of(alloc: Global, tables: &Tables) -> Result<LaneLists, Memory
         shipments,
         figures,
         shipped,
+        resets,
     })
 }

@@ -1,16 +1,25 @@
-//! Laws of sources and shares and of the pairs of a table, of routes and lanes, and of edges.
+//! Laws of sources and shares and of the pairs of a table, of routes and lanes, of edges, and of what
+//! plants see.
 //! Each is the contract of a function that does nothing.
 
-ghost use Rattle.mrp_net.specs.Laws.{PartsAreWhole, NeedsAreWhole, OthersHaveNoSources, OthersHaveComponents, BoughtHaveNoEdges, PairsAreFound};
-ghost use Rattle.mrp_net.specs.Laws.{RoutesCoverCustomers, RoutesCoverSuppliers, RoutesCoverSources, OneSourceBringsAnItem, LaneItemsStandOnce, PlansLookAtDemanders};
-ghost use Rattle.mrp_net.specs.Laws.{SourcePairsAreThere, LocalEdgesAreBills, LocalEdgesAreWhole, LocalDemandersAreWhole, GrossIsLocalAndCalled};
-ghost use Rattle.mrp_net.specs.Laws.{SourcesHaveLanes, LanesComeInTwos, LanesStandOnce, IncomingComesOverLanes, ShipmentsAreOfItems, OneEdgeJoinsTwoPairs, DemandersStandOnce};
+ghost use Rattle.mrp_net.specs.Laws.{PartsAreWhole, NeedsAreWhole, PartsAreWithin, OthersHaveNoSources, OthersHaveComponents, BoughtHaveNoEdges};
+ghost use Rattle.mrp_net.specs.Laws.{PairsAreFound, RoutesCoverCustomers, RoutesCoverSuppliers, RoutesCoverSources, OneSourceBringsAnItem, LaneItemsStandOnce};
+ghost use Rattle.mrp_net.specs.Laws.{SourcePairsAreThere, LocalEdgesAreBills, LocalEdgesAreWhole, LocalDemandersAreWhole, CrossingEdgesAreSources};
+ghost use Rattle.mrp_net.specs.Laws.{GrossIsLocalAndCalled, PlansLookAtDemanders, SourcesHaveLanes, LanesComeInTwos, LanesStandOnce, LanesJoinTwoPlants};
+ghost use Rattle.mrp_net.specs.Laws.{ItemsHaveSources, OpeningsAreSupplied, IncomingComesOverLanes, ShipmentsAreOfItems};
+ghost use Rattle.mrp_net.specs.Laws.{OneEdgeJoinsTwoPairs, DemandersStandOnce};
+ghost use Rattle.mrp_net.specs.ViewLaws.{ViewsSayEnough, ViewsHaveLanesIn, ViewsHaveLanesOut};
 
 /// The parts of a release over the sources of a pair that is taken from plants add up to the release,
 /// and so does what it asks of its suppliers: nothing is lost or made up by rounding.
 pub fn parts_are_whole()
     ensures parts { PartsAreWhole }
     ensures needs { NeedsAreWhole }
+{}
+
+/// No part of a release is more than the release.
+pub fn parts_are_within()
+    ensures { PartsAreWithin }
 {}
 
 /// A pair that isn't taken from plants has no sources: its edges are those of its components, and a
@@ -59,6 +68,11 @@ pub fn local_edges_are_whole()
     ensures demanders { LocalDemandersAreWhole }
 {}
 
+/// The edges between plants are those of the sources, each taking its share from another plant.
+pub fn crossing_edges_are_sources()
+    ensures { CrossingEdgesAreSources }
+{}
+
 /// Gross requirements are the demand rows, what is asked within the plant, and what is asked over
 /// the routes on which the plant is the supplier.
 pub fn gross_is_local_and_called()
@@ -70,6 +84,22 @@ pub fn gross_is_local_and_called()
 pub fn lanes_come_in_twos()
     ensures twos { LanesComeInTwos }
     ensures once { LanesStandOnce }
+{}
+
+/// A lane joins two different plants of the table, and has items.
+pub fn lanes_join_two_plants()
+    ensures { LanesJoinTwoPlants }
+{}
+
+/// Behind an item of a lane stand the source by which it is taken, and a pair of the item at either end.
+pub fn items_have_sources()
+    ensures { ItemsHaveSources }
+{}
+
+/// Cumulative figures begin on a lane at no more than the supply of the customer's pair, so they are
+/// within every bound on supplies.
+pub fn openings_are_supplied()
+    ensures { OpeningsAreSupplied }
 {}
 
 /// Each source has its despatch lane and its schedule lane, and its item is on both.
@@ -88,4 +118,17 @@ pub fn shipments_come_over_lanes()
 pub fn one_edge_joins_two_pairs()
     ensures edges { OneEdgeJoinsTwoPairs }
     ensures demanders { DemandersStandOnce }
+{}
+
+/// What a plant sees of an accepted table says all that it needs to know to plan alone: no pair, item
+/// or lane stands twice, edges and lanes name its own pairs, amounts are in range, and before each
+/// schedule lane that it sends it receives the despatch lane of the same two plants.
+pub fn views_say_enough()
+    ensures { ViewsSayEnough }
+{}
+
+/// A plant sees the lanes that it receives and those that it sends, in lane order, and no other.
+pub fn views_have_their_lanes()
+    ensures incoming { ViewsHaveLanesIn }
+    ensures outgoing { ViewsHaveLanesOut }
 {}

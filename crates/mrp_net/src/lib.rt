@@ -11,8 +11,14 @@ mod lanes;
 pub mod laws;
 mod network;
 mod sums;
+mod view;
+mod viewing;
 
 pub use edge::Edge;
 pub use lane::{Lane, LaneKind, LaneNo, Shipment};
-pub use mrp_tables::{ItemNo, PairNo, PairRow, PlantNo, Supply};
+pub use mrp_tables::{ItemNo, PairNo, PairRow, PlantNo, SourceRow, Supply};
 pub use network::Network;
+pub use view::{
+    IncomingItem, IncomingItems, IncomingLane, OutgoingItem, OutgoingItems, OutgoingLane,
+    PlantEdge, PlantPair, PlantView,
+};

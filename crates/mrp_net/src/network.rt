@@ -1,11 +1,13 @@
-ghost use Rattle.std.specs.Prelude.{◌≡◌, ◌<◌, ◌≤◌, ◌^◌, ◌-◌, ◌+◌, ◌*◌, ℕ, true, min, length, slice_get, Option, Some, None, IfSome, IfNone, IfOk, Contains, All};
-ghost use Rattle.mrp_tables.specs.Table.{Table, IsTable, horizon, IsPair, is_taken_from};
+ghost use Rattle.std.specs.Prelude.{◌≡◌, ◌<◌, ◌≤◌, ◌^◌, ◌-◌, ◌+◌, ◌*◌, ℕ, true, min, length, slice_get};
+ghost use Rattle.std.specs.Prelude.{Option, Some, None, IfSome, IfNone, IfOk, Contains, All};
+ghost use Rattle.mrp_tables.specs.Table.{Table, IsTable, horizon, IsPair, is_taken_from, pair_no};
 ghost use Rattle.mrp_net.specs.Edges.{demanders, suppliers, IsEdge};
-ghost use Rattle.mrp_net.specs.Sums.{pair_at, row_of, demand, demand_total, incoming, supply};
+ghost use Rattle.mrp_net.specs.Sums.{pair_at, row_of, demand, demand_total, incoming, received, supply};
 ghost use Rattle.mrp_net.specs.Names.{IsNamed};
-ghost use Rattle.mrp_net.specs.Lanes.{lanes, lane_at, lane_items, opening, shipments, pair_on, customer_of, supplier_of};
+ghost use Rattle.mrp_net.specs.Lanes.{lanes, lane_at, lane_items, figure, opening, shipments, reset, pair_on, customer_of, supplier_of};
 ghost use Rattle.mrp_net.specs.Routes.{route_no, IsLane};
-ghost use Rattle.mrp_net.specs.Sources.{source_no};
+ghost use Rattle.mrp_net.specs.Sources.{source_no, source_on};
+ghost use Rattle.mrp_net.specs.Texts.{longest_block, longest_text};
 
 use crate::build::{Amounts, Edges};
 use crate::lane::{Lane, LaneKind, LaneNo, Shipment};
@@ -13,7 +15,7 @@ use crate::lanes::{LaneLists, source_of};
 use crate::{Edge, build, lanes};
 use mrp_cal::Calendar;
 use mrp_qty::{Horizon, Memory};
-use mrp_tables::{ItemNo, PairNo, PairRow, PlantNo, Tables};
+use mrp_tables::{ItemNo, PairNo, PairRow, PlantNo, SourceRow, Tables};
 use std::alloc::Global;
 use std::marker::Model;
 
@@ -191,6 +193,15 @@ impl Network {
         &self.amounts.incoming[x.0 * periods..(x.0 + 1) * periods]
     }
 
+    /// The sums of the pair's receipt rows, period by period, without shipments, each at most 10^18 pieces.
+    pub fn received_row(&self, x: PairNo) -> &[u64]
+        requires { IsPair self.now x.0 }
+        ensures { result.now ≡ row_of self.now (received self.now x.0) }
+    {
+        let periods = self.horizon().get() as usize;
+        &self.amounts.received[x.0 * periods..(x.0 + 1) * periods]
+    }
+
     /// On hand, receipts, shipments and opening figures of the pair, or 2^64 - 1 where they are more.
     pub fn supply(&self, x: PairNo) -> u64
         requires { IsPair self.now x.0 }
@@ -268,6 +279,81 @@ impl Network {
     {
         let at = self.source(self.lane(l), item);
         self.lanes.shipments.get(at)
+    }
+
+    /// What the supplier had shipped of an item of the lane before the shipments of the table, in
+    /// pieces, at most 10^15: the same for both lanes of the two plants.
+    pub fn figure(&self, l: LaneNo, item: ItemNo) -> u64
+        requires lane { l.0 < length (lanes self.now) }
+        requires item { Contains (lane_items self.now (lane_at self.now l.0)) item }
+        ensures { result ≡ figure self.now (pair_on self.now (lane_at self.now l.0) item) (supplier_of (lane_at self.now l.0)) }
+    {
+        let source = self.source(self.lane(l), item);
+        self.lanes.figures[source]
+    }
+
+    /// The period from which the cumulative figures of an item of the lane start anew, or `None` where
+    /// they don't: the same for both lanes of the two plants.
+    pub fn reset(&self, l: LaneNo, item: ItemNo) -> Option<u64>
+        requires lane { l.0 < length (lanes self.now) }
+        requires item { Contains (lane_items self.now (lane_at self.now l.0)) item }
+        ensures { result ≡ reset self.now (lane_at self.now l.0) item }
+    {
+        let at = self.source(self.lane(l), item);
+        self.lanes.resets[at]
+    }
+
+    /// The source by which the lane's customer takes an item of the lane from its supplier: the
+    /// customer's pair, and the share of its releases that the supplier gets.
+    pub fn lane_source(&self, l: LaneNo, item: ItemNo) -> SourceRow
+        requires lane { l.0 < length (lanes self.now) }
+        requires item { Contains (lane_items self.now (lane_at self.now l.0)) item }
+        ensures { result ≡ source_on self.now (lane_at self.now l.0) item }
+    {
+        let at = self.source(self.lane(l), item);
+        self.tables.sources()[at]
+    }
+
+    /// The pair of an item of the lane at the plant that receives the lane: the pair that takes it on a
+    /// despatch lane, the pair that it is taken from on a schedule lane.
+    pub fn receiver_pair(&self, l: LaneNo, item: ItemNo) -> PairNo
+        requires lane { l.0 < length (lanes self.now) }
+        requires item { Contains (lane_items self.now (lane_at self.now l.0)) item }
+        ensures { result.0 ≡ pair_no self.now (lane_at self.now l.0).receiver.0 item.0 }
+    {
+        let receiver = self.lane(l).receiver;
+        self.tables.find_pair(receiver, item).unwrap()
+    }
+
+    /// The most records that a text of the lane can have: of each item its lines, a new start of its
+    /// figures and its end, and the closing record. A despatch lane has a line for each shipment, a
+    /// schedule lane at most one a period.
+    pub fn longest_text(&self, l: LaneNo) -> u64
+        requires { l.0 < length (lanes self.now) }
+        ensures { result ≡ longest_text self.now (lane_at self.now l.0) }
+    {
+        let _pairs = self.pairs();
+        let mut records = 1;
+        for item in self.lane_items(l) {
+            records += self.longest_block(l, *item);
+        }
+        records
+    }
+
+    /// The most records of an item's block on the lane.
+    fn longest_block(&self, l: LaneNo, item: ItemNo) -> u64
+        requires lane { l.0 < length (lanes self.now) }
+        requires item { Contains (lane_items self.now (lane_at self.now l.0)) item }
+        ensures { result ≡ longest_block self.now (lane_at self.now l.0) item }
+    {
+        let lines = match self.lane(l).kind {
+            LaneKind::Despatch => self.shipments(l, item).len() as u64,
+            LaneKind::Schedule => self.horizon().get(),
+        };
+        match self.reset(l, item) {
+            Some(_) => lines + 2,
+            None => lines + 1,
+        }
     }
 
     /// The number of a lane's route.

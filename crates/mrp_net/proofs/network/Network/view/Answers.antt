@@ -1,0 +1,19 @@
+use Rattle.std.proofs.Common.{ap, ◌∙◌}
+use Rattle.std.specs.List.{flat_map}
+use Rattle.mrp_net.specs.declared.view.PlantPair.{PlantPair}
+use Rattle.mrp_net.specs.Sums.{row_of, demand, received}
+use Rattle.mrp_net.specs.View.{edges_to}
+use Rattle.mrp_net.proofs.Pushing.{rows_are}
+use Rattle.mrp_net.proofs.network.Network.view.Goals as goal
+
+pub returns : goal.returns
+returns c =
+    let N = c.args.self.now in
+    rows_are N c.args.plant.0 c.horizon.result c.in_ok-pairs.pairs.items c.in_ok-edges.edges.items c.in_ok-demands.demands.items c.in_ok-receipts.receipts.items c.in_ok-incoming.incoming.items c.in_ok-outgoing.outgoing.items
+    c.horizon.ensures
+    c.in_ok-pairs.ensures.value
+    (c.in_ok-edges.ensures ∙ ap (flat_map (λ (p : PlantPair). edges_to N p.number.0)) c.as_slice.ensures.value)
+    (c.in_ok-demands.ensures ∙ ap (flat_map (λ (p : PlantPair). row_of N (demand N p.number.0))) c.as_slice-2.ensures.value)
+    (c.in_ok-receipts.ensures ∙ ap (flat_map (λ (p : PlantPair). row_of N (received N p.number.0))) c.as_slice-3.ensures.value)
+    c.in_ok-incoming.ensures
+    c.in_ok-outgoing.ensures
