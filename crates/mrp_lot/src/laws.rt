@@ -1,7 +1,12 @@
 //! Laws of the lot rules and of the plan of one pair. Each is the contract of a function that does
 //! nothing.
 
+ghost use Rattle.std.specs.Prelude.{◌≡◌, ◌≤◌, ◌↔◌, ℕ};
+ghost use Rattle.mrp_lot.specs.Lot.{IsRule};
+ghost use Rattle.mrp_lot.specs.declared.rule.Rule.TheVariants.{Fixed, Periods, MinMultiple};
 ghost use Rattle.mrp_lot.specs.Rules.{FixedIsLeast, MinMultipleIsLeast, FixedIsSmall, MinMultipleIsSmall, LotCovers, AvailableCoversSafety, OrdersAreReleased, ReleasesAreBounded, RowsStayWithin, PlanFollowsRules, RulesHaveOnePlan};
+
+use crate::{LONGEST_LEAD, MOST_IN_RULE};
 
 /// A fixed quantity orders as few lots as cover the net requirement.
 pub fn fixed_is_least()
@@ -46,4 +51,15 @@ pub fn rows_stay_within()
 pub fn rules_have_one_plan()
     ensures follows { PlanFollowsRules }
     ensures only { RulesHaveOnePlan }
+{}
+
+/// The limits as numbers: a lead time is at most 104 periods, the quantities of a rule are 1 to 10^12
+/// pieces, and its periods of supply are 1 to 104.
+pub fn limits_are_numbers()
+    ensures lead { LONGEST_LEAD ≡ 104 }
+    ensures most { MOST_IN_RULE ≡ 1000000000000 }
+    ensures fixed { (q : ℕ) → IsRule (Fixed q) ↔ ((1 ≤ q) × (q ≤ 1000000000000)) }
+    ensures multiple { (m k : ℕ) → IsRule (MinMultiple m k) ↔
+        ((1 ≤ m) × (m ≤ 1000000000000) × (1 ≤ k) × (k ≤ 1000000000000)) }
+    ensures periods { (k : ℕ) → IsRule (Periods k) ↔ ((1 ≤ k) × (k ≤ 104)) }
 {}

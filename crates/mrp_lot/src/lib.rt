@@ -10,7 +10,7 @@ mod rule;
 mod sizing;
 
 pub use laws::{
-    available_covers_safety, fixed_is_least, lot_covers, min_multiple_is_least,
+    available_covers_safety, fixed_is_least, limits_are_numbers, lot_covers, min_multiple_is_least,
     orders_are_released, releases_are_bounded, rows_stay_within, rules_have_one_plan,
 };
 pub use params::{Late, PairParams};

@@ -6,12 +6,14 @@
 #![tactic(auto)]
 
 mod horizon;
+mod laws;
 mod memory;
 mod periods;
 mod quantity;
 mod row;
 
 pub use horizon::{Horizon, LONGEST};
+pub use laws::limits_are_numbers;
 pub use memory::Memory;
 pub use quantity::{MOST, Qty};
 pub use row::Row;

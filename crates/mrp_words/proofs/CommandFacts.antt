@@ -19,6 +19,7 @@ use Rattle.clap.proofs.OnLiterals.{clap_on_literals}
 use Rattle.clap.proofs.ValueTestLemmas.{accepts-Accepts}
 use Rattle.mrp_words.specs.Choice.{number_at}
 use Rattle.mrp_words.specs.CommandLine.{check_words, mrp, peg_words, plan_words, program_words}
+use Rattle.mrp_words.specs.declared.words.TheConstants.{MOST_WORKERS, MOST_CAPACITY, LAST_PERIOD}
 use Rattle.mrp_words.specs.Values.{HasFlag, HasNumber, HasPegValues, HasPlanValues, HasText, IsWholeCommand, IsWithin}
 use Rattle.mrp_words.proofs.RowFacts.{asks_at, defaults_gain, either, first_none, given_row, next_none, no_kind, rows_good, unfailed, value_found, walk_good}
 
@@ -109,8 +110,8 @@ plan_whole words e =
     let workers = value_found plan_leaf.rules (codes "workers") rows (defaults_gain (codes "workers") plan_leaf.rules kept refl) ok in
     let capacity = value_found plan_leaf.rules (codes "capacity") rows (defaults_gain (codes "capacity") plan_leaf.rules kept refl) ok in
     let single = value_found plan_leaf.rules (codes "single") rows (defaults_gain (codes "single") plan_leaf.rules kept refl) ok in
-    let workers_number = number_whole (codes "workers") rows 1 64 workers.0 workers.1 (only _ workers.2) in
-    let capacity_number = number_whole (codes "capacity") rows 1 65536 capacity.0 capacity.1 (only _ capacity.2) in
+    let workers_number = number_whole (codes "workers") rows 1 MOST_WORKERS workers.0 workers.1 (only _ workers.2) in
+    let capacity_number = number_whole (codes "capacity") rows 1 MOST_CAPACITY capacity.0 capacity.1 (only _ capacity.2) in
     record {
       workers = workers_number.0;
       workers_within = workers_number.1;
@@ -135,7 +136,7 @@ peg_whole words e =
     let plant = value_found peg_leaf.rules (codes "plant") rows (given_row (codes "plant") rows given.0) ok in
     let item = value_found peg_leaf.rules (codes "item") rows (given_row (codes "item") rows given.1) ok in
     let period = value_found peg_leaf.rules (codes "period") rows (given_row (codes "period") rows given.2) ok in
-    let number = number_whole (codes "period") rows 0 103 period.0 period.1 (only _ period.2) in
+    let number = number_whole (codes "period") rows 0 LAST_PERIOD period.0 period.1 (only _ period.2) in
     record {
       plant = (plant.0, plant.1.0);
       item = (item.0, item.1.0);

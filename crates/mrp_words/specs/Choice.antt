@@ -12,13 +12,13 @@ use Rattle.mrp_words.specs.declared.words.Choice.{Choice}
 use Rattle.mrp_words.specs.declared.words.Choice.TheVariants.{Plan, Check, Peg}
 use Rattle.mrp_words.specs.declared.words.ChooseFault.{ChooseFault}
 use Rattle.mrp_words.specs.declared.words.ChooseFault.TheVariants.{Words, Memory}
-use Rattle.mrp_words.specs.declared.words.TheConstants.{MOST_CAPACITY}
+use Rattle.mrp_words.specs.declared.words.TheConstants.{MOST_WORKERS, MOST_CAPACITY, LAST_PERIOD}
 
 -- the numbers of a choice are in their ranges
 abbrev pub IsInRange : Choice → Type 0
-IsInRange (Plan workers capacity single) = (1 ≤ workers) × (workers ≤ 64) × (1 ≤ capacity) × (capacity ≤ MOST_CAPACITY)
+IsInRange (Plan workers capacity single) = (1 ≤ workers) × (workers ≤ MOST_WORKERS) × (1 ≤ capacity) × (capacity ≤ MOST_CAPACITY)
 IsInRange Check = Unit {0}
-IsInRange (Peg plant item period) = period ≤ 103
+IsInRange (Peg plant item period) = period ≤ LAST_PERIOD
 
 -- the texts of the words
 abbrev pub texts_of : List (Bor Text) → List Text

@@ -6,7 +6,7 @@ use Rattle.clap.specs.declared.builder.arg.Arg.{Arg}
 use Rattle.clap.specs.declared.builder.command.Command.{Command}
 use Rattle.clap.specs.declared.builder.command.Command.TheViews.{out-Command}
 use Rattle.clap.specs.declared.builder.value_parser.ValueParser.TheVariants.{Unsigned}
-use Rattle.mrp_words.specs.declared.words.TheConstants.{MOST_CAPACITY}
+use Rattle.mrp_words.specs.declared.words.TheConstants.{MOST_WORKERS, MOST_CAPACITY, LAST_PERIOD}
 
 -- a positional argument that has to be there
 abbrev pub wanted : Text → Rule
@@ -30,7 +30,7 @@ abbrev pub flag : Text → Rule
 flag name = record (new_rule name) { long = Some name; action = Some SetTrue }
 
 abbrev pub workers : Rule
-workers = number_option (codes "workers") 1 64 (codes "1")
+workers = number_option (codes "workers") 1 MOST_WORKERS (codes "1")
 
 abbrev pub capacity : Rule
 capacity = number_option (codes "capacity") 1 MOST_CAPACITY (codes "64")
@@ -45,7 +45,7 @@ abbrev pub item : Rule
 item = wanted (codes "item")
 
 abbrev pub period : Rule
-period = wanted_number (codes "period") 0 103
+period = wanted_number (codes "period") 0 LAST_PERIOD
 
 -- `plan [--workers W] [--capacity C] [--single]`
 abbrev pub plan_words : App

@@ -4,7 +4,7 @@ use Rattle.std.specs.Str.Parse.{IsNumeral, digits_value, without_leading_plus}
 use Rattle.clap.specs.Words.{Row, Text, one_of}
 use Rattle.clap.specs.Values.{bool_text}
 use Rattle.mrp_words.specs.Choice.{number_at, text_at}
-use Rattle.mrp_words.specs.declared.words.TheConstants.{MOST_CAPACITY}
+use Rattle.mrp_words.specs.declared.words.TheConstants.{MOST_WORKERS, MOST_CAPACITY, LAST_PERIOD}
 
 -- the argument has a value, which is read as it was written
 abbrev pub HasText : Text → Text → List Row → Type 0
@@ -30,7 +30,7 @@ IsWithin least most number = IfSome number (λ n. (least ≤ n) × (n ≤ most))
 
 pub record HasPlanValues (rows : List Row) : Type 0 where
   pub workers : HasNumber (codes "workers") rows
-  pub workers_within : IsWithin 1 64 (number_at (codes "workers") rows)
+  pub workers_within : IsWithin 1 MOST_WORKERS (number_at (codes "workers") rows)
   pub capacity : HasNumber (codes "capacity") rows
   pub capacity_within : IsWithin 1 MOST_CAPACITY (number_at (codes "capacity") rows)
   pub single : HasFlag (codes "single") rows
@@ -39,7 +39,7 @@ pub record HasPegValues (rows : List Row) : Type 0 where
   pub plant : HasName (codes "plant") rows
   pub item : HasName (codes "item") rows
   pub period : HasNumber (codes "period") rows
-  pub period_within : IsWithin 0 103 (number_at (codes "period") rows)
+  pub period_within : IsWithin 0 LAST_PERIOD (number_at (codes "period") rows)
 
 -- the command is one of the three, with its values
 abbrev pub IsWhole : Text → List Row → Type 0

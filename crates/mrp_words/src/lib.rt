@@ -4,8 +4,10 @@
 //! choice a subcommand and its values are.
 #![tactic(auto)]
 
+mod laws;
 #[cfg(test)]
 mod tests;
 mod words;
 
-pub use words::{Choice, ChooseFault, MOST_CAPACITY, choose};
+pub use laws::limits_are_numbers;
+pub use words::{Choice, ChooseFault, LAST_PERIOD, MOST_CAPACITY, MOST_WORKERS, choose};

@@ -9,17 +9,23 @@ use clap::{Arg, ArgAction, ArgMatches, Command, value_parser};
 use std::alloc::{AllocError, Global};
 use thiserror::Error;
 
+/// The most worker threads of a plant.
+pub const MOST_WORKERS: u64 = 64;
+
 /// The most records that a mailbox between two plants may hold.
 pub const MOST_CAPACITY: u64 = 65_536;
+
+/// The last period that may be asked about: that of the longest horizon, counted from 0.
+pub const LAST_PERIOD: u64 = 103;
 
 /// What the program is asked to do.
 #[derive(Clone, Copy, Debug, PartialEq, Eq)]
 pub enum Choice<'a> {
     /// Write the plan.
     Plan {
-        /// Worker threads of each plant, 1 to 64.
+        /// Worker threads of each plant, 1 to [`MOST_WORKERS`].
         workers: u64,
-        /// Records that the mailbox between two plants holds, 1 to 65,536.
+        /// Records that the mailbox between two plants holds, 1 to [`MOST_CAPACITY`].
         capacity: u64,
         /// One thread plans all plants.
         single: bool,
@@ -32,7 +38,7 @@ pub enum Choice<'a> {
         plant: &'a str,
         /// The name of the item.
         item: &'a str,
-        /// The period, 0 to 103.
+        /// The period, 0 to [`LAST_PERIOD`].
         period: u64,
     },
 }
@@ -154,7 +160,7 @@ fn workers_option<'a>(alloc: Global) -> Arg<'a>
     Arg::new(alloc, "workers")
         .long("workers")
         .value_name("W")
-        .value_parser(value_parser!(u64).range(1..65))
+        .value_parser(value_parser!(u64).range(1..MOST_WORKERS as i64 + 1))
         .default_value("1")
         .help("Worker threads of each plant, 1 to 64; no effect yet")
 }
@@ -166,7 +172,7 @@ fn capacity_option<'a>(alloc: Global) -> Arg<'a>
     Arg::new(alloc, "capacity")
         .long("capacity")
         .value_name("C")
-        .value_parser(value_parser!(u64).range(1..65_537))
+        .value_parser(value_parser!(u64).range(1..MOST_CAPACITY as i64 + 1))
         .default_value("64")
         .help("Records that wait between two plants, 1 to 65536; no effect yet")
 }
@@ -231,7 +237,7 @@ fn period_argument<'a>(alloc: Global) -> Arg<'a>
     Arg::new(alloc, "period")
         .value_name("PERIOD")
         .required(true)
-        .value_parser(value_parser!(u64).range(0..104))
+        .value_parser(value_parser!(u64).range(0..LAST_PERIOD as i64 + 1))
         .help("The period, 0 to 103")
 }
 
