@@ -1,0 +1,65 @@
+"""The crates of this repository, and rooms: copies of a crate outside the work tree, over what its libraries keep in out/."""
+import contextlib
+import os
+import re
+import shutil
+import tempfile
+
+TOP = os.path.dirname(os.path.dirname(os.path.realpath(__file__)))
+PARTS = ("src", "specs", "proofs")
+
+
+def lines_of_list():
+    """Returns the line of crates.txt of each crate by its name, lowest layer first."""
+    with open(f"{TOP}/crates.txt", encoding="utf-8") as file:
+        lines = [it.partition("#")[0].strip() for it in file]
+    return {re.split(r"[\s:]", it)[0]: it for it in lines if it}
+
+
+def libraries_below():
+    """Returns, by the name of each crate, the libraries of this repository that it stands on, directly or through others, lowest first."""
+    lines = lines_of_list()
+    direct = {name: [it for it in line.partition(":")[2].split() if it in lines] for name, line in lines.items()}
+
+    def below(name):
+        found = []
+        for library in direct[name]:
+            found += [it for it in [*below(library), library] if it not in found]
+        return found
+
+    return {name: below(name) for name in lines}
+
+
+def copy_tree(source, to, copy=shutil.copy2):
+    """Copies a folder, if it is there."""
+    if os.path.isdir(source):
+        shutil.copytree(source, to, copy_function=copy)
+
+
+def link_or_copy(source, to):
+    """Gives a file that is only read a second name, or copies it where the other folder is of another file system."""
+    try:
+        os.link(source, to)
+    except OSError:
+        shutil.copy2(source, to)
+
+
+@contextlib.contextmanager
+def room(name, kept="incremental"):
+    """Gives the folder of a copy of the crate, with what it keeps in out/KEPT, in a repository of its own with the libraries below it."""
+    lines, below = lines_of_list(), libraries_below()[name]
+    with tempfile.TemporaryDirectory(prefix=f"{name}-") as top:
+        with open(f"{top}/crates.txt", "w", encoding="utf-8") as file:
+            file.writelines(f"{lines[it]}\n" for it in [*below, name])
+        for library in below:
+            for part in (*PARTS, "out/rlib"):
+                copy_tree(f"{TOP}/crates/{library}/{part}", f"{top}/crates/{library}/{part}", link_or_copy)
+        for part in (*PARTS, os.path.normpath(f"out/{kept}")):
+            copy_tree(f"{TOP}/crates/{name}/{part}", f"{top}/crates/{name}/{part}")
+        yield f"{top}/crates/{name}"
+
+
+def memory_free():
+    """Returns the free memory in bytes."""
+    with open("/proc/meminfo", encoding="ascii") as file:
+        return 1024 * int(re.search(r"MemAvailable:\s+(\d+)", file.read())[1])
