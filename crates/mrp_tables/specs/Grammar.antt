@@ -203,42 +203,6 @@ reset_terms row periods = do
   period ← ranged (field row 4) 0 (periods - 1)
   Ok (lane, period)
 
--- the sources so far, where a text follows them or where their shares are the whole
-abbrev pub shared_rest : List SourceTerms → (List SourceTerms → ℕ → List ℕ → Result (List SourceTerms) TableFaultKind) → ℕ → Option (List ℕ) → Result (List SourceTerms) TableFaultKind
-shared_rest sources more high None = if high == MOST_SHARE then Ok sources else Err fault.BadSupply
-shared_rest sources more high (Some text) = more sources high text
-
--- the same with one source more, which is of another plant
-abbrev pub shared_after : List SourceTerms → (List SourceTerms → ℕ → List ℕ → Result (List SourceTerms) TableFaultKind) → Option (SourceTerms × Option (List ℕ)) → Result (List SourceTerms) TableFaultKind
-shared_after before more None = Err fault.BadSupply
-shared_after before more (Some p) =
-    if names_plant before p.0.plant then Err fault.BadSupply else shared_rest (before ++ p.0 ∷ []) more p.0.high p.1
-
--- plants with their shares, at most so many, after those before
-unfoldable pub shared_sources : ℕ → List SourceTerms → ℕ → List ℕ → Result (List SourceTerms) TableFaultKind
-shared_sources zero before low text = Err fault.BadSupply
-shared_sources (suc n) before low text = shared_after before (shared_sources n) (shared_source text low)
-
--- one plant, or two to four plants with their shares
-unfoldable pub sources_of : List ℕ → Result (List SourceTerms) TableFaultKind
-sources_of text =
-    if is_name text then Ok (record { plant = text; low = 0; high = MOST_SHARE } ∷ []) else shared_sources MOST_SOURCES_OF_PAIR [] 0 text
-
-abbrev pub from_terms : Result (List SourceTerms) TableFaultKind → Result SupplyTerms TableFaultKind
-from_terms sources = sources >>= λ list. Ok (FromTerms list)
-
-abbrev pub supply_in : List ℕ → Option (List ℕ × List ℕ) → Result SupplyTerms TableFaultKind
-supply_in text None =
-    if bytes_eq text (codes "make") then Ok MakeTerms
-    else if bytes_eq text (codes "buy") then Ok BuyTerms
-    else Err fault.BadSupply
-supply_in text (Some p) =
-    if bytes_eq p.0 (codes "from") then from_terms (sources_of p.1) else Err fault.BadSupply
-
--- `make`, `buy`, or `from:` and the sources
-unfoldable pub supply_of : List ℕ → Result SupplyTerms TableFaultKind
-supply_of text = supply_in text (cut text)
-
 pub record PairTerms : Type 0 where
   pub plant : List ℕ
   pub item : List ℕ
@@ -256,7 +220,7 @@ pair_terms row = do
   on_hand ← ranged (field row 6) 0 MOST_IN_ROW
   safety ← ranged (field row 7) 0 MOST_IN_ROW
   rule ← ok_or (rule_of (field row 4)) fault.BadRule
-  supply ← supply_of (field row 3)
+  supply ← ok_or (supply_of (field row 3)) fault.BadSupply
   Ok (record { plant = plant; item = item; supply = supply; rule = rule; lead = lead; on_hand = on_hand; safety = safety })
 
 -- what a run row spells: the text of its first day, the days of a period and how many periods
@@ -272,24 +236,6 @@ run_terms row = do
   Ok (record { first = field row 1; days = days; periods = periods })
 
 -- ---- what a row says, tested against the rows before it
-
-abbrev pub has_plant : Table → List ℕ → Bool
-has_plant N name = list_any (bytes_eq name) N.plants
-
-abbrev pub plant_no : Table → List ℕ → Option ℕ
-plant_no N name = position (bytes_eq name) N.plants
-
-abbrev pub pair_at : Table → ℕ → ℕ → Option ℕ
-pair_at N plant item = position (λ p. (p.plant.0 == plant) && (p.item.0 == item)) N.pairs
-
-abbrev pub pair_of : Table → ℕ → Option ℕ → Option ℕ
-pair_of N plant None = None
-pair_of N plant (Some item) = pair_at N plant item
-
--- the pair of a plant and the item of that name
-abbrev pub pair_named : Table → Option ℕ → List ℕ → Option ℕ
-pair_named N None item = None
-pair_named N (Some plant) item = pair_of N plant (position (bytes_eq item) N.items)
 
 -- the place of a plant and of a pair, which both have rows
 unfoldable pub known_pair : Table → List ℕ → List ℕ → Result (PlantNo × PairNo) TableFaultKind
@@ -381,12 +327,6 @@ plant_of N row = do
 
 abbrev pub plant_row : Table → List (List ℕ) → Result Table TableFaultKind
 plant_row N row = plant_of N row >>= λ x. Ok (with_plant N x)
-
--- the sources that a supply names
-abbrev pub named_sources : SupplyTerms → List SourceTerms
-named_sources MakeTerms = []
-named_sources BuyTerms = []
-named_sources (FromTerms sources) = sources
 
 abbrev pub supply_kind : SupplyTerms → Supply
 supply_kind MakeTerms = supply.Make

@@ -24,71 +24,8 @@ use Rattle.mrp_tables.specs.declared.draft.Draft.{Draft}
 use Rattle.mrp_tables.specs.declared.draft.Lane.{Lane}
 use Rattle.mrp_tables.specs.declared.lanes.NamedLane.{NamedLane}
 
--- the rows as contracts see them
-abbrev pub table_of : RowLists → Table
-table_of r = record {
-  calendar = r.calendar;
-  plants = map string_bytes r.plants.keys;
-  items = map string_bytes r.items.keys;
-  pairs = r.pairs.items;
-  sources = r.sources.items;
-  bills = r.bills.items;
-  demands = r.demands.items;
-  receipts = r.receipts.items;
-  ships = r.ships.items;
-  cums = r.cums.items;
-  resets = r.resets.items;
-}
-
-abbrev pub key_of : PairRow → PairKey
-key_of p = record { plant = p.plant; item = p.item }
-
 abbrev pub lane_of : SourceRow → LaneKey
 lane_of s = record { from = s.plant; pair = s.pair }
-
--- the rows are in range, and the keys are those of the pairs in their order
-pub record AreRows (r : RowLists) : Type 0 where
-  pub read : IsRead (table_of r)
-  pub keys : r.pair_keys.keys ≡ map key_of r.pairs.items
-
--- whether the pair behind a source has no row
-abbrev pub lacks_pair : Table → SourceRow → Bool
-lacks_pair N s = not (nat_lt (source_pair N s) (length N.pairs))
-
--- the table with one row more
-abbrev pub with_plant : Table → List ℕ → Table
-with_plant N name = record N { plants = N.plants ++ name ∷ [] }
-
--- the items with one that is new or not
-abbrev pub add_item : List (List ℕ) → List ℕ → List (List ℕ)
-add_item items name = if list_any (bytes_eq name) items then items else items ++ name ∷ []
-
-abbrev pub with_item : Table → List ℕ → Table
-with_item N name = record N { items = add_item N.items name }
-
-abbrev pub with_pair : Table → PairRow → Table
-with_pair N p = record N { pairs = N.pairs ++ p ∷ [] }
-
-abbrev pub with_source : Table → SourceRow → Table
-with_source N s = record N { sources = N.sources ++ s ∷ [] }
-
-abbrev pub with_bill : Table → BillRow → Table
-with_bill N b = record N { bills = N.bills ++ b ∷ [] }
-
-abbrev pub with_demand : Table → DemandRow → Table
-with_demand N d = record N { demands = N.demands ++ d ∷ [] }
-
-abbrev pub with_receipt : Table → ReceiptRow → Table
-with_receipt N r = record N { receipts = N.receipts ++ r ∷ [] }
-
-abbrev pub with_ship : Table → ShipRow → Table
-with_ship N s = record N { ships = N.ships ++ s ∷ [] }
-
-abbrev pub with_cum : Table → CumRow → Table
-with_cum N c = record N { cums = N.cums ++ c ∷ [] }
-
-abbrev pub with_reset : Table → ResetRow → Table
-with_reset N r = record N { resets = N.resets ++ r ∷ [] }
 
 -- ---- the shipments of a source
 

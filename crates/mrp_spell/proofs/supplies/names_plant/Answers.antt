@@ -1,8 +1,8 @@
 use Rattle.std.proofs.Common.{◌∙◌, sym, refl}
 use Rattle.std.specs.Str.{bytes_eq}
-use Rattle.mrp_tables.specs.Spelled.{source_view}
-use Rattle.mrp_tables.proofs.Keys.{list_any_keys}
-use Rattle.mrp_tables.proofs.terms.names_plant.Goals as goal
+use Rattle.mrp_spell.specs.Spelled.{source_view}
+use Rattle.mrp_spell.proofs.Mapped.{list_any_keys}
+use Rattle.mrp_spell.proofs.supplies.names_plant.Goals as goal
 
 pub returns : goal.returns
 returns c = record {

@@ -1,6 +1,6 @@
 use Rattle.std.proofs.Common.{◌≤◌, ◌<◌, ◌+◌, ◌*◌, ◌^◌, ℕ, arith}
 use Rattle.std.proofs.Math.Nat.{pow-le-pow_right}
-use Rattle.mrp_tables.proofs.spelling.digits_value.Goals as goal
+use Rattle.mrp_spell.proofs.numbers.digits_value.Goals as goal
 
 -- what at most 15 digits spell leaves room for one more
 room : (value count : ℕ) → value < 10 ^ count → count < 16 → 10 * value + 9 < 2 ^ 64

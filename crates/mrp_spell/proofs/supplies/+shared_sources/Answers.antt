@@ -1,14 +1,12 @@
 use Rattle.std.proofs.Common.{◌+◌, ◌≤◌, length, ◌<◌, ◌-◌, ◌∙◌, ◌++◌, ◌∷◌, [], List, ℕ, Option, None, Result, map, option_map, sym, ap, subst, arith, Bor, Vec, Global}
 use Rattle.std.proofs.lemmas.List.{length_push, map-append}
 use Rattle.std.proofs.lemmas.Result.{IfOk-weaker}
-use Rattle.mrp_tables.specs.declared.fault.TableFaultKind.{TableFaultKind}
-use Rattle.mrp_tables.specs.declared.terms.SpelledSource.{SpelledSource}
-use Rattle.mrp_tables.specs.Grammar.{shared_rest, shared_sources, TellsSeen}
-use Rattle.mrp_tables.specs.Spelled.{source_view, AreSources}
-use Rattle.mrp_tables.specs.Spelling.{SourceTerms, names_plant}
-use Rattle.mrp_tables.proofs.Apart.{sources_push}
-use Rattle.mrp_tables.proofs.Shares.{shared_sources-go, shared_sources-none, shared_sources-stop, shared_sources-twice}
-use Rattle.mrp_tables.proofs.terms.+shared_sources.Goals as goal
+use Rattle.mrp_spell.specs.declared.supplies.SpelledSource.{SpelledSource}
+use Rattle.mrp_spell.specs.Spelled.{source_view, AreSources, TellsSpelled}
+use Rattle.mrp_spell.specs.Supplies.{SourceTerms, names_plant, shared_rest, shared_sources}
+use Rattle.mrp_spell.proofs.Apart.{sources_push}
+use Rattle.mrp_spell.proofs.Shares.{shared_sources-go, shared_sources-none, shared_sources-stop, shared_sources-twice}
+use Rattle.mrp_spell.proofs.supplies.+shared_sources.Goals as goal
 
 abbrev now_of : Option (Bor (List ℕ)) → Option (List ℕ)
 now_of later = option_map (λ t. t.now) later
@@ -39,7 +37,7 @@ returns-in-Some-later-clause-exact t c =
     let total = go
     ∙ ap (λ (l : Option (Bor (List ℕ))). shared_rest (before ++ s ∷ []) (shared_sources (c.args.left - 1)) s.high (now_of l)) c.in-Some-later.is
     ∙ ap (λ (xs : List SourceTerms). shared_sources (c.args.left - 1) xs s.high c.in-Some-later.later.now) (sym pushed) in
-    subst (λ (r : Result (List SourceTerms) TableFaultKind). TellsSeen (λ (found : Vec SpelledSource Global). map source_view found.items) c.shared_sources.result r) (sym total) c.shared_sources.ensures.exact
+    subst (λ (r : Option (List SourceTerms)). TellsSpelled (λ (found : Vec SpelledSource Global). map source_view found.items) c.shared_sources.result r) (sym total) c.shared_sources.ensures.exact
 
 pub returns-in-None-clause-exact : goal.returns-in-None-clause-exact
 returns-in-None-clause-exact t c =
@@ -52,7 +50,7 @@ returns-in-None-clause-exact t c =
     let total = go
     ∙ ap (λ (l : Option (Bor (List ℕ))). shared_rest (before ++ s ∷ []) (shared_sources (c.args.left - 1)) s.high (now_of l)) c.in-None.is
     ∙ ap (λ (xs : List SourceTerms). shared_rest xs (shared_sources (c.args.left - 1)) s.high None) (sym pushed) in
-    subst (λ (r : Result (List SourceTerms) TableFaultKind). TellsSeen (λ (found : Vec SpelledSource Global). map source_view found.items) c.all_shared.result r) (sym total) c.all_shared.ensures.exact
+    subst (λ (r : Option (List SourceTerms)). TellsSpelled (λ (found : Vec SpelledSource Global). map source_view found.items) c.all_shared.result r) (sym total) c.all_shared.ensures.exact
 
 pub shared_sources-requires : goal.shared_sources-requires
 shared_sources-requires t c =

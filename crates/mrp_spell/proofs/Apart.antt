@@ -1,17 +1,17 @@
 -- The sources of a pair are different plants.
 use Rattle.std.proofs.Common.{◌≡◌, ◌+◌, ◌≤◌, ℕ, Bool, false, List, [], ◌∷◌, ◌++◌, length, map, Decides, refl, sym, ap, ◌∙◌, arith}
 use Rattle.std.specs.Cmp.{IsEquivalence}
-use Rattle.std.specs.List.{IsDistinct, list_all, list_any}
+use Rattle.std.specs.List.{IsDistinct, list_any}
 use Rattle.std.specs.Str.{bytes_eq}
 use Rattle.std.proofs.lemmas.List.{length_push}
 use Rattle.std.proofs.lemmas.List.Elements.{All-push}
 use Rattle.std.proofs.lemmas.Bool.Decides.{same_from_decides}
 use Rattle.std.proofs.lemmas.Map.Keys.{IsDistinct-push}
 use Rattle.std.proofs.lemmas.Slice.Eq.{bytes_eq-Decides}
-use Rattle.mrp_tables.specs.declared.terms.SpelledSource.{SpelledSource}
-use Rattle.mrp_tables.specs.Spelled.{AreSources, IsSource, is_same_plant, source_view}
-use Rattle.mrp_tables.specs.Spelling.{names_plant}
-use Rattle.mrp_tables.proofs.Keys.{list_any_keys}
+use Rattle.mrp_spell.specs.declared.supplies.SpelledSource.{SpelledSource}
+use Rattle.mrp_spell.specs.Spelled.{AreSources, IsSource, is_same_plant, source_view}
+use Rattle.mrp_spell.specs.Supplies.{names_plant}
+use Rattle.mrp_spell.proofs.Mapped.{list_any_keys}
 
 flipped : (xs ys : List ℕ) → Decides (bytes_eq ys xs) (xs ≡ ys)
 flipped xs ys = let d = bytes_eq-Decides ys xs in (λ e. sym (d.0 e), λ e. d.1 (sym e))
@@ -40,7 +40,3 @@ sources_push xs y are few is other =
       each = All-push IsSource xs y are.each is;
       apart = IsDistinct-push same_plant_laws xs y are.apart fresh;
     }
-
-pub list_all_keys : {X K : Type 0} (f : X → K) (p : K → Bool) (q : X → Bool) → ((x : X) → p (f x) ≡ q x) → (xs : List X) → list_all p (map f xs) ≡ list_all q xs
-list_all_keys f p q same [] = refl
-list_all_keys f p q same (x ∷ xs) = rw (same x, list_all_keys f p q same xs)

@@ -1,86 +1,63 @@
-ghost use Rattle.std.specs.Prelude.{◌≡◌, ◌+◌, ◌-◌, ◌==◌, ◌≤◌, if◌then◌else◌, length, map, option_map, IfOk, IfSome};
+ghost use Rattle.std.specs.Prelude.{◌≡◌, ◌+◌, ◌-◌, ◌==◌, ◌≤◌, if◌then◌else◌, length, map, option_map, IfOk, IfSome, Some, None};
 ghost use Rattle.std.specs.List.{list_any};
 ghost use Rattle.std.specs.Str.{bytes_eq};
-ghost use Rattle.mrp_lot.specs.Lot.{IsRule};
-ghost use Rattle.mrp_tables.specs.Spelled.{cut_view, share_view, source_view, supply_view, AreSources, HasSources, IsSource};
-ghost use Rattle.mrp_tables.specs.Grammar.{shared_sources, sources_of, supply_of, TellsSeen};
-ghost use Rattle.mrp_tables.specs.declared.rows.TheConstants.{MOST_SHARE};
-ghost use Rattle.mrp_tables.specs.declared.fault.TableFaultKind.TheVariants.{BadSupply};
-ghost use Rattle.mrp_tables.specs.Spelling.{cut, min_rule_of, names_plant, number_within, numbered_rule, rule_of, share_of, shared_source};
+ghost use Rattle.mrp_spell.specs.Spelled.{share_view, source_view, supply_view, AreSources, HasSources, IsSource, TellsSpelled};
+ghost use Rattle.mrp_spell.specs.Spelling.{number_within};
+ghost use Rattle.mrp_spell.specs.Supplies.{names_plant, share_of, shared_source, shared_sources, sources_of, supply_of};
+ghost use Rattle.mrp_spell.specs.declared.supplies.TheConstants.{MOST_SHARE};
+ghost use Rattle.mrp_spell.specs.declared.supplies.SupplyFault.TheVariants.{Memory};
 
-use crate::TableFaultKind;
-use crate::rows::{MOST_SHARE, MOST_SOURCES_OF_PAIR};
-use crate::spelling::{is_name, number_within};
-use mrp_lot::{MOST_IN_RULE, Rule};
-use mrp_qty::LONGEST;
-use std::alloc::Global;
+use crate::names::is_name;
+use crate::numbers::number_within;
+use crate::rules::cut;
+use std::alloc::{AllocError, AllocFailed, Global};
+use thiserror::Error;
 
-/// A text cut at its first colon.
-#[tactic(auto, unfolding(crate::specs::Spelling::cut))]
-fn cut(text: &str) -> Option<(&str, &str)>
-    ensures { cut_view result ≡ cut text.now }
-{
-    text.split_once(':')
+/// The most sources of one pair.
+pub const MOST_SOURCES_OF_PAIR: usize = 4;
+
+/// All shares of one pair together, in thousandths.
+pub const MOST_SHARE: u64 = 1000;
+
+/// Why there is no supply.
+#[derive(Clone, Copy, Debug, PartialEq, Eq, Error)]
+pub enum SupplyFault {
+    /// The text is misspelt, or its shares aren't the whole.
+    #[error("not a supply")]
+    NotASupply,
+    /// A growth was refused.
+    #[error("out of memory")]
+    Memory,
 }
 
-/// The lot rule that a text spells: `lot`, `fixed:Q`, `periods:K` or `min:M:K`.
-#[tactic(auto, unfolding(crate::specs::Spelling::rule_of))]
-pub(crate) fn rule(text: &str) -> Option<Rule>
-    ensures exact { result ≡ rule_of text.now }
-    ensures rule { IfSome result IsRule }
-{
-    match cut(text) {
-        None => {
-            if text == "lot" {
-                Some(Rule::LotForLot)
-            } else {
-                None
-            }
-        }
-        Some((word, numbers)) => numbered_rule(word, numbers),
+impl From<AllocError> for SupplyFault {
+    ghost from_gives = { λ _ fault. fault ≡ Memory };
+
+    fn from(_refusal: AllocError) -> SupplyFault {
+        SupplyFault::Memory
     }
 }
 
-/// The lot rule of a word and the numbers after it.
-#[tactic(auto, unfolding(crate::specs::Spelling::numbered_rule))]
-fn numbered_rule(word: &str, numbers: &str) -> Option<Rule>
-    ensures exact { result ≡ numbered_rule word.now numbers.now }
-    ensures rule { IfSome result IsRule }
-{
-    if word == "fixed" {
-        Some(Rule::Fixed(number_within(numbers, 1, MOST_IN_RULE)?))
-    } else if word == "periods" {
-        Some(Rule::Periods(number_within(numbers, 1, LONGEST)?))
-    } else if word == "min" {
-        min_rule(numbers)
-    } else {
-        None
-    }
-}
+impl<T: Drop> From<AllocFailed<T>> for SupplyFault {
+    ghost from_gives = { λ _ fault. fault ≡ Memory };
 
-/// The lot rule of a minimum and a multiple.
-fn min_rule(numbers: &str) -> Option<Rule>
-    ensures exact { result ≡ min_rule_of (cut numbers.now) }
-    ensures rule { IfSome result IsRule }
-{
-    let (least, multiple) = cut(numbers)?;
-    let least = number_within(least, 1, MOST_IN_RULE)?;
-    let multiple = number_within(multiple, 1, MOST_IN_RULE)?;
-    Some(Rule::MinMultiple(least, multiple))
+    fn from(_refusal: AllocFailed<T>) -> SupplyFault {
+        SupplyFault::Memory
+    }
 }
 
 /// One plant that a pair is taken from, as its row spells it: its share of each release, in
 /// thousandths, goes from `low` to `high`.
 #[derive(Clone, Copy, Debug)]
-pub(crate) struct SpelledSource<'r> {
-    pub(crate) plant: &'r str,
-    pub(crate) low: u64,
-    pub(crate) high: u64,
+pub struct SpelledSource<'r> {
+    pub plant: &'r str,
+    pub low: u64,
+    pub high: u64,
 }
 
 /// Where a pair comes from, as its row spells it.
 #[derive(Debug, Drop)]
-pub(crate) enum SpelledSupply<'r> {
+pub enum SpelledSupply<'r> {
     Make,
     Buy,
     From(Vec<SpelledSource<'r>>),
@@ -88,9 +65,9 @@ pub(crate) enum SpelledSupply<'r> {
 
 /// The supply that a text spells: `make`, `buy`, `from:PLANT`, or `from:` with two to four plants,
 /// each followed by its share in thousandths.
-#[tactic(auto, unfolding(crate::specs::Grammar::supply_of))]
-pub(crate) fn supply<'r>(alloc: Global, text: &'r str) -> Result<SpelledSupply<'r>, TableFaultKind>
-    ensures exact { TellsSeen supply_view result (supply_of text.now) }
+#[tactic(auto, unfolding(crate::specs::Supplies::supply_of))]
+pub fn supply<'r>(alloc: Global, text: &'r str) -> Result<SpelledSupply<'r>, SupplyFault>
+    ensures exact { TellsSpelled supply_view result (supply_of text.now) }
     ensures sources { IfOk result HasSources }
 {
     match cut(text) {
@@ -100,23 +77,23 @@ pub(crate) fn supply<'r>(alloc: Global, text: &'r str) -> Result<SpelledSupply<'
             } else if text == "buy" {
                 Ok(SpelledSupply::Buy)
             } else {
-                Err(TableFaultKind::BadSupply)
+                Err(SupplyFault::NotASupply)
             }
         }
         Some((word, plants)) => {
             if word == "from" {
                 Ok(SpelledSupply::From(sources(alloc, plants)?))
             } else {
-                Err(TableFaultKind::BadSupply)
+                Err(SupplyFault::NotASupply)
             }
         }
     }
 }
 
 /// The sources that the text after `from:` spells.
-#[tactic(auto, unfolding(crate::specs::Grammar::sources_of))]
-fn sources<'r>(alloc: Global, text: &'r str) -> Result<Vec<SpelledSource<'r>>, TableFaultKind>
-    ensures exact { TellsSeen (λ found. map source_view found.items) result (sources_of text.now) }
+#[tactic(auto, unfolding(crate::specs::Supplies::sources_of))]
+fn sources<'r>(alloc: Global, text: &'r str) -> Result<Vec<SpelledSource<'r>>, SupplyFault>
+    ensures exact { TellsSpelled (λ found. map source_view found.items) result (sources_of text.now) }
     ensures sources { IfOk result (λ found. AreSources found.items) }
 {
     let mut sources = Vec::with_capacity(alloc, MOST_SOURCES_OF_PAIR)?;
@@ -137,21 +114,21 @@ fn shared_sources<'r>(
     left: usize,
     low: u64,
     text: &'r str,
-) -> Result<Vec<SpelledSource<'r>>, TableFaultKind>
+) -> Result<Vec<SpelledSource<'r>>, SupplyFault>
     requires within { low ≤ 1000 }
     requires few { length sources.items + left ≤ 4 }
     requires sources { AreSources sources.items }
-    ensures exact { TellsSeen (λ found. map source_view found.items) result (shared_sources left (map source_view sources.entry.items) low text.now) }
+    ensures exact { TellsSpelled (λ found. map source_view found.items) result (shared_sources left (map source_view sources.entry.items) low text.now) }
     ensures sources { IfOk result (λ found. AreSources found.items) }
 {
     if left == 0 {
-        return Err(TableFaultKind::BadSupply);
+        return Err(SupplyFault::NotASupply);
     }
     let Some((source, later)) = shared_source(text, low) else {
-        return Err(TableFaultKind::BadSupply);
+        return Err(SupplyFault::NotASupply);
     };
     if names_plant(sources.as_slice(), source.plant) {
-        return Err(TableFaultKind::BadSupply);
+        return Err(SupplyFault::NotASupply);
     }
     sources.push(source)?;
     match later {
@@ -164,19 +141,19 @@ fn shared_sources<'r>(
 fn all_shared<'r>(
     sources: Vec<SpelledSource<'r>>,
     high: u64,
-) -> Result<Vec<SpelledSource<'r>>, TableFaultKind>
-    ensures exact { TellsSeen (λ found. map source_view found.items) result (if high == MOST_SHARE then Ok (map source_view sources.entry.items) else Err BadSupply) }
+) -> Result<Vec<SpelledSource<'r>>, SupplyFault>
+    ensures exact { TellsSpelled (λ found. map source_view found.items) result (if high == MOST_SHARE then Some (map source_view sources.entry.items) else None) }
     ensures same { IfOk result (λ kept. kept.items ≡ sources.entry.items) }
 {
     if high == MOST_SHARE {
         Ok(sources)
     } else {
-        Err(TableFaultKind::BadSupply)
+        Err(SupplyFault::NotASupply)
     }
 }
 
 /// The first plant of a text with its share, which begins at `low`, and the text after them.
-#[tactic(auto, unfolding(crate::specs::Spelling::shared_source))]
+#[tactic(auto, unfolding(crate::specs::Supplies::shared_source))]
 fn shared_source<'r>(text: &'r str, low: u64) -> Option<(SpelledSource<'r>, Option<&'r str>)>
     requires within { low ≤ 1000 }
     ensures exact { share_view result ≡ shared_source text.now low }
@@ -214,7 +191,7 @@ fn share_of<'r>(
 }
 
 /// Whether one of the sources is the plant of that name.
-pub(crate) fn names_plant(sources: &[SpelledSource<'_>], plant: &str) -> bool
+pub fn names_plant(sources: &[SpelledSource<'_>], plant: &str) -> bool
     ensures exact { result ≡ names_plant (map source_view sources.now) plant.now }
 {
     has_plant(sources, plant)

@@ -1,4 +1,4 @@
--- How names, numbers, lot rules and supplies are spelled.
+-- How names, numbers and lot rules are spelled.
 use Rattle.std.specs.Prelude.{◌≡◌, ℕ, zero, suc, ◌+◌, ◌-◌, ◌*◌, ◌==◌, ◌&&◌, ◌||◌, not, nat_lt, nat_le, Bool, true, false, if◌then◌else◌, List, [], ◌∷◌, ◌++◌, length, slice_index, codes, Option, Some, None, option_map, Result, Ok, Err, ok_or}
 use Rattle.std.specs.Char.{is_ascii_alphanumeric, is_ascii_digit}
 use Rattle.std.specs.List.{before_first, after_first, position_or_len, list_all, list_any}
@@ -7,7 +7,6 @@ use Rattle.mrp_qty.specs.declared.horizon.TheConstants.{LONGEST}
 use Rattle.mrp_lot.specs.declared.rule.Rule.{Rule}
 use Rattle.mrp_lot.specs.declared.rule.Rule.TheVariants.{LotForLot, Fixed, Periods, MinMultiple}
 use Rattle.mrp_lot.specs.declared.rule.TheConstants.{MOST_IN_RULE}
-use Rattle.mrp_tables.specs.declared.rows.TheConstants.{MOST_SHARE, MOST_SOURCES_OF_PAIR}
 
 -- a letter, a digit, `-`, `_` or `.`
 abbrev pub is_name_byte : ℕ → Bool
@@ -69,35 +68,3 @@ rule_in text (Some p) = numbered_rule p.0 p.1
 -- `lot`, `fixed:Q`, `periods:K` or `min:M:K`
 unfoldable pub rule_of : List ℕ → Option Rule
 rule_of text = rule_in text (cut text)
-
--- one plant that a pair is taken from; its share goes from low to high
-pub record SourceTerms : Type 0 where
-  pub plant : List ℕ
-  pub low : ℕ
-  pub high : ℕ
-
--- where a pair comes from
-pub data SupplyTerms : Type 0 where
-  MakeTerms : SupplyTerms
-  BuyTerms : SupplyTerms
-  FromTerms : (sources : List SourceTerms) → SupplyTerms
-
-abbrev pub names_plant : List SourceTerms → List ℕ → Bool
-names_plant sources plant = list_any (λ s. bytes_eq s.plant plant) sources
-
--- a plant with its share, which begins at low, and what is spelled after them
-abbrev pub share_of : List ℕ → ℕ → Option ℕ → Option (List ℕ) → Option (SourceTerms × Option (List ℕ))
-share_of plant low None later = None
-share_of plant low (Some share) later =
-    if is_name plant && nat_le (low + share) MOST_SHARE then Some (record { plant = plant; low = low; high = low + share }, later) else None
-
-abbrev pub share_in : List ℕ → ℕ → List ℕ → Option (List ℕ × List ℕ) → Option (SourceTerms × Option (List ℕ))
-share_in plant low rest None = share_of plant low (number_within rest 1 (MOST_SHARE - 1)) None
-share_in plant low rest (Some q) = share_of plant low (number_within q.0 1 (MOST_SHARE - 1)) (Some q.1)
-
-abbrev pub shared_in : ℕ → Option (List ℕ × List ℕ) → Option (SourceTerms × Option (List ℕ))
-shared_in low None = None
-shared_in low (Some p) = share_in p.0 low p.1 (cut p.1)
-
-unfoldable pub shared_source : List ℕ → ℕ → Option (SourceTerms × Option (List ℕ))
-shared_source text low = shared_in low (cut text)

@@ -1,8 +1,8 @@
 use Rattle.std.proofs.Common.{◌++◌, ◌∷◌, [], List, refl, sym, ap, ◌∙◌, subst, arith}
-use Rattle.mrp_tables.specs.declared.terms.SpelledSource.{SpelledSource}
-use Rattle.mrp_tables.specs.Spelled.{AreSources, IsSource}
-use Rattle.mrp_tables.proofs.Apart.{no_sources, sources_push}
-use Rattle.mrp_tables.proofs.terms.sources.Goals as goal
+use Rattle.mrp_spell.specs.declared.supplies.SpelledSource.{SpelledSource}
+use Rattle.mrp_spell.specs.Spelled.{AreSources, IsSource}
+use Rattle.mrp_spell.proofs.Apart.{no_sources, sources_push}
+use Rattle.mrp_spell.proofs.supplies.sources.Goals as goal
 
 pub returns-then-is_name-clause-sources : goal.returns-then-is_name-clause-sources
 returns-then-is_name-clause-sources c =
