@@ -1,5 +1,5 @@
 -- A table as its rows say it, and what every accepted table says.
-use Rattle.std.specs.Prelude.{◌≡◌, ℕ, ◌≤◌, ◌<◌, ◌==◌, ◌&&◌, Bool, true, false, List, [], ◌∷◌, length, filter, All, position, unwrap_or, option_map, slice_get}
+use Rattle.std.specs.Prelude.{◌≡◌, ℕ, ◌≤◌, ◌<◌, ◌==◌, ◌&&◌, Bool, true, false, List, [], ◌∷◌, length, map, filter, nat_le, All, position, unwrap_or, option_map, slice_get}
 use Rattle.std.specs.List.{IsDistinct, list_any}
 use Rattle.std.specs.List.Sorted.{IsNonDecreasingBy}
 use Rattle.std.specs.Str.{bytes_eq}
@@ -8,18 +8,19 @@ use Rattle.mrp_qty.specs.declared.horizon.TheConstants.{LONGEST}
 use Rattle.mrp_cal.specs.Calendar.{CalendarTerms}
 use Rattle.mrp_lot.specs.Lot.{IsRule}
 use Rattle.mrp_lot.specs.declared.rule.TheConstants.{LONGEST_LEAD}
-use Rattle.mrp_tables.specs.declared.rows.TheConstants.{MOST_BILLS, MOST_IN_ROW, MOST_OF_A_KIND, MOST_PAIRS, MOST_PER, MOST_PLANTS, MOST_SHARE, MOST_SOURCES}
-use Rattle.mrp_tables.specs.declared.rows.BillRow.{BillRow}
-use Rattle.mrp_tables.specs.declared.rows.CumRow.{CumRow}
-use Rattle.mrp_tables.specs.declared.rows.DemandRow.{DemandRow}
-use Rattle.mrp_tables.specs.declared.rows.PairRow.{PairRow}
-use Rattle.mrp_tables.specs.declared.rows.ReceiptRow.{ReceiptRow}
-use Rattle.mrp_tables.specs.declared.rows.ResetRow.{ResetRow}
-use Rattle.mrp_tables.specs.declared.rows.ShipRow.{ShipRow}
-use Rattle.mrp_tables.specs.declared.rows.SourceRow.{SourceRow}
-use Rattle.mrp_tables.specs.declared.rows.Supply.{Supply}
-use Rattle.mrp_tables.specs.declared.rows.Supply.TheVariants as supply
-use Rattle.mrp_tables.specs.Spelling.{is_name}
+use Rattle.mrp_rows.specs.declared.rows.TheConstants.{MOST_BILLS, MOST_IN_ROW, MOST_OF_A_KIND, MOST_PAIRS, MOST_PER, MOST_PLANTS, MOST_SOURCES}
+use Rattle.mrp_spell.specs.declared.supplies.TheConstants.{MOST_SHARE}
+use Rattle.mrp_rows.specs.declared.rows.BillRow.{BillRow}
+use Rattle.mrp_rows.specs.declared.rows.CumRow.{CumRow}
+use Rattle.mrp_rows.specs.declared.rows.DemandRow.{DemandRow}
+use Rattle.mrp_rows.specs.declared.rows.PairRow.{PairRow}
+use Rattle.mrp_rows.specs.declared.rows.ReceiptRow.{ReceiptRow}
+use Rattle.mrp_rows.specs.declared.rows.ResetRow.{ResetRow}
+use Rattle.mrp_rows.specs.declared.rows.ShipRow.{ShipRow}
+use Rattle.mrp_rows.specs.declared.rows.SourceRow.{SourceRow}
+use Rattle.mrp_rows.specs.declared.rows.Supply.{Supply}
+use Rattle.mrp_rows.specs.declared.rows.Supply.TheVariants as supply
+use Rattle.mrp_spell.specs.Spelling.{is_name}
 
 -- The lists of rows, each in table order. A name is the list of its bytes; everywhere else a plant,
 -- an item or a pair is its place in its list.
@@ -196,6 +197,20 @@ supply_at N x = unwrap_or (option_map (λ p. p.supply) (slice_get N.pairs x)) su
 -- the pair is taken from the plant
 abbrev pub is_taken_from : Table → ℕ → ℕ → Bool
 is_taken_from N x plant = list_any (λ s. (s.plant.0 == plant) && (s.pair.0 == x)) N.sources
+
+-- ---- the shipments of a source
+
+-- the periods of arrival of the shipments of a plant to a pair, in table order
+abbrev pub arrivals_of : List ShipRow → ℕ → ℕ → List ℕ
+arrivals_of ships f x = map (λ s. s.period) (filter (λ s. (s.from.0 == f) && (s.pair.0 == x)) ships)
+
+abbrev pub arrivals : Table → ℕ → ℕ → List ℕ
+arrivals N f x = arrivals_of N.ships f x
+
+-- no number is below the one before it
+abbrev pub rises_from : ℕ → List ℕ → Bool
+rises_from low [] = true
+rises_from low (n ∷ ns) = nat_le low n && rises_from n ns
 
 -- sources stand in the order of their pairs and are other plants than the pair's; the parent of a
 -- component is made at the component's plant; what is shipped comes from a source

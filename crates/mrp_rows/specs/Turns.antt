@@ -1,6 +1,6 @@
 -- How many rows a table was read from.
 use Rattle.std.specs.Prelude.{ℕ, ◌+◌, length}
-use Rattle.mrp_tables.specs.Table.{Table}
+use Rattle.mrp_rows.specs.Table.{Table}
 
 -- the run row, and the rows of each of the other kinds
 abbrev pub row_count : Table → ℕ

@@ -13,12 +13,6 @@ pub const MOST_PAIRS: usize = 20_000;
 /// The most sources of all pairs together: four of each.
 pub const MOST_SOURCES: usize = 80_000;
 
-/// The most sources of one pair.
-pub const MOST_SOURCES_OF_PAIR: usize = 4;
-
-/// All shares of one pair together, in thousandths.
-pub const MOST_SHARE: u64 = 1000;
-
 /// The most bill rows of a table.
 pub const MOST_BILLS: usize = 200_000;
 
@@ -62,7 +56,7 @@ pub struct PairRow {
 }
 
 impl PairRow {
-    ghost use Rattle.mrp_tables.specs.Rows.{params_of};
+    ghost use Rattle.mrp_rows.specs.Rows.{params_of};
 
     /// What the plan of the pair needs of the row.
     pub fn params(&self) -> PairParams

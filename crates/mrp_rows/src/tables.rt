@@ -1,10 +1,9 @@
 ghost use Rattle.std.specs.Prelude.{◌≡◌};
 
-use crate::draft::Draft;
-use crate::row_lists::{RowLists, name_at, place_of};
+use crate::RowLists;
 use crate::{
     BillRow, CumRow, DemandRow, ItemNo, PairNo, PairRow, PlantNo, ReceiptRow, ResetRow, ShipRow,
-    SourceRow, TableFault, TableFaultKind,
+    SourceRow,
 };
 use mrp_cal::Calendar;
 use mrp_qty::Horizon;
@@ -17,41 +16,26 @@ pub struct Tables {
 }
 
 impl Model for Tables {
-    ghost use Rattle.mrp_tables.specs.Table.{Table, IsTable};
-    ghost use Rattle.mrp_tables.specs.Lists.{AreRows, table_of};
+    ghost use Rattle.mrp_rows.specs.Table.{Table, IsTable};
 
     ghost Value = { Table };
 
-    ghost view = { λ t. table_of t.lists };
+    ghost view = { λ t. t.lists };
 
-    ghost invariant = { λ t. AreRows t.lists × IsTable (table_of t.lists) };
+    ghost invariant = { λ t. IsTable t.lists };
 }
 
 impl Tables {
-    ghost use Rattle.std.specs.Prelude.{◌≡◌, ◌<◌, ◌==◌, ◌&&◌, ◌↔◌, Some, Ok, Err, IsSome, IfOk, IfSome, MatchResult, length, option_map, position, slice_get};
+    ghost use Rattle.std.specs.Prelude.{◌≡◌, ◌<◌, ◌==◌, ◌&&◌, ◌↔◌, Some, IsSome, IfSome, length, option_map, position, slice_get};
     ghost use Rattle.std.specs.Str.{bytes_eq};
-    ghost use Rattle.mrp_tables.specs.Lists.{IsDraft, table_of};
-    ghost use Rattle.mrp_tables.specs.Table.{IsOnce, IsPair, IsSourced, IsTable, horizon, pair_no};
-    ghost use Rattle.mrp_tables.specs.Reading.{waiting};
+    ghost use Rattle.mrp_rows.specs.Table.{IsPair, IsTable, horizon, pair_no};
 
-    /// The table of all rows read, where each pair that a pair is taken from has a row.
-    pub(crate) fn accept(draft: Draft) -> Result<Tables, TableFault>
-        requires draft { IsDraft draft }
-        requires once { IsOnce (table_of draft.lists) }
-        requires sourced { IsSourced (table_of draft.lists) }
-        ensures exact { MatchResult result (λ tables. waiting (table_of draft.lists) ≡ Ok tables) (λ e. waiting (table_of draft.lists) ≡ Err e) }
-        ensures same { IfOk result (λ tables. tables ≡ table_of draft.lists) }
+    /// The table of all rows read.
+    pub fn of(lists: RowLists) -> Tables
+        requires table { IsTable lists }
+        ensures same { result ≡ lists }
     {
-        if let Some(place) = draft.lists.first_lacking() {
-            // The run and the plants stand before the pairs.
-            let above = draft.lists.plants.len() + 1;
-            let pair = draft.lists.sources[place].pair;
-            return Err(TableFault {
-                row: (above + pair.0 + 1) as u64,
-                kind: TableFaultKind::UnknownPair,
-            });
-        }
-        Ok(Tables { lists: draft.lists })
+        Tables { lists }
     }
 
     /// The days of the periods.
@@ -59,28 +43,28 @@ impl Tables {
         ensures value { result.now ≡ self.now.calendar }
         ensures table { IsTable self.now }
     {
-        &self.lists.calendar
+        self.lists.calendar()
     }
 
     /// The number of periods.
     pub fn horizon(&self) -> Horizon
         ensures value { result ≡ horizon self.now }
     {
-        self.lists.calendar.horizon()
+        self.lists.calendar().horizon()
     }
 
     /// How many plants there are.
     pub fn plants(&self) -> usize
         ensures value { result ≡ length self.now.plants }
     {
-        self.lists.plants.len()
+        self.lists.plants()
     }
 
     /// How many items there are.
     pub fn items(&self) -> usize
         ensures value { result ≡ length self.now.items }
     {
-        self.lists.items.len()
+        self.lists.items()
     }
 
     /// The pairs in table order.
@@ -88,7 +72,7 @@ impl Tables {
         ensures value { result.now ≡ self.now.pairs }
         ensures table { IsTable self.now }
     {
-        self.lists.pairs.as_slice()
+        self.lists.pairs()
     }
 
     /// The sources of all pairs, in the order of the pairs and of their rows.
@@ -96,7 +80,7 @@ impl Tables {
         ensures value { result.now ≡ self.now.sources }
         ensures table { IsTable self.now }
     {
-        self.lists.sources.as_slice()
+        self.lists.sources()
     }
 
     /// The bill rows in table order.
@@ -104,7 +88,7 @@ impl Tables {
         ensures value { result.now ≡ self.now.bills }
         ensures table { IsTable self.now }
     {
-        self.lists.bills.as_slice()
+        self.lists.bills()
     }
 
     /// The demand rows in table order.
@@ -112,7 +96,7 @@ impl Tables {
         ensures value { result.now ≡ self.now.demands }
         ensures table { IsTable self.now }
     {
-        self.lists.demands.as_slice()
+        self.lists.demands()
     }
 
     /// The receipt rows in table order.
@@ -120,7 +104,7 @@ impl Tables {
         ensures value { result.now ≡ self.now.receipts }
         ensures table { IsTable self.now }
     {
-        self.lists.receipts.as_slice()
+        self.lists.receipts()
     }
 
     /// The ship rows in table order.
@@ -128,7 +112,7 @@ impl Tables {
         ensures value { result.now ≡ self.now.ships }
         ensures table { IsTable self.now }
     {
-        self.lists.ships.as_slice()
+        self.lists.ships()
     }
 
     /// The cum rows in table order.
@@ -136,7 +120,7 @@ impl Tables {
         ensures value { result.now ≡ self.now.cums }
         ensures table { IsTable self.now }
     {
-        self.lists.cums.as_slice()
+        self.lists.cums()
     }
 
     /// The reset rows in table order.
@@ -144,7 +128,7 @@ impl Tables {
         ensures value { result.now ≡ self.now.resets }
         ensures table { IsTable self.now }
     {
-        self.lists.resets.as_slice()
+        self.lists.resets()
     }
 
     /// The name of a plant of the table.
@@ -152,7 +136,7 @@ impl Tables {
         requires known { plant.0 < length self.now.plants }
         ensures value { slice_get self.now.plants plant.0 ≡ Some result.now }
     {
-        name_at(&self.lists.plants, plant.0)
+        self.lists.plant_name(plant)
     }
 
     /// The name of an item of the table.
@@ -160,7 +144,7 @@ impl Tables {
         requires known { item.0 < length self.now.items }
         ensures value { slice_get self.now.items item.0 ≡ Some result.now }
     {
-        name_at(&self.lists.items, item.0)
+        self.lists.item_name(item)
     }
 
     /// The plant of that name, if there is one.
@@ -168,7 +152,7 @@ impl Tables {
         ensures place { option_map (λ p. p.0) result ≡ position (bytes_eq name.now) self.now.plants }
         ensures within { IfSome result (λ p. p.0 < length self.now.plants) }
     {
-        place_of(&self.lists.plants, name).map(PlantNo)
+        self.lists.find_plant(name)
     }
 
     /// The item of that name, if there is one.
@@ -176,7 +160,7 @@ impl Tables {
         ensures place { option_map (λ i. i.0) result ≡ position (bytes_eq name.now) self.now.items }
         ensures within { IfSome result (λ i. i.0 < length self.now.items) }
     {
-        place_of(&self.lists.items, name).map(ItemNo)
+        self.lists.find_item(name)
     }
 
     /// The pair of a plant and an item, if there is one.

@@ -29,18 +29,6 @@ lane_of s = record { from = s.plant; pair = s.pair }
 
 -- ---- the shipments of a source
 
--- the periods of arrival of the shipments of a plant to a pair, in table order
-abbrev pub arrivals_of : List ShipRow → PlantNo → PairNo → List ℕ
-arrivals_of ships f x = map (λ s. s.period) (filter (λ s. (s.from.0 == f.0) && (s.pair.0 == x.0)) ships)
-
-abbrev pub arrivals : Table → PlantNo → PairNo → List ℕ
-arrivals N f x = arrivals_of N.ships f x
-
--- no number is below the one before it
-abbrev pub rises_from : ℕ → List ℕ → Bool
-rises_from low [] = true
-rises_from low (n ∷ ns) = nat_le low n && rises_from n ns
-
 -- the last number of all
 abbrev pub last_from : ℕ → List ℕ → ℕ
 last_from last [] = last

@@ -1,7 +1,7 @@
 use Rattle.std.proofs.Common.{◌≡◌, ◌<◌, ◌∙◌, sym, subst, List, ℕ, true, length, get_or, String, Global}
 use Rattle.std.specs.Str.{bytes_eq}
-use Rattle.mrp_tables.proofs.Keys.{position_near}
-use Rattle.mrp_tables.proofs.row_lists.place_near.Goals as goal
+use Rattle.mrp_rows.proofs.Keys.{position_near}
+use Rattle.mrp_rows.proofs.row_lists.place_near.Goals as goal
 
 pub returns-in-Some-clause-place : goal.returns-in-Some-clause-place
 returns-in-Some-clause-place c =

@@ -1,8 +1,8 @@
 use Rattle.std.proofs.Common.{◌∙◌, sym, refl}
 use Rattle.std.specs.Str.{bytes_eq}
 use Rattle.std.specs.String.{string_bytes}
-use Rattle.mrp_tables.proofs.Keys.{position_keys}
-use Rattle.mrp_tables.proofs.row_lists.place_of.Goals as goal
+use Rattle.mrp_rows.proofs.Keys.{position_keys}
+use Rattle.mrp_rows.proofs.row_lists.place_of.Goals as goal
 
 pub returns-clause-place : goal.returns-clause-place
 returns-clause-place c =

@@ -1,10 +1,10 @@
 use Rattle.std.proofs.Common.{◌≡◌, ◌∙◌, length, sym, arith}
 use Rattle.std.specs.String.{string_bytes}
 use Rattle.std.proofs.lemmas.List.{length-map}
-use Rattle.mrp_tables.specs.Lists.{table_of}
-use Rattle.mrp_tables.proofs.Accept.{table_is}
-use Rattle.mrp_tables.proofs.Waiting.{none_waits, waits_at}
-use Rattle.mrp_tables.proofs.tables.Tables.accept.Goals as goal
+use Rattle.mrp_rows.specs.Growing.{table_of}
+use Rattle.mrp_rows.proofs.Accept.{table_is}
+use Rattle.mrp_rows.proofs.Waiting.{none_waits, waits_at}
+use Rattle.mrp_rows.proofs.tables.Tables.accept.Goals as goal
 
 pub invariant_of-result : goal.invariant_of-result
 invariant_of-result c =
