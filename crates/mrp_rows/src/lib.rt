@@ -3,11 +3,13 @@
 //! [`RowLists`] grows row by row while a table is read; [`Tables`] is the whole of it.
 #![tactic(auto)]
 
+mod laws;
 mod numbers;
 mod row_lists;
 mod rows;
 mod tables;
 
+pub use laws::limits_are_numbers;
 pub use mrp_spell::{MOST_SHARE, MOST_SOURCES_OF_PAIR};
 pub use numbers::{ItemNo, PairNo, PlantNo};
 pub use row_lists::RowLists;

@@ -1,9 +1,8 @@
 ghost use Rattle.std.specs.Prelude.{◌≡◌};
 
-use crate::RowLists;
 use crate::{
-    BillRow, CumRow, DemandRow, ItemNo, PairNo, PairRow, PlantNo, ReceiptRow, ResetRow, ShipRow,
-    SourceRow,
+    BillRow, CumRow, DemandRow, ItemNo, PairNo, PairRow, PlantNo, ReceiptRow, ResetRow, RowLists,
+    ShipRow, SourceRow,
 };
 use mrp_cal::Calendar;
 use mrp_qty::Horizon;

@@ -1,5 +1,5 @@
 -- How names, numbers and lot rules are spelled.
-use Rattle.std.specs.Prelude.{◌≡◌, ℕ, zero, suc, ◌+◌, ◌-◌, ◌*◌, ◌==◌, ◌&&◌, ◌||◌, not, nat_lt, nat_le, Bool, true, false, if◌then◌else◌, List, [], ◌∷◌, ◌++◌, length, slice_index, codes, Option, Some, None, option_map, Result, Ok, Err, ok_or}
+use Rattle.std.specs.Prelude.{◌≡◌, ℕ, zero, suc, ◌<◌, ◌^◌, decimal, ◌+◌, ◌-◌, ◌*◌, ◌==◌, ◌&&◌, ◌||◌, not, nat_lt, nat_le, Bool, true, false, if◌then◌else◌, List, [], ◌∷◌, ◌++◌, length, slice_index, codes, Option, Some, None, option_map, Result, Ok, Err, ok_or}
 use Rattle.std.specs.Char.{is_ascii_alphanumeric, is_ascii_digit}
 use Rattle.std.specs.List.{before_first, after_first, position_or_len, list_all, list_any}
 use Rattle.std.specs.Str.{bytes_eq}
@@ -19,6 +19,14 @@ is_name text = nat_le 1 (length text) && nat_le (length text) 20 && list_all is_
 -- a number is `0`, or 1 to 16 digits of which the first is not `0`
 abbrev pub is_number : List ℕ → Bool
 is_number text = nat_le 1 (length text) && nat_le (length text) 16 && (not (slice_index text 0 == 48) || length text == 1) && list_all is_ascii_digit text
+
+-- the one text of a number: its decimal digits, without a zero before them
+abbrev pub number_text : ℕ → List ℕ
+number_text n = decimal n
+
+-- the greatest number that is read has 16 digits
+abbrev pub IsShort : ℕ → Type 0
+IsShort n = n < 10 ^ 16
 
 -- the number that digits spell after n
 abbrev pub read_on : ℕ → List ℕ → ℕ

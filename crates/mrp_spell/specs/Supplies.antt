@@ -1,6 +1,6 @@
 -- How it is spelled where a pair comes from, and what each plant's share is.
-use Rattle.std.specs.Prelude.{ℕ, zero, suc, ◌+◌, ◌-◌, ◌==◌, ◌&&◌, nat_le, Bool, if◌then◌else◌, List, [], ◌∷◌, ◌++◌, codes, Option, Some, None, option_map}
-use Rattle.std.specs.List.{list_any}
+use Rattle.std.specs.Prelude.{◌≡◌, ◌≤◌, ℕ, zero, suc, ◌+◌, ◌-◌, ◌==◌, ◌&&◌, nat_le, Bool, if◌then◌else◌, List, [], ◌∷◌, ◌++◌, codes, length, Option, Some, None, option_map}
+use Rattle.std.specs.List.{IsDistinct, list_any}
 use Rattle.std.specs.Str.{bytes_eq}
 use Rattle.mrp_spell.specs.declared.supplies.TheConstants.{MOST_SHARE, MOST_SOURCES_OF_PAIR}
 use Rattle.mrp_spell.specs.Spelling.{cut, is_name, number_within}
@@ -78,3 +78,24 @@ abbrev pub named_sources : SupplyTerms → List SourceTerms
 named_sources MakeTerms = []
 named_sources BuyTerms = []
 named_sources (FromTerms sources) = sources
+
+-- ---- what every supply that is spelled says
+
+abbrev pub is_same_plant : SourceTerms → SourceTerms → Bool
+is_same_plant s t = bytes_eq s.plant t.plant
+
+-- the shares follow one another from low to high
+abbrev pub ShareFrom : ℕ → List SourceTerms → ℕ → Type 0
+ShareFrom low [] high = high ≡ low
+ShareFrom low (s ∷ ss) high = (s.low ≡ low) × ShareFrom s.high ss high
+
+-- at most four plants, all different, whose shares are the whole
+pub record AreWhole (ss : List SourceTerms) : Type 0 where
+  pub few : length ss ≤ MOST_SOURCES_OF_PAIR
+  pub apart : IsDistinct is_same_plant ss
+  pub shares : ShareFrom 0 ss MOST_SHARE
+
+abbrev pub IsWholeSupply : SupplyTerms → Type 0
+IsWholeSupply MakeTerms = Unit {0}
+IsWholeSupply BuyTerms = Unit {0}
+IsWholeSupply (FromTerms ss) = AreWhole ss

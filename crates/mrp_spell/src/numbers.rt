@@ -1,6 +1,6 @@
-ghost use Rattle.std.specs.Prelude.{◌≡◌, ◌≤◌, length, IfSome};
+ghost use Rattle.std.specs.Prelude.{◌≡◌, ◌≢◌, ◌≤◌, ℕ, length, IfSome, MatchOption};
 ghost use Rattle.mrp_spell.specs.Digits.{digits_of};
-ghost use Rattle.mrp_spell.specs.Spelling.{number_of, number_within};
+ghost use Rattle.mrp_spell.specs.Spelling.{IsShort, number_of, number_text, number_within};
 
 /// The number that digits spell, where each byte is one.
 fn digits_value(text: &[u8]) -> Option<u64>
@@ -17,9 +17,9 @@ fn digits_value(text: &[u8]) -> Option<u64>
     Some(value)
 }
 
-/// The number that a text spells: `0`, or 1 to 16 digits of which the first is not `0`.
+/// The number that a text spells.
 #[tactic(auto, unfolding(crate::specs::Spelling::number_of))]
-pub fn number(text: &str) -> Option<u64>
+fn read(text: &str) -> Option<u64>
     ensures { result ≡ number_of text.now }
 {
     let bytes = text.as_bytes();
@@ -27,6 +27,15 @@ pub fn number(text: &str) -> Option<u64>
         return None;
     }
     digits_value(bytes)
+}
+
+/// The number that a text spells: `0`, or 1 to 16 digits of which the first is not `0`. Each number
+/// below 10^16 has just one such text.
+pub fn number(text: &str) -> Option<u64>
+    ensures value { result ≡ number_of text.now }
+    ensures spelled { MatchOption result ((n : ℕ) → IsShort n → text.now ≢ number_text n) (λ n. (text.now ≡ number_text n) × IsShort n) }
+{
+    read(text)
 }
 
 /// The number that a text spells, where it is `low` to `high`.

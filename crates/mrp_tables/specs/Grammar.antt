@@ -10,29 +10,34 @@ use Rattle.mrp_cal.specs.Calendar.{CalendarTerms}
 use Rattle.mrp_cal.specs.declared.fault.CalFault.{CalFault}
 use Rattle.mrp_lot.specs.declared.rule.Rule.{Rule}
 use Rattle.mrp_lot.specs.declared.rule.TheConstants.{LONGEST_LEAD}
+use Rattle.mrp_spell.specs.declared.supplies.SupplyFault.{SupplyFault}
+use Rattle.mrp_spell.specs.declared.supplies.SupplyFault.TheVariants as refused
+use Rattle.mrp_spell.specs.Supplies.{SourceTerms, SupplyTerms, MakeTerms, BuyTerms, FromTerms, named_sources, names_plant, supply_of}
+use Rattle.mrp_rows.specs.Names.{has_plant, pair_named, plant_no}
 use Rattle.mrp_tables.specs.declared.fault.TableFaultKind.{TableFaultKind}
 use Rattle.mrp_tables.specs.declared.fault.TableFaultKind.TheVariants as fault
 use Rattle.mrp_tables.specs.declared.kind.Kind.{Kind}
 use Rattle.mrp_tables.specs.declared.kind.Kind.TheVariants as kind
-use Rattle.mrp_tables.specs.declared.rows.TheConstants.{MOST_BILLS, MOST_IN_ROW, MOST_OF_A_KIND, MOST_PAIRS, MOST_PER, MOST_PLANTS, MOST_SHARE, MOST_SOURCES_OF_PAIR}
-use Rattle.mrp_tables.specs.declared.rows.Supply.{Supply}
-use Rattle.mrp_tables.specs.declared.rows.Supply.TheVariants as supply
-use Rattle.mrp_tables.specs.declared.rows.BillRow.{BillRow}
-use Rattle.mrp_tables.specs.declared.rows.ResetRow.{ResetRow}
-use Rattle.mrp_tables.specs.declared.rows.CumRow.{CumRow}
-use Rattle.mrp_tables.specs.declared.rows.ShipRow.{ShipRow}
-use Rattle.mrp_tables.specs.declared.rows.ReceiptRow.{ReceiptRow}
-use Rattle.mrp_tables.specs.declared.rows.DemandRow.{DemandRow}
-use Rattle.mrp_tables.specs.declared.numbers.PlantNo.{PlantNo}
-use Rattle.mrp_tables.specs.declared.numbers.PairNo.{PairNo}
+use Rattle.mrp_rows.specs.declared.rows.TheConstants.{MOST_BILLS, MOST_IN_ROW, MOST_OF_A_KIND, MOST_PAIRS, MOST_PER, MOST_PLANTS}
+use Rattle.mrp_spell.specs.declared.supplies.TheConstants.{MOST_SHARE, MOST_SOURCES_OF_PAIR}
+use Rattle.mrp_rows.specs.declared.rows.Supply.{Supply}
+use Rattle.mrp_rows.specs.declared.rows.Supply.TheVariants as supply
+use Rattle.mrp_rows.specs.declared.rows.BillRow.{BillRow}
+use Rattle.mrp_rows.specs.declared.rows.ResetRow.{ResetRow}
+use Rattle.mrp_rows.specs.declared.rows.CumRow.{CumRow}
+use Rattle.mrp_rows.specs.declared.rows.ShipRow.{ShipRow}
+use Rattle.mrp_rows.specs.declared.rows.ReceiptRow.{ReceiptRow}
+use Rattle.mrp_rows.specs.declared.rows.DemandRow.{DemandRow}
+use Rattle.mrp_rows.specs.declared.numbers.PlantNo.{PlantNo}
+use Rattle.mrp_rows.specs.declared.numbers.PairNo.{PairNo}
 use Rattle.mrp_tables.specs.declared.lanes.NamedLane.{NamedLane}
 use Rattle.mrp_tables.specs.declared.lanes.KnownLane.{KnownLane}
-use Rattle.mrp_tables.specs.Table.{Table, horizon}
-use Rattle.mrp_tables.specs.declared.rows.PairRow.{PairRow}
-use Rattle.mrp_tables.specs.declared.rows.SourceRow.{SourceRow}
-pub use Rattle.mrp_tables.specs.Lists.{arrivals, rises_from}
-use Rattle.mrp_tables.specs.Lists.{add_item, with_plant, with_bill, with_demand, with_receipt, with_ship, with_cum, with_reset}
-use Rattle.mrp_tables.specs.Spelling.{cut, is_name, names_plant, number_of, number_within, rule_of, shared_source, SourceTerms, SupplyTerms, MakeTerms, BuyTerms, FromTerms}
+use Rattle.mrp_rows.specs.Table.{Table, horizon}
+use Rattle.mrp_rows.specs.declared.rows.PairRow.{PairRow}
+use Rattle.mrp_rows.specs.declared.rows.SourceRow.{SourceRow}
+use Rattle.mrp_rows.specs.Table.{arrivals, rises_from}
+use Rattle.mrp_rows.specs.Growing.{add_item, with_plant, with_bill, with_demand, with_receipt, with_ship, with_cum, with_reset}
+use Rattle.mrp_spell.specs.Spelling.{cut, is_name, number_of, number_within, rule_of}
 
 -- the answer of a test, or the first fault
 infixl 10 ◌>>=◌
@@ -53,6 +58,11 @@ seen view (Err e) = Err e
 abbrev pub TellsFault : {B : Type 0} → Result B TableFaultKind → TableFaultKind → Type 0
 TellsFault read fault.Memory = Unit {0}
 TellsFault read e = read ≡ Err e
+
+-- the fault of a supply that is refused
+abbrev pub fault_of_supply : SupplyFault → TableFaultKind
+fault_of_supply refused.NotASupply = fault.BadSupply
+fault_of_supply refused.Memory = fault.Memory
 
 -- what a step answers, as the definitions see it
 abbrev pub TellsSeen : {A B : Type 0} → (A → B) → Result A TableFaultKind → Result B TableFaultKind → Type 0
@@ -405,7 +415,7 @@ reset_of N row = do
   t ← reset_terms row (horizon N)
   _ ← check (not (has_reset N (lane_named N t.0))) fault.Repeated
   lane ← known_lane (lane_named N t.0)
-  _ ← check (rises_from 0 (arrivals N lane.from lane.pair)) fault.ResetOrder
+  _ ← check (rises_from 0 (arrivals N lane.from.0 lane.pair.0)) fault.ResetOrder
   Ok (record { from = lane.from; pair = lane.pair; period = t.1 })
 
 abbrev pub bill_row : Table → List (List ℕ) → Result Table TableFaultKind

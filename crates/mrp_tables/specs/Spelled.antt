@@ -5,17 +5,19 @@ use Rattle.std.specs.List.{IsDistinct}
 use Rattle.std.specs.Str.{bytes_eq}
 use Rattle.mrp_lot.specs.Lot.{IsRule}
 use Rattle.mrp_lot.specs.declared.rule.TheConstants.{LONGEST_LEAD}
-use Rattle.mrp_tables.specs.declared.rows.TheConstants.{MOST_IN_ROW, MOST_PER, MOST_SHARE, MOST_SOURCES_OF_PAIR}
-use Rattle.mrp_tables.specs.declared.terms.SpelledSource.{SpelledSource}
-use Rattle.mrp_tables.specs.declared.terms.SpelledSupply.{SpelledSupply}
-use Rattle.mrp_tables.specs.declared.terms.SpelledSupply.TheVariants.{Make, Buy, From}
+use Rattle.mrp_rows.specs.declared.rows.TheConstants.{MOST_IN_ROW, MOST_PER}
+use Rattle.mrp_spell.specs.declared.supplies.TheConstants.{MOST_SHARE, MOST_SOURCES_OF_PAIR}
+use Rattle.mrp_spell.specs.declared.supplies.SpelledSource.{SpelledSource}
+use Rattle.mrp_spell.specs.declared.supplies.SpelledSupply.{SpelledSupply}
+use Rattle.mrp_spell.specs.declared.supplies.SpelledSupply.TheVariants.{Make, Buy, From}
+use Rattle.mrp_spell.specs.Spelled.{HasSources, supply_view}
 use Rattle.mrp_tables.specs.declared.spelled.SpelledPair.{SpelledPair}
 use Rattle.mrp_tables.specs.declared.spelled.SpelledBill.{SpelledBill}
 use Rattle.mrp_tables.specs.declared.spelled.SpelledAmount.{SpelledAmount}
 use Rattle.mrp_tables.specs.declared.spelled.SpelledLane.{SpelledLane}
 use Rattle.mrp_tables.specs.declared.spelled.SpelledRun.{SpelledRun}
-use Rattle.mrp_tables.specs.Spelling.{SourceTerms, SupplyTerms, MakeTerms, BuyTerms, FromTerms}
-use Rattle.mrp_tables.specs.Table.{IsName}
+use Rattle.mrp_spell.specs.Supplies.{SourceTerms, SupplyTerms, MakeTerms, BuyTerms, FromTerms}
+use Rattle.mrp_rows.specs.Table.{IsName}
 use Rattle.mrp_tables.specs.Grammar.{AmountTerms, BillTerms, LaneTerms, PairTerms, RunTerms}
 
 -- a pair row whose item is a name, and whose numbers are in their ranges
