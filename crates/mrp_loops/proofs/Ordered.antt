@@ -4,8 +4,8 @@ use Rattle.std.specs.List.{range_with_len}
 use Rattle.std.proofs.lemmas.Bool.{cases_lt}
 use Rattle.std.proofs.lemmas.List.FromFn.{get_or-map-range_with_len, length-map-range_with_len}
 use Rattle.std.proofs.lemmas.List.{length-replicate}
-use Rattle.mrp_tables.specs.declared.numbers.PairNo.{PairNo}
-use Rattle.mrp_tables.specs.Table.{Table, IsTable}
+use Rattle.mrp_rows.specs.declared.numbers.PairNo.{PairNo}
+use Rattle.mrp_rows.specs.Table.{Table, IsTable}
 use Rattle.mrp_loops.specs.Loop.{AreCodes}
 use Rattle.mrp_loops.specs.Order.{rank, IsPlaced}
 use Rattle.mrp_loops.specs.Sized.{IsPlanningOrder}

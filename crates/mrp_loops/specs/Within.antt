@@ -3,7 +3,7 @@ use Rattle.std.specs.Prelude.{ℕ, ◌+◌, ◌≤◌, List, sum, slice_index, A
 use Rattle.mrp_qty.specs.declared.quantity.TheConstants.{MOST}
 use Rattle.mrp_lot.specs.Lot.{rule_quantities}
 use Rattle.mrp_lot.specs.One.{PlanRows, IsWithin}
-use Rattle.mrp_tables.specs.Table.{IsPair}
+use Rattle.mrp_rows.specs.Table.{IsPair}
 use Rattle.mrp_net.specs.Lanes.{figure, shipped_from}
 use Rattle.mrp_net.specs.Plan.{rows_at, Fits}
 use Rattle.mrp_net.specs.Sums.{pair_at, params_at, supply}

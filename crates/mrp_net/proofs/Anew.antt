@@ -6,8 +6,8 @@ use Rattle.std.proofs.lemmas.Bool.{cases_Bool, eq-eqb, eqb-true, eqb-false, and_
 use Rattle.std.proofs.lemmas.List.{get_or-set_same, get_or-set_other, get_or-take, get_or-replicate, get_or_read, get_or_default, length-set, length-take-le, length-replicate, take_more}
 use Rattle.std.proofs.lemmas.List.Elements.{All-head, All-tail}
 use Rattle.std.proofs.lemmas.Map.Keys.{apart_from_distinct}
-use Rattle.mrp_tables.specs.declared.rows.ResetRow.{ResetRow}
-use Rattle.mrp_tables.specs.Table.{Table, IsTable, is_same_reset, is_taken_from}
+use Rattle.mrp_rows.specs.declared.rows.ResetRow.{ResetRow}
+use Rattle.mrp_rows.specs.Table.{Table, IsTable, is_same_reset, is_taken_from}
 use Rattle.mrp_net.specs.Lanes.{is_reset_of, anew_in}
 use Rattle.mrp_net.specs.Sources.{source_no, AreResetsOf}
 use Rattle.mrp_net.proofs.Sourcing.{source_within, source_test}

@@ -3,14 +3,14 @@ use Rattle.std.proofs.Common.{◌≡◌, ℕ, ◌+◌, ◌<◌, Bool, true, fals
 use Rattle.std.specs.List.{filter, flat_map, range_with_len}
 use Rattle.std.proofs.lemmas.List.{append-nil, append_assoc, map-append}
 use Rattle.std.proofs.lemmas.List.Elements.{filter-append, filter_more}
-use Rattle.mrp_tables.specs.Table.{Table, horizon}
+use Rattle.mrp_rows.specs.Table.{Table, horizon}
 use Rattle.mrp_net.specs.declared.view.IncomingLane.{IncomingLane}
 use Rattle.mrp_net.specs.declared.view.OutgoingLane.{OutgoingLane}
 use Rattle.mrp_net.specs.declared.view.PlantEdge.{PlantEdge}
 use Rattle.mrp_net.specs.declared.view.PlantPair.{PlantPair}
 use Rattle.mrp_net.specs.Sums.{row_of, demand, received}
 use Rattle.mrp_net.specs.View.{PlantRows, plant_pairs, plant_edges, plant_amounts, edges_to, incoming_lanes, outgoing_lanes, plant_rows}
-use Rattle.mrp_net.proofs.Grouping.{range-suc}
+use Rattle.mrp_group.proofs.Grouping.{range-suc}
 
 -- one number more of a range
 range_more : {Y : Type 0} (f : ℕ → Y) (p : ℕ → Bool) (k : ℕ) (b : Bool) → p k ≡ b → map f (filter p (range_with_len 0 (k + 1))) ≡ map f (filter p (range_with_len 0 k)) ++ map f (cond b (k ∷ []) [])

@@ -7,9 +7,9 @@ use Rattle.std.proofs.lemmas.List.FromFn.{length-map-range_with_len}
 use Rattle.std.proofs.lemmas.List.Elements.{All-nil, All-head, All-tail, All-append, All-filter, All-map, filter_passes, Contains-get_or}
 use Rattle.std.proofs.lemmas.List.Sums.{length-filter, count_by-le-length}
 use Rattle.std.proofs.Math.Nat.{suc-mul}
-use Rattle.mrp_tables.specs.declared.numbers.ItemNo.{ItemNo}
-use Rattle.mrp_tables.specs.declared.numbers.PairNo.{PairNo}
-use Rattle.mrp_tables.specs.Table.{Table, IsTable, IsPair, horizon, pair_no}
+use Rattle.mrp_rows.specs.declared.numbers.ItemNo.{ItemNo}
+use Rattle.mrp_rows.specs.declared.numbers.PairNo.{PairNo}
+use Rattle.mrp_rows.specs.Table.{Table, IsTable, IsPair, horizon, pair_no}
 use Rattle.mrp_net.specs.declared.edge.Edge.{Edge}
 use Rattle.mrp_net.specs.declared.view.PlantPair.{PlantPair}
 use Rattle.mrp_net.specs.Edges.{demanders, edges, IsEdge}
@@ -21,7 +21,7 @@ use Rattle.mrp_net.proofs.Joining.{edges_join, demanders_join}
 use Rattle.mrp_net.proofs.Members.{In-from_contains, Contains-from_in, In-filter, In-map, In-range, range_only}
 use Rattle.mrp_net.proofs.Once.{count-map, count-filter, count_range, count_within}
 use Rattle.mrp_net.proofs.Sharing.{pairs_are_found}
-use Rattle.mrp_net.proofs.Sorting.{All-sorted_by}
+use Rattle.mrp_group.proofs.Sorting.{All-sorted_by}
 
 -- ---- pairs
 

@@ -1,7 +1,7 @@
 -- The items of a lane that a plant sends, each with its shipments on their way.
 use Rattle.std.specs.Prelude.{ℕ, ◌≤◌, List, [], length, map, All, Option, None, slice_range, slice_index_or}
-use Rattle.mrp_tables.specs.declared.numbers.ItemNo.{ItemNo}
-use Rattle.mrp_tables.specs.declared.numbers.PairNo.{PairNo}
+use Rattle.mrp_rows.specs.declared.numbers.ItemNo.{ItemNo}
+use Rattle.mrp_rows.specs.declared.numbers.PairNo.{PairNo}
 use Rattle.mrp_net.specs.declared.lane.Shipment.{Shipment}
 use Rattle.mrp_net.specs.declared.view.OutgoingItem.{OutgoingItem}
 use Rattle.mrp_net.specs.declared.view.OutgoingRow.{OutgoingRow}

@@ -1,6 +1,6 @@
 -- Laws of what plants see.
 use Rattle.std.specs.Prelude.{◌≡◌, ℕ, map, filter}
-use Rattle.mrp_tables.specs.Table.{Table, IsTable}
+use Rattle.mrp_rows.specs.Table.{Table, IsTable}
 use Rattle.mrp_net.specs.Seen.{IsView}
 use Rattle.mrp_net.specs.View.{comes_to, goes_from, lane_numbers, plant_rows}
 

@@ -16,7 +16,7 @@ mod viewing;
 
 pub use edge::Edge;
 pub use lane::{Lane, LaneKind, LaneNo, Shipment};
-pub use mrp_tables::{ItemNo, PairNo, PairRow, PlantNo, SourceRow, Supply};
+pub use mrp_rows::{ItemNo, PairNo, PairRow, PlantNo, SourceRow, Supply};
 pub use network::Network;
 pub use view::{
     IncomingItem, IncomingItems, IncomingLane, OutgoingItem, OutgoingItems, OutgoingLane,

@@ -1,6 +1,6 @@
 ghost use Rattle.std.specs.Prelude.{◌≡◌, ◌<◌, ◌≤◌, ◌^◌, ◌-◌, ◌+◌, ◌*◌, ℕ, true, min, length, slice_get};
 ghost use Rattle.std.specs.Prelude.{Option, Some, None, IfSome, IfNone, IfOk, Contains, All};
-ghost use Rattle.mrp_tables.specs.Table.{Table, IsTable, horizon, IsPair, is_taken_from, pair_no};
+ghost use Rattle.mrp_rows.specs.Table.{Table, IsTable, horizon, IsPair, is_taken_from, pair_no};
 ghost use Rattle.mrp_net.specs.Edges.{demanders, suppliers, IsEdge};
 ghost use Rattle.mrp_net.specs.Sums.{pair_at, row_of, demand, demand_total, incoming, received, supply};
 ghost use Rattle.mrp_net.specs.Names.{IsNamed};
@@ -15,7 +15,7 @@ use crate::lanes::{LaneLists, source_of};
 use crate::{Edge, build, lanes};
 use mrp_cal::Calendar;
 use mrp_qty::{Horizon, Memory};
-use mrp_tables::{ItemNo, PairNo, PairRow, PlantNo, SourceRow, Tables};
+use mrp_rows::{ItemNo, PairNo, PairRow, PlantNo, SourceRow, Tables};
 use std::alloc::Global;
 use std::marker::Model;
 
@@ -32,7 +32,7 @@ pub struct Network {
 }
 
 impl Model for Network {
-    ghost use Rattle.mrp_tables.specs.Table.{Table};
+    ghost use Rattle.mrp_rows.specs.Table.{Table};
     ghost use Rattle.mrp_net.specs.Built.{IsBuilt};
 
     ghost Value = { Table };

@@ -1,7 +1,7 @@
 use crate::lane::{LaneKind, LaneNo, Shipment};
 use mrp_lot::PairParams;
 use mrp_qty::{Horizon, Memory};
-use mrp_tables::{ItemNo, PairNo};
+use mrp_rows::{ItemNo, PairNo};
 use std::alloc::Global;
 use std::marker::Model;
 

@@ -1,6 +1,6 @@
 ghost use Rattle.std.specs.Prelude.{◌≡◌, ◌<◌, ◌≤◌, ◌++◌, length, map, All, Contains, IfOk};
 ghost use Rattle.std.specs.List.{flat_map};
-ghost use Rattle.mrp_tables.specs.Table.{IsPair};
+ghost use Rattle.mrp_rows.specs.Table.{IsPair};
 ghost use Rattle.mrp_net.specs.Edges.{IsEdge};
 ghost use Rattle.mrp_net.specs.Lanes.{lanes, lane_at, lane_items};
 ghost use Rattle.mrp_net.specs.Laws.{is_local};
@@ -15,7 +15,7 @@ use crate::view::{
 };
 use crate::{Edge, Network};
 use mrp_qty::Memory;
-use mrp_tables::{ItemNo, PairNo, PlantNo};
+use mrp_rows::{ItemNo, PairNo, PlantNo};
 use std::alloc::Global;
 
 impl Network {

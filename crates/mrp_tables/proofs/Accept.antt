@@ -1,9 +1,9 @@
 -- What every accepted table says.
 use Rattle.std.proofs.Common.{◌≡◌, ℕ, ◌<◌, Bool, true, false, not, ltb, List, length, position, None, refl, arith}
 use Rattle.std.proofs.lemmas.Bool.Decides.{nat_tests}
-use Rattle.mrp_tables.specs.Lists.{lacks_pair}
-use Rattle.mrp_tables.specs.Table.{Table, IsOnce, IsRead, IsSourced, IsTable, IsPair, source_pair}
-use Rattle.mrp_tables.proofs.Keys.{All-from_position}
+use Rattle.mrp_rows.specs.Growing.{lacks_pair}
+use Rattle.mrp_rows.specs.Table.{Table, IsOnce, IsRead, IsSourced, IsTable, IsPair, source_pair}
+use Rattle.mrp_rows.proofs.Keys.{All-from_position}
 
 has_pair : (b : Bool) (k n : ℕ) → ltb k n ≡ b → not b ≡ false → k < n
 has_pair true k n t e = grind (arith, nat_tests)

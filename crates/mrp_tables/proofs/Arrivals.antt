@@ -13,13 +13,16 @@ use Rattle.std.proofs.lemmas.Map.Keys.{apart_from_distinct}
 use Rattle.std.proofs.Math.ListN.{get_or-map}
 use Rattle.mrp_tables.specs.declared.draft.Lane.{Lane}
 use Rattle.mrp_tables.specs.declared.draft.LaneKey.{LaneKey}
-use Rattle.mrp_tables.specs.declared.numbers.PairNo.{PairNo}
-use Rattle.mrp_tables.specs.declared.numbers.PlantNo.{PlantNo}
-use Rattle.mrp_tables.specs.declared.rows.ShipRow.{ShipRow}
-use Rattle.mrp_tables.specs.declared.rows.SourceRow.{SourceRow}
-use Rattle.mrp_tables.specs.Table.{Table}
-use Rattle.mrp_tables.specs.Lists.{after_ship, AreLanes, arrivals_of, Fits, with_source, has_lane, is_same_lane, lane_of, lane_state, last_from, rises_from, state_of}
-use Rattle.mrp_tables.proofs.Keys.{any_source, same_test}
+use Rattle.mrp_rows.specs.declared.numbers.PairNo.{PairNo}
+use Rattle.mrp_rows.specs.declared.numbers.PlantNo.{PlantNo}
+use Rattle.mrp_rows.specs.declared.rows.ShipRow.{ShipRow}
+use Rattle.mrp_rows.specs.declared.rows.SourceRow.{SourceRow}
+use Rattle.mrp_rows.specs.Table.{Table}
+use Rattle.mrp_tables.specs.Lists.{after_ship, AreLanes, Fits, has_lane, is_same_lane, lane_of, lane_state, last_from, state_of}
+use Rattle.mrp_rows.specs.Table.{arrivals_of, rises_from}
+use Rattle.mrp_rows.specs.Growing.{with_source}
+use Rattle.mrp_tables.proofs.Keys.{any_source}
+use Rattle.mrp_rows.proofs.Keys.{same_test}
 
 pub both : (a b : Bool) → (a && b) ≡ true → (a ≡ true) × (b ≡ true)
 both true b h = (refl, h)
@@ -115,8 +118,8 @@ module _ (ships : List ShipRow) (y : ShipRow) (s : SourceRow) where
       let p = ships_on s.plant s.pair in
       let test : p y ≡ true = rw (same_test y.from.0 s.plant.0, same_test y.pair.0 s.pair.0) same in
       let kept = filter-append p ships (y ∷ []) ∙ ap (λ more. filter p ships ++ more) (filter_one p y test) in
-      let all : arrivals_of (ships ++ y ∷ []) s.plant s.pair ≡ arrivals_of ships s.plant s.pair ++ y.period ∷ [] = ap (map (λ (r : ShipRow). r.period)) kept ∙ map-append (λ (r : ShipRow). r.period) (filter p ships) (y ∷ []) in
-      ap state_of all ∙ state_push (arrivals_of ships s.plant s.pair) y.period
+      let all : arrivals_of (ships ++ y ∷ []) s.plant.0 s.pair.0 ≡ arrivals_of ships s.plant.0 s.pair.0 ++ y.period ∷ [] = ap (map (λ (r : ShipRow). r.period)) kept ∙ map-append (λ (r : ShipRow). r.period) (filter p ships) (y ∷ []) in
+      ap state_of all ∙ state_push (arrivals_of ships s.plant.0 s.pair.0) y.period
 
   miss : is_same_lane (lane_of s) (key y.from y.pair) ≡ false → lane_state (ships ++ y ∷ []) s ≡ lane_state ships s
   unfolding lane_state
@@ -160,15 +163,15 @@ states_ship ships y keys sources states k d l is apart each at there =
 
 -- what is known of the source of a plant and a pair
 pub state_there : (ships : List ShipRow) (f : PlantNo) (x : PairNo) (sources : List SourceRow) (states : List Lane) (k : ℕ) (l : Lane) (d : SourceRow)
-    → states ≡ map (lane_state ships) sources → position (λ s. (s.plant.0 == f.0) && (s.pair.0 == x.0)) sources ≡ Some k → l ≡ get_or states k l → l ≡ state_of (arrivals_of ships f x)
+    → states ≡ map (lane_state ships) sources → position (λ s. (s.plant.0 == f.0) && (s.pair.0 == x.0)) sources ≡ Some k → l ≡ get_or states k l → l ≡ state_of (arrivals_of ships f.0 x.0)
 unfolding lane_state
 state_there ships f x sources states k l d each at there =
     let p = source_there f x sources k d at in
     there ∙ ap (λ (ls : List Lane). get_or ls k l) each ∙ read-map (lane_state ships) sources k d l p.0
-    ∙ ap (λ (m : LaneKey). state_of (arrivals_of ships m.from m.pair)) p.1
+    ∙ ap (λ (m : LaneKey). state_of (arrivals_of ships m.from.0 m.pair.0)) p.1
 
 -- a pair that no shipment names has none
-no_arrivals : (f : PlantNo) (x : PairNo) (ships : List ShipRow) → All (λ s. s.pair.0 < x.0) ships → arrivals_of ships f x ≡ []
+no_arrivals : (f : PlantNo) (x : PairNo) (ships : List ShipRow) → All (λ s. s.pair.0 < x.0) ships → arrivals_of ships f.0 x.0 ≡ []
 no_arrivals f x [] below = refl
 no_arrivals f x (s ∷ ships) below =
     let fails : ships_on f x s ≡ false = misses (s.from.0 == f.0) s.pair.0 x.0 (All-head (λ s. s.pair.0 < x.0) s ships below) in

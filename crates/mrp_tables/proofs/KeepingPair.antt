@@ -8,18 +8,21 @@ use Rattle.std.proofs.lemmas.List.Elements.{All-append, All-cons, All-from_recur
 use Rattle.std.proofs.lemmas.List.Folds.{list_any_none}
 use Rattle.std.proofs.lemmas.Map.Keys.{IsDistinct-cons, IsDistinct-head, IsDistinct-tail}
 use Rattle.std.proofs.lemmas.Slice.Eq.{bytes_eq-Decides}
-use Rattle.mrp_tables.specs.declared.numbers.PlantNo.{PlantNo}
-use Rattle.mrp_tables.specs.declared.rows.TheConstants.{MOST_PAIRS}
-use Rattle.mrp_tables.specs.declared.rows.PairRow.{PairRow}
-use Rattle.mrp_tables.specs.declared.rows.SourceRow.{SourceRow}
-use Rattle.mrp_tables.specs.declared.rows.Supply.{Supply}
-use Rattle.mrp_tables.specs.declared.rows.Supply.TheVariants as supply
-use Rattle.mrp_tables.specs.Spelling.{names_plant, SourceTerms, SupplyTerms, MakeTerms, BuyTerms, FromTerms}
-use Rattle.mrp_tables.specs.Lists.{add_item}
-use Rattle.mrp_tables.specs.Grammar.{has_plant, knows_sources, named_sources, PairTerms, pair_fits, pair_named, pair_of, pair_row, pair_terms, pair_with, plant_no, source_row, supply_kind, with_pair_terms}
-use Rattle.mrp_tables.specs.Table.{Table, HasSupply, IsRead, IsOnce, IsPair, IsSourced, is_same_pair, is_same_source, plant_at, sources_of_pair, supply_at}
-use Rattle.mrp_tables.proofs.KeepingLists.{All-from_any, any-from_no_position, any-from_position, any_left, distinct_append, distinct_name, distinct_push, filter_everything, filter_nothing, get_last, get_left, IsDistinct-nil, names_at, ordered_append, position-from_any, position_last}
-use Rattle.mrp_tables.proofs.KeepingShares.{is_same_plant, IsNamed, pair_terms_are, shares_are}
+use Rattle.mrp_rows.specs.declared.numbers.PlantNo.{PlantNo}
+use Rattle.mrp_rows.specs.declared.rows.TheConstants.{MOST_PAIRS}
+use Rattle.mrp_rows.specs.declared.rows.PairRow.{PairRow}
+use Rattle.mrp_rows.specs.declared.rows.SourceRow.{SourceRow}
+use Rattle.mrp_rows.specs.declared.rows.Supply.{Supply}
+use Rattle.mrp_rows.specs.declared.rows.Supply.TheVariants as supply
+use Rattle.mrp_spell.specs.Supplies.{names_plant, SourceTerms, SupplyTerms, MakeTerms, BuyTerms, FromTerms}
+use Rattle.mrp_rows.specs.Growing.{add_item}
+use Rattle.mrp_rows.specs.Names.{has_plant, pair_named, pair_of, plant_no}
+use Rattle.mrp_tables.specs.Grammar.{knows_sources, PairTerms, pair_fits, pair_row, pair_terms, pair_with, source_row, supply_kind, with_pair_terms}
+use Rattle.mrp_spell.specs.Supplies.{is_same_plant, IsWholeSupply, named_sources}
+use Rattle.mrp_rows.specs.Table.{Table, HasSupply, IsRead, IsOnce, IsPair, IsSourced, is_same_pair, is_same_source, plant_at, sources_of_pair, supply_at}
+use Rattle.mrp_spell.proofs.Lists.{All-from_any, distinct_append, distinct_push, IsDistinct-nil}
+use Rattle.mrp_tables.proofs.KeepingLists.{any-from_no_position, any-from_position, any_left, distinct_name, filter_everything, filter_nothing, get_last, get_left, names_at, ordered_append, position-from_any, position_last}
+use Rattle.mrp_tables.proofs.KeepingShares.{pair_terms_are, shares_are}
 use Rattle.mrp_tables.proofs.KeepingSteps.{after, after_check, after_some, same_Ok}
 
 -- ---- what a pair row that fits says
@@ -119,17 +122,17 @@ distinct_rows N x (s ∷ ss) d known =
     (recursion_from_All (λ y. is_same_source (row s) y ≡ false) (map row ss) (All-map (λ y. is_same_source (row s) y ≡ false) row ss rows))
     (distinct_rows N x ss (IsDistinct-tail is_same_plant s ss d) rest)
 
-named_rows : (N : Table) (x : ℕ) (s : SupplyTerms) → IsNamed s → All (λ s. has_plant N s.plant ≡ true) (named_sources s) → IsDistinct is_same_source (map (source_row N x) (named_sources s))
+named_rows : (N : Table) (x : ℕ) (s : SupplyTerms) → IsWholeSupply s → All (λ s. has_plant N s.plant ≡ true) (named_sources s) → IsDistinct is_same_source (map (source_row N x) (named_sources s))
 named_rows N x MakeTerms h known = IsDistinct-nil is_same_source
 named_rows N x BuyTerms h known = IsDistinct-nil is_same_source
 named_rows N x (FromTerms ss) h known = distinct_rows N x ss h.apart known
 
-supply_is : (N : Table) (x : ℕ) (s : SupplyTerms) → IsNamed s → HasSupply (supply_kind s) (map (source_row N x) (named_sources s))
+supply_is : (N : Table) (x : ℕ) (s : SupplyTerms) → IsWholeSupply s → HasSupply (supply_kind s) (map (source_row N x) (named_sources s))
 supply_is N x MakeTerms h = refl
 supply_is N x BuyTerms h = refl
 supply_is N x (FromTerms ss) h = shares_are N x 0 ss h.shares
 
-module _ (N : Table) (plant : PlantNo) (t : PairTerms) (read : IsRead N) (once : IsOnce N) (sourced : IsSourced N) (fit : Fitting N t plant) (named : IsNamed t.supply) where
+module _ (N : Table) (plant : PlantNo) (t : PairTerms) (read : IsRead N) (once : IsOnce N) (sourced : IsSourced N) (fit : Fitting N t plant) (named : IsWholeSupply t.supply) where
   abbrev M : Table
   M = with_pair_terms N plant t
 

@@ -3,20 +3,23 @@ use Rattle.std.proofs.Common.{◌≡◌, ℕ, ◌==◌, ◌&&◌, true, false, n
 use Rattle.std.specs.List.{list_any}
 use Rattle.std.proofs.lemmas.Bool.{not-true}
 use Rattle.std.proofs.lemmas.List.Elements.{All-push}
-use Rattle.mrp_tables.specs.declared.numbers.PlantNo.{PlantNo}
-use Rattle.mrp_tables.specs.declared.numbers.PairNo.{PairNo}
+use Rattle.mrp_rows.specs.declared.numbers.PlantNo.{PlantNo}
+use Rattle.mrp_rows.specs.declared.numbers.PairNo.{PairNo}
 use Rattle.mrp_tables.specs.declared.lanes.NamedLane.{NamedLane}
 use Rattle.mrp_tables.specs.declared.lanes.KnownLane.{KnownLane}
-use Rattle.mrp_tables.specs.declared.rows.TheConstants.{MOST_OF_A_KIND, MOST_PLANTS}
-use Rattle.mrp_tables.specs.declared.rows.CumRow.{CumRow}
-use Rattle.mrp_tables.specs.declared.rows.DemandRow.{DemandRow}
-use Rattle.mrp_tables.specs.declared.rows.ReceiptRow.{ReceiptRow}
-use Rattle.mrp_tables.specs.declared.rows.ResetRow.{ResetRow}
-use Rattle.mrp_tables.specs.declared.rows.ShipRow.{ShipRow}
-use Rattle.mrp_tables.specs.Table.{Table, horizon, IsOnce, IsSourced, is_taken_from, is_same_cum, is_same_reset}
-use Rattle.mrp_tables.specs.Lists.{with_plant, with_demand, with_receipt, with_ship, with_cum, with_reset}
-use Rattle.mrp_tables.specs.Grammar.{LaneTerms, cum_between, cum_of, cum_terms, has_cum, has_plant, has_reset, known_lane, lane_named, plant_of, plant_terms, pair_named, plant_no, reset_between, reset_of, reset_terms, ship_of, ship_terms, rises_from, arrivals, source_named}
-use Rattle.mrp_tables.proofs.KeepingLists.{distinct_name, distinct_push, any-from_position}
+use Rattle.mrp_rows.specs.declared.rows.TheConstants.{MOST_OF_A_KIND, MOST_PLANTS}
+use Rattle.mrp_rows.specs.declared.rows.CumRow.{CumRow}
+use Rattle.mrp_rows.specs.declared.rows.DemandRow.{DemandRow}
+use Rattle.mrp_rows.specs.declared.rows.ReceiptRow.{ReceiptRow}
+use Rattle.mrp_rows.specs.declared.rows.ResetRow.{ResetRow}
+use Rattle.mrp_rows.specs.declared.rows.ShipRow.{ShipRow}
+use Rattle.mrp_rows.specs.Table.{Table, horizon, IsOnce, IsSourced, is_taken_from, is_same_cum, is_same_reset}
+use Rattle.mrp_rows.specs.Growing.{with_plant, with_demand, with_receipt, with_ship, with_cum, with_reset}
+use Rattle.mrp_tables.specs.Grammar.{LaneTerms, cum_between, cum_of, cum_terms, has_cum, has_reset, known_lane, lane_named, plant_of, plant_terms, reset_between, reset_of, reset_terms, ship_of, ship_terms, source_named}
+use Rattle.mrp_rows.specs.Names.{has_plant, pair_named, plant_no}
+use Rattle.mrp_rows.specs.Table.{rises_from, arrivals}
+use Rattle.mrp_spell.proofs.Lists.{distinct_push}
+use Rattle.mrp_tables.proofs.KeepingLists.{distinct_name, any-from_position}
 use Rattle.mrp_tables.proofs.KeepingSteps.{after, after_check, after_some, same_Ok}
 
 -- ---- plants
@@ -218,7 +221,7 @@ reset_lane N row x is =
     let l = lane_named N a.0.0 in
     let z = after_check (not (has_reset N l)) _ _ x a.2 in
     let b = after (known_lane l) _ x z.1 in
-    let c = after_check (rises_from 0 (arrivals N b.0.from b.0.pair)) _ _ x b.2 in
+    let c = after_check (rises_from 0 (arrivals N b.0.from.0 b.0.pair.0)) _ _ x b.2 in
     let same : record { from = b.0.from; pair = b.0.pair; period = a.0.1 } ≡ x = same_Ok _ x c.1 in
     let on = on_lane N l b.0 b.1 in
     let fresh : has_reset N l ≡ false = not-true (has_reset N l) z.0 in (

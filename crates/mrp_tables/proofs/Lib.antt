@@ -1,5 +1,4 @@
 pub mod Accept
-pub mod Grow
 pub mod Keys
 pub mod Keeping
 pub mod KeepingBill
@@ -15,7 +14,5 @@ pub mod TurnCount
 pub mod Waiting
 pub mod Whole
 pub mod Starting
-pub mod Apart
 pub mod Arrivals
 pub mod NewPair
-pub mod Shares

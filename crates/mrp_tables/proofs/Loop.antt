@@ -8,7 +8,7 @@ use Rattle.mrp_tables.specs.declared.fault.TableFault.{TableFault}
 use Rattle.mrp_tables.specs.declared.fault.TableFaultKind.{TableFaultKind}
 use Rattle.mrp_tables.specs.declared.fault.TableFaultKind.TheVariants as fault
 use Rattle.mrp_tables.specs.declared.kind.Kind.{Kind}
-use Rattle.mrp_tables.specs.Table.{Table}
+use Rattle.mrp_rows.specs.Table.{Table}
 use Rattle.mrp_tables.specs.Left.{GoesOn, OfLeft, StartsBadly, state_of, TakesRow, TellsNext, TellsTaken}
 use Rattle.mrp_tables.specs.Reading.{at_row, go_on, kind_of_row, OfRows, row_after, rows_after}
 

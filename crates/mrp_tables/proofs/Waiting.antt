@@ -2,11 +2,11 @@
 use Rattle.std.proofs.Common.{◌≡◌, ◌≢◌, ℕ, zero, suc, ◌+◌, ◌<◌, Bool, true, false, List, [], ◌∷◌, length, get_or, position, Option, Some, None, Ok, Err, refl, sym, ap, ◌∙◌, arith}
 use Rattle.std.proofs.lemmas.List.Quantifiers.{position-Some}
 use Rattle.mrp_tables.specs.declared.fault.TableFaultKind.TheVariants as fault
-use Rattle.mrp_tables.specs.declared.rows.SourceRow.{SourceRow}
-use Rattle.mrp_tables.specs.Lists.{lacks_pair}
+use Rattle.mrp_rows.specs.declared.rows.SourceRow.{SourceRow}
+use Rattle.mrp_rows.specs.Growing.{lacks_pair}
 use Rattle.mrp_tables.specs.Reading.{first_lacking, pair_row_number, waiting}
-use Rattle.mrp_tables.specs.Table.{Table}
-use Rattle.mrp_tables.proofs.Keys.{All-from_position}
+use Rattle.mrp_rows.specs.Table.{Table}
+use Rattle.mrp_rows.proofs.Keys.{All-from_position}
 
 none_lacks : (N : Table) (ss : List SourceRow) → ((k : ℕ) (d : SourceRow) → k < length ss → lacks_pair N (get_or ss k d) ≡ false) → first_lacking N ss ≡ None
 unfolding first_lacking
@@ -35,8 +35,6 @@ one_waits N i d found =
     let p = position-Some (lacks_pair N) N.sources i d found in
     rw (first_lacks N N.sources i d p.0 p.1 p.2) refl
 
-pub waits_at : (N : Table) (i row : ℕ) (d : SourceRow) → position (lacks_pair N) N.sources ≡ Some i → d ≡ get_or N.sources i d → row ≡ pair_row_number N d.pair.0
+pub waits_at : (N : Table) (i row : ℕ) (d : SourceRow) → position (lacks_pair N) N.sources ≡ Some i → row ≡ pair_row_number N (get_or N.sources i d).pair.0
     → waiting N ≡ Err (record { row = row; kind = fault.UnknownPair })
-waits_at N i row d found there same =
-    one_waits N i d found ∙ ap (λ (s : SourceRow). Err (record { row = pair_row_number N s.pair.0; kind = fault.UnknownPair })) (sym there)
-    ∙ ap (λ (r : ℕ). Err (record { row = r; kind = fault.UnknownPair })) (sym same)
+waits_at N i row d found same = one_waits N i d found ∙ ap (λ (r : ℕ). Err (record { row = r; kind = fault.UnknownPair })) (sym same)

@@ -12,8 +12,7 @@ use Rattle.mrp_tables.specs.declared.fault.TableFaultKind.{TableFaultKind}
 use Rattle.mrp_tables.specs.declared.fault.TableFaultKind.TheVariants as fault
 use Rattle.mrp_tables.specs.declared.kind.Kind.{Kind}
 use Rattle.mrp_tables.specs.declared.kind.Kind.TheVariants as kind
-use Rattle.mrp_tables.specs.Table.{IsOnce, IsSourced, Table}
-use Rattle.mrp_tables.specs.Lists.{table_of}
+use Rattle.mrp_rows.specs.Table.{IsOnce, IsSourced, Table}
 use Rattle.mrp_tables.specs.Grammar.{RunTerms}
 use Rattle.mrp_tables.specs.Left.{OfLeft, records_in, StartsBadly, state_of, TakesRow, TellsFirstAt, TellsRest}
 use Rattle.mrp_tables.specs.Reading.{empty_table, first_terms, go_on, kind_of_row, OfRecords, OfRows, read_from, Reads, rows_after, started, Starts, StartsWith, TellsRows, waiting}
@@ -97,7 +96,7 @@ pub rest_fault : (left after : Option (List (List (List ℕ)))) (row : List (Lis
 rest_fault None after row d e takes tells rest = tt
 rest_fault (Some rows) None row d e takes tells rest = absurd takes
 rest_fault (Some rows) (Some more) row d e takes tells rest =
-    of_rows_from e.kind (rows_after 2 (state_of d) more ≡ Err e) (Reads rows (Err e)) (λ after. rest_reads (table_of d.lists) d.last row more rows (Err e) (Err e) takes tells.0 tells.1 after refl) rest
+    of_rows_from e.kind (rows_after 2 (state_of d) more ≡ Err e) (Reads rows (Err e)) (λ after. rest_reads d.lists d.last row more rows (Err e) (Err e) takes tells.0 tells.1 after refl) rest
 
 -- the rows are all there
 whole_tells : (rows : List (List (List ℕ))) (result : Result Table TableFault) → Reads rows result → TellsRows result rows
@@ -113,7 +112,7 @@ pub whole : (left after : Option (List (List (List ℕ)))) (row : List (List ℕ
 whole None after row d N result takes tells rest w = tt
 whole (Some rows) None row d N result takes tells rest w = absurd takes
 whole (Some rows) (Some more) row d N result takes tells rest w =
-    whole_tells rows result (rest_reads (table_of d.lists) d.last row more rows (Ok N) result takes tells.0 tells.1 rest (is_waiting N result w))
+    whole_tells rows result (rest_reads d.lists d.last row more rows (Ok N) result takes tells.0 tells.1 rest (is_waiting N result w))
 
 -- ---- the text
 

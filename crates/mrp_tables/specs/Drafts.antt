@@ -3,13 +3,14 @@ use Rattle.std.specs.Prelude.{◌≡◌, ℕ, ◌<◌, true, List, ◌++◌, len
 use Rattle.mrp_tables.specs.declared.draft.Draft.{Draft}
 use Rattle.mrp_tables.specs.declared.fault.TableFaultKind.{TableFaultKind}
 use Rattle.mrp_tables.specs.declared.kind.Kind.TheVariants as kind
-use Rattle.mrp_tables.specs.Lists.{table_of}
 use Rattle.mrp_cal.specs.Calendar.{CalendarTerms}
-use Rattle.mrp_tables.specs.declared.numbers.PlantNo.{PlantNo}
-use Rattle.mrp_tables.specs.declared.rows.TheConstants.{MOST_PAIRS}
-use Rattle.mrp_tables.specs.Table.{Table}
-use Rattle.mrp_tables.specs.Spelling.{SourceTerms}
-use Rattle.mrp_tables.specs.Grammar.{knows_sources, named_sources, pair_named, PairTerms, plant_no, run_terms, seen, source_row}
+use Rattle.mrp_rows.specs.declared.numbers.PlantNo.{PlantNo}
+use Rattle.mrp_rows.specs.declared.rows.TheConstants.{MOST_PAIRS}
+use Rattle.mrp_rows.specs.Table.{Table}
+use Rattle.mrp_spell.specs.Supplies.{SourceTerms}
+use Rattle.mrp_tables.specs.Grammar.{knows_sources, PairTerms, run_terms, seen, source_row}
+use Rattle.mrp_spell.specs.Supplies.{named_sources}
+use Rattle.mrp_rows.specs.Names.{pair_named, plant_no}
 use Rattle.mrp_tables.specs.Reading.{empty_table, OfRows, row_after, Starts, StartsWith}
 
 -- a pair row that fits the rows before it, at that plant
@@ -35,10 +36,10 @@ TellsRun calendar row = StartsWith (run_terms row) (seen empty_table calendar)
 
 -- what the first row makes
 abbrev pub TellsFirst : Result Draft TableFaultKind → List (List ℕ) → Type 0
-TellsFirst (Ok d) row = Starts row (Ok (table_of d.lists)) × (d.last ≡ kind.Run)
+TellsFirst (Ok d) row = Starts row (Ok d.lists) × (d.last ≡ kind.Run)
 TellsFirst (Err e) row = OfRows e (Starts row (Err e))
 
 -- what one row more makes
 abbrev pub TellsAdded : Draft → Draft → Result (Unit {0}) TableFaultKind → List (List ℕ) → Type 0
-TellsAdded old new (Ok u) row = row_after (table_of old.lists, old.last) row ≡ Ok (table_of new.lists, new.last)
-TellsAdded old new (Err e) row = OfRows e (row_after (table_of old.lists, old.last) row ≡ Err e)
+TellsAdded old new (Ok u) row = row_after (old.lists, old.last) row ≡ Ok (new.lists, new.last)
+TellsAdded old new (Err e) row = OfRows e (row_after (old.lists, old.last) row ≡ Err e)

@@ -10,29 +10,34 @@ use Rattle.mrp_cal.specs.Calendar.{CalendarTerms}
 use Rattle.mrp_cal.specs.declared.fault.CalFault.{CalFault}
 use Rattle.mrp_lot.specs.declared.rule.Rule.{Rule}
 use Rattle.mrp_lot.specs.declared.rule.TheConstants.{LONGEST_LEAD}
+use Rattle.mrp_spell.specs.declared.supplies.SupplyFault.{SupplyFault}
+use Rattle.mrp_spell.specs.declared.supplies.SupplyFault.TheVariants as refused
+use Rattle.mrp_spell.specs.Supplies.{SourceTerms, SupplyTerms, MakeTerms, BuyTerms, FromTerms, named_sources, names_plant, supply_of}
+use Rattle.mrp_rows.specs.Names.{has_plant, pair_named, plant_no}
 use Rattle.mrp_tables.specs.declared.fault.TableFaultKind.{TableFaultKind}
 use Rattle.mrp_tables.specs.declared.fault.TableFaultKind.TheVariants as fault
 use Rattle.mrp_tables.specs.declared.kind.Kind.{Kind}
 use Rattle.mrp_tables.specs.declared.kind.Kind.TheVariants as kind
-use Rattle.mrp_tables.specs.declared.rows.TheConstants.{MOST_BILLS, MOST_IN_ROW, MOST_OF_A_KIND, MOST_PAIRS, MOST_PER, MOST_PLANTS, MOST_SHARE, MOST_SOURCES_OF_PAIR}
-use Rattle.mrp_tables.specs.declared.rows.Supply.{Supply}
-use Rattle.mrp_tables.specs.declared.rows.Supply.TheVariants as supply
-use Rattle.mrp_tables.specs.declared.rows.BillRow.{BillRow}
-use Rattle.mrp_tables.specs.declared.rows.ResetRow.{ResetRow}
-use Rattle.mrp_tables.specs.declared.rows.CumRow.{CumRow}
-use Rattle.mrp_tables.specs.declared.rows.ShipRow.{ShipRow}
-use Rattle.mrp_tables.specs.declared.rows.ReceiptRow.{ReceiptRow}
-use Rattle.mrp_tables.specs.declared.rows.DemandRow.{DemandRow}
-use Rattle.mrp_tables.specs.declared.numbers.PlantNo.{PlantNo}
-use Rattle.mrp_tables.specs.declared.numbers.PairNo.{PairNo}
+use Rattle.mrp_rows.specs.declared.rows.TheConstants.{MOST_BILLS, MOST_IN_ROW, MOST_OF_A_KIND, MOST_PAIRS, MOST_PER, MOST_PLANTS}
+use Rattle.mrp_spell.specs.declared.supplies.TheConstants.{MOST_SHARE, MOST_SOURCES_OF_PAIR}
+use Rattle.mrp_rows.specs.declared.rows.Supply.{Supply}
+use Rattle.mrp_rows.specs.declared.rows.Supply.TheVariants as supply
+use Rattle.mrp_rows.specs.declared.rows.BillRow.{BillRow}
+use Rattle.mrp_rows.specs.declared.rows.ResetRow.{ResetRow}
+use Rattle.mrp_rows.specs.declared.rows.CumRow.{CumRow}
+use Rattle.mrp_rows.specs.declared.rows.ShipRow.{ShipRow}
+use Rattle.mrp_rows.specs.declared.rows.ReceiptRow.{ReceiptRow}
+use Rattle.mrp_rows.specs.declared.rows.DemandRow.{DemandRow}
+use Rattle.mrp_rows.specs.declared.numbers.PlantNo.{PlantNo}
+use Rattle.mrp_rows.specs.declared.numbers.PairNo.{PairNo}
 use Rattle.mrp_tables.specs.declared.lanes.NamedLane.{NamedLane}
 use Rattle.mrp_tables.specs.declared.lanes.KnownLane.{KnownLane}
-use Rattle.mrp_tables.specs.Table.{Table, horizon}
-use Rattle.mrp_tables.specs.declared.rows.PairRow.{PairRow}
-use Rattle.mrp_tables.specs.declared.rows.SourceRow.{SourceRow}
-pub use Rattle.mrp_tables.specs.Lists.{arrivals, rises_from}
-use Rattle.mrp_tables.specs.Lists.{add_item, with_plant, with_bill, with_demand, with_receipt, with_ship, with_cum, with_reset}
-use Rattle.mrp_tables.specs.Spelling.{cut, is_name, names_plant, number_of, number_within, rule_of, shared_source, SourceTerms, SupplyTerms, MakeTerms, BuyTerms, FromTerms}
+use Rattle.mrp_rows.specs.Table.{Table, horizon}
+use Rattle.mrp_rows.specs.declared.rows.PairRow.{PairRow}
+use Rattle.mrp_rows.specs.declared.rows.SourceRow.{SourceRow}
+use Rattle.mrp_rows.specs.Table.{arrivals, rises_from}
+use Rattle.mrp_rows.specs.Growing.{add_item, with_plant, with_bill, with_demand, with_receipt, with_ship, with_cum, with_reset}
+use Rattle.mrp_spell.specs.Spelling.{cut, is_name, number_of, number_within, rule_of}
 
 -- the answer of a test, or the first fault
 infixl 10 ◌>>=◌
@@ -53,6 +58,11 @@ seen view (Err e) = Err e
 abbrev pub TellsFault : {B : Type 0} → Result B TableFaultKind → TableFaultKind → Type 0
 TellsFault read fault.Memory = Unit {0}
 TellsFault read e = read ≡ Err e
+
+-- the fault of a supply that is refused
+abbrev pub fault_of_supply : SupplyFault → TableFaultKind
+fault_of_supply refused.NotASupply = fault.BadSupply
+fault_of_supply refused.Memory = fault.Memory
 
 -- what a step answers, as the definitions see it
 abbrev pub TellsSeen : {A B : Type 0} → (A → B) → Result A TableFaultKind → Result B TableFaultKind → Type 0
@@ -203,42 +213,6 @@ reset_terms row periods = do
   period ← ranged (field row 4) 0 (periods - 1)
   Ok (lane, period)
 
--- the sources so far, where a text follows them or where their shares are the whole
-abbrev pub shared_rest : List SourceTerms → (List SourceTerms → ℕ → List ℕ → Result (List SourceTerms) TableFaultKind) → ℕ → Option (List ℕ) → Result (List SourceTerms) TableFaultKind
-shared_rest sources more high None = if high == MOST_SHARE then Ok sources else Err fault.BadSupply
-shared_rest sources more high (Some text) = more sources high text
-
--- the same with one source more, which is of another plant
-abbrev pub shared_after : List SourceTerms → (List SourceTerms → ℕ → List ℕ → Result (List SourceTerms) TableFaultKind) → Option (SourceTerms × Option (List ℕ)) → Result (List SourceTerms) TableFaultKind
-shared_after before more None = Err fault.BadSupply
-shared_after before more (Some p) =
-    if names_plant before p.0.plant then Err fault.BadSupply else shared_rest (before ++ p.0 ∷ []) more p.0.high p.1
-
--- plants with their shares, at most so many, after those before
-unfoldable pub shared_sources : ℕ → List SourceTerms → ℕ → List ℕ → Result (List SourceTerms) TableFaultKind
-shared_sources zero before low text = Err fault.BadSupply
-shared_sources (suc n) before low text = shared_after before (shared_sources n) (shared_source text low)
-
--- one plant, or two to four plants with their shares
-unfoldable pub sources_of : List ℕ → Result (List SourceTerms) TableFaultKind
-sources_of text =
-    if is_name text then Ok (record { plant = text; low = 0; high = MOST_SHARE } ∷ []) else shared_sources MOST_SOURCES_OF_PAIR [] 0 text
-
-abbrev pub from_terms : Result (List SourceTerms) TableFaultKind → Result SupplyTerms TableFaultKind
-from_terms sources = sources >>= λ list. Ok (FromTerms list)
-
-abbrev pub supply_in : List ℕ → Option (List ℕ × List ℕ) → Result SupplyTerms TableFaultKind
-supply_in text None =
-    if bytes_eq text (codes "make") then Ok MakeTerms
-    else if bytes_eq text (codes "buy") then Ok BuyTerms
-    else Err fault.BadSupply
-supply_in text (Some p) =
-    if bytes_eq p.0 (codes "from") then from_terms (sources_of p.1) else Err fault.BadSupply
-
--- `make`, `buy`, or `from:` and the sources
-unfoldable pub supply_of : List ℕ → Result SupplyTerms TableFaultKind
-supply_of text = supply_in text (cut text)
-
 pub record PairTerms : Type 0 where
   pub plant : List ℕ
   pub item : List ℕ
@@ -256,7 +230,7 @@ pair_terms row = do
   on_hand ← ranged (field row 6) 0 MOST_IN_ROW
   safety ← ranged (field row 7) 0 MOST_IN_ROW
   rule ← ok_or (rule_of (field row 4)) fault.BadRule
-  supply ← supply_of (field row 3)
+  supply ← ok_or (supply_of (field row 3)) fault.BadSupply
   Ok (record { plant = plant; item = item; supply = supply; rule = rule; lead = lead; on_hand = on_hand; safety = safety })
 
 -- what a run row spells: the text of its first day, the days of a period and how many periods
@@ -272,24 +246,6 @@ run_terms row = do
   Ok (record { first = field row 1; days = days; periods = periods })
 
 -- ---- what a row says, tested against the rows before it
-
-abbrev pub has_plant : Table → List ℕ → Bool
-has_plant N name = list_any (bytes_eq name) N.plants
-
-abbrev pub plant_no : Table → List ℕ → Option ℕ
-plant_no N name = position (bytes_eq name) N.plants
-
-abbrev pub pair_at : Table → ℕ → ℕ → Option ℕ
-pair_at N plant item = position (λ p. (p.plant.0 == plant) && (p.item.0 == item)) N.pairs
-
-abbrev pub pair_of : Table → ℕ → Option ℕ → Option ℕ
-pair_of N plant None = None
-pair_of N plant (Some item) = pair_at N plant item
-
--- the pair of a plant and the item of that name
-abbrev pub pair_named : Table → Option ℕ → List ℕ → Option ℕ
-pair_named N None item = None
-pair_named N (Some plant) item = pair_of N plant (position (bytes_eq item) N.items)
 
 -- the place of a plant and of a pair, which both have rows
 unfoldable pub known_pair : Table → List ℕ → List ℕ → Result (PlantNo × PairNo) TableFaultKind
@@ -382,12 +338,6 @@ plant_of N row = do
 abbrev pub plant_row : Table → List (List ℕ) → Result Table TableFaultKind
 plant_row N row = plant_of N row >>= λ x. Ok (with_plant N x)
 
--- the sources that a supply names
-abbrev pub named_sources : SupplyTerms → List SourceTerms
-named_sources MakeTerms = []
-named_sources BuyTerms = []
-named_sources (FromTerms sources) = sources
-
 abbrev pub supply_kind : SupplyTerms → Supply
 supply_kind MakeTerms = supply.Make
 supply_kind BuyTerms = supply.Buy
@@ -465,7 +415,7 @@ reset_of N row = do
   t ← reset_terms row (horizon N)
   _ ← check (not (has_reset N (lane_named N t.0))) fault.Repeated
   lane ← known_lane (lane_named N t.0)
-  _ ← check (rises_from 0 (arrivals N lane.from lane.pair)) fault.ResetOrder
+  _ ← check (rises_from 0 (arrivals N lane.from.0 lane.pair.0)) fault.ResetOrder
   Ok (record { from = lane.from; pair = lane.pair; period = t.1 })
 
 abbrev pub bill_row : Table → List (List ℕ) → Result Table TableFaultKind

@@ -14,8 +14,7 @@ use Rattle.mrp_tables.specs.declared.fault.TableFaultKind.{TableFaultKind}
 use Rattle.mrp_tables.specs.declared.fault.TableFaultKind.TheVariants as fault
 use Rattle.mrp_tables.specs.declared.kind.Kind.{Kind}
 use Rattle.mrp_tables.specs.declared.kind.Kind.TheVariants as kind
-use Rattle.mrp_tables.specs.Table.{Table, IsOnce, IsSourced}
-use Rattle.mrp_tables.specs.Lists.{table_of}
+use Rattle.mrp_rows.specs.Table.{Table, IsOnce, IsSourced}
 use Rattle.mrp_tables.specs.Reading.{OfRows, rows_after, Starts}
 
 -- the records of a text from a state on
@@ -66,18 +65,18 @@ fault_of error.OutOfMemory = fault.Memory
 
 -- what the first row makes, or its fault
 abbrev pub TellsFirstAt : Result Draft TableFault → List (List ℕ) → Type 0
-TellsFirstAt (Ok d) row = Starts row (Ok (table_of d.lists)) × (d.last ≡ kind.Run)
+TellsFirstAt (Ok d) row = Starts row (Ok d.lists) × (d.last ≡ kind.Run)
 TellsFirstAt (Err e) row = OfRows e.kind (Starts row (Err e.kind)) × (e.row ≡ 1)
 
 -- ---- the rows after the first
 
 -- the table so far and the kind of its last row
 abbrev pub state_of : Draft → Table × Kind
-state_of d = (table_of d.lists, d.last)
+state_of d = (d.lists, d.last)
 
 -- no row twice, and pairs come from where the table says
 abbrev pub IsKept : Draft → Type 0
-IsKept d = IsOnce (table_of d.lists) × IsSourced (table_of d.lists)
+IsKept d = IsOnce d.lists × IsSourced d.lists
 
 -- the rows left, read on from the later state, make what they made before
 abbrev pub GoesOn : Option (List (List (List ℕ))) → Option (List (List (List ℕ))) → ℕ → Table × Kind → ℕ → Table × Kind → Type 0

@@ -1,11 +1,6 @@
-pub mod Digits
 pub mod Drafts
 pub mod Grammar
 pub mod Left
 pub mod Lists
 pub mod Reading
-pub mod Rows
 pub mod Spelled
-pub mod Spelling
-pub mod Table
-pub mod Turns

@@ -2,107 +2,24 @@
 use Rattle.std.specs.Prelude.{◌≡◌, ℕ, ◌+◌, ◌*◌, ◌≤◌, ◌<◌, ◌==◌, ◌&&◌, ◌||◌, ◌∷◌, ◌++◌, [], List, length, map, filter, if◌then◌else◌, IfSome, Bool, true, not, nat_lt, nat_le}
 use Rattle.std.specs.List.{IsDistinct, list_all, list_any}
 use Rattle.std.specs.Str.{bytes_eq}
-use Rattle.std.specs.String.{string_bytes}
-use Rattle.mrp_tables.specs.Table.{Table, IsRead, source_pair}
-pub use Rattle.mrp_tables.specs.Turns.{row_count}
-use Rattle.mrp_tables.specs.declared.rows.TheConstants.{MOST_SOURCES_OF_PAIR}
-use Rattle.mrp_tables.specs.declared.rows.PairRow.{PairRow}
-use Rattle.mrp_tables.specs.declared.rows.SourceRow.{SourceRow}
-use Rattle.mrp_tables.specs.declared.rows.BillRow.{BillRow}
-use Rattle.mrp_tables.specs.declared.rows.DemandRow.{DemandRow}
-use Rattle.mrp_tables.specs.declared.rows.ReceiptRow.{ReceiptRow}
-use Rattle.mrp_tables.specs.declared.rows.ShipRow.{ShipRow}
-use Rattle.mrp_tables.specs.declared.rows.CumRow.{CumRow}
-use Rattle.mrp_tables.specs.declared.rows.ResetRow.{ResetRow}
-use Rattle.mrp_tables.specs.declared.numbers.PlantNo.{PlantNo}
-use Rattle.mrp_tables.specs.declared.numbers.PairNo.{PairNo}
-use Rattle.mrp_tables.specs.declared.row_lists.PairKey.{PairKey}
-use Rattle.mrp_tables.specs.declared.row_lists.RowLists.{RowLists}
+use Rattle.mrp_rows.specs.Table.{Table, IsRead, arrivals_of, rises_from}
+use Rattle.mrp_rows.specs.Turns.{row_count}
+use Rattle.mrp_spell.specs.declared.supplies.TheConstants.{MOST_SOURCES_OF_PAIR}
+use Rattle.mrp_rows.specs.declared.rows.SourceRow.{SourceRow}
+use Rattle.mrp_rows.specs.declared.rows.BillRow.{BillRow}
+use Rattle.mrp_rows.specs.declared.rows.ShipRow.{ShipRow}
+use Rattle.mrp_rows.specs.declared.rows.CumRow.{CumRow}
+use Rattle.mrp_rows.specs.declared.rows.ResetRow.{ResetRow}
 use Rattle.mrp_tables.specs.declared.draft.LaneKey.{LaneKey}
 use Rattle.mrp_tables.specs.declared.draft.BillKey.{BillKey}
 use Rattle.mrp_tables.specs.declared.draft.Draft.{Draft}
 use Rattle.mrp_tables.specs.declared.draft.Lane.{Lane}
 use Rattle.mrp_tables.specs.declared.lanes.NamedLane.{NamedLane}
 
--- the rows as contracts see them
-abbrev pub table_of : RowLists → Table
-table_of r = record {
-  calendar = r.calendar;
-  plants = map string_bytes r.plants.keys;
-  items = map string_bytes r.items.keys;
-  pairs = r.pairs.items;
-  sources = r.sources.items;
-  bills = r.bills.items;
-  demands = r.demands.items;
-  receipts = r.receipts.items;
-  ships = r.ships.items;
-  cums = r.cums.items;
-  resets = r.resets.items;
-}
-
-abbrev pub key_of : PairRow → PairKey
-key_of p = record { plant = p.plant; item = p.item }
-
 abbrev pub lane_of : SourceRow → LaneKey
 lane_of s = record { from = s.plant; pair = s.pair }
 
--- the rows are in range, and the keys are those of the pairs in their order
-pub record AreRows (r : RowLists) : Type 0 where
-  pub read : IsRead (table_of r)
-  pub keys : r.pair_keys.keys ≡ map key_of r.pairs.items
-
--- whether the pair behind a source has no row
-abbrev pub lacks_pair : Table → SourceRow → Bool
-lacks_pair N s = not (nat_lt (source_pair N s) (length N.pairs))
-
--- the table with one row more
-abbrev pub with_plant : Table → List ℕ → Table
-with_plant N name = record N { plants = N.plants ++ name ∷ [] }
-
--- the items with one that is new or not
-abbrev pub add_item : List (List ℕ) → List ℕ → List (List ℕ)
-add_item items name = if list_any (bytes_eq name) items then items else items ++ name ∷ []
-
-abbrev pub with_item : Table → List ℕ → Table
-with_item N name = record N { items = add_item N.items name }
-
-abbrev pub with_pair : Table → PairRow → Table
-with_pair N p = record N { pairs = N.pairs ++ p ∷ [] }
-
-abbrev pub with_source : Table → SourceRow → Table
-with_source N s = record N { sources = N.sources ++ s ∷ [] }
-
-abbrev pub with_bill : Table → BillRow → Table
-with_bill N b = record N { bills = N.bills ++ b ∷ [] }
-
-abbrev pub with_demand : Table → DemandRow → Table
-with_demand N d = record N { demands = N.demands ++ d ∷ [] }
-
-abbrev pub with_receipt : Table → ReceiptRow → Table
-with_receipt N r = record N { receipts = N.receipts ++ r ∷ [] }
-
-abbrev pub with_ship : Table → ShipRow → Table
-with_ship N s = record N { ships = N.ships ++ s ∷ [] }
-
-abbrev pub with_cum : Table → CumRow → Table
-with_cum N c = record N { cums = N.cums ++ c ∷ [] }
-
-abbrev pub with_reset : Table → ResetRow → Table
-with_reset N r = record N { resets = N.resets ++ r ∷ [] }
-
 -- ---- the shipments of a source
-
--- the periods of arrival of the shipments of a plant to a pair, in table order
-abbrev pub arrivals_of : List ShipRow → PlantNo → PairNo → List ℕ
-arrivals_of ships f x = map (λ s. s.period) (filter (λ s. (s.from.0 == f.0) && (s.pair.0 == x.0)) ships)
-
-abbrev pub arrivals : Table → PlantNo → PairNo → List ℕ
-arrivals N f x = arrivals_of N.ships f x
-
--- no number is below the one before it
-abbrev pub rises_from : ℕ → List ℕ → Bool
-rises_from low [] = true
-rises_from low (n ∷ ns) = nat_le low n && rises_from n ns
 
 -- the last number of all
 abbrev pub last_from : ℕ → List ℕ → ℕ
@@ -115,7 +32,7 @@ state_of periods = record { last = last_from 0 periods; falls = not (rises_from 
 
 -- what the shipments say of a source
 unfoldable pub lane_state : List ShipRow → SourceRow → Lane
-lane_state ships s = state_of (arrivals_of ships s.plant s.pair)
+lane_state ships s = state_of (arrivals_of ships s.plant.0 s.pair.0)
 
 -- the same after one shipment more
 abbrev pub after_ship : Lane → ℕ → Lane
@@ -152,51 +69,51 @@ AreLanes keys some = list_all (has_lane keys) some ≡ true
 
 -- the state of the reading fits the rows read so far
 pub record IsDraft (d : Draft) : Type 0 where
-  pub rows : AreRows d.lists
-  pub bill_keys : d.bill_keys.keys ≡ map bill_key_of d.lists.bills.items
-  pub cum_keys : d.cum_keys.keys ≡ map cum_key_of d.lists.cums.items
-  pub reset_keys : d.reset_keys.keys ≡ map reset_key_of d.lists.resets.items
+  pub rows : IsRead d.lists
+  pub bill_keys : d.bill_keys.keys ≡ map bill_key_of d.lists.bills
+  pub cum_keys : d.cum_keys.keys ≡ map cum_key_of d.lists.cums
+  pub reset_keys : d.reset_keys.keys ≡ map reset_key_of d.lists.resets
   pub resets : AreLanes d.lane_keys.keys d.reset_keys.keys
-  pub fits : Fits (table_of d.lists) d.lane_keys.keys d.lanes.items
-  pub count : d.rows ≡ row_count (table_of d.lists)
+  pub fits : Fits d.lists d.lane_keys.keys d.lanes.items
+  pub count : d.rows ≡ row_count d.lists
 
 -- one more row is kept, and not counted yet
 pub record AddsRow (old new : Draft) : Type 0 where
-  pub rows : AreRows new.lists
-  pub bill_keys : new.bill_keys.keys ≡ map bill_key_of new.lists.bills.items
-  pub cum_keys : new.cum_keys.keys ≡ map cum_key_of new.lists.cums.items
-  pub reset_keys : new.reset_keys.keys ≡ map reset_key_of new.lists.resets.items
+  pub rows : IsRead new.lists
+  pub bill_keys : new.bill_keys.keys ≡ map bill_key_of new.lists.bills
+  pub cum_keys : new.cum_keys.keys ≡ map cum_key_of new.lists.cums
+  pub reset_keys : new.reset_keys.keys ≡ map reset_key_of new.lists.resets
   pub resets : AreLanes new.lane_keys.keys new.reset_keys.keys
-  pub fits : Fits (table_of new.lists) new.lane_keys.keys new.lanes.items
+  pub fits : Fits new.lists new.lane_keys.keys new.lanes.items
   pub counted : new.rows ≡ old.rows
-  pub count : row_count (table_of new.lists) ≡ row_count (table_of old.lists) + 1
+  pub count : row_count new.lists ≡ row_count old.lists + 1
 
 -- one source more of the pair that was added last
 pub record AddsSource (old new : Draft) : Type 0 where
-  pub rows : AreRows new.lists
-  pub fits : Fits (table_of new.lists) new.lane_keys.keys new.lanes.items
-  pub same : (row_count (table_of new.lists) ≡ row_count (table_of old.lists)) × (new.rows ≡ old.rows)
-  pub bills : (new.bill_keys.keys ≡ old.bill_keys.keys) × (new.lists.bills.items ≡ old.lists.bills.items)
-  pub cums : (new.cum_keys.keys ≡ old.cum_keys.keys) × (new.lists.cums.items ≡ old.lists.cums.items)
-  pub resets : (new.reset_keys.keys ≡ old.reset_keys.keys) × (new.lists.resets.items ≡ old.lists.resets.items)
+  pub rows : IsRead new.lists
+  pub fits : Fits new.lists new.lane_keys.keys new.lanes.items
+  pub same : (row_count new.lists ≡ row_count old.lists) × (new.rows ≡ old.rows)
+  pub bills : (new.bill_keys.keys ≡ old.bill_keys.keys) × (new.lists.bills ≡ old.lists.bills)
+  pub cums : (new.cum_keys.keys ≡ old.cum_keys.keys) × (new.lists.cums ≡ old.lists.cums)
+  pub resets : (new.reset_keys.keys ≡ old.reset_keys.keys) × (new.lists.resets ≡ old.lists.resets)
   pub lanes : AreLanes old.lane_keys.keys old.reset_keys.keys → AreLanes new.lane_keys.keys new.reset_keys.keys
-  pub pairs : length new.lists.pairs.items ≡ length old.lists.pairs.items
-  pub sources : length new.lists.sources.items ≡ length old.lists.sources.items + 1
+  pub pairs : length new.lists.pairs ≡ length old.lists.pairs
+  pub sources : length new.lists.sources ≡ length old.lists.sources + 1
 
 -- so many sources more
 pub record AddsSources (old new : Draft) (count : ℕ) : Type 0 where
-  pub rows : AreRows new.lists
-  pub fits : Fits (table_of new.lists) new.lane_keys.keys new.lanes.items
-  pub same : (row_count (table_of new.lists) ≡ row_count (table_of old.lists)) × (new.rows ≡ old.rows)
-  pub bills : (new.bill_keys.keys ≡ old.bill_keys.keys) × (new.lists.bills.items ≡ old.lists.bills.items)
-  pub cums : (new.cum_keys.keys ≡ old.cum_keys.keys) × (new.lists.cums.items ≡ old.lists.cums.items)
-  pub resets : (new.reset_keys.keys ≡ old.reset_keys.keys) × (new.lists.resets.items ≡ old.lists.resets.items)
+  pub rows : IsRead new.lists
+  pub fits : Fits new.lists new.lane_keys.keys new.lanes.items
+  pub same : (row_count new.lists ≡ row_count old.lists) × (new.rows ≡ old.rows)
+  pub bills : (new.bill_keys.keys ≡ old.bill_keys.keys) × (new.lists.bills ≡ old.lists.bills)
+  pub cums : (new.cum_keys.keys ≡ old.cum_keys.keys) × (new.lists.cums ≡ old.lists.cums)
+  pub resets : (new.reset_keys.keys ≡ old.reset_keys.keys) × (new.lists.resets ≡ old.lists.resets)
   pub lanes : AreLanes old.lane_keys.keys old.reset_keys.keys → AreLanes new.lane_keys.keys new.reset_keys.keys
-  pub pairs : length new.lists.pairs.items ≡ length old.lists.pairs.items
-  pub sources : length new.lists.sources.items ≡ length old.lists.sources.items + count
+  pub pairs : length new.lists.pairs ≡ length old.lists.pairs
+  pub sources : length new.lists.sources ≡ length old.lists.sources + count
 
 -- what the names of a row on a lane stand for is there
 pub record IsNamedLane (d : Draft) (lane : NamedLane) : Type 0 where
-  pub from : IfSome lane.from (λ p. p.0 < length d.lists.plants.keys)
-  pub pair : IfSome lane.pair (λ x. x.0 < length d.lists.pairs.items)
+  pub from : IfSome lane.from (λ p. p.0 < length d.lists.plants)
+  pub pair : IfSome lane.pair (λ x. x.0 < length d.lists.pairs)
   pub place : IfSome lane.place (λ k. k < length d.lanes.items)

@@ -10,9 +10,9 @@ use Rattle.mrp_tables.specs.declared.fault.TableFaultKind.{TableFaultKind}
 use Rattle.mrp_tables.specs.declared.fault.TableFaultKind.TheVariants as fault
 use Rattle.mrp_tables.specs.declared.kind.Kind.{Kind}
 use Rattle.mrp_tables.specs.declared.kind.Kind.TheVariants as kind
-use Rattle.mrp_tables.specs.declared.rows.SourceRow.{SourceRow}
-use Rattle.mrp_tables.specs.Table.{Table}
-use Rattle.mrp_tables.specs.Lists.{lacks_pair}
+use Rattle.mrp_rows.specs.declared.rows.SourceRow.{SourceRow}
+use Rattle.mrp_rows.specs.Table.{Table}
+use Rattle.mrp_rows.specs.Growing.{lacks_pair}
 use Rattle.mrp_tables.specs.Grammar.{◌>>=◌, bill_row, check, cum_row, demand_row, field, may_follow, pair_row, plant_row, receipt_row, reset_row, row_kind, run_terms, RunTerms, ship_row}
 
 -- the kind of a row whose fields are text

@@ -1,39 +1,39 @@
+use crate::TableFaultKind;
 use crate::draft::{BillKey, Draft};
-use crate::row_lists::place_near;
-use crate::rows::{MOST_BILLS, MOST_OF_A_KIND};
 use crate::spelled::{SpelledBill, spelled_amount, spelled_bill};
-use crate::{BillRow, DemandRow, PairNo, PlantNo, ReceiptRow, Supply, TableFaultKind};
 use csv::StringRecord;
 use mrp_qty::Qty;
+use mrp_rows::{
+    BillRow, DemandRow, MOST_BILLS, MOST_OF_A_KIND, PairNo, PlantNo, ReceiptRow, Supply,
+};
 
 impl Draft {
     ghost use Rattle.std.specs.Prelude.{◌≡◌, ◌+◌, ◌≤◌, ◌<◌, length, option_map, Some, false, OnOk, IfOk, IfSome};
     ghost use Rattle.csv.specs.Records.{fields_of};
-    ghost use Rattle.mrp_tables.specs.declared.rows.TheConstants.{MOST_BILLS, MOST_OF_A_KIND, MOST_PER};
-    ghost use Rattle.mrp_tables.specs.Grammar.{bill_fits, bill_of, bill_row, demand_of, demand_row, has_bill, is_made, known_pair, plant_no, receipt_of, receipt_row, seen, Tells};
+    ghost use Rattle.mrp_rows.specs.declared.rows.TheConstants.{MOST_BILLS, MOST_OF_A_KIND, MOST_PER};
+    ghost use Rattle.mrp_tables.specs.Grammar.{bill_fits, bill_of, bill_row, demand_of, demand_row, has_bill, is_made, known_pair, receipt_of, receipt_row, seen, Tells};
+    ghost use Rattle.mrp_rows.specs.Names.{plant_no};
     ghost use Rattle.mrp_tables.specs.Spelled.{bill_view};
-    ghost use Rattle.mrp_tables.specs.Table.{IsBillRow, IsDemandRow, IsReceiptRow};
-    ghost use Rattle.mrp_tables.specs.Lists.{IsDraft, AddsRow, AreRows, table_of};
+    ghost use Rattle.mrp_rows.specs.Table.{IsBillRow, IsDemandRow, IsReceiptRow};
+    ghost use Rattle.mrp_tables.specs.Lists.{IsDraft, AddsRow};
+    ghost use Rattle.mrp_rows.specs.Table.{IsRead};
 
     /// The plant of that name, which is often that of the last row.
     fn plant_named(&self, name: &str) -> Option<PlantNo>
-        ensures exact { option_map (λ p. p.0) result ≡ plant_no (table_of self.now.lists) name.now }
-        ensures within { IfSome result (λ plant. plant.0 < length self.now.lists.plants.keys) }
+        ensures exact { option_map (λ p. p.0) result ≡ plant_no self.now.lists name.now }
+        ensures within { IfSome result (λ plant. plant.0 < length self.now.lists.plants) }
     {
-        match place_near(&self.lists.plants, name, self.near) {
-            Some(place) => Some(PlantNo(place)),
-            None => None,
-        }
+        self.lists.find_plant_near(name, self.near)
     }
 
     /// Adds a bill row.
     pub(crate) fn add_bill(&mut self, row: &StringRecord) -> Result<(), TableFaultKind>
         requires draft { IsDraft self.old }
-        ensures exact { Tells result (bill_row (table_of self.old.lists) (fields_of row.now)) (table_of self.new.lists) }
+        ensures exact { Tells result (bill_row self.old.lists (fields_of row.now)) self.new.lists }
         ensures adds { OnOk result (AddsRow self.old self.new) }
     {
         let bill = self.bill_of(row)?;
-        self.near = self.lists.pairs[bill.parent.0].plant.0;
+        self.near = self.lists.pairs()[bill.parent.0].plant.0;
         let key = BillKey {
             parent: bill.parent,
             component: bill.component,
@@ -48,10 +48,10 @@ impl Draft {
     /// What a bill row says.
     fn bill_of(&self, row: &StringRecord) -> Result<BillRow, TableFaultKind>
         requires draft { IsDraft self.now }
-        ensures exact { result ≡ bill_of (table_of self.now.lists) (fields_of row.now) }
-        ensures row { IfOk result (IsBillRow (table_of self.now.lists)) }
-        ensures fresh { IfOk result (λ b. has_bill (table_of self.now.lists) (Some b.parent.0) (Some b.component.0) ≡ false) }
-        ensures room { OnOk result (length self.now.lists.bills.items < MOST_BILLS) }
+        ensures exact { result ≡ bill_of self.now.lists (fields_of row.now) }
+        ensures row { IfOk result (IsBillRow self.now.lists) }
+        ensures fresh { IfOk result (λ b. has_bill self.now.lists (Some b.parent.0) (Some b.component.0) ≡ false) }
+        ensures room { OnOk result (length self.now.lists.bills < MOST_BILLS) }
     {
         let spelled = spelled_bill(row)?;
         self.bill_fits(&spelled)
@@ -62,10 +62,10 @@ impl Draft {
     fn bill_fits(&self, spelled: &SpelledBill<'_>) -> Result<BillRow, TableFaultKind>
         requires draft { IsDraft self.now }
         requires per { (1 ≤ spelled.now.per) × (spelled.now.per ≤ MOST_PER) }
-        ensures exact { result ≡ bill_fits (table_of self.now.lists) (bill_view spelled.now) }
-        ensures row { IfOk result (IsBillRow (table_of self.now.lists)) }
-        ensures fresh { IfOk result (λ b. has_bill (table_of self.now.lists) (Some b.parent.0) (Some b.component.0) ≡ false) }
-        ensures room { OnOk result (length self.now.lists.bills.items < MOST_BILLS) }
+        ensures exact { result ≡ bill_fits self.now.lists (bill_view spelled.now) }
+        ensures row { IfOk result (IsBillRow self.now.lists) }
+        ensures fresh { IfOk result (λ b. has_bill self.now.lists (Some b.parent.0) (Some b.component.0) ≡ false) }
+        ensures room { OnOk result (length self.now.lists.bills < MOST_BILLS) }
     {
         let plant = self.plant_named(spelled.plant);
         let parent = self.lists.find_named_pair(plant, spelled.parent);
@@ -81,7 +81,7 @@ impl Draft {
         if !self.is_made(parent) {
             return Err(TableFaultKind::NotMade);
         }
-        if self.lists.bills.len() >= MOST_BILLS {
+        if self.lists.bills().len() >= MOST_BILLS {
             return Err(TableFaultKind::TooMany);
         }
         Ok(BillRow {
@@ -93,16 +93,16 @@ impl Draft {
 
     /// Whether a pair is made.
     fn is_made(&self, pair: PairNo) -> bool
-        requires known { pair.0 < length self.now.lists.pairs.items }
-        ensures exact { result ≡ is_made (table_of self.now.lists) pair.0 }
+        requires known { pair.0 < length self.now.lists.pairs }
+        ensures exact { result ≡ is_made self.now.lists pair.0 }
     {
-        self.lists.pairs[pair.0].supply == Supply::Make
+        self.lists.pairs()[pair.0].supply == Supply::Make
     }
 
     /// Whether there is a bill row of the two pairs.
     fn has_bill(&self, parent: Option<PairNo>, component: Option<PairNo>) -> bool
         requires draft { IsDraft self.now }
-        ensures exact { result ≡ has_bill (table_of self.now.lists) (option_map (λ x. x.0) parent) (option_map (λ x. x.0) component) }
+        ensures exact { result ≡ has_bill self.now.lists (option_map (λ x. x.0) parent) (option_map (λ x. x.0) component) }
     {
         match (parent, component) {
             (Some(parent), Some(component)) => {
@@ -115,9 +115,9 @@ impl Draft {
     /// The plant and the pair of a demand or a receipt row.
     #[tactic(auto, unfolding(crate::specs::Grammar::known_pair))]
     fn known_pair(&self, plant: &str, item: &str) -> Result<(PlantNo, PairNo), TableFaultKind>
-        requires rows { AreRows self.now.lists }
-        ensures exact { result ≡ known_pair (table_of self.now.lists) plant.now item.now }
-        ensures pair { IfOk result (λ found. found.1.0 < length self.now.lists.pairs.items) }
+        requires rows { IsRead self.now.lists }
+        ensures exact { result ≡ known_pair self.now.lists plant.now item.now }
+        ensures pair { IfOk result (λ found. found.1.0 < length self.now.lists.pairs) }
     {
         let plant = self.plant_named(plant).ok_or(TableFaultKind::UnknownPlant)?;
         let pair = self.lists.find_named_pair(Some(plant), item);
@@ -128,7 +128,7 @@ impl Draft {
     /// Adds a demand row.
     pub(crate) fn add_demand(&mut self, row: &StringRecord) -> Result<(), TableFaultKind>
         requires draft { IsDraft self.old }
-        ensures exact { Tells result (demand_row (table_of self.old.lists) (fields_of row.now)) (table_of self.new.lists) }
+        ensures exact { Tells result (demand_row self.old.lists (fields_of row.now)) self.new.lists }
         ensures adds { OnOk result (AddsRow self.old self.new) }
     {
         let (demand, plant) = self.demand_of(row)?;
@@ -141,13 +141,13 @@ impl Draft {
     #[tactic(auto, unfolding(crate::specs::Grammar::demand_of))]
     fn demand_of(&self, row: &StringRecord) -> Result<(DemandRow, PlantNo), TableFaultKind>
         requires draft { IsDraft self.now }
-        ensures exact { seen (λ found. found.0) result ≡ demand_of (table_of self.now.lists) (fields_of row.now) }
-        ensures row { IfOk result (λ found. IsDemandRow (table_of self.now.lists) found.0) }
-        ensures room { OnOk result (length self.now.lists.demands.items < MOST_OF_A_KIND) }
+        ensures exact { seen (λ found. found.0) result ≡ demand_of self.now.lists (fields_of row.now) }
+        ensures row { IfOk result (λ found. IsDemandRow self.now.lists found.0) }
+        ensures room { OnOk result (length self.now.lists.demands < MOST_OF_A_KIND) }
     {
-        let spelled = spelled_amount(row, self.lists.calendar.horizon())?;
+        let spelled = spelled_amount(row, self.lists.calendar().horizon())?;
         let (plant, pair) = self.known_pair(spelled.plant, spelled.item)?;
-        if self.lists.demands.len() >= MOST_OF_A_KIND {
+        if self.lists.demands().len() >= MOST_OF_A_KIND {
             return Err(TableFaultKind::TooMany);
         }
         let demand = DemandRow {
@@ -161,7 +161,7 @@ impl Draft {
     /// Adds a receipt row.
     pub(crate) fn add_receipt(&mut self, row: &StringRecord) -> Result<(), TableFaultKind>
         requires draft { IsDraft self.old }
-        ensures exact { Tells result (receipt_row (table_of self.old.lists) (fields_of row.now)) (table_of self.new.lists) }
+        ensures exact { Tells result (receipt_row self.old.lists (fields_of row.now)) self.new.lists }
         ensures adds { OnOk result (AddsRow self.old self.new) }
     {
         let (receipt, plant) = self.receipt_of(row)?;
@@ -174,13 +174,13 @@ impl Draft {
     #[tactic(auto, unfolding(crate::specs::Grammar::receipt_of))]
     fn receipt_of(&self, row: &StringRecord) -> Result<(ReceiptRow, PlantNo), TableFaultKind>
         requires draft { IsDraft self.now }
-        ensures exact { seen (λ found. found.0) result ≡ receipt_of (table_of self.now.lists) (fields_of row.now) }
-        ensures row { IfOk result (λ found. IsReceiptRow (table_of self.now.lists) found.0) }
-        ensures room { OnOk result (length self.now.lists.receipts.items < MOST_OF_A_KIND) }
+        ensures exact { seen (λ found. found.0) result ≡ receipt_of self.now.lists (fields_of row.now) }
+        ensures row { IfOk result (λ found. IsReceiptRow self.now.lists found.0) }
+        ensures room { OnOk result (length self.now.lists.receipts < MOST_OF_A_KIND) }
     {
-        let spelled = spelled_amount(row, self.lists.calendar.horizon())?;
+        let spelled = spelled_amount(row, self.lists.calendar().horizon())?;
         let (plant, pair) = self.known_pair(spelled.plant, spelled.item)?;
-        if self.lists.receipts.len() >= MOST_OF_A_KIND {
+        if self.lists.receipts().len() >= MOST_OF_A_KIND {
             return Err(TableFaultKind::TooMany);
         }
         let receipt = ReceiptRow {

@@ -1,11 +1,11 @@
 ghost use Rattle.std.specs.Prelude.{◌≡◌, ◌+◌, OnOk, IfOk};
 
+use crate::TableFaultKind;
 use crate::kind::Kind;
-use crate::row_lists::RowLists;
 use crate::spelled::{row_kind, spelled_run};
-use crate::{PairNo, PlantNo, TableFaultKind};
 use csv::StringRecord;
 use indexmap::IndexSet;
+use mrp_rows::{PairNo, PlantNo, RowLists};
 use std::alloc::Global;
 
 /// A source of a pair by its plant and the pair.
@@ -67,7 +67,7 @@ impl Draft {
     ghost use Rattle.std.specs.Prelude.{◌≡◌, ◌+◌, ◌<◌, OnOk, IfOk};
     ghost use Rattle.csv.specs.Records.{AllText, fields_of};
     ghost use Rattle.mrp_tables.specs.Grammar.{Tells};
-    ghost use Rattle.mrp_tables.specs.Lists.{IsDraft, AddsRow, table_of};
+    ghost use Rattle.mrp_tables.specs.Lists.{IsDraft, AddsRow};
     ghost use Rattle.mrp_tables.specs.Reading.{row_of_kind};
     ghost use Rattle.mrp_tables.specs.Drafts.{TellsAdded, TellsFirst};
 
@@ -124,7 +124,7 @@ impl Draft {
         row: &StringRecord,
     ) -> Result<(), TableFaultKind>
         requires draft { IsDraft self.old }
-        ensures exact { Tells result (row_of_kind kind (table_of self.old.lists) (fields_of row.now)) (table_of self.new.lists) }
+        ensures exact { Tells result (row_of_kind kind self.old.lists (fields_of row.now)) self.new.lists }
         ensures adds { OnOk result (AddsRow self.old self.new) }
     {
         match kind {

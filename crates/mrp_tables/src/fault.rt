@@ -2,6 +2,7 @@ ghost use Rattle.mrp_tables.specs.declared.fault.TableFaultKind.TheVariants.{Mem
 ghost use Rattle.std.specs.Prelude.{◌≡◌};
 
 use mrp_cal::CalFault;
+use mrp_spell::SupplyFault;
 use std::alloc::{AllocError, AllocFailed};
 use thiserror::Error;
 
@@ -88,6 +89,19 @@ impl<T: Drop> From<AllocFailed<T>> for TableFaultKind {
 
     fn from(_refusal: AllocFailed<T>) -> TableFaultKind {
         TableFaultKind::Memory
+    }
+}
+
+impl From<SupplyFault> for TableFaultKind {
+    ghost use Rattle.mrp_tables.specs.Grammar.{fault_of_supply};
+
+    ghost from_gives = { λ refusal fault. fault ≡ fault_of_supply refusal };
+
+    fn from(refusal: SupplyFault) -> TableFaultKind {
+        match refusal {
+            SupplyFault::NotASupply => TableFaultKind::BadSupply,
+            SupplyFault::Memory => TableFaultKind::Memory,
+        }
     }
 }
 

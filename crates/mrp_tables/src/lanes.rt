@@ -1,12 +1,11 @@
 ghost use Rattle.std.specs.Prelude.{◌≡◌, IfOk};
 
+use crate::TableFaultKind;
 use crate::draft::{Draft, LaneKey};
-use crate::row_lists::place_near;
-use crate::rows::MOST_OF_A_KIND;
 use crate::spelled::{SpelledLane, spelled_cum, spelled_reset, spelled_ship};
-use crate::{CumRow, PairNo, PlantNo, ResetRow, ShipRow, TableFaultKind};
 use csv::StringRecord;
 use mrp_qty::Qty;
+use mrp_rows::{CumRow, MOST_OF_A_KIND, PairNo, PlantNo, ResetRow, ShipRow};
 
 /// What a row on a lane names, as far as it is there.
 #[derive(Clone, Copy, Debug)]
@@ -51,23 +50,25 @@ impl NamedLane {
 impl Draft {
     ghost use Rattle.std.specs.Prelude.{◌≡◌, ◌+◌, ◌<◌, length, OnOk, IfOk, IfSome};
     ghost use Rattle.std.specs.Prelude.{option_map};
-    ghost use Rattle.mrp_tables.specs.declared.rows.TheConstants.{MOST_OF_A_KIND};
-    ghost use Rattle.mrp_tables.specs.Table.{IsCumRow, IsResetRow, IsShipRow};
+    ghost use Rattle.mrp_rows.specs.declared.rows.TheConstants.{MOST_OF_A_KIND};
+    ghost use Rattle.mrp_rows.specs.Table.{IsCumRow, IsResetRow, IsShipRow};
     ghost use Rattle.std.specs.Prelude.{false, not, IsSome, Some};
     ghost use Rattle.csv.specs.Records.{fields_of};
-    ghost use Rattle.mrp_tables.specs.Grammar.{arrivals, cum_between, cum_of, cum_row, has_cum, has_reset, lane_named, reset_between, reset_of, reset_row, rises_from, seen, ship_of, ship_row, source_at, source_named, Tells};
+    ghost use Rattle.mrp_rows.specs.Table.{arrivals, rises_from};
+    ghost use Rattle.mrp_tables.specs.Grammar.{cum_between, cum_of, cum_row, has_cum, has_reset, lane_named, reset_between, reset_of, reset_row, seen, ship_of, ship_row, source_at, source_named, Tells};
     ghost use Rattle.mrp_tables.specs.Spelled.{lane_view};
-    ghost use Rattle.mrp_tables.specs.Lists.{IsDraft, AddsRow, AreRows, table_of, IsNamedLane};
+    ghost use Rattle.mrp_tables.specs.Lists.{IsDraft, AddsRow, IsNamedLane};
+    ghost use Rattle.mrp_rows.specs.Table.{IsRead};
 
     /// What the names of a row on a lane stand for.
     fn lane_named(&self, names: &SpelledLane<'_>) -> NamedLane
         requires draft { IsDraft self.now }
-        ensures exact { result ≡ lane_named (table_of self.now.lists) (lane_view names.now) }
+        ensures exact { result ≡ lane_named self.now.lists (lane_view names.now) }
         ensures named { IsNamedLane self.now result }
-        ensures place { result.place ≡ source_named (table_of self.now.lists) (option_map (λ p. p.0) result.from) (option_map (λ x. x.0) result.pair) }
+        ensures place { result.place ≡ source_named self.now.lists (option_map (λ p. p.0) result.from) (option_map (λ x. x.0) result.pair) }
     {
-        let from = place_near(&self.lists.plants, names.from, self.near_from).map(PlantNo);
-        let to = place_near(&self.lists.plants, names.to, self.near).map(PlantNo);
+        let from = self.lists.find_plant_near(names.from, self.near_from);
+        let to = self.lists.find_plant_near(names.to, self.near);
         let pair = self.lists.find_named_pair(to, names.item);
         NamedLane {
             from,
@@ -80,7 +81,7 @@ impl Draft {
     /// The place of the source from which a pair is taken.
     fn source_place(&self, from: Option<PlantNo>, pair: Option<PairNo>) -> Option<usize>
         requires draft { IsDraft self.now }
-        ensures exact { result ≡ source_named (table_of self.now.lists) (option_map (λ p. p.0) from) (option_map (λ x. x.0) pair) }
+        ensures exact { result ≡ source_named self.now.lists (option_map (λ p. p.0) from) (option_map (λ x. x.0) pair) }
         ensures within { IfSome result (λ place. place < length self.now.lane_keys.keys) }
     {
         match (from, pair) {
@@ -92,7 +93,7 @@ impl Draft {
     /// Adds a ship row.
     pub(crate) fn add_ship(&mut self, row: &StringRecord) -> Result<(), TableFaultKind>
         requires draft { IsDraft self.old }
-        ensures exact { Tells result (ship_row (table_of self.old.lists) (fields_of row.now)) (table_of self.new.lists) }
+        ensures exact { Tells result (ship_row self.old.lists (fields_of row.now)) self.new.lists }
         ensures adds { OnOk result (AddsRow self.old self.new) }
     {
         let (ship, place) = self.ship_of(row)?;
@@ -107,14 +108,14 @@ impl Draft {
     #[tactic(auto, unfolding(crate::specs::Grammar::ship_of))]
     fn ship_of(&self, row: &StringRecord) -> Result<(ShipRow, usize), TableFaultKind>
         requires draft { IsDraft self.now }
-        ensures exact { seen (λ s. s.0) result ≡ ship_of (table_of self.now.lists) (fields_of row.now) }
-        ensures row { IfOk result (λ s. IsShipRow (table_of self.now.lists) s.0) }
-        ensures place { IfOk result (λ s. source_at (table_of self.now.lists) s.0.from.0 s.0.pair.0 ≡ Some s.1) }
-        ensures room { OnOk result (length self.now.lists.ships.items < MOST_OF_A_KIND) }
+        ensures exact { seen (λ s. s.0) result ≡ ship_of self.now.lists (fields_of row.now) }
+        ensures row { IfOk result (λ s. IsShipRow self.now.lists s.0) }
+        ensures place { IfOk result (λ s. source_at self.now.lists s.0.from.0 s.0.pair.0 ≡ Some s.1) }
+        ensures room { OnOk result (length self.now.lists.ships < MOST_OF_A_KIND) }
     {
-        let (names, period, quantity) = spelled_ship(row, self.lists.calendar.horizon())?;
+        let (names, period, quantity) = spelled_ship(row, self.lists.calendar().horizon())?;
         let lane = self.lane_named(&names).known()?;
-        if self.lists.ships.len() >= MOST_OF_A_KIND {
+        if self.lists.ships().len() >= MOST_OF_A_KIND {
             return Err(TableFaultKind::TooMany);
         }
         let ship = ShipRow {
@@ -129,7 +130,7 @@ impl Draft {
     /// Adds a cum row.
     pub(crate) fn add_cum(&mut self, row: &StringRecord) -> Result<(), TableFaultKind>
         requires draft { IsDraft self.old }
-        ensures exact { Tells result (cum_row (table_of self.old.lists) (fields_of row.now)) (table_of self.new.lists) }
+        ensures exact { Tells result (cum_row self.old.lists (fields_of row.now)) self.new.lists }
         ensures adds { OnOk result (AddsRow self.old self.new) }
     {
         let cum = self.cum_of(row)?;
@@ -148,10 +149,10 @@ impl Draft {
     #[tactic(auto, unfolding(crate::specs::Grammar::cum_of))]
     fn cum_of(&self, row: &StringRecord) -> Result<CumRow, TableFaultKind>
         requires draft { IsDraft self.now }
-        ensures exact { result ≡ cum_of (table_of self.now.lists) (fields_of row.now) }
-        ensures row { IfOk result (IsCumRow (table_of self.now.lists)) }
-        ensures fresh { IfOk result (λ c. cum_between (table_of self.now.lists) (Some c.from) (Some c.pair) ≡ false) }
-        ensures room { OnOk result (length self.now.lists.cums.items < MOST_OF_A_KIND) }
+        ensures exact { result ≡ cum_of self.now.lists (fields_of row.now) }
+        ensures row { IfOk result (IsCumRow self.now.lists) }
+        ensures fresh { IfOk result (λ c. cum_between self.now.lists (Some c.from) (Some c.pair) ≡ false) }
+        ensures room { OnOk result (length self.now.lists.cums < MOST_OF_A_KIND) }
     {
         let (names, figure) = spelled_cum(row)?;
         let named = self.lane_named(&names);
@@ -159,7 +160,7 @@ impl Draft {
             return Err(TableFaultKind::Repeated);
         }
         let lane = named.known()?;
-        if self.lists.cums.len() >= MOST_OF_A_KIND {
+        if self.lists.cums().len() >= MOST_OF_A_KIND {
             return Err(TableFaultKind::TooMany);
         }
         Ok(CumRow {
@@ -172,7 +173,7 @@ impl Draft {
     /// Whether there is a cumulative figure of the plant and the pair.
     fn has_cum(&self, named: NamedLane) -> bool
         requires draft { IsDraft self.now }
-        ensures exact { result ≡ has_cum (table_of self.now.lists) named }
+        ensures exact { result ≡ has_cum self.now.lists named }
     {
         match (named.from, named.pair) {
             (Some(from), Some(pair)) => self.cum_keys.contains(&LaneKey { from, pair }),
@@ -183,7 +184,7 @@ impl Draft {
     /// Adds a reset row.
     pub(crate) fn add_reset(&mut self, row: &StringRecord) -> Result<(), TableFaultKind>
         requires draft { IsDraft self.old }
-        ensures exact { Tells result (reset_row (table_of self.old.lists) (fields_of row.now)) (table_of self.new.lists) }
+        ensures exact { Tells result (reset_row self.old.lists (fields_of row.now)) self.new.lists }
         ensures adds { OnOk result (AddsRow self.old self.new) }
     {
         let reset = self.reset_of(row)?;
@@ -202,12 +203,12 @@ impl Draft {
     #[tactic(auto, unfolding(crate::specs::Grammar::reset_of))]
     fn reset_of(&self, row: &StringRecord) -> Result<ResetRow, TableFaultKind>
         requires draft { IsDraft self.now }
-        ensures exact { result ≡ reset_of (table_of self.now.lists) (fields_of row.now) }
-        ensures row { IfOk result (IsResetRow (table_of self.now.lists)) }
-        ensures fresh { IfOk result (λ r. reset_between (table_of self.now.lists) (Some r.from) (Some r.pair) ≡ false) }
-        ensures source { IfOk result (λ r. IsSome (source_at (table_of self.now.lists) r.from.0 r.pair.0)) }
+        ensures exact { result ≡ reset_of self.now.lists (fields_of row.now) }
+        ensures row { IfOk result (IsResetRow self.now.lists) }
+        ensures fresh { IfOk result (λ r. reset_between self.now.lists (Some r.from) (Some r.pair) ≡ false) }
+        ensures source { IfOk result (λ r. IsSome (source_at self.now.lists r.from.0 r.pair.0)) }
     {
-        let (names, period) = spelled_reset(row, self.lists.calendar.horizon())?;
+        let (names, period) = spelled_reset(row, self.lists.calendar().horizon())?;
         let named = self.lane_named(&names);
         if self.has_reset(named) {
             return Err(TableFaultKind::Repeated);
@@ -226,7 +227,7 @@ impl Draft {
     /// Whether the figures of the plant and the pair start anew.
     fn has_reset(&self, named: NamedLane) -> bool
         requires draft { IsDraft self.now }
-        ensures exact { result ≡ has_reset (table_of self.now.lists) named }
+        ensures exact { result ≡ has_reset self.now.lists named }
     {
         match (named.from, named.pair) {
             (Some(from), Some(pair)) => self.reset_keys.contains(&LaneKey { from, pair }),
@@ -237,8 +238,8 @@ impl Draft {
     /// Whether a shipment on a lane arrives before the one that stands above it.
     fn falls(&self, lane: KnownLane) -> bool
         requires draft { IsDraft self.now }
-        requires place { source_at (table_of self.now.lists) lane.from.0 lane.pair.0 ≡ Some lane.place }
-        ensures exact { result ≡ not (rises_from 0 (arrivals (table_of self.now.lists) lane.from lane.pair)) }
+        requires place { source_at self.now.lists lane.from.0 lane.pair.0 ≡ Some lane.place }
+        ensures exact { result ≡ not (rises_from 0 (arrivals self.now.lists lane.from.0 lane.pair.0)) }
     {
         self.lanes[lane.place].falls
     }

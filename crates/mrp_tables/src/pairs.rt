@@ -1,15 +1,15 @@
 ghost use Rattle.std.specs.Prelude.{◌≡◌, map};
-ghost use Rattle.mrp_tables.specs.Grammar.{named_sources, supply_kind};
-ghost use Rattle.mrp_tables.specs.Spelled.{source_view, supply_view, AreSources, HasSources};
+ghost use Rattle.mrp_spell.specs.Supplies.{named_sources};
+ghost use Rattle.mrp_tables.specs.Grammar.{supply_kind};
+ghost use Rattle.mrp_spell.specs.Spelled.{source_view, supply_view, AreSources, HasSources};
 
+use crate::TableFaultKind;
 use crate::draft::{Draft, Lane, LaneKey};
-use crate::row_lists::place_of;
-use crate::rows::{MOST_PAIRS, MOST_PLANTS};
 use crate::spelled::{SpelledPair, spelled_pair, spelled_plant};
-use crate::terms::{SpelledSource, SpelledSupply, names_plant};
-use crate::{PairNo, PairRow, PlantNo, SourceRow, Supply, TableFaultKind};
 use csv::StringRecord;
 use mrp_qty::Qty;
+use mrp_rows::{MOST_PAIRS, MOST_PLANTS, PairNo, PairRow, PlantNo, SourceRow, Supply};
+use mrp_spell::{SpelledSource, SpelledSupply, names_plant};
 use std::alloc::Global;
 
 impl Draft {
@@ -17,12 +17,17 @@ impl Draft {
     ghost use Rattle.std.specs.List.{list_all};
     ghost use Rattle.csv.specs.Records.{fields_of};
     ghost use Rattle.mrp_tables.specs.declared.fault.TableFaultKind.TheVariants.{Memory};
-    ghost use Rattle.mrp_tables.specs.declared.rows.TheConstants.{MOST_PLANTS, MOST_SOURCES_OF_PAIR};
+    ghost use Rattle.mrp_rows.specs.declared.rows.TheConstants.{MOST_PLANTS};
+    ghost use Rattle.mrp_spell.specs.declared.supplies.TheConstants.{MOST_SOURCES_OF_PAIR};
     ghost use Rattle.mrp_tables.specs.Drafts.{FitsPair, IsNewPair, with_sources};
-    ghost use Rattle.mrp_tables.specs.Grammar.{has_plant, knows_sources, pair_fits, pair_row, plant_of, plant_row, seen, source_row, Tells, with_pair_terms};
-    ghost use Rattle.mrp_tables.specs.Lists.{IsDraft, AddsRow, AreRows, Fits, AddsSource, AddsSources, table_of, with_source};
-    ghost use Rattle.mrp_tables.specs.Spelled.{pair_view, source_view, AreSources, IsSource, IsSpelledPair};
-    ghost use Rattle.mrp_tables.specs.Table.{is_taken_from, IsName};
+    ghost use Rattle.mrp_rows.specs.Names.{has_plant};
+    ghost use Rattle.mrp_tables.specs.Grammar.{knows_sources, pair_fits, pair_row, plant_of, plant_row, seen, source_row, Tells, with_pair_terms};
+    ghost use Rattle.mrp_tables.specs.Lists.{IsDraft, AddsRow, Fits, AddsSource, AddsSources};
+    ghost use Rattle.mrp_rows.specs.Table.{IsRead};
+    ghost use Rattle.mrp_rows.specs.Growing.{with_source};
+    ghost use Rattle.mrp_tables.specs.Spelled.{pair_view, IsSpelledPair};
+    ghost use Rattle.mrp_spell.specs.Spelled.{source_view, AreSources, IsSource};
+    ghost use Rattle.mrp_rows.specs.Table.{is_taken_from, IsName};
 
     /// Adds a plant row.
     pub(crate) fn add_plant(
@@ -31,7 +36,7 @@ impl Draft {
         row: &StringRecord,
     ) -> Result<(), TableFaultKind>
         requires draft { IsDraft self.old }
-        ensures exact { Tells result (plant_row (table_of self.old.lists) (fields_of row.now)) (table_of self.new.lists) }
+        ensures exact { Tells result (plant_row self.old.lists (fields_of row.now)) self.new.lists }
         ensures adds { OnOk result (AddsRow self.old self.new) }
     {
         let name = self.plant_of(row)?;
@@ -42,16 +47,16 @@ impl Draft {
     /// The name of the plant that a plant row adds.
     #[tactic(auto, unfolding(crate::specs::Grammar::plant_of))]
     fn plant_of<'r>(&self, row: &'r StringRecord) -> Result<&'r str, TableFaultKind>
-        ensures exact { seen (λ name. name.now) result ≡ plant_of (table_of self.now.lists) (fields_of row.now) }
+        ensures exact { seen (λ name. name.now) result ≡ plant_of self.now.lists (fields_of row.now) }
         ensures named { IfOk result (λ name. IsName name.now) }
-        ensures fresh { IfOk result (λ name. has_plant (table_of self.now.lists) name.now ≡ false) }
-        ensures room { OnOk result (length self.now.lists.plants.keys < MOST_PLANTS) }
+        ensures fresh { IfOk result (λ name. has_plant self.now.lists name.now ≡ false) }
+        ensures room { OnOk result (length self.now.lists.plants < MOST_PLANTS) }
     {
         let name = spelled_plant(row)?;
         if self.lists.has_plant(name) {
             return Err(TableFaultKind::Repeated);
         }
-        if self.lists.plants.len() >= MOST_PLANTS {
+        if self.lists.plants() >= MOST_PLANTS {
             return Err(TableFaultKind::TooMany);
         }
         Ok(name)
@@ -64,7 +69,7 @@ impl Draft {
         row: &StringRecord,
     ) -> Result<(), TableFaultKind>
         requires draft { IsDraft self.old }
-        ensures exact { Tells result (pair_row (table_of self.old.lists) (fields_of row.now)) (table_of self.new.lists) }
+        ensures exact { Tells result (pair_row self.old.lists (fields_of row.now)) self.new.lists }
         ensures adds { OnOk result (AddsRow self.old self.new) }
     {
         let spelled = spelled_pair(alloc, row)?;
@@ -75,16 +80,15 @@ impl Draft {
     /// The plant of a pair row that fits the rows before it.
     #[tactic(auto, unfolding(crate::specs::Grammar::pair_fits))]
     fn pair_fits(&self, spelled: &SpelledPair<'_>) -> Result<PlantNo, TableFaultKind>
-        requires rows { AreRows self.now.lists }
-        ensures exact { result ≡ pair_fits (table_of self.now.lists) (pair_view spelled.now) }
-        ensures fits { IfOk result (λ plant. FitsPair (table_of self.now.lists) plant (pair_view spelled.now)) }
+        requires rows { IsRead self.now.lists }
+        ensures exact { result ≡ pair_fits self.now.lists (pair_view spelled.now) }
+        ensures fits { IfOk result (λ plant. FitsPair self.now.lists plant (pair_view spelled.now)) }
     {
         if self.lists.has_pair(spelled.plant, spelled.item) {
             return Err(TableFaultKind::Repeated);
         }
-        let plant = place_of(&self.lists.plants, spelled.plant).ok_or(
-            TableFaultKind::UnknownPlant,
-        )?;
+        let plant = self.lists.find_plant(spelled.plant);
+        let plant = plant.ok_or(TableFaultKind::UnknownPlant)?;
         let sources = named_sources(&spelled.supply);
         if !self.knows_all(sources) {
             return Err(TableFaultKind::UnknownPlant);
@@ -92,22 +96,22 @@ impl Draft {
         if names_plant(sources, spelled.plant) {
             return Err(TableFaultKind::SelfSource);
         }
-        if self.lists.pairs.len() >= MOST_PAIRS {
+        if self.lists.pairs().len() >= MOST_PAIRS {
             return Err(TableFaultKind::TooMany);
         }
-        Ok(PlantNo(plant))
+        Ok(plant)
     }
 
     /// Whether each source is a plant with a row.
     fn knows_all(&self, sources: &[SpelledSource<'_>]) -> bool
-        ensures exact { result ≡ knows_sources (table_of self.now.lists) (map source_view sources.now) }
+        ensures exact { result ≡ knows_sources self.now.lists (map source_view sources.now) }
     {
         self.has_plants(sources)
     }
 
     /// Whether each source is a plant with a row.
     fn has_plants(&self, sources: &[SpelledSource<'_>]) -> bool
-        ensures { result ≡ list_all (λ s. has_plant (table_of self.now.lists) s.plant.now) sources.now }
+        ensures { result ≡ list_all (λ s. has_plant self.now.lists s.plant.now) sources.now }
     {
         sources
             .iter()
@@ -123,13 +127,13 @@ impl Draft {
     ) -> Result<(), TableFaultKind>
         requires draft { IsDraft self.old }
         requires spelled { IsSpelledPair spelled.now }
-        requires fits { FitsPair (table_of self.old.lists) plant (pair_view spelled.now) }
+        requires fits { FitsPair self.old.lists plant (pair_view spelled.now) }
         ensures memory { IfErr result (λ fault. fault ≡ Memory) }
-        ensures table { OnOk result (table_of self.new.lists ≡ with_pair_terms (table_of self.old.lists) plant (pair_view spelled.now)) }
+        ensures table { OnOk result (self.new.lists ≡ with_pair_terms self.old.lists plant (pair_view spelled.now)) }
         ensures adds { OnOk result (AddsRow self.old self.new) }
     {
         let item = self.lists.item_no(alloc, spelled.item)?;
-        let pair = PairNo(self.lists.pairs.len());
+        let pair = PairNo(self.lists.pairs().len());
         self.lists.add_pair(PairRow {
             plant,
             item,
@@ -148,15 +152,15 @@ impl Draft {
         pair: PairNo,
         sources: &[SpelledSource<'_>],
     ) -> Result<(), TableFaultKind>
-        requires rows { AreRows self.old.lists }
-        requires pair { pair.0 < length self.old.lists.pairs.items }
+        requires rows { IsRead self.old.lists }
+        requires pair { pair.0 < length self.old.lists.pairs }
         requires sources { AreSources sources.now }
-        requires known { knows_sources (table_of self.old.lists) (map source_view sources.now) ≡ true }
-        requires fits { Fits (table_of self.old.lists) self.old.lane_keys.keys self.old.lanes.items }
-        requires fresh { IsNewPair (table_of self.old.lists) pair.0 }
-        requires room { length self.old.lists.sources.items + MOST_SOURCES_OF_PAIR ≤ MOST_SOURCES_OF_PAIR * length self.old.lists.pairs.items }
+        requires known { knows_sources self.old.lists (map source_view sources.now) ≡ true }
+        requires fits { Fits self.old.lists self.old.lane_keys.keys self.old.lanes.items }
+        requires fresh { IsNewPair self.old.lists pair.0 }
+        requires room { length self.old.lists.sources + MOST_SOURCES_OF_PAIR ≤ MOST_SOURCES_OF_PAIR * length self.old.lists.pairs }
         ensures memory { IfErr result (λ fault. fault ≡ Memory) }
-        ensures table { OnOk result (table_of self.new.lists ≡ with_sources (table_of self.old.lists) pair.0 (map source_view sources.now)) }
+        ensures table { OnOk result (self.new.lists ≡ with_sources self.old.lists pair.0 (map source_view sources.now)) }
         ensures adds { OnOk result (AddsSources self.old self.new (length sources.now)) }
     {
         for source in sources {
@@ -167,22 +171,21 @@ impl Draft {
 
     /// Adds one source of a pair.
     fn add_source(&mut self, pair: PairNo, source: &SpelledSource<'_>) -> Result<(), TableFaultKind>
-        requires rows { AreRows self.old.lists }
-        requires pair { pair.0 < length self.old.lists.pairs.items }
+        requires rows { IsRead self.old.lists }
+        requires pair { pair.0 < length self.old.lists.pairs }
         requires source { IsSource source.now }
-        requires known { has_plant (table_of self.old.lists) source.now.plant.now ≡ true }
-        requires fresh { is_taken_from (table_of self.old.lists) pair.0 (source_row (table_of self.old.lists) pair.0 (source_view source.now)).plant.0 ≡ false }
-        requires fits { Fits (table_of self.old.lists) self.old.lane_keys.keys self.old.lanes.items }
-        requires ships { All (λ s. s.pair.0 < pair.0) self.old.lists.ships.items }
-        requires room { length self.old.lists.sources.items < MOST_SOURCES_OF_PAIR * length self.old.lists.pairs.items }
+        requires known { has_plant self.old.lists source.now.plant.now ≡ true }
+        requires fresh { is_taken_from self.old.lists pair.0 (source_row self.old.lists pair.0 (source_view source.now)).plant.0 ≡ false }
+        requires fits { Fits self.old.lists self.old.lane_keys.keys self.old.lanes.items }
+        requires ships { All (λ s. s.pair.0 < pair.0) self.old.lists.ships }
+        requires room { length self.old.lists.sources < MOST_SOURCES_OF_PAIR * length self.old.lists.pairs }
         ensures memory { IfErr result (λ fault. fault ≡ Memory) }
-        ensures table { OnOk result (table_of self.new.lists ≡ with_source (table_of self.old.lists) (source_row (table_of self.old.lists) pair.0 (source_view source.now))) }
+        ensures table { OnOk result (self.new.lists ≡ with_source self.old.lists (source_row self.old.lists pair.0 (source_view source.now))) }
         ensures adds { OnOk result (AddsSource self.old self.new) }
     {
-        let Some(plant) = place_of(&self.lists.plants, source.plant) else {
+        let Some(from) = self.lists.find_plant(source.plant) else {
             unreachable!();
         };
-        let from = PlantNo(plant);
         if !self.lane_keys.insert(LaneKey { from, pair })? {
             unreachable!();
         }

@@ -1,14 +1,16 @@
-ghost use Rattle.std.specs.Prelude.{◌≡◌, ◌+◌, ◌≤◌, ◌<◌, true, false, MatchResult, IfOk, OnOk, option_map};
+ghost use Rattle.std.specs.Prelude.{◌≡◌, ◌+◌, ◌≤◌, ◌<◌, true, false, Ok, Err, MatchResult, IfOk, OnOk, option_map};
 ghost use Rattle.csv.specs.Reading.{strip_bom};
 ghost use Rattle.csv.specs.Records.{AllText, fields_of};
 ghost use Rattle.mrp_tables.specs.Lists.{IsDraft};
-ghost use Rattle.mrp_tables.specs.Reading.{OfRecords, TellsRows};
-ghost use Rattle.mrp_tables.specs.Turns.{row_count};
+ghost use Rattle.mrp_rows.specs.Table.{IsOnce, IsSourced};
+ghost use Rattle.mrp_tables.specs.Reading.{OfRecords, TellsRows, waiting};
+ghost use Rattle.mrp_rows.specs.Turns.{row_count};
 ghost use Rattle.mrp_tables.specs.Left.{fault_of, GivesAll, IsKept, OfLeft, TellsFirstAt, TellsNext, TellsRest, TellsTaken, left_of, state_of};
 
 use crate::draft::Draft;
-use crate::{Steps, TableFault, TableFaultKind, Tables};
+use crate::{Steps, TableFault, TableFaultKind};
 use csv::{ErrorKind, Reader, ReaderBuilder, StringRecord};
+use mrp_rows::Tables;
 use std::alloc::Global;
 use std::io::Read;
 use std::marker::Brand;
@@ -81,7 +83,27 @@ fn read_rows<R: Read, L: Ledger>(
     }
     let mut draft = first_draft(alloc, &row)?;
     read_rest(alloc, rows, &mut row, &mut draft, steps)?;
-    Tables::accept(draft)
+    accept(draft)
+}
+
+/// The table of all rows read, where each pair that a pair is taken from has a row.
+fn accept(draft: Draft) -> Result<Tables, TableFault>
+    requires draft { IsDraft draft }
+    requires once { IsOnce draft.lists }
+    requires sourced { IsSourced draft.lists }
+    ensures exact { MatchResult result (λ tables. waiting draft.lists ≡ Ok tables) (λ e. waiting draft.lists ≡ Err e) }
+    ensures same { IfOk result (λ tables. tables ≡ draft.lists) }
+{
+    if let Some(place) = draft.lists.first_lacking() {
+        // The run and the plants stand before the pairs.
+        let above = draft.lists.plants() + 1;
+        let pair = draft.lists.sources()[place].pair;
+        return Err(TableFault {
+            row: (above + pair.0 + 1) as u64,
+            kind: TableFaultKind::UnknownPair,
+        });
+    }
+    Ok(Tables::of(draft.lists))
 }
 
 /// What the first row makes.

@@ -1,22 +1,22 @@
 ghost use Rattle.std.specs.Prelude.{◌≡◌, ◌≤◌, ◌<◌, IfOk};
 ghost use Rattle.mrp_qty.specs.declared.quantity.TheConstants.{MOST};
 ghost use Rattle.mrp_qty.specs.declared.horizon.TheConstants.{LONGEST};
-ghost use Rattle.mrp_tables.specs.declared.rows.TheConstants.{MOST_IN_ROW, MOST_PER};
+ghost use Rattle.mrp_rows.specs.declared.rows.TheConstants.{MOST_IN_ROW, MOST_PER};
 ghost use Rattle.csv.specs.Records.{fields_of};
 ghost use Rattle.mrp_tables.specs.Grammar.{amount_terms, bill_terms, cum_terms, field, is_empty_from, is_free, kind_of, lane_terms, pair_terms, plant_terms, reset_terms, row_kind, run_terms, seen, ship_terms, TellsSeen};
 ghost use Rattle.mrp_tables.specs.Spelled.{amount_view, bill_view, lane_view, pair_view, run_view, IsSpelledPair};
-ghost use Rattle.mrp_tables.specs.Table.{IsName};
+ghost use Rattle.mrp_rows.specs.Table.{IsName};
 ghost use Rattle.mrp_tables.specs.Drafts.{TellsRun};
 
 use crate::TableFaultKind;
 use crate::kind::Kind;
-use crate::rows::{MOST_IN_ROW, MOST_PER};
-use crate::spelling::{name, number, ranged};
-use crate::terms::{SpelledSupply, rule, supply};
+use crate::spelling::{name, ranged};
 use csv::StringRecord;
 use mrp_cal::Calendar;
 use mrp_lot::{LONGEST_LEAD, Rule};
 use mrp_qty::{Horizon, LONGEST, MOST};
+use mrp_rows::{MOST_IN_ROW, MOST_PER};
+use mrp_spell::{SpelledSupply, number, rule, supply};
 use std::alloc::Global;
 
 /// How many fields a row has.

@@ -2,9 +2,9 @@ use Rattle.std.proofs.Common.{◌≡◌, ℕ, ◌≤◌, List, length, map, arit
 use Rattle.std.specs.List.{All, filter, range_with_len}
 use Rattle.std.proofs.lemmas.Bool.{eq-eqb, ne_eqb}
 use Rattle.mrp_lot.specs.declared.params.PairParams.{PairParams}
-use Rattle.mrp_tables.specs.declared.rows.PairRow.{PairRow}
-use Rattle.mrp_tables.specs.Rows.{params_of}
-use Rattle.mrp_tables.specs.Table.{IsPair}
+use Rattle.mrp_rows.specs.declared.rows.PairRow.{PairRow}
+use Rattle.mrp_rows.specs.Rows.{params_of}
+use Rattle.mrp_rows.specs.Table.{IsPair}
 use Rattle.mrp_net.specs.declared.view.PlantPair.{PlantPair}
 use Rattle.mrp_net.specs.Sums.{pair_at}
 use Rattle.mrp_net.specs.View.{is_of_plant, plant_pair, plant_pairs}

@@ -1,7 +1,6 @@
 use Rattle.std.proofs.lemmas.Result.{err_from_is_err_and}
 use Rattle.csv.specs.Records.{fields_of}
 use Rattle.mrp_tables.specs.Left.{left_of, state_of}
-use Rattle.mrp_tables.specs.Lists.{table_of}
 use Rattle.mrp_tables.proofs.Keeping.{row_after_keeps}
 use Rattle.mrp_tables.proofs.Loop.{added, bad_there, ends_there, goes_row, none_there, refused, some_there}
 use Rattle.mrp_tables.proofs.reading.read_next.Goals as goal
@@ -32,5 +31,5 @@ returns-clause-exact g c =
 pub returns-clause-kept : goal.returns-clause-kept
 returns-clause-kept g c =
     let good = added c.args.draft.now c.add.new.self c.args.number (fields_of c.next_row.new.row) c.add.result c.at_row.result _ c.at_row.ensures.same c.in_ok-at_row.was c.add.ensures.exact in
-    row_after_keeps (table_of c.args.draft.now.lists) (table_of c.add.new.self.lists) c.args.draft.now.last c.add.new.self.last (fields_of c.next_row.new.row)
-    c.requires.draft.rows.read c.requires.kept.0 c.requires.kept.1 good
+    row_after_keeps c.args.draft.now.lists c.add.new.self.lists c.args.draft.now.last c.add.new.self.last (fields_of c.next_row.new.row)
+    c.requires.draft.rows c.requires.kept.0 c.requires.kept.1 good

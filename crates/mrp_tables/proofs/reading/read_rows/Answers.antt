@@ -2,9 +2,8 @@ use Rattle.std.proofs.Common.{◌≡◌, ◌+◌, ℕ, Result, Ok, Err, IfOk, ap
 use Rattle.std.proofs.lemmas.Result.{err_from_is_err_and}
 use Rattle.csv.specs.Records.{fields_of}
 use Rattle.mrp_tables.specs.Left.{left_of, state_of}
-use Rattle.mrp_tables.specs.Lists.{table_of}
-use Rattle.mrp_tables.specs.Table.{Table}
-use Rattle.mrp_tables.specs.Turns.{row_count}
+use Rattle.mrp_rows.specs.Table.{Table}
+use Rattle.mrp_rows.specs.Turns.{row_count}
 use Rattle.mrp_tables.proofs.Loop.{some_there}
 use Rattle.mrp_tables.proofs.Whole.{bad_first, first_fault, rest_fault, whole}
 use Rattle.mrp_tables.proofs.reading.read_rows.Goals as goal
@@ -29,7 +28,7 @@ returns-in_err-read_rest-clause-table g c =
 pub returns-clause-table : goal.returns-clause-table
 returns-clause-table g c =
     let takes = some_there c.in_ok-next_row.field-0 (left_of g.R.Read.remaining c.args.rows.now) (left_of g.R.Read.remaining c.next_row.new.rows) 1 (fields_of c.next_row.new.row) c.if-not-branch.false c.in_ok-next_row.ensures.exact in
-    whole (left_of g.R.Read.remaining c.args.rows.now) (left_of g.R.Read.remaining c.next_row.new.rows) (fields_of c.next_row.new.row) c.in_ok-draft.draft (table_of c.read_rest.new.draft.lists) _
+    whole (left_of g.R.Read.remaining c.args.rows.now) (left_of g.R.Read.remaining c.next_row.new.rows) (fields_of c.next_row.new.row) c.in_ok-draft.draft c.read_rest.new.draft.lists _
     takes c.in_ok-draft.ensures.exact c.in_ok-read_rest.ensures.exact c.accept.ensures.exact
 
 -- a turn for the first row, and so many more
@@ -40,4 +39,4 @@ counted (Err e) N new mid old rows same first more is = tt
 pub returns-clause-counted : goal.returns-clause-counted
 returns-clause-counted g c =
     let rest = c.in_ok-read_rest.ensures in
-    counted c.accept.result (table_of c.read_rest.new.draft.lists) _ _ _ _ c.accept.ensures.same c.tick.ensures rest.counted rest.draft.count
+    counted c.accept.result c.read_rest.new.draft.lists _ _ _ _ c.accept.ensures.same c.tick.ensures rest.counted rest.draft.count

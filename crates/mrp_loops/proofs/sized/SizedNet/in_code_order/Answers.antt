@@ -1,5 +1,5 @@
 use Rattle.std.proofs.Common.{List, map, sym, subst}
-use Rattle.mrp_tables.specs.declared.numbers.PairNo.{PairNo}
+use Rattle.mrp_rows.specs.declared.numbers.PairNo.{PairNo}
 use Rattle.mrp_loops.specs.Order.{IsInCodeOrder}
 use Rattle.mrp_loops.specs.Sized.{Sized}
 use Rattle.mrp_loops.proofs.sized.SizedNet.in_code_order.Goals as goal

@@ -2,9 +2,11 @@ use Rattle.std.proofs.Common.{◌≡◌, ◌+◌, ◌<◌, ◌∷◌, ◌++◌, 
 use Rattle.std.specs.List.{IsDistinct}
 use Rattle.std.proofs.lemmas.List.{length-map, length_push, map-append}
 use Rattle.mrp_tables.specs.declared.draft.LaneKey.{LaneKey}
-use Rattle.mrp_tables.specs.declared.rows.SourceRow.{SourceRow}
-use Rattle.mrp_tables.specs.Lists.{AreLanes, Fits, is_same_lane, reset_key_of, row_count, table_of, with_reset}
-use Rattle.mrp_tables.specs.Table.{Table}
+use Rattle.mrp_rows.specs.declared.rows.SourceRow.{SourceRow}
+use Rattle.mrp_tables.specs.Lists.{AreLanes, Fits, is_same_lane, reset_key_of}
+use Rattle.mrp_rows.specs.Turns.{row_count}
+use Rattle.mrp_rows.specs.Growing.{with_reset}
+use Rattle.mrp_rows.specs.Table.{Table}
 use Rattle.mrp_tables.proofs.Arrivals.{found_lane, lanes_push, resets_room}
 use Rattle.mrp_tables.proofs.Keys.{any_reset}
 use Rattle.mrp_tables.proofs.draft.Draft.add_reset.Goals as goal
@@ -24,11 +26,11 @@ add_reset-requires-clause-room c =
     let old = c.requires.draft in
     let fresh = any_reset r.from r.pair _ _ old.reset_keys ∙ c.in_ok-reset.ensures.fresh in
     let keys = c.in_ok-insert.ensures.keys ∙ ap (λ b. if b then self.reset_keys.keys else self.reset_keys.keys ++ k ∷ []) fresh in
-    let here = found_lane r.from r.pair self.lane_keys.keys self.lists.sources.items _ d old.fits.lane_keys refl c.in_ok-reset.ensures.source in
+    let here = found_lane r.from r.pair self.lane_keys.keys self.lists.sources _ d old.fits.lane_keys refl c.in_ok-reset.ensures.source in
     let few : length self.reset_keys.keys < length self.lane_keys.keys = resets_room self.lane_keys.keys self.reset_keys.keys k (subst (IsDistinct is_same_lane) keys c.insert.ensures.unique) old.resets here in
-    let n1 = ap length old.reset_keys ∙ length-map self.lists.resets.items reset_key_of in
-    let n2 = ap length old.fits.lane_keys ∙ length-map self.lists.sources.items _ in
-    omega (arith, few, n1, n2, old.rows.read.limits.sources)
+    let n1 = ap length old.reset_keys ∙ length-map self.lists.resets reset_key_of in
+    let n2 = ap length old.fits.lane_keys ∙ length-map self.lists.sources _ in
+    omega (arith, few, n1, n2, old.rows.limits.sources)
 
 pub returns-clause-adds : goal.returns-clause-adds
 returns-clause-adds c =
@@ -37,10 +39,10 @@ returns-clause-adds c =
     let k = reset_key_of r in
     let d : SourceRow = record { pair = r.pair; plant = r.from; low = 0; high = 0 } in
     let old = c.requires.draft in
-    let N = table_of self.lists in
+    let N = self.lists in
     let fresh = any_reset r.from r.pair _ _ old.reset_keys ∙ c.in_ok-reset.ensures.fresh in
     let keys = c.in_ok-insert.ensures.keys ∙ ap (λ b. if b then self.reset_keys.keys else self.reset_keys.keys ++ k ∷ []) fresh in
-    let here = found_lane r.from r.pair self.lane_keys.keys self.lists.sources.items _ d old.fits.lane_keys refl c.in_ok-reset.ensures.source in
+    let here = found_lane r.from r.pair self.lane_keys.keys self.lists.sources _ d old.fits.lane_keys refl c.in_ok-reset.ensures.source in
     let made = sym c.in_ok-add_reset.ensures.table in
     let fits : Fits (with_reset N r) self.lane_keys.keys self.lanes.items = record { lane_keys = old.fits.lane_keys; apart = old.fits.apart; each = old.fits.each; lanes = old.fits.lanes; sources = old.fits.sources; items = old.fits.items } in
     let count : row_count (with_reset N r) ≡ row_count N + 1 = omega (arith, length_push N.resets r) in

@@ -1,16 +1,18 @@
 use Rattle.std.proofs.Common.{◌≡◌, ◌+◌, set, sym, ◌∙◌, subst, refl, arith, rules}
 use Rattle.std.proofs.lemmas.List.{length-set, length_push}
 use Rattle.mrp_tables.specs.declared.draft.Lane.{Lane}
-use Rattle.mrp_tables.specs.declared.rows.SourceRow.{SourceRow}
-use Rattle.mrp_tables.specs.Lists.{after_ship, Fits, row_count, table_of, with_ship}
-use Rattle.mrp_tables.specs.Table.{Table}
+use Rattle.mrp_rows.specs.declared.rows.SourceRow.{SourceRow}
+use Rattle.mrp_tables.specs.Lists.{after_ship, Fits}
+use Rattle.mrp_rows.specs.Turns.{row_count}
+use Rattle.mrp_rows.specs.Growing.{with_ship}
+use Rattle.mrp_rows.specs.Table.{Table}
 use Rattle.mrp_tables.proofs.Arrivals.{states_ship}
 use Rattle.mrp_tables.proofs.draft.Draft.add_ship.Goals as goal
 
 pub returns-clause-adds : goal.returns-clause-adds
 returns-clause-adds c =
     let self = c.args.self.now in
-    let N = table_of self.lists in
+    let N = self.lists in
     let x = c.in_ok-ship.ship in
     let k = c.in_ok-ship.place in
     let old = c.requires.draft in
@@ -34,7 +36,7 @@ returns-clause-adds c =
       cum_keys = search rules;
       reset_keys = search rules;
       resets = old.resets;
-      fits = subst (λ (m : Lane). Fits (table_of c.add_ship.new.self) self.lane_keys.keys (set self.lanes.items k m)) (sym c.ship.ensures)
+      fits = subst (λ (m : Lane). Fits c.add_ship.new.self self.lane_keys.keys (set self.lanes.items k m)) (sym c.ship.ensures)
           (subst (λ (M : Table). Fits M self.lane_keys.keys (set self.lanes.items k v)) made fits);
       counted = refl;
       count = subst (λ (M : Table). row_count M ≡ row_count N + 1) made count;

@@ -4,12 +4,13 @@ use Rattle.std.proofs.lemmas.List.{length-map}
 use Rattle.std.proofs.lemmas.List.Sums.{AllPass-from_list_all}
 use Rattle.std.proofs.lemmas.Map.Keys.{apart_from_distinct}
 use Rattle.std.proofs.Math.ListN.{get_or-map}
-use Rattle.mrp_tables.specs.declared.terms.SpelledSource.{SpelledSource}
-use Rattle.mrp_tables.specs.Grammar.{has_plant, source_row}
-use Rattle.mrp_tables.specs.Lists.{table_of, with_source}
-use Rattle.mrp_tables.specs.Spelled.{is_same_plant, source_view}
-use Rattle.mrp_tables.specs.Spelling.{SourceTerms}
-use Rattle.mrp_tables.specs.Table.{Table, is_taken_from}
+use Rattle.mrp_spell.specs.declared.supplies.SpelledSource.{SpelledSource}
+use Rattle.mrp_rows.specs.Names.{has_plant}
+use Rattle.mrp_tables.specs.Grammar.{source_row}
+use Rattle.mrp_rows.specs.Growing.{with_source}
+use Rattle.mrp_spell.specs.Spelled.{is_same_plant, source_view}
+use Rattle.mrp_spell.specs.Supplies.{SourceTerms}
+use Rattle.mrp_rows.specs.Table.{Table, is_taken_from}
 use Rattle.mrp_tables.proofs.NewPair.{sources_fresh, sources_more}
 use Rattle.mrp_tables.proofs.draft.Draft.add_sources.Goals as goal
 
@@ -18,7 +19,7 @@ add_source-requires-clause-known c =
     let xs = c.args.sources.now in
     let i = c.loop-source.source-index in
     let d : SpelledSource = record { plant = record { ref_ptr = (0, 0); now = [] }; low = 0; high = 0 } in
-    let N = table_of c.args.self.now.lists in
+    let N = c.args.self.now.lists in
     let lt : i < length xs = c.loop-source-test.true in
     let size = length-map xs source_view in
     let there : has_plant N (get_or (map source_view xs) i (source_view d)).plant ≡ true =
@@ -32,7 +33,7 @@ add_source-requires-clause-fresh c =
     let xs = c.args.sources.now in
     let i = c.loop-source.source-index in
     let d : SpelledSource = record { plant = record { ref_ptr = (0, 0); now = [] }; low = 0; high = 0 } in
-    let M = table_of c.loop-source.self.lists in
+    let M = c.loop-source.self.lists in
     let x = c.args.pair.0 in
     let lt : i < length xs = c.loop-source-test.true in
     let size = length-map xs source_view in
@@ -41,7 +42,7 @@ add_source-requires-clause-fresh c =
     subst (λ (s : SourceTerms). bytes_eq s.plant (get_or (map source_view xs) i (source_view d)).plant ≡ false) (sym (get_or-map source_view xs j d))
     (subst (λ (s : SourceTerms). bytes_eq (get_or xs j d).plant.now s.plant ≡ false) (sym (get_or-map source_view xs i d))
     (apart_from_distinct is_same_plant xs j i d c.requires.sources.apart ji lt)) in
-    let fresh = sources_fresh (table_of c.args.self.now.lists) M x (map source_view xs) i (source_view d) c.loop-source.invariant.1 c.requires.fresh c.requires.known apart (omega (arith, lt, size)) in
+    let fresh = sources_fresh c.args.self.now.lists M x (map source_view xs) i (source_view d) c.loop-source.invariant.1 c.requires.fresh c.requires.known apart (omega (arith, lt, size)) in
     subst (λ (s : SourceTerms). is_taken_from M x (source_row M x s).plant.0 ≡ false) (get_or-map source_view xs i d) fresh
 
 pub loop-source-preserved : goal.loop-source-preserved
@@ -49,7 +50,7 @@ loop-source-preserved c =
     let xs = c.args.sources.now in
     let i = c.loop-source.source-index in
     let d : SpelledSource = record { plant = record { ref_ptr = (0, 0); now = [] }; low = 0; high = 0 } in
-    let M = table_of c.loop-source.self.lists in
+    let M = c.loop-source.self.lists in
     let x = c.args.pair.0 in
     let lt : i < length xs = c.loop-source-test.true in
     let size = length-map xs source_view in
@@ -67,5 +68,5 @@ loop-source-preserved c =
         pairs = a.pairs ∙ p.pairs;
         sources = omega (arith, a.sources, p.sources);
       },
-      sources_more (table_of c.args.self.now.lists) M x (map source_view xs) i (source_view d) c.loop-source.invariant.1 (table_of c.add_source.new.self.lists) made (omega (arith, lt, size)),
+      sources_more c.args.self.now.lists M x (map source_view xs) i (source_view d) c.loop-source.invariant.1 c.add_source.new.self.lists made (omega (arith, lt, size)),
     )

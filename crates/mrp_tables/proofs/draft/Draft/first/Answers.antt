@@ -1,7 +1,7 @@
 use Rattle.std.proofs.Common.{Ok, refl, sym, ◌∙◌, subst, rules}
 use Rattle.std.proofs.lemmas.Result.{err_from_is_err_and}
 use Rattle.csv.specs.Records.{fields_of}
-use Rattle.mrp_tables.specs.Table.{Table}
+use Rattle.mrp_rows.specs.Table.{Table}
 use Rattle.mrp_tables.specs.Reading.{Starts}
 use Rattle.mrp_tables.proofs.Arrivals.{no_lanes}
 use Rattle.mrp_tables.proofs.Starting.{first-bad_kind, first-bad_order, first-calendar, of_rows, other_kind, run_kind}

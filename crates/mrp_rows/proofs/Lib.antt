@@ -1,0 +1,2 @@
+pub mod Grow
+pub mod Keys

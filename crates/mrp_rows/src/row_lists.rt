@@ -1,0 +1,416 @@
+ghost use Rattle.std.specs.Prelude.{◌≡◌, ◌<◌, length, map, position, slice_get, IfSome};
+ghost use Rattle.std.specs.Str.{bytes_eq};
+ghost use Rattle.std.specs.String.{string_bytes};
+
+use crate::{
+    BillRow, CumRow, DemandRow, ItemNo, PairNo, PairRow, PlantNo, ReceiptRow, ResetRow, ShipRow,
+    SourceRow,
+};
+use indexmap::IndexSet;
+use mrp_cal::Calendar;
+use std::alloc::{AllocError, Global};
+use std::marker::Model;
+
+/// A pair by its plant and its item.
+#[derive(Clone, Copy, Debug, PartialEq, Eq, Hash)]
+pub(crate) struct PairKey {
+    plant: PlantNo,
+    item: ItemNo,
+}
+
+/// The rows read so far by their kinds, each in table order, with what finds a name or a pair.
+#[derive(Drop)]
+pub struct RowLists {
+    calendar: Calendar,
+    plants: IndexSet<String>,
+    items: IndexSet<String>,
+    pair_keys: IndexSet<PairKey>,
+    pairs: Vec<PairRow>,
+    sources: Vec<SourceRow>,
+    bills: Vec<BillRow>,
+    demands: Vec<DemandRow>,
+    receipts: Vec<ReceiptRow>,
+    ships: Vec<ShipRow>,
+    cums: Vec<CumRow>,
+    resets: Vec<ResetRow>,
+}
+
+impl Model for RowLists {
+    ghost use Rattle.std.specs.Prelude.{◌≡◌, map};
+    ghost use Rattle.mrp_rows.specs.Growing.{key_of, table_of};
+    ghost use Rattle.mrp_rows.specs.Table.{IsRead, Table};
+
+    ghost Value = { Table };
+
+    ghost view = { λ r. table_of r.calendar r.plants.keys r.items.keys r.pairs.items r.sources.items r.bills.items r.demands.items
+        r.receipts.items r.ships.items r.cums.items r.resets.items };
+
+    // the rows are in range, and the keys are those of the pairs in their order
+    ghost invariant = { λ r. IsRead (table_of r.calendar r.plants.keys r.items.keys r.pairs.items r.sources.items r.bills.items r.demands.items
+        r.receipts.items r.ships.items r.cums.items r.resets.items)
+        × (r.pair_keys.keys ≡ map key_of r.pairs.items) };
+}
+
+impl RowLists {
+    ghost use Rattle.std.specs.Prelude.{◌≡◌, ◌≤◌, ◌<◌, ◌==◌, ◌&&◌, [], length, option_map, position, IfOk, IfSome, OnOk};
+    ghost use Rattle.mrp_qty.specs.declared.horizon.TheConstants.{LONGEST};
+    ghost use Rattle.mrp_rows.specs.declared.rows.TheConstants.{MOST_BILLS, MOST_OF_A_KIND, MOST_PAIRS, MOST_PLANTS, MOST_SOURCES};
+    ghost use Rattle.std.specs.Prelude.{false, is_some, slice_get, unwrap_or, Some};
+    ghost use Rattle.std.specs.List.{list_any};
+    ghost use Rattle.mrp_rows.specs.Names.{has_plant, pair_named, plant_no};
+    ghost use Rattle.mrp_rows.specs.Growing.{lacks_pair, with_plant, with_item, with_pair, with_source, with_bill, with_demand, with_receipt, with_ship, with_cum, with_reset};
+    ghost use Rattle.mrp_rows.specs.Table.{item_at, IsName, IsRead, IsPairRow, IsSourceRow, IsBillRow, IsDemandRow, IsReceiptRow, IsShipRow, IsCumRow, IsResetRow};
+
+    /// The lists after the run row.
+    pub fn new(alloc: Global, calendar: Calendar) -> RowLists
+        requires some { 1 ≤ calendar.periods }
+        requires periods { calendar.periods ≤ LONGEST }
+        ensures rows { IsRead result }
+        ensures table { result ≡ record { calendar = calendar; plants = []; items = []; pairs = []; sources = []; bills = []; demands = []; receipts = []; ships = []; cums = []; resets = [] } }
+    {
+        RowLists {
+            calendar,
+            plants: IndexSet::new(alloc),
+            items: IndexSet::new(alloc),
+            pair_keys: IndexSet::new(alloc),
+            pairs: Vec::new(alloc),
+            sources: Vec::new(alloc),
+            bills: Vec::new(alloc),
+            demands: Vec::new(alloc),
+            receipts: Vec::new(alloc),
+            ships: Vec::new(alloc),
+            cums: Vec::new(alloc),
+            resets: Vec::new(alloc),
+        }
+    }
+
+    /// Adds a plant.
+    pub fn add_plant(&mut self, alloc: Global, name: &str) -> Result<(), AllocError>
+        requires named { IsName name.now }
+        requires fresh { has_plant self.old name.now ≡ false }
+        requires room { length self.old.plants < MOST_PLANTS }
+        ensures rows { OnOk result (IsRead self.new) }
+        ensures table { OnOk result (self.new ≡ with_plant self.old name.now) }
+    {
+        self.plants.insert(String::from_str(alloc, name)?)?;
+        Ok(())
+    }
+
+    /// The item of that name, which is new where no pair row has named it.
+    pub fn item_no(&mut self, alloc: Global, name: &str) -> Result<ItemNo, AllocError>
+        requires named { IsName name.now }
+        requires room { length self.old.items < MOST_PAIRS }
+        ensures rows { OnOk result (IsRead self.new) }
+        ensures table { OnOk result (self.new ≡ with_item self.old name.now) }
+        ensures place { IfOk result (λ item. item.0 ≡ unwrap_or (position (bytes_eq name.now) self.new.items) 0) }
+        ensures within { IfOk result (λ item. item.0 < length self.new.items) }
+    {
+        let (place, _) = self.items.insert_full(String::from_str(alloc, name)?)?;
+        Ok(ItemNo(place))
+    }
+
+    /// Adds a pair, of which there is no row yet.
+    pub fn add_pair(&mut self, row: PairRow) -> Result<(), AllocError>
+        requires row { IsPairRow self.old row }
+        requires fresh { list_any (λ p. (p.plant.0 == row.plant.0) && (p.item.0 == row.item.0)) self.old.pairs ≡ false }
+        requires room { length self.old.pairs < MOST_PAIRS }
+        ensures rows { OnOk result (IsRead self.new) }
+        ensures table { OnOk result (self.new ≡ with_pair self.old row) }
+    {
+        let key = PairKey {
+            plant: row.plant,
+            item: row.item,
+        };
+        self.pairs.reserve(1)?;
+        if !self.pair_keys.insert(key)? {
+            unreachable!();
+        }
+        let Ok(()) = self.pairs.push(row) else {
+            unreachable!();
+        };
+        Ok(())
+    }
+
+    /// Adds a source row.
+    pub fn add_source(&mut self, row: SourceRow) -> Result<(), AllocError>
+        requires row { IsSourceRow self.old row }
+        requires room { length self.old.sources < MOST_SOURCES }
+        ensures rows { OnOk result (IsRead self.new) }
+        ensures table { OnOk result (self.new ≡ with_source self.old row) }
+    {
+        self.sources.push(row)?;
+        Ok(())
+    }
+
+    /// Adds a bill row.
+    pub fn add_bill(&mut self, row: BillRow) -> Result<(), AllocError>
+        requires row { IsBillRow self.old row }
+        requires room { length self.old.bills < MOST_BILLS }
+        ensures rows { OnOk result (IsRead self.new) }
+        ensures table { OnOk result (self.new ≡ with_bill self.old row) }
+    {
+        self.bills.push(row)?;
+        Ok(())
+    }
+
+    /// Adds a demand row.
+    pub fn add_demand(&mut self, row: DemandRow) -> Result<(), AllocError>
+        requires row { IsDemandRow self.old row }
+        requires room { length self.old.demands < MOST_OF_A_KIND }
+        ensures rows { OnOk result (IsRead self.new) }
+        ensures table { OnOk result (self.new ≡ with_demand self.old row) }
+    {
+        self.demands.push(row)?;
+        Ok(())
+    }
+
+    /// Adds a receipt row.
+    pub fn add_receipt(&mut self, row: ReceiptRow) -> Result<(), AllocError>
+        requires row { IsReceiptRow self.old row }
+        requires room { length self.old.receipts < MOST_OF_A_KIND }
+        ensures rows { OnOk result (IsRead self.new) }
+        ensures table { OnOk result (self.new ≡ with_receipt self.old row) }
+    {
+        self.receipts.push(row)?;
+        Ok(())
+    }
+
+    /// Adds a ship row.
+    pub fn add_ship(&mut self, row: ShipRow) -> Result<(), AllocError>
+        requires row { IsShipRow self.old row }
+        requires room { length self.old.ships < MOST_OF_A_KIND }
+        ensures rows { OnOk result (IsRead self.new) }
+        ensures table { OnOk result (self.new ≡ with_ship self.old row) }
+    {
+        self.ships.push(row)?;
+        Ok(())
+    }
+
+    /// Adds a cum row.
+    pub fn add_cum(&mut self, row: CumRow) -> Result<(), AllocError>
+        requires row { IsCumRow self.old row }
+        requires room { length self.old.cums < MOST_OF_A_KIND }
+        ensures rows { OnOk result (IsRead self.new) }
+        ensures table { OnOk result (self.new ≡ with_cum self.old row) }
+    {
+        self.cums.push(row)?;
+        Ok(())
+    }
+
+    /// Adds a reset row.
+    pub fn add_reset(&mut self, row: ResetRow) -> Result<(), AllocError>
+        requires row { IsResetRow self.old row }
+        requires room { length self.old.resets < MOST_SOURCES }
+        ensures rows { OnOk result (IsRead self.new) }
+        ensures table { OnOk result (self.new ≡ with_reset self.old row) }
+    {
+        self.resets.push(row)?;
+        Ok(())
+    }
+
+    /// Whether there is a plant of that name.
+    pub fn has_plant(&self, name: &str) -> bool
+        ensures exact { result ≡ has_plant self.now name.now }
+    {
+        self.plants.contains(name)
+    }
+
+    /// The pair of a plant and of the item of that name.
+    pub fn find_named_pair(&self, plant: Option<PlantNo>, item: &str) -> Option<PairNo>
+        ensures exact { option_map (λ x. x.0) result ≡ pair_named self.now (option_map (λ p. p.0) plant) item.now }
+        ensures within { IfSome result (λ pair. pair.0 < length self.now.pairs) }
+    {
+        let plant = plant?;
+        let item = place_of(&self.items, item)?;
+        self.find_pair(plant, ItemNo(item))
+    }
+
+    /// Whether there is a row of the pair of these names.
+    pub fn has_pair(&self, plant: &str, item: &str) -> bool
+        ensures exact { result ≡ is_some (pair_named self.now (plant_no self.now plant.now) item.now) }
+    {
+        let plant = place_of(&self.plants, plant).map(PlantNo);
+        self.find_named_pair(plant, item).is_some()
+    }
+
+    /// The pair of a plant and an item.
+    pub fn find_pair(&self, plant: PlantNo, item: ItemNo) -> Option<PairNo>
+        ensures place { option_map (λ x. x.0) result ≡ position (λ p. (p.plant.0 == plant.0) && (p.item.0 == item.0)) self.now.pairs }
+        ensures within { IfSome result (λ pair. pair.0 < length self.now.pairs) }
+    {
+        let key = PairKey { plant, item };
+        match self.pair_keys.get_index_of(&key) {
+            Some(place) => Some(PairNo(place)),
+            None => None,
+        }
+    }
+
+    /// Whether the pair behind a source has no row.
+    fn lacks(&self, source: &SourceRow) -> bool
+        ensures value { result ≡ lacks_pair self.now source.now }
+    {
+        self.find_pair(source.plant, self.item_of(source.pair))
+            .is_none()
+    }
+
+    /// The item of a pair.
+    fn item_of(&self, pair: PairNo) -> ItemNo
+        ensures value { result.0 ≡ item_at self.now pair.0 }
+    {
+        match self.pairs.get(pair.0) {
+            Some(row) => row.item,
+            None => ItemNo(0),
+        }
+    }
+
+    /// The first source whose pair has no row.
+    pub fn first_lacking(&self) -> Option<usize>
+        ensures place { result ≡ position (lacks_pair self.now) self.now.sources }
+    {
+        self.sources.iter().position(|source| self.lacks(source))
+    }
+
+    /// The days of the periods.
+    pub fn calendar(&self) -> &Calendar
+        ensures value { result.now ≡ self.now.calendar }
+    {
+        &self.calendar
+    }
+
+    /// How many plants there are.
+    pub fn plants(&self) -> usize
+        ensures value { result ≡ length self.now.plants }
+    {
+        self.plants.len()
+    }
+
+    /// The pairs in table order.
+    pub fn pairs(&self) -> &[PairRow]
+        ensures value { result.now ≡ self.now.pairs }
+    {
+        self.pairs.as_slice()
+    }
+
+    /// The sources in table order.
+    pub fn sources(&self) -> &[SourceRow]
+        ensures value { result.now ≡ self.now.sources }
+    {
+        self.sources.as_slice()
+    }
+
+    /// The bill rows in table order.
+    pub fn bills(&self) -> &[BillRow]
+        ensures value { result.now ≡ self.now.bills }
+    {
+        self.bills.as_slice()
+    }
+
+    /// The demand rows in table order.
+    pub fn demands(&self) -> &[DemandRow]
+        ensures value { result.now ≡ self.now.demands }
+    {
+        self.demands.as_slice()
+    }
+
+    /// The receipt rows in table order.
+    pub fn receipts(&self) -> &[ReceiptRow]
+        ensures value { result.now ≡ self.now.receipts }
+    {
+        self.receipts.as_slice()
+    }
+
+    /// The ship rows in table order.
+    pub fn ships(&self) -> &[ShipRow]
+        ensures value { result.now ≡ self.now.ships }
+    {
+        self.ships.as_slice()
+    }
+
+    /// The cum rows in table order.
+    pub fn cums(&self) -> &[CumRow]
+        ensures value { result.now ≡ self.now.cums }
+    {
+        self.cums.as_slice()
+    }
+
+    /// The reset rows in table order.
+    pub fn resets(&self) -> &[ResetRow]
+        ensures value { result.now ≡ self.now.resets }
+    {
+        self.resets.as_slice()
+    }
+
+    /// How many items there are.
+    pub fn items(&self) -> usize
+        ensures value { result ≡ length self.now.items }
+    {
+        self.items.len()
+    }
+
+    /// The name of a plant.
+    pub fn plant_name(&self, plant: PlantNo) -> &str
+        requires known { plant.0 < length self.now.plants }
+        ensures value { slice_get self.now.plants plant.0 ≡ Some result.now }
+    {
+        name_at(&self.plants, plant.0)
+    }
+
+    /// The name of an item.
+    pub fn item_name(&self, item: ItemNo) -> &str
+        requires known { item.0 < length self.now.items }
+        ensures value { slice_get self.now.items item.0 ≡ Some result.now }
+    {
+        name_at(&self.items, item.0)
+    }
+
+    /// The plant of that name, if there is one.
+    pub fn find_plant(&self, name: &str) -> Option<PlantNo>
+        ensures place { option_map (λ p. p.0) result ≡ plant_no self.now name.now }
+        ensures within { IfSome result (λ p. p.0 < length self.now.plants) }
+    {
+        place_of(&self.plants, name).map(PlantNo)
+    }
+
+    /// The plant of that name, which is looked for at the place `near` first.
+    pub fn find_plant_near(&self, name: &str, near: usize) -> Option<PlantNo>
+        ensures place { option_map (λ p. p.0) result ≡ plant_no self.now name.now }
+        ensures within { IfSome result (λ p. p.0 < length self.now.plants) }
+    {
+        place_near(&self.plants, name, near).map(PlantNo)
+    }
+
+    /// The item of that name, if there is one.
+    pub fn find_item(&self, name: &str) -> Option<ItemNo>
+        ensures place { option_map (λ i. i.0) result ≡ position (bytes_eq name.now) self.now.items }
+        ensures within { IfSome result (λ i. i.0 < length self.now.items) }
+    {
+        place_of(&self.items, name).map(ItemNo)
+    }
+}
+
+/// The place of a name.
+fn place_of(names: &IndexSet<String>, name: &str) -> Option<usize>
+    ensures place { result ≡ position (bytes_eq name.now) (map string_bytes names.now.keys) }
+    ensures within { IfSome result (λ place. place < length names.now.keys) }
+{
+    names.get_index_of(name)
+}
+
+/// The place of a name, which is looked for at `near` first.
+fn place_near(names: &IndexSet<String>, name: &str, near: usize) -> Option<usize>
+    ensures place { result ≡ position (bytes_eq name.now) (map string_bytes names.now.keys) }
+    ensures within { IfSome result (λ place. place < length names.now.keys) }
+{
+    match names.as_slice().get(near) {
+        Some(known) if known.as_str() == name => Some(near),
+        _ => place_of(names, name),
+    }
+}
+
+/// The name at a place.
+fn name_at(names: &IndexSet<String>, place: usize) -> &str
+    requires within { place < length names.now.keys }
+    ensures value { slice_get (map string_bytes names.now.keys) place ≡ Some result.now }
+{
+    names.as_slice()[place].as_str()
+}

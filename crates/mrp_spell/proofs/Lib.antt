@@ -1,0 +1,6 @@
+pub mod Apart
+pub mod Decimals
+pub mod Lists
+pub mod Mapped
+pub mod Shares
+pub mod Wholes

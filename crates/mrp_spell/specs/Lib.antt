@@ -1,0 +1,4 @@
+pub mod Digits
+pub mod Spelled
+pub mod Spelling
+pub mod Supplies

@@ -1,0 +1,24 @@
+//! Laws of spelling, each the contract of a function that does nothing.
+ghost use Rattle.std.specs.Prelude.{◌≡◌, ℕ, List, Some};
+ghost use Rattle.mrp_spell.specs.Spelling.{IsShort, number_of, number_text};
+ghost use Rattle.mrp_spell.specs.Supplies.{IsWholeSupply, supply_of, SupplyTerms};
+
+use crate::supplies::{MOST_SHARE, MOST_SOURCES_OF_PAIR};
+
+/// What is spelled after `from:` is at most four plants, all different, whose shares are the whole.
+pub fn supplies_are_whole()
+    ensures { (text : List ℕ) (supply : SupplyTerms) → supply_of text ≡ Some supply → IsWholeSupply supply }
+{}
+
+/// A number has one text, and that text is read as it.
+pub fn numbers_have_one_text()
+    ensures read { (n : ℕ) → IsShort n → number_of (number_text n) ≡ Some n }
+    ensures text { (text : List ℕ) (n : ℕ) → number_of text ≡ Some n → (text ≡ number_text n) × IsShort n }
+{}
+
+/// The limits of a supply as numbers: at most four plants, whose shares are together a thousand
+/// thousandths.
+pub fn limits_are_numbers()
+    ensures sources_of_pair { MOST_SOURCES_OF_PAIR ≡ 4 }
+    ensures share { MOST_SHARE ≡ 1000 }
+{}

@@ -1,0 +1,17 @@
+//! How names, numbers, lot rules and supplies are spelled in the rows of tables and records.
+#![tactic(auto)]
+
+mod laws;
+mod names;
+mod numbers;
+mod rules;
+mod supplies;
+
+pub use laws::{limits_are_numbers, numbers_have_one_text, supplies_are_whole};
+pub use names::is_name;
+pub use numbers::{number, number_within};
+pub use rules::rule;
+pub use supplies::{
+    MOST_SHARE, MOST_SOURCES_OF_PAIR, SpelledSource, SpelledSupply, SupplyFault, names_plant,
+    supply,
+};

@@ -1,0 +1,62 @@
+ghost use Rattle.std.specs.Prelude.{◌≡◌, IfSome};
+ghost use Rattle.mrp_lot.specs.Lot.{IsRule};
+ghost use Rattle.mrp_spell.specs.Spelled.{cut_view};
+ghost use Rattle.mrp_spell.specs.Spelling.{cut, min_rule_of, numbered_rule, rule_of};
+
+use crate::numbers::number_within;
+use mrp_lot::{MOST_IN_RULE, Rule};
+use mrp_qty::LONGEST;
+
+/// A text cut at its first colon.
+#[tactic(auto, unfolding(crate::specs::Spelling::cut))]
+pub(crate) fn cut(text: &str) -> Option<(&str, &str)>
+    ensures { cut_view result ≡ cut text.now }
+{
+    text.split_once(':')
+}
+
+/// The lot rule that a text spells: `lot`, `fixed:Q`, `periods:K` or `min:M:K`.
+#[tactic(auto, unfolding(crate::specs::Spelling::rule_of))]
+pub fn rule(text: &str) -> Option<Rule>
+    ensures exact { result ≡ rule_of text.now }
+    ensures rule { IfSome result IsRule }
+{
+    match cut(text) {
+        None => {
+            if text == "lot" {
+                Some(Rule::LotForLot)
+            } else {
+                None
+            }
+        }
+        Some((word, numbers)) => numbered_rule(word, numbers),
+    }
+}
+
+/// The lot rule of a word and the numbers after it.
+#[tactic(auto, unfolding(crate::specs::Spelling::numbered_rule))]
+fn numbered_rule(word: &str, numbers: &str) -> Option<Rule>
+    ensures exact { result ≡ numbered_rule word.now numbers.now }
+    ensures rule { IfSome result IsRule }
+{
+    if word == "fixed" {
+        Some(Rule::Fixed(number_within(numbers, 1, MOST_IN_RULE)?))
+    } else if word == "periods" {
+        Some(Rule::Periods(number_within(numbers, 1, LONGEST)?))
+    } else if word == "min" {
+        min_rule(numbers)
+    } else {
+        None
+    }
+}
+
+/// The lot rule of a minimum and a multiple.
+fn min_rule(numbers: &str) -> Option<Rule>
+    ensures exact { result ≡ min_rule_of (cut numbers.now) }
+    ensures rule { IfSome result IsRule }
+{
+    let (least, multiple) = cut(numbers)?;
+    let least = number_within(least, 1, MOST_IN_RULE)?;
+    let multiple = number_within(multiple, 1, MOST_IN_RULE)?;
+    Some(Rule::MinMultiple(least, multiple))
+}
