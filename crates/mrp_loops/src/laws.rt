@@ -1,8 +1,10 @@
 //! Laws of codes, of networks without loops, of needs, and of plans. Each is the contract of a function that
 //! does nothing.
 
-ghost use Rattle.mrp_loops.specs.Laws.{CodesRise, CodedIsLoopFree, CodesExist, CodesAreOne, SetsHaveAFirst, DemandersDecide, NeedsExist, NeedsAreOne, CodeOrderPlans, PlanningOrdersExist, SizedHasCodes, SizedHasNeeds, OnePlan};
-ghost use Rattle.mrp_loops.specs.Within.{ReleasesAreWithinNeed, GrossIsWithinNeed, SupplyAndReleasesAreWithin, FiguresAreWithin, PlansAreWithin, QuantitiesAreWithin, PlanIsWithin, LaneFiguresAreWithin};
+ghost use Rattle.mrp_loops.specs.Laws.{CodesRise, CodedIsLoopFree, CodesExist, CodesAreOne, SetsHaveAFirst, DemandersDecide, NeedsExist, NeedsAreOne};
+ghost use Rattle.mrp_loops.specs.Laws.{CodeOrderPlans, PlanningOrdersExist, SizedHasCodes, SizedHasNeeds, OnePlan};
+ghost use Rattle.mrp_loops.specs.Within.{ReleasesAreWithinNeed, GrossIsWithinNeed, SupplyAndReleasesAreWithin, FiguresAreWithin, PlansAreWithin};
+ghost use Rattle.mrp_loops.specs.Within.{QuantitiesAreWithin, PlanIsWithin, LaneFiguresAreWithin};
 
 /// Low-level codes rise along edges: a pair's code is above that of each of its demanders. So a
 /// network with codes has no loop. A network without loops has codes, and none has two lists of them.

@@ -69,7 +69,9 @@ impl<'a> Model for SizedNet<'a> {
 
     ghost view = { λ s. record { network = s.network.now; codes = s.levels.now; needs = s.needs.items } };
 
-    ghost invariant = { λ s. IsSized s.network.now × AreCodes s.network.now s.levels.now × AreNeeds s.network.now s.needs.items × (s.order.items ≡ code_order s.levels.now) };
+    ghost invariant = { λ s.
+        IsSized s.network.now × AreCodes s.network.now s.levels.now × AreNeeds s.network.now s.needs.items ×
+        (s.order.items ≡ code_order s.levels.now) };
 }
 
 impl<'a> SizedNet<'a> {
