@@ -1,25 +1,23 @@
 -- Over a lane an item's opening figure and all parts of its releases are within the bound.
-use Rattle.std.proofs.Common.{◌≡◌, ℕ, zero, suc, ◌+◌, ◌*◌, ◌/◌, ◌-◌, ◌<◌, ◌≤◌, ◌==◌, ◌&&◌, true, List, length, sum, sum_by, take, slice_index, get_or, sym, ap, ◌∙◌, subst, arith, eqb-true}
-use Rattle.std.specs.List.{Contains, range_with_len}
+use Rattle.std.proofs.Common.{◌≡◌, ℕ, zero, suc, ◌+◌, ◌*◌, ◌-◌, ◌≤◌, ◌==◌, ◌&&◌, true, List, sum, sum_by, take, slice_index, sym, ap, ◌∙◌, subst, arith, eqb-true}
+use Rattle.std.specs.List.{range_with_len}
 use Rattle.std.proofs.lemmas.Bool.{and_parts}
 use Rattle.std.proofs.lemmas.List.Elements.{All-filter, filter_passes}
 use Rattle.std.proofs.lemmas.List.Sums.{sum_by-take-le}
-use Rattle.mrp_lot.specs.One.{PlanRows}
 use Rattle.mrp_lot.specs.RangeLaws.{sum_by-range-suc, sum_take-suc}
 use Rattle.mrp_tables.specs.declared.numbers.ItemNo.{ItemNo}
 use Rattle.mrp_tables.specs.declared.rows.SourceRow.{SourceRow}
-use Rattle.mrp_tables.specs.Table.{Table, IsTable, IsPair, IsSourceRow, horizon, pair_no}
-use Rattle.mrp_net.specs.declared.edge.Edge.{Edge}
+use Rattle.mrp_tables.specs.Table.{Table, IsPair, IsSourceRow, horizon, pair_no}
 use Rattle.mrp_net.specs.declared.lane.Lane.{Lane}
 use Rattle.mrp_net.specs.declared.lane.LaneKind.{LaneKind}
 use Rattle.mrp_net.specs.declared.lane.LaneKind.TheVariants.{Despatch, Schedule}
 use Rattle.mrp_net.specs.Edges.{part, source_edge}
-use Rattle.mrp_net.specs.Lanes.{customer_of, supplier_of, item_of, taken_over, figure, shipped_from, opening, pair_on}
+use Rattle.mrp_net.specs.Lanes.{customer_of, supplier_of, item_of, figure, shipped_from, opening, pair_on}
 use Rattle.mrp_net.specs.Plan.{rows_at, plan_of}
 use Rattle.mrp_net.specs.Sums.{pair_at}
 use Rattle.mrp_net.proofs.Sharing.{pairs_are_found}
 use Rattle.mrp_net.proofs.Totals.{edge_need-le}
-use Rattle.mrp_loops.specs.Within.{LaneFiguresAreWithin, parts_of}
+use Rattle.mrp_loops.specs.Within.{LaneFiguresAreWithin}
 use Rattle.mrp_loops.proofs.OnePlan.{one_plan}
 use Rattle.mrp_loops.proofs.Within.{figures_within}
 

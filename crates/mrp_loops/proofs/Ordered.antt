@@ -1,5 +1,5 @@
 -- A network with codes has an order by codes, and needs.
-use Rattle.std.proofs.Common.{◌≡◌, ℕ, List, map, length, replicate, arith}
+use Rattle.std.proofs.Common.{ℕ, List, map, length, replicate, arith}
 use Rattle.std.proofs.lemmas.List.{length-replicate}
 use Rattle.mrp_tables.specs.Table.{Table, IsTable}
 use Rattle.mrp_loops.specs.Loop.{AreCodes}
