@@ -1,7 +1,7 @@
 -- The pairs of a loop are pairs of the table.
 use Rattle.std.proofs.Common.{ℕ, zero, suc, List, [], ◌∷◌, map, All, arith}
-use Rattle.mrp_tables.specs.Table.{Table, IsTable, IsPair}
-use Rattle.mrp_tables.specs.declared.numbers.PairNo.{PairNo}
+use Rattle.mrp_rows.specs.Table.{Table, IsTable, IsPair}
+use Rattle.mrp_rows.specs.declared.numbers.PairNo.{PairNo}
 use Rattle.mrp_loops.specs.Loop.{IsLoop, LeadsTo}
 use Rattle.mrp_loops.proofs.Edges.{HasEdge-pairs}
 

@@ -1,7 +1,7 @@
 -- What became of a text that was sent, and what its refusals say.
 use Rattle.std.proofs.Common.{◌≡◌, ℕ, List, ◌++◌, Option, None, Some, Result, Ok, Err, IfErr, inl, inr, ⊎_elim, subst, sym, refl}
 use Rattle.std.specs.Io.KnownBytes.{Appends, Keeps}
-use Rattle.mrp_tables.specs.Table.{Table, IsTable}
+use Rattle.mrp_rows.specs.Table.{Table, IsTable}
 use Rattle.mrp_tables.specs.declared.fault.TableFault.{TableFault}
 use Rattle.mrp_report.specs.Sending.{Sends}
 use Rattle.mrp_report.specs.declared.fault.ReportFault.{ReportFault}

@@ -4,7 +4,7 @@ use Rattle.std.specs.declared.io.ErrorKind.{ErrorKind}
 use Rattle.std.specs.declared.io.ErrorKind.TheVariants as cause
 use Rattle.clap.specs.declared.error.kind.ErrorKind.{ErrorKind as WordsFault}
 use Rattle.clap.specs.declared.error.kind.ErrorKind.TheVariants as words
-use Rattle.mrp_tables.specs.Table.{Table}
+use Rattle.mrp_rows.specs.Table.{Table}
 use Rattle.mrp_words.specs.declared.words.Choice.{Choice}
 use Rattle.mrp_words.specs.declared.words.Choice.TheVariants.{Plan, Check, Peg}
 use Rattle.mrp.specs.declared.fault.TextFault.{TextFault}

@@ -1,5 +1,5 @@
 ghost use Rattle.std.specs.Prelude.{◌≡◌, ◌≢◌, ◌≤◌, ◌<◌, map, IfOk, IfErr, All};
-ghost use Rattle.mrp_tables.specs.Table.{IsTable, IsPair, horizon};
+ghost use Rattle.mrp_rows.specs.Table.{IsTable, IsPair, horizon};
 ghost use Rattle.mrp_loops.specs.Loop.{AreCodes, IsLoopFree};
 ghost use Rattle.mrp.specs.Fault.{IsBeforeWriting, IsLate};
 ghost use Rattle.mrp.specs.Text.{Writes, OfTable, IsTableOf, IsPlannable, IsPlanReport, IsCodeReport, IsPegReport, IsPegs, IsCalled, AreCalled, IsLoopRefusal, IsBoundRefusal, IsRefusal, IsPegRefusal, IsReadRefusal, IsTextRefusal};

@@ -1,7 +1,7 @@
 -- Loops and low-level codes of a network.
 use Rattle.std.specs.Prelude.{◌≡◌, ◌≢◌, ℕ, zero, suc, ◌≤◌, List, [], ◌∷◌, length, slice_index, Contains, All}
 use Rattle.std.specs.List.{AllPairs}
-use Rattle.mrp_tables.specs.Table.{Table, IsPair}
+use Rattle.mrp_rows.specs.Table.{Table, IsPair}
 use Rattle.mrp_net.specs.Edges.{edges}
 use Rattle.mrp_net.specs.declared.edge.Edge.{Edge}
 

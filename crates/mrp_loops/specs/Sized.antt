@@ -1,7 +1,7 @@
 -- A sized network: no loop, and every figure of its plan within the bound.
 use Rattle.std.specs.Prelude.{ℕ, ◌<◌, List, length, take, slice_index, All, Contains, IsPermutation}
 use Rattle.std.specs.List.{range_with_len}
-use Rattle.mrp_tables.specs.Table.{Table, IsTable}
+use Rattle.mrp_rows.specs.Table.{Table, IsTable}
 use Rattle.mrp_net.specs.Edges.{demanders}
 use Rattle.mrp_loops.specs.Loop.{IsLoopFree}
 use Rattle.mrp_loops.specs.Need.{AreNeeds, AreWithin}

@@ -1,6 +1,6 @@
 ghost use Rattle.std.specs.Prelude.{◌≡◌, ◌-◌, ◌*◌, ◌^◌, min, length, sum_by, slice_index, All};
 ghost use Rattle.mrp_lot.specs.Lot.{rule_quantities};
-ghost use Rattle.mrp_tables.specs.Table.{IsPair};
+ghost use Rattle.mrp_rows.specs.Table.{IsPair};
 ghost use Rattle.mrp_net.specs.Edges.{IsEdge};
 ghost use Rattle.mrp_loops.specs.Need.{need_at};
 

@@ -1,5 +1,5 @@
 ghost use Rattle.std.specs.Prelude.{◌≡◌, ◌<◌, ◌≤◌, true, All, length, map, drop, slice_index, slice_index_or, IfOk};
-ghost use Rattle.mrp_tables.specs.Table.{IsPair};
+ghost use Rattle.mrp_rows.specs.Table.{IsPair};
 ghost use Rattle.mrp_loops.specs.Loop.{HasEdge, IsLoopFound};
 ghost use Rattle.mrp_loops.specs.Taking.{is_in};
 ghost use Rattle.mrp_loops.specs.Walk.{IsStuck, IsRing};

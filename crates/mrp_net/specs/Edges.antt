@@ -1,10 +1,10 @@
 -- Who takes from whom: the edges of a network, read off its rows.
 use Rattle.std.specs.Prelude.{ℕ, ◌-◌, ◌*◌, ◌/◌, ◌<◌, ◌≤◌, ◌==◌, List, ◌++◌, length, map, filter}
 use Rattle.std.specs.List.{flat_map, range_with_len}
-use Rattle.mrp_tables.specs.declared.rows.BillRow.{BillRow}
-use Rattle.mrp_tables.specs.declared.rows.SourceRow.{SourceRow}
-use Rattle.mrp_tables.specs.declared.rows.TheConstants.{MOST_PER}
-use Rattle.mrp_tables.specs.Table.{Table, source_pair}
+use Rattle.mrp_rows.specs.declared.rows.BillRow.{BillRow}
+use Rattle.mrp_rows.specs.declared.rows.SourceRow.{SourceRow}
+use Rattle.mrp_rows.specs.declared.rows.TheConstants.{MOST_PER}
+use Rattle.mrp_rows.specs.Table.{Table, source_pair}
 use Rattle.mrp_net.specs.declared.edge.Edge.{Edge}
 
 -- a made parent takes each component, so many in one, for its whole release

@@ -2,11 +2,11 @@
 use Rattle.std.specs.Prelude.{◌≡◌, ◌≢◌, ℕ, ◌+◌, ◌*◌, ◌<◌, ◌==◌, ◌&&◌, if◌then◌else◌, Bool, true, false, List, [], length, map, filter, sum_by, slice_index, All, Contains}
 use Rattle.std.specs.List.{AllPairs, IsDistinct, range_with_len}
 use Rattle.mrp_lot.specs.One.{PlanRows}
-use Rattle.mrp_tables.specs.declared.numbers.ItemNo.{ItemNo}
-use Rattle.mrp_tables.specs.declared.rows.BillRow.{BillRow}
-use Rattle.mrp_tables.specs.declared.rows.SourceRow.{SourceRow}
-use Rattle.mrp_tables.specs.declared.rows.Supply.TheVariants.{From, Buy}
-use Rattle.mrp_tables.specs.Table.{Table, IsTable, IsPair, pair_no, source_pair, sources_of_pair}
+use Rattle.mrp_rows.specs.declared.numbers.ItemNo.{ItemNo}
+use Rattle.mrp_rows.specs.declared.rows.BillRow.{BillRow}
+use Rattle.mrp_rows.specs.declared.rows.SourceRow.{SourceRow}
+use Rattle.mrp_rows.specs.declared.rows.Supply.TheVariants.{From, Buy}
+use Rattle.mrp_rows.specs.Table.{Table, IsTable, IsPair, pair_no, source_pair, sources_of_pair}
 use Rattle.mrp_net.specs.declared.edge.Edge.{Edge}
 use Rattle.mrp_net.specs.declared.lane.Lane.{Lane}
 use Rattle.mrp_net.specs.declared.lane.LaneKind.{LaneKind}

@@ -1,8 +1,8 @@
 -- What is kept of each source of the table: the shipments on their way by it, and its figures.
 use Rattle.std.specs.Prelude.{◌≡◌, ℕ, ◌==◌, ◌&&◌, true, List, length, map, slice_index}
 use Rattle.std.specs.List.{position_or_len}
-use Rattle.mrp_tables.specs.declared.rows.ShipRow.{ShipRow}
-use Rattle.mrp_tables.specs.Table.{Table, is_taken_from}
+use Rattle.mrp_rows.specs.declared.rows.ShipRow.{ShipRow}
+use Rattle.mrp_rows.specs.Table.{Table, is_taken_from}
 use Rattle.mrp_net.specs.declared.lane.Shipment.{Shipment}
 use Rattle.mrp_net.specs.declared.lanes.Sent.{Sent}
 use Rattle.mrp_group.specs.Groups.{AreStarts, ShowsGroups}

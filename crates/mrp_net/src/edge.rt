@@ -1,4 +1,4 @@
-use mrp_tables::PairNo;
+use mrp_rows::PairNo;
 
 /// An edge: the demander takes from the pair, `per` pieces for each piece of its part of a release.
 ///

@@ -1,5 +1,5 @@
 use mrp_qty::Qty;
-use mrp_tables::PlantNo;
+use mrp_rows::PlantNo;
 
 /// A lane, by its place among the lanes of the network, from 0: by customer in table order, then by
 /// supplier, the despatch lane before the schedule lane.

@@ -1,5 +1,5 @@
 ghost use Rattle.std.specs.Prelude.{◌≡◌, ◌+◌, ◌*◌, ◌^◌, ◌<◌, ◌++◌, true, length, map, All, IfOk};
-ghost use Rattle.mrp_tables.specs.Table.{is_taken_from};
+ghost use Rattle.mrp_rows.specs.Table.{is_taken_from};
 ghost use Rattle.mrp_group.specs.Added.{AddsTotals};
 ghost use Rattle.mrp_net.specs.Lanes.{lanes, lanes_of, both_lanes, figure, shipped_from};
 ghost use Rattle.mrp_net.specs.Routes.{taken, AreItems, AreLaneLists};
@@ -8,7 +8,7 @@ ghost use Rattle.mrp_net.specs.Sources.{source_no, sent, AreSourceStarts, AreShi
 use crate::lane::{Lane, LaneKind, Shipment};
 use mrp_group::{Groups, KeyOf, group, starts};
 use mrp_qty::Memory;
-use mrp_tables::{ItemNo, PairNo, PlantNo, SourceRow, Tables};
+use mrp_rows::{ItemNo, PairNo, PlantNo, SourceRow, Tables};
 use std::alloc::Global;
 
 /// The lanes of a network, the items of each route, where the sources of each pair begin, and what

@@ -1,5 +1,5 @@
 ghost use Rattle.std.specs.Prelude.{◌≡◌, ◌<◌, ◌≤◌, ◌^◌, ◌-◌, ◌+◌, ◌*◌, ℕ, true, min, length, slice_get, Option, Some, None, IfSome, IfNone, IfOk, Contains, All};
-ghost use Rattle.mrp_tables.specs.Table.{Table, IsTable, horizon, IsPair, is_taken_from};
+ghost use Rattle.mrp_rows.specs.Table.{Table, IsTable, horizon, IsPair, is_taken_from};
 ghost use Rattle.mrp_net.specs.Edges.{demanders, suppliers, IsEdge};
 ghost use Rattle.mrp_net.specs.Sums.{pair_at, row_of, demand, demand_total, incoming, supply};
 ghost use Rattle.mrp_net.specs.Names.{IsNamed};
@@ -13,7 +13,7 @@ use crate::lanes::{LaneLists, source_of};
 use crate::{Edge, build, lanes};
 use mrp_cal::Calendar;
 use mrp_qty::{Horizon, Memory};
-use mrp_tables::{ItemNo, PairNo, PairRow, PlantNo, Tables};
+use mrp_rows::{ItemNo, PairNo, PairRow, PlantNo, Tables};
 use std::alloc::Global;
 use std::marker::Model;
 
@@ -30,7 +30,7 @@ pub struct Network {
 }
 
 impl Model for Network {
-    ghost use Rattle.mrp_tables.specs.Table.{Table};
+    ghost use Rattle.mrp_rows.specs.Table.{Table};
     ghost use Rattle.mrp_net.specs.Built.{IsBuilt};
 
     ghost Value = { Table };

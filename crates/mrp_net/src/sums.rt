@@ -1,5 +1,5 @@
 use mrp_group::{AmountOf, KeyOf};
-use mrp_tables::{CumRow, DemandRow, ReceiptRow, ShipRow};
+use mrp_rows::{CumRow, DemandRow, ReceiptRow, ShipRow};
 
 /// The pair of a row as its key.
 pub struct OfPair;

@@ -10,7 +10,7 @@ use Rattle.mrp_lot.specs.Lot.{rule_quantities}
 use Rattle.mrp_lot.specs.One.{PlanRows, IsWithin, one, release_at}
 use Rattle.mrp_lot.specs.OneLaws.{releases-le}
 use Rattle.mrp_lot.specs.RangeLaws.{map-range-same}
-use Rattle.mrp_tables.specs.Table.{Table, IsTable, horizon}
+use Rattle.mrp_rows.specs.Table.{Table, IsTable, horizon}
 use Rattle.mrp_net.specs.Edges.{demanders, edge_need}
 use Rattle.mrp_net.specs.Sums.{demand, demand_total, incoming, params_at, pair_at, row_of, no_pair}
 use Rattle.mrp_net.specs.Plan.{rows_at, no_rows, gross, pair_plan, Fits}

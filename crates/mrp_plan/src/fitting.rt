@@ -2,7 +2,7 @@
 
 ghost use Rattle.std.specs.Prelude.{◌≡◌, ◌<◌, ◌≤◌, ◌+◌, ◌↔◌, IsTrue, length, map, All};
 ghost use Rattle.mrp_qty.specs.declared.quantity.TheConstants.{MOST};
-ghost use Rattle.mrp_tables.specs.Table.{IsPair, horizon};
+ghost use Rattle.mrp_rows.specs.Table.{IsPair, horizon};
 ghost use Rattle.mrp_net.specs.Sums.{incoming, row_of};
 ghost use Rattle.mrp_net.specs.Plan.{Fits, gross, pair_plan, rows_at};
 ghost use Rattle.mrp_loops.specs.Need.{AreNeeds};

@@ -1,5 +1,5 @@
 ghost use Rattle.std.specs.Prelude.{◌≡◌, ◌<◌, ◌≤◌, ◌++◌, ◌∷◌, [], ℕ, length, filter, map, All, IfOk, OnOk};
-ghost use Rattle.mrp_tables.specs.Table.{IsPair, horizon};
+ghost use Rattle.mrp_rows.specs.Table.{IsPair, horizon};
 ghost use Rattle.mrp_net.specs.Plan.{Fits};
 ghost use Rattle.mrp_plan.specs.Peg.{peg_terms, is_asked, IsPeggable, demand_term as demand_term_of, edge_term as edge_term_of};
 

@@ -5,7 +5,7 @@ use Rattle.std.proofs.lemmas.Grind.{flat_map-append}
 use Rattle.std.specs.Io.KnownBytes.{Appends}
 use Rattle.csv.proofs.WriteFacts.{appends-none}
 use Rattle.mrp_lot.specs.One.{PlanRows}
-use Rattle.mrp_tables.specs.Table.{Table}
+use Rattle.mrp_rows.specs.Table.{Table}
 use Rattle.mrp_report.specs.Report.{pairs_text, plan_text}
 use Rattle.mrp_report.specs.Sending.{AppendsFront}
 use Rattle.mrp_report.proofs.Fronts.{front-after, front-longer, front-whole, whole-after}

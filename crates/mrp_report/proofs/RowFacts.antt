@@ -15,7 +15,7 @@ use Rattle.std.proofs.lemmas.Option.{get_or_from_slice_get}
 use Rattle.std.proofs.lemmas.List.FromFn.{length-map-range_with_len, map-range_with_len_more}
 use Rattle.mrp_lot.specs.One.{PlanRows, one}
 use Rattle.mrp_lot.specs.declared.params.PairParams.{PairParams}
-use Rattle.mrp_tables.specs.Table.{Table, IsPair, horizon}
+use Rattle.mrp_rows.specs.Table.{Table, IsPair, horizon}
 use Rattle.mrp_net.specs.Names.{IsNamed}
 use Rattle.mrp_net.specs.Sums.{params_at, row_of, incoming}
 use Rattle.mrp_net.specs.Plan.{Fits, gross, rows_at}

@@ -1,5 +1,5 @@
 ghost use Rattle.std.specs.Prelude.{◌≡◌, ◌++◌, Err, OnOk, IfOk, IfErr, All};
-ghost use Rattle.mrp_tables.specs.Table.{IsPair};
+ghost use Rattle.mrp_rows.specs.Table.{IsPair};
 ghost use Rattle.mrp_report.specs.Rows.{IsBetweenRows, written};
 ghost use Rattle.mrp_report.specs.Sending.{Sends};
 ghost use Rattle.mrp_report.specs.Report.{peg_row, peg_text, source_word};

@@ -1,7 +1,7 @@
 //! The network of a firm of three plants, by the calls that read it.
 
 ghost use Rattle.std.specs.Prelude.{◌<◌, length, Contains, IfSome};
-ghost use Rattle.mrp_tables.specs.Table.{IsPair};
+ghost use Rattle.mrp_rows.specs.Table.{IsPair};
 ghost use Rattle.mrp_net.specs.Lanes.{lanes, lane_at, lane_items};
 
 use mrp_net::{Edge, ItemNo, LaneKind, LaneNo, Network, PairNo, PlantNo, Shipment, Supply};

@@ -1,7 +1,8 @@
 //! What is read of a table, and the first fault of a bad one.
 
 use mrp_cal::CalFault;
-use mrp_tables::{PairNo, PlantNo, Supply, TableFaultKind, Tables, read_tables_uncounted};
+use mrp_rows::{PairNo, PlantNo, Supply, Tables};
+use mrp_tables::{TableFaultKind, read_tables_uncounted};
 use std::test::Fail;
 
 /// The row and the fault that a text is refused for, or `None` where it is a table.

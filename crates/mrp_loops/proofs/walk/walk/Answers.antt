@@ -1,8 +1,8 @@
 use Rattle.std.proofs.Common.{◌≡◌, length, ap, ◌∙◌, arith, true, false, length-set}
 use Rattle.std.proofs.lemmas.List.{length_push, get_or_read}
 use Rattle.std.proofs.lemmas.List.Elements.{All-push}
-use Rattle.mrp_tables.specs.Table.{IsPair}
-use Rattle.mrp_tables.specs.declared.numbers.PairNo.{PairNo}
+use Rattle.mrp_rows.specs.Table.{IsPair}
+use Rattle.mrp_rows.specs.declared.numbers.PairNo.{PairNo}
 use Rattle.mrp_loops.specs.Taking.{is_in}
 use Rattle.mrp_loops.proofs.Taken.{Apart-push}
 use Rattle.mrp_loops.proofs.Rings.{seen_more, climbs_more, path_short, ring_from_walk}

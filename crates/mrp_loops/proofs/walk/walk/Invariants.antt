@@ -1,5 +1,5 @@
 use Rattle.std.proofs.Common.{◌≡◌, ◌-◌, ◌<◌, ℕ, false, All, reverse, length, get_or, slice_index}
-use Rattle.mrp_tables.specs.Table.{IsPair}
+use Rattle.mrp_rows.specs.Table.{IsPair}
 use Rattle.mrp_loops.specs.Taking.{is_in}
 use Rattle.mrp_loops.specs.Walk.{IsApart, Climbs}
 use Rattle.mrp_loops.proofs.walk.walk.Given as goal

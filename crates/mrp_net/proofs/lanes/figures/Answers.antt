@@ -1,6 +1,6 @@
 use Rattle.std.proofs.Common.{◌≡◌, ℕ, List, length, drop, replicate, rules, arith, ap, ◌∙◌, subst}
 use Rattle.std.proofs.lemmas.List.{take_at}
-use Rattle.mrp_tables.specs.declared.rows.CumRow.{CumRow}
+use Rattle.mrp_rows.specs.declared.rows.CumRow.{CumRow}
 use Rattle.mrp_group.specs.Added.{AddsTotals}
 use Rattle.mrp_net.specs.Sources.{source_no}
 use Rattle.mrp_net.proofs.Sourcing.{figures_built}

@@ -2,7 +2,7 @@ use Rattle.std.proofs.Common.{◌≡◌, ℕ, List, sym, ap, ◌∙◌, subst}
 use Rattle.std.proofs.lemmas.Bool.{false≢true}
 use Rattle.mrp_lot.specs.One.{PlanRows, IsWithin, one}
 use Rattle.mrp_lot.specs.declared.params.PairParams.{PairParams}
-use Rattle.mrp_tables.specs.Rows.{params_of}
+use Rattle.mrp_rows.specs.Rows.{params_of}
 use Rattle.mrp_net.specs.Sums.{incoming, params_at, row_of}
 use Rattle.mrp_net.specs.Plan.{rows_at, gross, pair_plan}
 use Rattle.mrp_plan.proofs.Planning.{one-gross, one-incoming, pair_within}

@@ -1,7 +1,7 @@
 use Rattle.std.proofs.Common.{◌≡◌, ◌<◌, ℕ, length, map, slice_index, slice_index_or, arith, sym, subst}
 use Rattle.std.proofs.lemmas.List.{get_or-map, length-map}
-use Rattle.mrp_tables.specs.Table.{Table}
-use Rattle.mrp_tables.specs.declared.numbers.PairNo.{PairNo}
+use Rattle.mrp_rows.specs.Table.{Table}
+use Rattle.mrp_rows.specs.declared.numbers.PairNo.{PairNo}
 use Rattle.mrp_net.specs.Plan.{rows_at, pair_plan}
 use Rattle.mrp_plan.specs.Progress.{CanPlan}
 use Rattle.mrp_loops.proofs.Orders.{place_in_table}

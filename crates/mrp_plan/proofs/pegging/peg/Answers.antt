@@ -1,7 +1,7 @@
 use Rattle.std.proofs.Common.{◌≡◌, ◌<◌, ◌≤◌, ℕ, List, length, slice_index, arith, ap, ◌∙◌, sym, subst, rules}
 use Rattle.mrp_qty.specs.declared.quantity.TheConstants.{MOST}
 use Rattle.mrp_lot.specs.One.{PlanRows}
-use Rattle.mrp_tables.specs.Table.{Table, IsPair, horizon}
+use Rattle.mrp_rows.specs.Table.{Table, IsPair, horizon}
 use Rattle.mrp_net.specs.Plan.{rows_at, gross, Fits}
 use Rattle.mrp_net.specs.Sums.{row_of}
 use Rattle.std.specs.List.{All}

@@ -1,6 +1,6 @@
 use Rattle.std.proofs.Common.{◌≤◌, length, map, arith}
 use Rattle.std.proofs.lemmas.List.{length-map}
-use Rattle.mrp_tables.specs.declared.numbers.PairNo.{PairNo}
+use Rattle.mrp_rows.specs.declared.numbers.PairNo.{PairNo}
 use Rattle.mrp_loops.proofs.OnePlan.{one_plan_by}
 use Rattle.mrp_plan.proofs.Planning.{all_planned}
 use Rattle.mrp_plan.proofs.plan.plan_all.Goals as goal

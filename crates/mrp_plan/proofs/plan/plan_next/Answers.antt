@@ -1,8 +1,8 @@
 use Rattle.std.proofs.Common.{◌≡◌, ◌<◌, ◌+◌, ℕ, List, length, map, slice_index, slice_index_or, slice_set, arith, ap, sym, ◌∙◌, subst}
 use Rattle.std.proofs.lemmas.List.{get_or-map, length-map}
 use Rattle.mrp_lot.specs.One.{PlanRows}
-use Rattle.mrp_tables.specs.Table.{Table}
-use Rattle.mrp_tables.specs.declared.numbers.PairNo.{PairNo}
+use Rattle.mrp_rows.specs.Table.{Table}
+use Rattle.mrp_rows.specs.declared.numbers.PairNo.{PairNo}
 use Rattle.mrp_net.specs.Plan.{pair_plan}
 use Rattle.mrp_plan.specs.Progress.{CanPlan, IsPlannedTo}
 use Rattle.mrp_loops.proofs.Within.{needs_within}

@@ -1,5 +1,5 @@
 use Rattle.std.proofs.Common.{◌≡◌, ℕ, ◌+◌, ◌-◌, ◌*◌, List, take, drop, arith, ap, ◌∙◌, subst}
-use Rattle.mrp_tables.specs.Table.{Table, horizon}
+use Rattle.mrp_rows.specs.Table.{Table, horizon}
 use Rattle.mrp_net.specs.Built.{ArePeriods}
 use Rattle.mrp_net.specs.Sums.{demand}
 use Rattle.mrp_net.proofs.Summing.{row_in_periods}

@@ -1,6 +1,6 @@
 use Rattle.std.proofs.Common.{◌≡◌, ◌<◌, ℕ, List, length, sym, ap, ◌∙◌, subst}
 use Rattle.std.specs.List.{All}
-use Rattle.mrp_tables.specs.Table.{Table, IsPair}
+use Rattle.mrp_rows.specs.Table.{Table, IsPair}
 use Rattle.mrp_net.specs.declared.edge.Edge.{Edge}
 use Rattle.mrp_net.specs.Edges.{demanders, IsEdge}
 use Rattle.mrp_net.specs.Built.{by_demander}

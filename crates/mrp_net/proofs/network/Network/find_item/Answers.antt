@@ -2,7 +2,7 @@ use Rattle.std.proofs.Common.{◌≡◌, subst}
 use Rattle.std.specs.Option.{IfSome, IfNone}
 use Rattle.std.specs.List.{Contains, slice_get}
 use Rattle.std.proofs.Common.{Some}
-use Rattle.mrp_tables.specs.Table.{Table}
+use Rattle.mrp_rows.specs.Table.{Table}
 use Rattle.mrp_net.proofs.Naming.{found_name, missing_name}
 use Rattle.mrp_net.proofs.network.Network.find_item.Goals as goal
 

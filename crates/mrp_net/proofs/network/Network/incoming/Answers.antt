@@ -1,6 +1,6 @@
 use Rattle.std.proofs.Common.{◌≡◌, ℕ, ◌+◌, ◌*◌, ◌<◌, length, get_or, sym, ap, ◌∙◌, subst}
 use Rattle.std.proofs.lemmas.List.{get_or_read}
-use Rattle.mrp_tables.specs.Table.{Table, horizon}
+use Rattle.mrp_rows.specs.Table.{Table, horizon}
 use Rattle.mrp_net.specs.Built.{ArePeriods}
 use Rattle.mrp_net.specs.Sums.{incoming}
 use Rattle.mrp_net.proofs.Summing.{place_within}

@@ -1,7 +1,7 @@
 use Rattle.std.proofs.Common.{◌≡◌, ◌<◌, ℕ, ◌+◌, ◌*◌, List, length, map, slice_index, slice_range, sym, ap, ◌∙◌, subst}
 use Rattle.std.specs.List.{All}
-use Rattle.mrp_tables.specs.declared.numbers.ItemNo.{ItemNo}
-use Rattle.mrp_tables.specs.Table.{Table, IsTable}
+use Rattle.mrp_rows.specs.declared.numbers.ItemNo.{ItemNo}
+use Rattle.mrp_rows.specs.Table.{Table, IsTable}
 use Rattle.mrp_net.specs.declared.lanes.Taken.{Taken}
 use Rattle.mrp_net.specs.Lanes.{lane_at, lane_items, customer_of, supplier_of}
 use Rattle.mrp_net.specs.Routes.{route_no, taken, AreItems}

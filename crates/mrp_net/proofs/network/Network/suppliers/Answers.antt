@@ -1,6 +1,6 @@
 use Rattle.std.proofs.Common.{◌≡◌, List, length, sym, ap, ◌∙◌, subst}
 use Rattle.std.specs.List.{All}
-use Rattle.mrp_tables.specs.Table.{Table, IsPair}
+use Rattle.mrp_rows.specs.Table.{Table, IsPair}
 use Rattle.mrp_net.specs.declared.edge.Edge.{Edge}
 use Rattle.mrp_net.specs.Edges.{suppliers, IsEdge}
 use Rattle.mrp_net.specs.Built.{by_pair}
