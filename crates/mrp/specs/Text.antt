@@ -8,7 +8,7 @@ use Rattle.mrp_tables.specs.Reading.{OfRecords, Reads, TellsRows}
 use Rattle.mrp_net.specs.Names.{IsNamed}
 use Rattle.mrp_net.specs.Plan.{Fits}
 use Rattle.mrp_loops.specs.Loop.{AreCodes, IsLoopFound, IsLoopFree}
-use Rattle.mrp_loops.specs.Need.{AreNeeds, AreWithin}
+use Rattle.mrp_loops.specs.Sized.{IsSized}
 use Rattle.mrp_loops.specs.BoundFaults.{IsSupplyTooLarge, IsNeedTooLarge}
 use Rattle.mrp_plan.specs.Peg.{peg_terms}
 use Rattle.mrp_report.specs.Sending.{AppendsFront}
@@ -30,11 +30,8 @@ OfTable known says = (N : Table) × IsTable N × IsTableOf known N × says N
 -- ---- reports
 
 -- a network that can be planned: it has no loop, and supply and need of each pair are within the bound
-pub record IsPlannable (N : Table) : Type 0 where
-  pub loop_free : IsLoopFree N
-  pub needs : List ℕ
-  pub are_needs : AreNeeds N needs
-  pub within : AreWithin N needs
+abbrev pub IsPlannable : Table → Type 0
+IsPlannable N = IsSized N
 
 -- the plan rows and then the late rows of the plan: of a table of plans that fits, and only one does
 abbrev pub IsPlanReport : Table → List ℕ → Type 0

@@ -64,7 +64,7 @@ module _ (N : Table) (table : IsTable N) (free : IsLoopFree N) where
       omega (arith, length_push path x))
       (cases_Bool (is_in path' y.0))
 
-  chain_below : (x n : ℕ) → IsPair N x → HasChain N x n → n < length N.pairs
+  pub chain_below : (x n : ℕ) → IsPair N x → HasChain N x n → n < length N.pairs
   chain_below x n pair chain =
       let this : PairNo = record { 0 = x } in
       let short = chain_short n this [] (All-nil (λ (z : PairNo). IsPair N z.0)) pair (λ j k d jk kl e. omega arith) refl tt chain in

@@ -6,6 +6,8 @@ use Rattle.mrp_rows.specs.Table.{Table, IsTable, IsPair}
 use Rattle.mrp_rows.specs.declared.numbers.PairNo.{PairNo}
 use Rattle.mrp_net.specs.Edges.{demanders}
 use Rattle.mrp_loops.specs.Loop.{HasEdge, LeadsTo, IsLoopFree, AreCodes}
+use Rattle.mrp_loops.specs.Need.{AreNeeds, AreWithin}
+use Rattle.mrp_loops.specs.Sized.{IsSized}
 use Rattle.mrp_loops.specs.Taking.{waiting, IsTaken}
 use Rattle.mrp_loops.specs.Walk.{IsStuck}
 use Rattle.mrp_net.proofs.Members.{Contains-from_in}
@@ -62,3 +64,8 @@ stuck_from_taken N queue left codes taken = record {
       let ne : slice_index left e.0.demander.0 ≢ 0 = λ z. both_ways (slice_index left e.0.demander.0 == 0) test (eq-eqb (slice_index left e.0.demander.0) 0 z) in
       (e.0, Contains-from_in (demanders N x) e.0 e.1, omega arith);
 }
+
+-- a network with codes whose needs are within the bound is sized
+pub sized_from_codes : (N : Table) (codes needs : List ℕ) → IsTable N → AreCodes N codes → AreNeeds N needs → AreWithin N needs → IsSized N
+sized_from_codes N codes needs table are are_needs within =
+    record { table = table; loop_free = loop_free N codes table are; needs = needs; are_needs = are_needs; within = within }

@@ -4,7 +4,6 @@ pub mod Taken
 pub mod Steps
 pub mod Codes
 pub mod Rings
-pub mod Ranks
 pub mod Planning
 pub mod Needed
 pub mod Upstream
@@ -13,3 +12,4 @@ pub mod Coded
 pub mod Orders
 pub mod OnePlan
 pub mod Within
+pub mod Carried

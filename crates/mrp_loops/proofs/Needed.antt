@@ -1,7 +1,7 @@
 -- The needs, found in an order in which demanders come first.
 use Rattle.std.proofs.Common.{◌≡◌, ◌≢◌, ℕ, zero, suc, ◌+◌, ◌-◌, ◌*◌, ◌<◌, ◌≤◌, ◌==◌, true, inl, inr, ⊎_elim, List, [], ◌∷◌, length, map, get_or, set, min, refl, sym, ap, subst, ◌∙◌, arith, slice_index, sum_by, length-set}
 use Rattle.std.proofs.lemmas.Bool.{eqb-true, cases_eq, or_cases, true≢false}
-use Rattle.std.proofs.lemmas.List.{get_or_default, get_or-set_same, get_or-set_other}
+use Rattle.std.proofs.lemmas.List.{get_or_default, get_or-map, get_or-set_same, get_or-set_other, length-map}
 use Rattle.std.proofs.lemmas.List.Sums.{sum_by-cons}
 use Rattle.mrp_qty.specs.declared.quantity.TheConstants.{MOST}
 use Rattle.mrp_lot.specs.Lot.{rule_quantities}
@@ -12,15 +12,12 @@ use Rattle.mrp_net.specs.Edges.{demanders}
 use Rattle.mrp_net.specs.Sums.{pair_at, demand_total, supply}
 use Rattle.mrp_loops.specs.Need.{need_at, AreNeeds, AreWithin}
 use Rattle.mrp_loops.specs.Taking.{is_in}
-use Rattle.mrp_loops.specs.Order.{IsFound, IsSolved, IsFirstAbove, IsPlaced, rank}
-use Rattle.mrp_loops.specs.Loop.{AreCodes}
+use Rattle.mrp_loops.specs.Order.{ComesBefore, IsInCodeOrder, IsFound, IsSolved, IsFirstAbove}
 use Rattle.mrp_loops.specs.Sized.{IsPlanningOrder}
 use Rattle.mrp_loops.specs.BoundFaults.{IsNeedTooLarge, IsNeedFault, IsBoundFault}
 use Rattle.mrp_loops.specs.declared.sized.BoundFault.{BoundFault}
 use Rattle.mrp_loops.specs.declared.sized.BoundFault.TheVariants.{SupplyTooLarge, NeedTooLarge, Memory}
-use Rattle.mrp_loops.proofs.Planning.{place_rank}
-use Rattle.mrp_loops.proofs.Orders.{pair_placed, pairs_apart, pair_place, demander_place}
-use Rattle.mrp_loops.proofs.Ranks.{rank_by_code, rank_by_place}
+use Rattle.mrp_loops.proofs.Orders.{before_in_order, pair_placed, pairs_apart, pair_place, demander_place}
 use Rattle.mrp_net.proofs.Members.{In}
 
 sum_agree : {X : Type 0} (f g : X → ℕ) (xs : List X) → ((x : X) → In xs x → f x ≡ g x) → sum_by f xs ≡ sum_by g xs
@@ -153,19 +150,19 @@ pub cap_above : (cap most supply need s n t : ℕ) → most < cap → s ≡ min 
 cap_above cap most supply need s n t small es en et high = omega arith
 
 -- the first pair above the bound in the order of the codes
-pub need_too_large : (N : Table) (codes : List ℕ) (order : List PairNo) (x : PairNo) → IsPlaced codes (length codes) order → IsPlanningOrder N (map (λ z. z.0) order) → AreCodes N codes
+pub need_too_large : (N : Table) (codes : List ℕ) (order : List PairNo) (x : PairNo) → IsInCodeOrder codes (map (λ z. z.0) order) → IsPlanningOrder N (map (λ z. z.0) order)
     → ((y : ℕ) → IsPair N y → supply N y ≤ MOST) → IsFirstAbove N order x → IsNeedTooLarge N codes x.0
-need_too_large N codes order x placed planning are supplies first =
+need_too_large N codes order x by_code planning supplies first =
     let k = first.place in
     let needs = first.needs in
+    let numbers = map (λ (z : PairNo). z.0) order in
+    let size = length-map order (λ (z : PairNo). z.0) in
     let all = needs_extended N order planning (length order - k) k needs (let l = first.short in omega arith) first.solved.are_found in
     let same = need_same N order planning all.0 needs k k x all.2 (omega arith) first.short in
     let same' : need_at N all.0 x.0 ≡ need_at N needs x.0 = subst (λ (w : ℕ). need_at N all.0 w ≡ need_at N needs w) first.at same in
     let pair : IsPair N x.0 = subst (λ (w : ℕ). IsPair N w) first.at (pair_placed N order planning k x first.short) in
     let is = all.1.need x.0 pair in
-    let short : k < length codes = omega (arith, first.short, placed.size) in
-    let place = place_rank N codes order placed k x short in
-    let rank_x : rank codes x.0 ≡ k = subst (λ (w : ℕ). rank codes w ≡ k) first.at place.1 in
+    let at_x : slice_index numbers k ≡ x.0 = get_or-map (λ (z : PairNo). z.0) order k x 0 first.short ∙ first.at in
     record {
       pair = pair;
       supplies = supplies;
@@ -174,21 +171,18 @@ need_too_large N codes order x placed planning are supplies first =
       above = omega (arith, first.above);
       first = λ y pair_y before.
           let no_pair : PairNo = record { 0 = 0 } in
-          let y_short : y < length codes = omega (arith, are.size) in
-          let x_short : x.0 < length codes = omega (arith, are.size) in
-          let low : rank codes y < rank codes x.0 = ⊎_elim
-          (λ code. rank_by_code codes y x.0 y_short code)
-          (λ both. rank_by_place codes y x.0 x_short both.0 both.1)
-          before in
-          let at = placed.placed y no_pair y_short in
-          let early : rank codes y < k = omega arith in
-          let within = first.solved.within (rank codes y) no_pair early in
-          let kept = all.2 (rank codes y) no_pair early in
-          subst (λ (w : ℕ). supply N w + slice_index all.0 w ≤ MOST) at (omega arith);
+          let place = pair_place N order planning y pair_y in
+          let at_y : slice_index numbers place.0 ≡ y = get_or-map (λ (z : PairNo). z.0) order place.0 no_pair 0 place.1 ∙ place.2 no_pair in
+          let P : ℕ → Type 0 = λ w. ComesBefore codes w (slice_index numbers k) in
+          let Q : ℕ → Type 0 = λ w. ComesBefore codes y w in
+          let early : place.0 < k = before_in_order codes numbers by_code place.0 k (let l = place.1 in omega arith) (let l = first.short in omega arith) (subst P (sym at_y) (subst Q (sym at_x) before)) in
+          let within = first.solved.within place.0 no_pair early in
+          let kept = all.2 place.0 no_pair early in
+          subst (λ (w : ℕ). supply N w + slice_index all.0 w ≤ MOST) (place.2 no_pair) (omega (arith, within, kept));
     }
 
-pub bound_fault : (N : Table) (codes : List ℕ) (order : List PairNo) → IsPlaced codes (length codes) order → IsPlanningOrder N (map (λ z. z.0) order) → AreCodes N codes
+pub bound_fault : (N : Table) (codes : List ℕ) (order : List PairNo) → IsInCodeOrder codes (map (λ z. z.0) order) → IsPlanningOrder N (map (λ z. z.0) order)
     → ((y : ℕ) → IsPair N y → supply N y ≤ MOST) → (fault : BoundFault) → IsNeedFault N order fault → IsBoundFault N codes fault
-bound_fault N codes order placed planning are supplies (SupplyTooLarge x) h = absurd h
-bound_fault N codes order placed planning are supplies (NeedTooLarge x) h = need_too_large N codes order x placed planning are supplies h
-bound_fault N codes order placed planning are supplies Memory h = tt
+bound_fault N codes order by_code planning supplies (SupplyTooLarge x) h = absurd h
+bound_fault N codes order by_code planning supplies (NeedTooLarge x) h = need_too_large N codes order x by_code planning supplies h
+bound_fault N codes order by_code planning supplies Memory h = tt

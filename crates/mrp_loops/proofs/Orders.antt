@@ -1,7 +1,7 @@
 -- What a planning order says of the places in it.
-use Rattle.std.proofs.Common.{◌≡◌, ℕ, ◌<◌, ◌==◌, List, length, map, slice_index, slice_index_or, take, arith, ap, subst, sym, ◌∙◌, ⊎_elim, eq-eqb, ne_eqb}
+use Rattle.std.proofs.Common.{◌≡◌, ℕ, ◌<◌, ◌==◌, ◌⊎◌, List, length, map, slice_index, slice_index_or, take, arith, ap, subst, sym, ◌∙◌, ⊎_elim, eq-eqb, ne_eqb}
 use Rattle.std.specs.List.{range_with_len, Contains}
-use Rattle.std.proofs.lemmas.Bool.{cases_eq, eqb-false}
+use Rattle.std.proofs.lemmas.Bool.{cases_eq, cases_order, eqb-false}
 use Rattle.std.proofs.lemmas.List.{get_or_default, get_or-map, get_or-take, length-map, length-take}
 use Rattle.std.proofs.lemmas.List.FromFn.{get_or-range_with_len, length-range_with_len}
 use Rattle.std.proofs.lemmas.List.Sorted.{All-permutation, Contains-permutation}
@@ -10,6 +10,7 @@ use Rattle.mrp_rows.specs.Table.{Table, IsPair}
 use Rattle.mrp_rows.specs.declared.numbers.PairNo.{PairNo}
 use Rattle.mrp_net.proofs.Members.{In, Contains-from_in}
 use Rattle.mrp_net.specs.Edges.{demanders}
+use Rattle.mrp_loops.specs.Order.{ComesBefore, IsInCodeOrder}
 use Rattle.mrp_loops.specs.Sized.{IsPlanningOrder}
 use Rattle.mrp_net.specs.declared.edge.Edge.{Edge}
 
@@ -20,7 +21,7 @@ flips x y =
     (λ (ne : x ≡ y → ⊥). ne_eqb x y ne ∙ sym (ne_eqb y x (λ (e : y ≡ x). ne (sym e))))
     (cases_eq x y)
 
-range_at : (n i d : ℕ) → i < n → slice_index_or (range_with_len 0 n) i d ≡ i
+pub range_at : (n i d : ℕ) → i < n → slice_index_or (range_with_len 0 n) i d ≡ i
 range_at n i d within = omega (arith, get_or-range_with_len 0 n i d within)
 
 -- a pair stands in one place
@@ -56,7 +57,34 @@ demander_before N order is k within i d edge =
     let y = (slice_index_or (demanders N (slice_index order k)) i d).demander.0 in
     (found.0, early, sym (get_or-take k order found.0 0 early) ∙ get_or_default (take k order) found.0 0 y found.1 ∙ found.2)
 
--- the same of an order of pair numbers
+-- ---- in code order
+
+comes_one_way : (codes : List ℕ) (x y : ℕ) → ComesBefore codes x y → ComesBefore codes y x → ⊥
+comes_one_way codes x y first second = ⊎_elim
+    (λ (a : slice_index codes x < slice_index codes y). ⊎_elim
+    (λ (b : slice_index codes y < slice_index codes x). omega arith)
+    (λ (b : (slice_index codes y ≡ slice_index codes x) × (y < x)). omega (arith, b.0))
+    second)
+    (λ (a : (slice_index codes x ≡ slice_index codes y) × (x < y)). ⊎_elim
+    (λ (b : slice_index codes y < slice_index codes x). omega (arith, a.0))
+    (λ (b : (slice_index codes y ≡ slice_index codes x) × (y < x)). omega (arith, a.1, b.1))
+    second)
+    first
+
+-- what comes before by its code stands before in the order
+pub before_in_order : (codes order : List ℕ) → IsInCodeOrder codes order → (i k : ℕ) → i < length order → k < length order → ComesBefore codes (slice_index order i) (slice_index order k) → i < k
+before_in_order codes order is i k short long before = ⊎_elim
+    (λ (same : i ≡ k).
+    let here : ComesBefore codes (slice_index order k) (slice_index order k) = subst (λ (j : ℕ). ComesBefore codes (slice_index order j) (slice_index order k)) same before in
+    absurd (comes_one_way codes (slice_index order k) (slice_index order k) here here))
+    (λ apart. ⊎_elim
+    (λ (low : i < k). low)
+    (λ (high : k < i). absurd (comes_one_way codes (slice_index order i) (slice_index order k) before (is k i 0 high short)))
+    apart)
+    (cases_order i k)
+
+-- ---- an order of pair numbers
+
 module _ (N : Table) (order : List PairNo) (is : IsPlanningOrder N (map (λ z. z.0) order)) where
   number_at : (k : ℕ) (d : PairNo) → k < length order → slice_index (map (λ z. z.0) order) k ≡ (slice_index_or order k d).0
   number_at k d l = get_or-map (λ (z : PairNo). z.0) order k d 0 l

@@ -1,9 +1,11 @@
 -- Laws of codes, of networks without loops, of needs, and of plans.
-use Rattle.std.specs.Prelude.{◌≡◌, ℕ, ◌<◌, Bool, true, false, List, slice_index}
+use Rattle.std.specs.Prelude.{◌≡◌, ℕ, ◌<◌, Bool, true, false, List, map, slice_index}
 use Rattle.mrp_rows.specs.Table.{Table, IsTable, IsPair}
 use Rattle.mrp_net.specs.Plan.{HasOnePlan}
 use Rattle.mrp_loops.specs.Loop.{HasEdge, IsLoopFree, AreCodes}
-use Rattle.mrp_loops.specs.Need.{AreNeeds}
+use Rattle.mrp_loops.specs.Need.{AreNeeds, AreWithin}
+use Rattle.mrp_loops.specs.Order.{code_order}
+use Rattle.mrp_loops.specs.Sized.{IsSized, IsPlanningOrder}
 
 -- codes rise along edges
 abbrev pub CodesRise : Type 0
@@ -44,6 +46,25 @@ NeedsAreOne = (N : Table) → IsTable N → IsLoopFree N → (a b : List ℕ) �
 -- a network whose pairs have codes has needs
 abbrev pub NeedsExist : Type 0
 NeedsExist = (N : Table) (codes : List ℕ) → IsTable N → AreCodes N codes → (needs : List ℕ) × AreNeeds N needs
+
+-- pairs by rising code, and within a code in table order, come after their demanders
+abbrev pub CodeOrderPlans : Type 0
+CodeOrderPlans = (N : Table) (codes : List ℕ) → IsTable N → AreCodes N codes → IsPlanningOrder N (map (λ x. x.0) (code_order codes))
+
+-- a network without loops has an order in which each pair comes after its demanders
+abbrev pub PlanningOrdersExist : Type 0
+PlanningOrdersExist = (N : Table) → IsTable N → IsLoopFree N → (order : List ℕ) × IsPlanningOrder N order
+
+-- a sized network has codes, and one list of them
+abbrev pub SizedHasCodes : Type 0
+SizedHasCodes =
+    (N : Table) → IsSized N → (codes : List ℕ) × AreCodes N codes × ((others : List ℕ) → AreCodes N others → others ≡ codes)
+
+-- and needs, and one list of them: the one that is within the bound
+abbrev pub SizedHasNeeds : Type 0
+SizedHasNeeds =
+    (N : Table) → IsSized N
+    → (needs : List ℕ) × AreNeeds N needs × AreWithin N needs × ((others : List ℕ) → AreNeeds N others → others ≡ needs)
 
 -- the plan of a network without loops obeys the rules at every pair, and no other table of plans does
 abbrev pub OnePlan : Type 0

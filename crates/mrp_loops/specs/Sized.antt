@@ -3,20 +3,22 @@ use Rattle.std.specs.Prelude.{ℕ, ◌<◌, List, length, take, slice_index, All
 use Rattle.std.specs.List.{range_with_len}
 use Rattle.mrp_rows.specs.Table.{Table, IsTable}
 use Rattle.mrp_net.specs.Edges.{demanders}
-use Rattle.mrp_loops.specs.Loop.{AreCodes}
+use Rattle.mrp_loops.specs.Loop.{IsLoopFree}
 use Rattle.mrp_loops.specs.Need.{AreNeeds, AreWithin}
+
+-- a table is sized: it has no loop, and supply and need of each pair are together within 10^15
+pub record IsSized (N : Table) : Type 0 where
+  pub table : IsTable N
+  pub loop_free : IsLoopFree N
+  pub needs : List ℕ
+  pub are_needs : AreNeeds N needs
+  pub within : AreWithin N needs
 
 -- a network with the low-level codes and the needs of its pairs
 pub record Sized : Type 0 where
   pub network : Table
   pub codes : List ℕ
   pub needs : List ℕ
-
-pub record IsSized (s : Sized) : Type 0 where
-  pub table : IsTable s.network
-  pub are_codes : AreCodes s.network s.codes
-  pub are_needs : AreNeeds s.network s.needs
-  pub within : AreWithin s.network s.needs
 
 -- an order of all pairs, each once, in which a pair comes after all of its demanders
 pub record IsPlanningOrder (N : Table) (order : List ℕ) : Type 0 where

@@ -1,8 +1,10 @@
 //! Laws of codes, of networks without loops, of needs, and of plans. Each is the contract of a function that
 //! does nothing.
 
-ghost use Rattle.mrp_loops.specs.Laws.{CodesRise, CodedIsLoopFree, CodesExist, CodesAreOne, SetsHaveAFirst, DemandersDecide, NeedsExist, NeedsAreOne, OnePlan};
-ghost use Rattle.mrp_loops.specs.Within.{ReleasesAreWithinNeed, GrossIsWithinNeed, SupplyAndReleasesAreWithin, FiguresAreWithin, PlansAreWithin, QuantitiesAreWithin};
+ghost use Rattle.mrp_loops.specs.Laws.{CodesRise, CodedIsLoopFree, CodesExist, CodesAreOne, SetsHaveAFirst, DemandersDecide, NeedsExist, NeedsAreOne};
+ghost use Rattle.mrp_loops.specs.Laws.{CodeOrderPlans, PlanningOrdersExist, SizedHasCodes, SizedHasNeeds, OnePlan};
+ghost use Rattle.mrp_loops.specs.Within.{ReleasesAreWithinNeed, GrossIsWithinNeed, SupplyAndReleasesAreWithin, FiguresAreWithin, PlansAreWithin};
+ghost use Rattle.mrp_loops.specs.Within.{QuantitiesAreWithin, PlanIsWithin, LaneFiguresAreWithin};
 
 /// Low-level codes rise along edges: a pair's code is above that of each of its demanders. So a
 /// network with codes has no loop. A network without loops has codes, and none has two lists of them.
@@ -31,13 +33,26 @@ pub fn needs_are_one()
     ensures one { NeedsAreOne }
 {}
 
+/// The pairs by rising code, and within a code in table order, are an order in which each pair comes
+/// after its demanders. So a network without loops has such an order.
+pub fn demanders_come_first()
+    ensures codes { CodeOrderPlans }
+    ensures exist { PlanningOrdersExist }
+{}
+
+/// A sized network has codes and needs, and one list of each. The needs are those within the bound.
+pub fn sized_has_codes_and_needs()
+    ensures codes { SizedHasCodes }
+    ensures needs { SizedHasNeeds }
+{}
+
 /// The plan of a network without loops obeys the rules at every pair, and is the only table of plans
 /// that does.
 pub fn one_plan()
     ensures { OnePlan }
 {}
 
-/// In the plan of a sized network the planned order releases of a pair, and its gross requirements
+/// In a table of plans that fits a sized network the planned order releases of a pair, and its gross requirements
 /// with safety stock and the rule's quantities, are over all periods at most its need. So supply and
 /// releases together are at most 10^15 pieces, and so is each cumulative figure: opening figure,
 /// shipments and releases.
@@ -48,10 +63,22 @@ pub fn releases_within_need()
     ensures figures { FiguresAreWithin }
 {}
 
-/// In the plan of a sized network on hand, what comes in, gross requirements, safety stock and the
-/// rule's quantities of a pair are together at most 10^15 pieces. So no row of it has a quantity or a
-/// balance above.
-pub fn plan_within()
+/// On hand, what comes in, gross requirements, safety stock and the rule's quantities of a pair are
+/// then together at most 10^15 pieces. So no row of it has a quantity or a balance above.
+pub fn quantities_within()
     ensures together { PlansAreWithin }
     ensures each { QuantitiesAreWithin }
+{}
+
+/// The plan of a sized network is within the bound: on hand, what comes in, gross requirements, safety
+/// stock and the rule's quantities of each pair are together at most 10^15 pieces, its releases are
+/// within its need, and no row has a quantity or a balance above 10^15.
+pub fn plan_within()
+    ensures { PlanIsWithin }
+{}
+
+/// Over a lane the figure with which an item begins and all parts of the plan's releases of it are
+/// together at most 10^15 pieces: so is each cumulative figure of the lane, in every period.
+pub fn lane_figures_within()
+    ensures { LaneFiguresAreWithin }
 {}

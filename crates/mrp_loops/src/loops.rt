@@ -58,6 +58,14 @@ impl Levels {
         self.codes[x.0]
     }
 
+    /// How many pairs have a code. No code is greater.
+    pub(crate) fn pairs(&self) -> usize
+        ensures value { result ≡ length self.now }
+        ensures codes { All (λ code. code ≤ length self.now) self.now }
+    {
+        self.codes.len()
+    }
+
     /// The code as an index: it is no greater than the number of pairs.
     pub(crate) fn index(&self, x: PairNo) -> usize
         requires { x.0 < length self.now }

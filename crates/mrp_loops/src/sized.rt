@@ -5,7 +5,7 @@ ghost use Rattle.mrp_rows.specs.Table.{IsPair};
 ghost use Rattle.mrp_net.specs.Sums.{supply};
 ghost use Rattle.mrp_loops.specs.Loop.{AreCodes};
 ghost use Rattle.mrp_loops.specs.Need.{AreNeeds, AreWithin};
-ghost use Rattle.mrp_loops.specs.Order.{IsInCodeOrder};
+ghost use Rattle.mrp_loops.specs.Order.{code_order, IsInCodeOrder};
 ghost use Rattle.mrp_loops.specs.BoundFaults.{IsBoundFault, IsSupplyTooLarge, IsNeedFault};
 ghost use Rattle.mrp_loops.specs.Sized.{IsSized, IsPlanningOrder};
 
@@ -59,28 +59,35 @@ pub struct SizedNet<'a> {
 }
 
 impl<'a> Model for SizedNet<'a> {
-    ghost use Rattle.std.specs.Prelude.{map};
-    ghost use Rattle.mrp_loops.specs.Order.{IsInCodeOrder};
-    ghost use Rattle.mrp_loops.specs.Sized.{Sized, IsSized, IsPlanningOrder};
+    ghost use Rattle.std.specs.Prelude.{◌≡◌};
+    ghost use Rattle.mrp_loops.specs.Loop.{AreCodes};
+    ghost use Rattle.mrp_loops.specs.Need.{AreNeeds};
+    ghost use Rattle.mrp_loops.specs.Order.{code_order};
+    ghost use Rattle.mrp_loops.specs.Sized.{Sized, IsSized};
 
     ghost Value = { Sized };
 
     ghost view = { λ s. record { network = s.network.now; codes = s.levels.now; needs = s.needs.items } };
 
-    ghost invariant = { λ s. IsSized (record { network = s.network.now; codes = s.levels.now; needs = s.needs.items }) × IsPlanningOrder s.network.now (map (λ x. x.0) s.order.items) × IsInCodeOrder s.levels.now (map (λ x. x.0) s.order.items) };
+    ghost invariant = { λ s.
+        IsSized s.network.now × AreCodes s.network.now s.levels.now × AreNeeds s.network.now s.needs.items ×
+        (s.order.items ≡ code_order s.levels.now) };
 }
 
 impl<'a> SizedNet<'a> {
     /// The network.
     pub fn network(&self) -> &'a Network
         ensures value { result.now ≡ self.now.network }
-        ensures sized { IsSized self.now }
+        ensures sized { IsSized self.now.network }
+        ensures codes { AreCodes self.now.network self.now.codes }
+        ensures needs { AreNeeds self.now.network self.now.needs }
     {
         self.network
     }
 
     /// All pairs, by rising low-level code and within a code in table order.
     pub fn in_code_order(&self) -> &[PairNo]
+        ensures value { result.now ≡ code_order self.now.codes }
         ensures planning { IsPlanningOrder self.now.network (map (λ x. x.0) result.now) }
         ensures by_code { IsInCodeOrder self.now.codes (map (λ x. x.0) result.now) }
     {
@@ -105,13 +112,15 @@ pub fn bound<'a>(
 ) -> Result<SizedNet<'a>, BoundFault>
     requires { AreCodes network.now levels.now }
     ensures sized { IfOk result (λ s. (s.network ≡ network.now) × (s.codes ≡ levels.now)) }
-    ensures within { IfOk result (λ s. IsSized s) }
+    ensures within { IfOk result (λ s. IsSized s.network) }
+    ensures needs { IfOk result (λ s. AreNeeds s.network s.needs) }
     ensures fault { IfErr result (λ fault. IsBoundFault network.now levels.now fault) }
 {
     if let Some(x) = first_oversupplied(network) {
         return Err(BoundFault::SupplyTooLarge(x));
     }
-    let order = by_code(alloc, levels, network.pairs())?;
+    let _pairs = network.pairs();
+    let order = by_code(alloc, levels)?;
     let needs = test_needs(alloc, network, order.as_slice())?;
     Ok(SizedNet {
         network,

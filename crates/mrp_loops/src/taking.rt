@@ -1,4 +1,5 @@
-ghost use Rattle.std.specs.Prelude.{◌≡◌, ◌+◌, ◌<◌, ◌≤◌, ◌-◌, ◌++◌, ◌∷◌, [], ◌==◌, if◌then◌else◌, max, length, take, slice_index, slice_set, slice_index_or, IfOk, OnOk};
+ghost use Rattle.std.specs.Prelude.{◌≡◌, ◌+◌, ◌<◌, ◌≤◌, ◌-◌, ◌++◌, ◌∷◌, [], ◌==◌, if◌then◌else◌, max, length, take, slice_index};
+ghost use Rattle.std.specs.Prelude.{slice_set, slice_index_or, IfOk, OnOk};
 ghost use Rattle.mrp_loops.specs.Taking.{IsTaken};
 
 use mrp_net::{Network, PairNo};
@@ -70,7 +71,8 @@ fn lower(state: &mut Taking, pair: PairNo, code: u64) -> Result<(), Memory>
     requires some { 1 ≤ slice_index state.old.left.items pair.0 }
     ensures left { OnOk result (state.new.left.items ≡ slice_set state.old.left.items pair.0 (slice_index state.old.left.items pair.0 - 1)) }
     ensures codes { OnOk result (state.new.codes.items ≡ slice_set state.old.codes.items pair.0 (max (slice_index state.old.codes.items pair.0) code)) }
-    ensures queue { OnOk result (state.new.queue.items ≡ (if slice_index state.old.left.items pair.0 == 1 then state.old.queue.items ++ pair ∷ [] else state.old.queue.items)) }
+    ensures queue { OnOk result (state.new.queue.items ≡
+        (if slice_index state.old.left.items pair.0 == 1 then state.old.queue.items ++ pair ∷ [] else state.old.queue.items)) }
 {
     let x = pair.0;
     state.codes[x] = state.codes[x].max(code);

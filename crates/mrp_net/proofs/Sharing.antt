@@ -1,11 +1,10 @@
 -- The parts of a release over a pair's sources make the release, and pairs stand once.
-use Rattle.std.proofs.Common.{◌≡◌, ℕ, suc, zero, ◌+◌, ◌-◌, ◌*◌, ◌/◌, ◌<◌, ◌≤◌, ◌&&◌, Bool, true, false, not, cond, eqb, ltb, List, [], ◌∷◌, ◌++◌, inl, inr, length, get_or, map, Some, refl, sym, ap, ◌∙◌, subst, arith}
-use Rattle.std.specs.List.{All, filter, sum_by, slice_get, position_or_len, IsDistinct}
+use Rattle.std.proofs.Common.{◌≡◌, ℕ, suc, zero, ◌+◌, ◌-◌, ◌*◌, ◌/◌, ◌<◌, ◌≤◌, ◌&&◌, true, false, eqb, List, [], ◌∷◌, ◌++◌, inl, inr, length, get_or, map, refl, sym, ap, ◌∙◌, subst, arith}
+use Rattle.std.specs.List.{All, filter, sum_by, position_or_len}
 use Rattle.std.specs.Option.{unwrap_or, option_map}
-use Rattle.std.proofs.lemmas.Bool.{cases_Bool, cases_order, cases_eq, cases_lt, eqb-true, eq-eqb, ne_eqb, and_from, and_parts, true≢false}
-use Rattle.std.proofs.lemmas.Bool.Decides.{nat_tests}
-use Rattle.std.proofs.lemmas.List.Elements.{All-head, All-tail, All-filter, All-append, All-map, filter-append}
-use Rattle.std.proofs.lemmas.List.Sums.{sum_by-cons, sum_by-append, prefix_len-le-length, passes_at_first, fails_before_first}
+use Rattle.std.proofs.lemmas.Bool.{cases_order, eq-eqb, ne_eqb, and_from, true≢false}
+use Rattle.std.proofs.lemmas.List.Elements.{All-head, All-tail, All-filter, filter-append}
+use Rattle.std.proofs.lemmas.List.Sums.{sum_by-cons, passes_at_first, fails_before_first}
 use Rattle.std.proofs.lemmas.Map.Keys.{apart_from_distinct}
 use Rattle.std.proofs.lemmas.Nat.{le-div}
 use Rattle.std.proofs.lemmas.Option.{slice_get-get_or}
@@ -17,8 +16,8 @@ use Rattle.mrp_rows.specs.declared.rows.Supply.{Supply}
 use Rattle.mrp_rows.specs.declared.rows.Supply.TheVariants.{Make, Buy, From}
 use Rattle.mrp_rows.specs.Table.{Table, IsTable, IsPair, IsSourceRow, AreShares, HasSupply, is_same_pair, pair_no, sources_of_pair, supply_at}
 use Rattle.mrp_net.specs.declared.edge.Edge.{Edge}
-use Rattle.mrp_net.specs.Edges.{part, edge_need, bill_edge, source_edge, edges, suppliers, IsEdge}
-use Rattle.mrp_group.specs.Groups.{group, sorted_by}
+use Rattle.mrp_net.specs.Edges.{part, edge_need, bill_edge, source_edge, edges}
+use Rattle.mrp_group.specs.Groups.{sorted_by}
 use Rattle.mrp_net.specs.Laws.{PartsAreWhole, NeedsAreWhole, OthersHaveNoSources, OthersHaveComponents, BoughtHaveNoEdges, PairsAreFound}
 use Rattle.mrp_net.specs.Sums.{pair_at, no_pair}
 use Rattle.mrp_group.proofs.Grouping.{sorted_by-suc}

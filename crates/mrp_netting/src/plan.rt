@@ -26,9 +26,19 @@ pub struct PairPlan {
 impl Model for PairPlan {
     ghost Value = { PlanRows };
 
-    ghost view = { λ p. record { gross = p.gross; incoming = p.incoming; order = p.order; release = p.release; available = p.available; late = late_orders p.lead p.order p.late.items } };
+    ghost view = { λ p. record {
+      gross = p.gross;
+      incoming = p.incoming;
+      order = p.order;
+      release = p.release;
+      available = p.available;
+      late = late_orders p.lead p.order p.late.items;
+    } };
 
-    ghost invariant = { λ p. (length p.incoming ≡ length p.gross) × (length p.order ≡ length p.gross) × (length p.release ≡ length p.gross) × (length p.available ≡ length p.gross) × (length p.gross ≤ vec_capacity p.late) × AreLate p.lead p.order p.late.items × (length p.late.items ≤ length p.gross) };
+    ghost invariant = { λ p.
+        (length p.incoming ≡ length p.gross) × (length p.order ≡ length p.gross) × (length p.release ≡ length p.gross) ×
+        (length p.available ≡ length p.gross) × (length p.gross ≤ vec_capacity p.late) ×
+        AreLate p.lead p.order p.late.items × (length p.late.items ≤ length p.gross) };
 }
 
 impl PairPlan {

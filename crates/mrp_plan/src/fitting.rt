@@ -5,6 +5,7 @@ ghost use Rattle.mrp_qty.specs.declared.quantity.TheConstants.{MOST};
 ghost use Rattle.mrp_rows.specs.Table.{IsPair, horizon};
 ghost use Rattle.mrp_net.specs.Sums.{incoming, row_of};
 ghost use Rattle.mrp_net.specs.Plan.{Fits, gross, pair_plan, rows_at};
+ghost use Rattle.mrp_loops.specs.Need.{AreNeeds};
 ghost use Rattle.mrp_loops.specs.Sized.{IsSized, IsPlanningOrder};
 ghost use Rattle.mrp_plan.specs.Explosion.{asked, CanAsk};
 ghost use Rattle.mrp_plan.specs.Progress.{CanPlan, HasRooms, IsPlannedTo};
@@ -57,7 +58,8 @@ fn has_periods(network: &Network, plan: &Plan) -> bool
 /// Whether the plan obeys the rules at the pair at place `k` of the order, where it does at those
 /// before it.
 fn fits_next(net: &SizedNet, order: &[PairNo], k: usize, plan: &Plan) -> bool
-    requires sized { IsSized net.now }
+    requires sized { IsSized net.now.network }
+    requires needs { AreNeeds net.now.network net.now.needs }
     requires order { IsPlanningOrder net.now.network (map (λ x. x.0) order.now) }
     requires place { k < length order.now }
     requires before { IsPlannedTo net.now.network net.now.needs (map (λ x. x.0) order.now) k plan.now }

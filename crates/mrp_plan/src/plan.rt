@@ -4,6 +4,7 @@ ghost use Rattle.mrp_lot.specs.One.{one};
 ghost use Rattle.mrp_rows.specs.Table.{IsPair, horizon};
 ghost use Rattle.mrp_net.specs.Sums.{demand, demand_total, incoming, received_total, shipped_total, row_of};
 ghost use Rattle.mrp_net.specs.Plan.{Fits, gross, pair_plan, plan_of, rows_at};
+ghost use Rattle.mrp_loops.specs.Need.{AreNeeds};
 ghost use Rattle.mrp_loops.specs.Sized.{IsSized, IsPlanningOrder};
 ghost use Rattle.mrp_plan.specs.Progress.{CanPlan, IsPlannedTo};
 
@@ -108,7 +109,8 @@ fn plan_next(
     incoming: &mut Row,
     gross: &mut Row,
 )
-    requires sized { IsSized net.now }
+    requires sized { IsSized net.now.network }
+    requires needs { AreNeeds net.now.network net.now.needs }
     requires order { IsPlanningOrder net.now.network (map (λ x. x.0) order.now) }
     requires place { k < length order.now }
     requires before { IsPlannedTo net.now.network net.now.needs (map (λ x. x.0) order.now) k plans.old }

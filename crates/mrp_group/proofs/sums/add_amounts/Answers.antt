@@ -1,4 +1,4 @@
-use Rattle.std.proofs.Common.{◌≡◌, ℕ, ◌+◌, ◌*◌, ◌-◌, ◌^◌, ◌<◌, min, get_or, sym, ap, ◌∙◌, subst, arith}
+use Rattle.std.proofs.Common.{◌≡◌, ℕ, ◌+◌, ◌*◌, ◌-◌, ◌^◌, ◌<◌, min, get_or, sym, ap, ◌∙◌, subst}
 use Rattle.mrp_group.proofs.Adding.{AddsAmounts-more}
 use Rattle.mrp_group.proofs.sums.add_amounts.Goals as goal
 

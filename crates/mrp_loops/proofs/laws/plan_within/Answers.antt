@@ -1,8 +1,5 @@
 use Rattle.mrp_loops.proofs.Within as within
 use Rattle.mrp_loops.proofs.laws.plan_within.Goals as goal
 
-pub returns-clause-together : goal.returns-clause-together
-returns-clause-together c = within.plans_within
-
-pub returns-clause-each : goal.returns-clause-each
-returns-clause-each c = within.quantities_within
+pub returns : goal.returns
+returns c = within.plan_is_within

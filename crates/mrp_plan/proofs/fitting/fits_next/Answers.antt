@@ -5,6 +5,7 @@ use Rattle.mrp_rows.specs.declared.numbers.PairNo.{PairNo}
 use Rattle.mrp_net.specs.Plan.{rows_at, pair_plan}
 use Rattle.mrp_plan.specs.Progress.{CanPlan}
 use Rattle.mrp_loops.proofs.Orders.{place_in_table}
+use Rattle.mrp_loops.proofs.Within.{needs_within}
 use Rattle.mrp_plan.proofs.Planning.{can_plan, next_kept}
 use Rattle.mrp_plan.proofs.fitting.fits_next.Goals as goal
 
@@ -17,7 +18,7 @@ fits_at-requires c =
     let P : Table → Type 0 = λ n. CanPlan n c.args.plan.now (slice_index_or c.args.order.now c.args.k (record { 0 = 0 })).0 in
     let Q : ℕ → Type 0 = λ x. CanPlan N c.args.plan.now x in
     let s = c.requires.sized in
-    subst P (sym c.network.ensures.value) (subst Q at (can_plan N c.args.net.now.needs order c.args.k c.args.plan.now s.table s.are_needs s.within c.requires.order place c.requires.before))
+    subst P (sym c.network.ensures.value) (subst Q at (can_plan N c.args.net.now.needs order c.args.k c.args.plan.now s.table c.requires.needs (needs_within N s c.args.net.now.needs c.requires.needs) c.requires.order place c.requires.before))
 
 pub returns-clause-after : goal.returns-clause-after
 returns-clause-after c = λ yes.
@@ -29,7 +30,7 @@ returns-clause-after c = λ yes.
     let kept : P N (slice_index order c.args.k) =
     subst (λ (x : ℕ). P N x) (sym at) (subst (λ (n : Table). P n (slice_index_or c.args.order.now c.args.k (record { 0 = 0 })).0) c.network.ensures.value (c.fits_at.ensures.0 yes)) in
     let s = c.requires.sized in
-    next_kept N c.args.net.now.needs order c.args.k c.args.plan.now s.table s.are_needs s.within c.requires.order place c.requires.before kept
+    next_kept N c.args.net.now.needs order c.args.k c.args.plan.now s.table c.requires.needs (needs_within N s c.args.net.now.needs c.requires.needs) c.requires.order place c.requires.before kept
 
 pub returns-clause-fits : goal.returns-clause-fits
 returns-clause-fits c = λ fits.
