@@ -23,4 +23,6 @@ pub mod Seeing
 pub mod SeeingLanes
 pub mod Lengths
 pub mod Ends
+pub mod OwnEdges
 pub mod Views
+pub mod Placing

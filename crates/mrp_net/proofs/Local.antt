@@ -52,7 +52,7 @@ pub source_pairs_are_there : SourcePairsAreThere
 source_pairs_are_there N is = λ k d h. source_pair_is N (get_or N.sources k d) (is.read.sources k d h).pair (is.source_pairs k d h)
 
 -- bill edges stay within a plant, and source edges don't
-bill_edge_is_local : (N : Table) (b : BillRow) → IsPair N b.parent.0 → IsPair N b.component.0 → plant_at N b.parent.0 ≡ plant_at N b.component.0 → is_local N (bill_edge b) ≡ true
+pub bill_edge_is_local : (N : Table) (b : BillRow) → IsPair N b.parent.0 → IsPair N b.component.0 → plant_at N b.parent.0 ≡ plant_at N b.component.0 → is_local N (bill_edge b) ≡ true
 bill_edge_is_local N b parent component same =
     eq-eqb (pair_at N b.parent.0).plant.0 (pair_at N b.component.0).plant.0 (sym (plant_is N b.parent.0 parent) ∙ same ∙ plant_is N b.component.0 component)
 

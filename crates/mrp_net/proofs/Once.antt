@@ -8,10 +8,10 @@ use Rattle.std.proofs.lemmas.Map.Keys.{IsDistinct-head, IsDistinct-tail}
 use Rattle.mrp_net.proofs.Sharing.{sum_map}
 
 -- what a test counts
-one : (b : Bool) → b ≡ true → ◌≡◌ {A = ℕ} (cond b 1 0) 1
+pub one : (b : Bool) → b ≡ true → ◌≡◌ {A = ℕ} (cond b 1 0) 1
 one b h = ap (λ (z : Bool). let n : ℕ = cond z 1 0 in n) h
 
-none : (b : Bool) → b ≡ false → ◌≡◌ {A = ℕ} (cond b 1 0) 0
+pub none : (b : Bool) → b ≡ false → ◌≡◌ {A = ℕ} (cond b 1 0) 0
 none b h = ap (λ (z : Bool). let n : ℕ = cond z 1 0 in n) h
 
 at_most_one : (b : Bool) → cond b 1 0 ≤ 1

@@ -86,12 +86,12 @@ is_own_of N plant x item pair e f = (plant_pair N x.0, own_pair N plant x.0 pair
 
 -- ---- edges
 
-All-flat_map : {X Y : Type 0} (P : Y → Type 0) (f : X → List Y) (xs : List X) → All (λ x. All P (f x)) xs → All P (flat_map f xs)
+pub All-flat_map : {X Y : Type 0} (P : Y → Type 0) (f : X → List Y) (xs : List X) → All (λ x. All P (f x)) xs → All P (flat_map f xs)
 All-flat_map P f [] h = All-nil P
 All-flat_map P f (x ∷ xs) h =
     All-append P (f x) (flat_map f xs) (All-head (λ x. All P (f x)) x xs h) (All-flat_map P f xs (All-tail (λ x. All P (f x)) x xs h))
 
-demanders_take : (N : Table) (x : ℕ) → All (λ e. e.pair.0 ≡ x) (demanders N x)
+pub demanders_take : (N : Table) (x : ℕ) → All (λ e. e.pair.0 ≡ x) (demanders N x)
 demanders_take N x =
     All-sorted_by (λ (e : Edge). e.pair.0 ≡ x) (λ e. e.demander.0) (length N.pairs) (filter (λ e. eqb e.pair.0 x) (edges N))
     (λ k d h. eqb-true (get_or (filter (λ (e : Edge). eqb e.pair.0 x) (edges N)) k d).pair.0 x (filter_passes (λ e. eqb e.pair.0 x) (edges N) k d h))

@@ -7,6 +7,7 @@ use Rattle.mrp_net.specs.declared.view.OutgoingLane.{OutgoingLane}
 use Rattle.mrp_net.specs.Sums.{demand, received}
 use Rattle.mrp_net.specs.View.{comes_to, goes_from, lane_numbers, incoming_lane, outgoing_lane}
 use Rattle.mrp_net.specs.ViewLaws.{ViewsSayEnough, ViewsHaveLanesIn, ViewsHaveLanesOut}
+use Rattle.mrp_net.proofs.OwnEdges.{numbers_rise, by_component}
 use Rattle.mrp_net.proofs.Routing.{map-map}
 use Rattle.mrp_net.proofs.Seeing.{pairs_are_few, numbers_stand_once, items_stand_once, pairs_are_planned, edges_are_own, amounts_length}
 use Rattle.mrp_net.proofs.SeeingLanes.{incoming_are, incoming_stand_once, outgoing_are, outgoing_stand_once, schedules_are}
@@ -16,10 +17,12 @@ views_say_enough N is plant = record {
   some_periods = is.read.limits.some_periods;
   periods = is.read.limits.periods;
   few_pairs = omega (arith, pairs_are_few N plant, is.read.limits.pairs);
+  numbers_rise = numbers_rise N plant;
   numbers_once = numbers_stand_once N plant;
   items_once = λ item. items_stand_once N plant item is;
   pairs = pairs_are_planned N plant is;
   edges = edges_are_own N plant is;
+  by_component = by_component N plant;
   demands = amounts_length N (demand N) plant;
   receipts = amounts_length N (received N) plant;
   incoming_once = incoming_stand_once N plant;

@@ -1,5 +1,6 @@
 -- What the view of a plant says, whatever the accepted table: all that a plant must know of it to plan alone.
 use Rattle.std.specs.Prelude.{◌≡◌, ℕ, ◌-◌, ◌*◌, ◌<◌, ◌≤◌, ◌==◌, List, length, map, count_by, Option, IfSome, All, Contains}
+use Rattle.std.specs.List.Sorted.{IsNonDecreasingBy}
 use Rattle.mrp_qty.specs.declared.quantity.TheConstants.{MOST}
 use Rattle.mrp_qty.specs.declared.horizon.TheConstants.{LONGEST}
 use Rattle.mrp_lot.specs.Lot.{IsRule}
@@ -17,7 +18,7 @@ use Rattle.mrp_net.specs.declared.view.OutgoingLane.{OutgoingLane}
 use Rattle.mrp_net.specs.declared.view.PlantEdge.{PlantEdge}
 use Rattle.mrp_net.specs.declared.view.PlantPair.{PlantPair}
 use Rattle.mrp_net.specs.Loads.{Load}
-use Rattle.mrp_net.specs.View.{PlantRows}
+use Rattle.mrp_net.specs.View.{PlantRows, NumbersRise}
 
 -- one of the plant's pairs has that number, and is of that item
 abbrev pub IsOwn : PlantRows → PairNo → Type 0
@@ -100,10 +101,12 @@ pub record IsView (V : PlantRows) : Type 0 where
   pub some_periods : 1 ≤ V.horizon
   pub periods : V.horizon ≤ LONGEST
   pub few_pairs : length V.pairs ≤ MOST_PAIRS
+  pub numbers_rise : NumbersRise V.pairs
   pub numbers_once : (x : ℕ) → pairs_of_number x V.pairs ≤ 1
   pub items_once : (item : ℕ) → pairs_of_item item V.pairs ≤ 1
   pub pairs : All IsPlantPair V.pairs
   pub edges : All (IsPlantEdge V) V.edges
+  pub by_component : IsNonDecreasingBy (λ e. e.component.0) V.edges
   pub demands : length V.demands ≡ length V.pairs * V.horizon
   pub receipts : length V.receipts ≡ length V.pairs * V.horizon
   pub incoming_once : (l : ℕ) → count_by (λ lane. lane.number.0 == l) V.incoming ≤ 1

@@ -1,6 +1,6 @@
 -- What a plant sees of a network: its own pairs and rows, and the lanes that it receives or sends.
-use Rattle.std.specs.Prelude.{ℕ, ◌==◌, Bool, List, [], length, map, filter}
-use Rattle.std.specs.List.{flat_map, range_with_len}
+use Rattle.std.specs.Prelude.{ℕ, ◌<◌, ◌==◌, Bool, List, [], length, map, filter}
+use Rattle.std.specs.List.{AllPairs, flat_map, range_with_len}
 use Rattle.mrp_rows.specs.declared.numbers.ItemNo.{ItemNo}
 use Rattle.mrp_rows.specs.Table.{Table, horizon, pair_no}
 use Rattle.mrp_net.specs.declared.edge.Edge.{Edge}
@@ -41,6 +41,10 @@ plant_pair N x = record { number = record { 0 = x }; item = (pair_at N x).item; 
 
 abbrev pub plant_pairs : Table → ℕ → List PlantPair
 plant_pairs N plant = map (plant_pair N) (filter (is_of_plant N plant) (range_with_len 0 (length N.pairs)))
+
+-- their numbers rise
+abbrev pub NumbersRise : List PlantPair → Type 0
+NumbersRise pairs = AllPairs (λ p q. p.number.0 < q.number.0) pairs
 
 -- the edges to a pair from its own plant: so many of it go into one of each parent
 abbrev pub plant_edge : Edge → PlantEdge

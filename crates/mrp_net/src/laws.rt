@@ -8,7 +8,7 @@ ghost use Rattle.mrp_net.specs.Laws.{SourcePairsAreThere, LocalEdgesAreBills, Lo
 ghost use Rattle.mrp_net.specs.Laws.{GrossIsLocalAndCalled, PlansLookAtDemanders, SourcesHaveLanes, LanesComeInTwos, LanesStandOnce, LanesJoinTwoPlants};
 ghost use Rattle.mrp_net.specs.Laws.{ItemsHaveSources, OpeningsAreSupplied, IncomingComesOverLanes, ShipmentsAreOfItems};
 ghost use Rattle.mrp_net.specs.Laws.{OneEdgeJoinsTwoPairs, DemandersStandOnce};
-ghost use Rattle.mrp_net.specs.ViewLaws.{ViewsSayEnough, ViewsHaveLanesIn, ViewsHaveLanesOut};
+ghost use Rattle.mrp_net.specs.ViewLaws.{ViewsSayEnough, ViewsHaveLanesIn, ViewsHaveLanesOut, ViewsHaveParents, ViewsHaveBills};
 
 /// The parts of a release over the sources of a pair that is taken from plants add up to the release,
 /// and so does what it asks of its suppliers: nothing is lost or made up by rounding.
@@ -131,4 +131,11 @@ pub fn views_say_enough()
 pub fn views_have_their_lanes()
     ensures incoming { ViewsHaveLanesIn }
     ensures outgoing { ViewsHaveLanesOut }
+{}
+
+/// The edges that a plant sees are those of its components: to each of its pairs they are the pair's
+/// own, and they ask of it what the component rows ask.
+pub fn views_have_their_edges()
+    ensures parents { ViewsHaveParents }
+    ensures bills { ViewsHaveBills }
 {}

@@ -221,10 +221,14 @@ impl Model for PlantView {
       incoming = v.incoming.items;
       outgoing = v.outgoing.items;
     } };
+
+    ghost use Rattle.mrp_net.specs.View.{NumbersRise};
+
+    ghost invariant = { λ v. NumbersRise v.pairs.items };
 }
 
 impl PlantView {
-    ghost use Rattle.std.specs.Prelude.{◌≡◌};
+    ghost use Rattle.std.specs.Prelude.{◌≡◌, ◌==◌, position};
 
     /// The number of periods.
     pub fn horizon(&self) -> Horizon
@@ -238,6 +242,14 @@ impl PlantView {
         ensures { result.now ≡ self.now.pairs }
     {
         self.pairs.as_slice()
+    }
+
+    /// The place of a pair among the plant's pairs, or `None` where it is another plant's.
+    pub fn place(&self, x: PairNo) -> Option<usize>
+        ensures { result ≡ position (λ p. p.number.0 == x.0) self.now.pairs }
+    {
+        let found = self.pairs.binary_search_by_key(&x.0, |pair| pair.number.0);
+        found.ok()
     }
 
     /// The components of its made pairs, by component in table order, and then by parent.

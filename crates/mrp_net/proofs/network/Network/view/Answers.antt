@@ -1,8 +1,9 @@
-use Rattle.std.proofs.Common.{ap, ◌∙◌}
+use Rattle.std.proofs.Common.{List, sym, ap, ◌∙◌, subst}
 use Rattle.std.specs.List.{flat_map}
 use Rattle.mrp_net.specs.declared.view.PlantPair.{PlantPair}
 use Rattle.mrp_net.specs.Sums.{row_of, demand, received}
-use Rattle.mrp_net.specs.View.{edges_to}
+use Rattle.mrp_net.specs.View.{NumbersRise, edges_to}
+use Rattle.mrp_net.proofs.OwnEdges.{numbers_rise}
 use Rattle.mrp_net.proofs.Pushing.{rows_are}
 use Rattle.mrp_net.proofs.network.Network.view.Goals as goal
 
@@ -17,3 +18,6 @@ returns c =
     (c.in_ok-receipts.ensures ∙ ap (flat_map (λ (p : PlantPair). row_of N (received N p.number.0))) c.as_slice-3.ensures.value)
     c.in_ok-incoming.ensures
     c.in_ok-outgoing.ensures
+
+pub invariant_of-result : goal.invariant_of-result
+invariant_of-result c = subst (λ (z : List PlantPair). NumbersRise z) (sym c.in_ok-pairs.ensures.value) (numbers_rise c.args.self.now c.args.plant.0)
