@@ -1,4 +1,1 @@
-pub mod Answer
-pub mod Fault
-pub mod Lines
-pub mod Text
+pub mod Ending

@@ -1,7 +1,6 @@
 //! `mrp` plans the material of all plants of a firm at once.
 //!
-//! The program is thin: words in, one library call, a status out. The text functions read a table
-//! and write a report; [`lines`] has the lines that report a fault.
+//! The program is thin: words in, one call of the library `mrp_text`, a status out.
 #![tactic(auto)]
 
 ghost use Rattle.std.specs.Prelude.{◌≡◌, ◌≢◌, ◌∷◌, codes, drop, map, IfOk};
@@ -9,20 +8,15 @@ ghost use Rattle.std.specs.IoError.{error_kind};
 ghost use Rattle.std.specs.Process.{exit_status};
 ghost use Rattle.std.specs.String.{string_bytes};
 ghost use Rattle.clap.specs.Words.{kind_of};
-ghost use Rattle.mrp.specs.Answer.{IsStatusOfRefusal, IsStatusOfUnread, exit_status_of, help_status};
+ghost use Rattle.mrp_text.specs.Answer.{exit_status_of};
+ghost use Rattle.mrp.specs.Ending.{IsStatusOfRefusal, IsStatusOfUnread, help_status};
 
-mod answer;
-mod fault;
-mod lines;
 #[cfg(test)]
 mod tests;
-mod text;
 
-use crate::answer::{answer, exit_status};
-use crate::fault::TextFault;
-use crate::lines::write_fault;
 use clap::error::ErrorKind;
 use mrp_report::send;
+use mrp_text::{TextFault, answer, exit_status, write_fault};
 use mrp_words::{ChooseFault, choose};
 use std::alloc::AllocError;
 use std::process::ExitCode;
@@ -92,7 +86,7 @@ fn ended(rt: &HostRuntime, done: &Result<(), TextFault>) -> ExitCode
     ExitCode::from(exit_status(done))
 }
 
-/// Prints what `clap` has to say: the status is 0 after help that was asked for, 2 where the words
+/// Prints what `clap` has to say: the status is 0 after help that was printed, 2 where the words
 /// are refused, 3 where memory was refused or help could not be printed.
 fn refused(rt: &HostRuntime, error: &clap::Error) -> ExitCode
     ensures { IsStatusOfRefusal (kind_of error.now) (exit_status result) }

@@ -13,9 +13,7 @@ mod refusals;
 mod shipping;
 mod streams;
 
-use crate::fault::{TextFault, status};
-use crate::lines::write_fault;
-use crate::text::{check_text, drive_text, peg_text};
+use mrp_text::{TextFault, check_text, drive_text, peg_text, status, write_fault};
 use std::alloc::{AllocError, Global};
 
 /// The bicycle: one plant, two wheels to a bicycle.

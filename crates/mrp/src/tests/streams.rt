@@ -1,7 +1,6 @@
 use super::{BICYCLE, BICYCLE_PLAN};
-use crate::fault::{TextFault, status};
-use crate::text::{check_text, drive_text, peg_text};
 use mrp_tables::TableFaultKind;
+use mrp_text::{TextFault, check_text, drive_text, peg_text, status};
 use std::alloc::Global;
 use std::io;
 use std::io::{ErrorKind, Read, Write};

@@ -1,4 +1,0 @@
-use Rattle.mrp.proofs.answer.answer.Goals as goal
-
-pub returns-in-Peg-clause-text : goal.returns-in-Peg-clause-text
-returns-in-Peg-clause-text g c = rw (c.in-Peg.is) c.peg_text.ensures.text

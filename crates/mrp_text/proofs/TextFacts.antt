@@ -1,0 +1,61 @@
+-- What became of a text that was sent, and what its refusals say.
+use Rattle.std.proofs.Common.{◌≡◌, ℕ, List, ◌++◌, Option, None, Some, Result, Ok, Err, IfErr, inl, inr, ⊎_elim, subst, sym, refl}
+use Rattle.std.specs.Io.KnownBytes.{Appends, Keeps}
+use Rattle.mrp_rows.specs.Table.{Table, IsTable}
+use Rattle.mrp_tables.specs.declared.fault.TableFault.{TableFault}
+use Rattle.mrp_report.specs.Sending.{Sends}
+use Rattle.mrp_report.specs.declared.fault.ReportFault.{ReportFault}
+use Rattle.mrp_report.specs.declared.fault.ReportFault.TheVariants as report
+use Rattle.mrp_report.proofs.Fronts.{front-after, front-longer, front-whole}
+use Rattle.mrp_text.specs.declared.fault.TextFault.{TextFault}
+use Rattle.mrp_text.specs.declared.fault.TextFault.TheVariants as fault
+use Rattle.mrp_text.specs.Fault.{IsOfReport}
+use Rattle.mrp_text.specs.Text.{IsTableOf, IsTextRefusal, Writes}
+
+-- what was written of a text of one kind was written of a text of each kind that it is of
+pub writes-of : {U : Type 0} (a b : Option (List ℕ)) (r : Result U TextFault) (P Q : List ℕ → Type 0)
+    → ((text : List ℕ) → P text → Q text) → Writes a b r P → Writes a b r Q
+writes-of a b (Ok u) P Q along written = (written.0, along written.0 written.1, written.2)
+writes-of a b (Err fault.WriteFault) P Q along written = (written.0, along written.0 written.1, written.2)
+writes-of a b (Err fault.Memory) P Q along written =
+    ⊎_elim (λ kept. inl kept) (λ front. inr (front.0, along front.0 front.1, front.2)) written
+writes-of a b (Err _) P Q along written = written
+
+-- what a fault says of a network that was read, it says of the text
+refused-of : (known : Option (List ℕ)) (says : Table → TextFault → Type 0) (N : Table) (f : TextFault) → IsTable N → IsTableOf known N
+    → ((e : TableFault) → ¬ says N (fault.Table e)) → says N f → IsTextRefusal known says f
+refused-of known says N (fault.Table e) table rows none said = absurd (none e said)
+refused-of known says N fault.Memory table rows none said = tt
+refused-of known says N _ table rows none said = (N, table, rows, said)
+
+pub refuses-of : {U : Type 0} (known : Option (List ℕ)) (says : Table → TextFault → Type 0) (N : Table) (r : Result U TextFault) → IsTable N → IsTableOf known N
+    → ((e : TableFault) → ¬ says N (fault.Table e)) → IfErr r (says N) → IfErr r (IsTextRefusal known says)
+refuses-of known says N (Ok u) table rows none said = tt
+refuses-of known says N (Err f) table rows none said = refused-of known says N f table rows none said
+
+-- bytes stay as they are
+keeps-all : (a : Option (List ℕ)) → Keeps a a
+keeps-all None = tt
+keeps-all (Some xs) = refl
+
+-- the first part of a text was not sent whole
+pub first-fails : (a b : Option (List ℕ)) (first rest : List ℕ) (f : ReportFault) (e : TextFault) (P : List ℕ → Type 0)
+    → P (first ++ rest) → Sends {U = Unit {0}} a b (Err f) first → (f ≡ report.Memory → b ≡ a) → IsOfReport f e → Writes {U = Unit {0}} a b (Err e) P
+first-fails a b first rest report.WriteFault e P is sent kept of =
+    let Q : TextFault → Type 0 = λ e. Writes {U = Unit {0}} a b (Err e) P in
+    subst Q (sym of) (first ++ rest, is, front-longer a b first rest sent)
+first-fails a b first rest report.Memory e P is sent kept of =
+    let Q : TextFault → Type 0 = λ e. Writes {U = Unit {0}} a b (Err e) P in
+    let K : Option (List ℕ) → Type 0 = λ c. Keeps a c in
+    subst Q (sym of) (inl (subst K (sym (kept refl)) (keeps-all a)))
+
+-- the first part of a text was sent, and the rest not whole
+pub rest-fails : (a b c : Option (List ℕ)) (first rest : List ℕ) (f : ReportFault) (e : TextFault) (P : List ℕ → Type 0)
+    → P (first ++ rest) → Appends a b first → Sends {U = Unit {0}} b c (Err f) rest → (f ≡ report.Memory → c ≡ b) → IsOfReport f e → Writes {U = Unit {0}} a c (Err e) P
+rest-fails a b c first rest report.WriteFault e P is whole sent kept of =
+    let Q : TextFault → Type 0 = λ e. Writes {U = Unit {0}} a c (Err e) P in
+    subst Q (sym of) (first ++ rest, is, front-after a b c first rest whole sent)
+rest-fails a b c first rest report.Memory e P is whole sent kept of =
+    let Q : TextFault → Type 0 = λ e. Writes {U = Unit {0}} a c (Err e) P in
+    let A : Option (List ℕ) → Type 0 = λ d. Appends a d first in
+    subst Q (sym of) (inr (first ++ rest, is, front-longer a c first rest (front-whole a c first (subst A (sym (kept refl)) whole))))

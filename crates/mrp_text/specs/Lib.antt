@@ -1,0 +1,4 @@
+pub mod Answer
+pub mod Fault
+pub mod Lines
+pub mod Text

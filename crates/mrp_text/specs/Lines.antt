@@ -1,0 +1,90 @@
+-- The lines that faults are reported by.
+use Rattle.std.specs.Prelude.{ℕ, List, [], ◌∷◌, ◌++◌, decimal, codes, string_bytes, Option, Result, MatchResult}
+use Rattle.std.specs.Io.KnownBytes.{Appends}
+use Rattle.mrp_report.specs.Sending.{AppendsFront}
+use Rattle.std.specs.List.{flat_map}
+use Rattle.mrp_cal.specs.declared.fault.CalFault.{CalFault}
+use Rattle.mrp_cal.specs.declared.fault.CalFault.TheVariants.{BadDate, DaysOutOfRange, PastEnd}
+use Rattle.mrp_tables.specs.declared.fault.TableFault.{TableFault}
+use Rattle.mrp_tables.specs.declared.fault.TableFaultKind.{TableFaultKind}
+use Rattle.mrp_tables.specs.declared.fault.TableFaultKind.TheVariants as kind
+use Rattle.mrp_text.specs.declared.fault.PairName.{PairName}
+use Rattle.mrp_text.specs.declared.fault.TextFault.{TextFault}
+use Rattle.mrp_text.specs.declared.fault.TextFault.TheVariants.{Table, Loop, SupplyTooLarge, NeedTooLarge, NoPair, NoPeriod, ThreadRefused, GateShut, Stopped, WriteFault, Memory}
+
+-- the whole text was sent, or else a front of it
+abbrev pub SendsText : {U E : Type 0} → Option (List ℕ) → Option (List ℕ) → Result U E → List ℕ → Type 0
+SendsText old new result text = MatchResult result (λ _. Appends old new text) (λ _. AppendsFront old new text)
+
+-- pieces of text one after the other
+abbrev pub joined : List (List ℕ) → List ℕ
+joined pieces = flat_map (λ piece. piece) pieces
+
+-- what a fault of the calendar is called
+abbrev pub calendar_word : CalFault → List ℕ
+calendar_word BadDate = codes "CalendarFault BadDate"
+calendar_word DaysOutOfRange = codes "CalendarFault DaysOutOfRange"
+calendar_word PastEnd = codes "CalendarFault PastEnd"
+
+-- what a fault of the table is called
+abbrev pub kind_word : TableFaultKind → List ℕ
+kind_word kind.ReadFault = codes "ReadFault"
+kind_word kind.NotUtf8 = codes "NotUtf8"
+kind_word kind.FieldCount = codes "FieldCount"
+kind_word kind.UnknownKind = codes "UnknownKind"
+kind_word kind.KindOrder = codes "KindOrder"
+kind_word kind.BadName = codes "BadName"
+kind_word kind.BadNumber = codes "BadNumber"
+kind_word kind.BadRule = codes "BadRule"
+kind_word kind.BadSupply = codes "BadSupply"
+kind_word (kind.CalendarFault fault) = calendar_word fault
+kind_word kind.Repeated = codes "Repeated"
+kind_word kind.UnknownPlant = codes "UnknownPlant"
+kind_word kind.UnknownPair = codes "UnknownPair"
+kind_word kind.NotMade = codes "NotMade"
+kind_word kind.NotSourced = codes "NotSourced"
+kind_word kind.SelfSource = codes "SelfSource"
+kind_word kind.TooMany = codes "TooMany"
+kind_word kind.Empty = codes "Empty"
+kind_word kind.Memory = codes "Memory"
+kind_word kind.ResetOrder = codes "ResetOrder"
+
+unfoldable pub row_line : TableFault → List ℕ
+row_line fault = joined (codes "mrp: row " ∷ decimal fault.row ∷ codes ": " ∷ kind_word fault.kind ∷ codes "\n" ∷ [])
+
+-- the line of a fault of the table: want of memory has no row
+abbrev pub table_line_of : TableFault → TableFaultKind → List ℕ
+table_line_of fault kind.Memory = codes "mrp: Memory\n"
+table_line_of fault _ = row_line fault
+
+unfoldable pub table_line : TableFault → List ℕ
+table_line fault = table_line_of fault fault.kind
+
+-- a fault that names a pair
+unfoldable pub pair_line : List ℕ → PairName → List ℕ
+pair_line words pair = joined (words ∷ string_bytes pair.plant ∷ codes "/" ∷ string_bytes pair.item ∷ codes "\n" ∷ [])
+
+-- a pair of a loop
+unfoldable pub loop_word : PairName → List ℕ
+loop_word pair = joined (codes " " ∷ string_bytes pair.plant ∷ codes "/" ∷ string_bytes pair.item ∷ [])
+
+unfoldable pub loop_line : List PairName → List ℕ
+loop_line pairs = codes "mrp: loop" ++ (flat_map loop_word pairs ++ codes "\n")
+
+-- the line of a gate that was shut for a plant
+unfoldable pub gate_line : List ℕ → List ℕ
+gate_line plant = joined (codes "mrp: GateShut " ∷ plant ∷ codes "\n" ∷ [])
+
+-- the line of each fault
+abbrev pub fault_line : TextFault → List ℕ
+fault_line (Table fault) = table_line fault
+fault_line (Loop pairs) = loop_line pairs.items
+fault_line (SupplyTooLarge pair) = pair_line (codes "mrp: SupplyTooLarge ") pair
+fault_line (NeedTooLarge pair) = pair_line (codes "mrp: NeedTooLarge ") pair
+fault_line NoPair = codes "mrp: no pair\n"
+fault_line NoPeriod = codes "mrp: no period\n"
+fault_line ThreadRefused = codes "mrp: ThreadRefused\n"
+fault_line (GateShut plant) = gate_line (string_bytes plant)
+fault_line Stopped = codes "mrp: Stopped\n"
+fault_line WriteFault = codes "mrp: WriteFault\n"
+fault_line Memory = codes "mrp: Memory\n"

@@ -1,0 +1,128 @@
+-- What the text functions write, and what their refusals say.
+use Rattle.std.specs.Prelude.{◌≡◌, ℕ, ◌<◌, ◌≤◌, ◌⊎◌, List, [], ◌∷◌, ◌++◌, Option, option_map, Result, Ok, Err, string_bytes}
+use Rattle.std.specs.Io.KnownBytes.{Appends, Keeps}
+use Rattle.csv.specs.Reading.{strip_bom}
+use Rattle.mrp_lot.specs.One.{PlanRows}
+use Rattle.mrp_rows.specs.Table.{Table, IsTable, horizon}
+use Rattle.mrp_tables.specs.Reading.{OfRecords, Reads, TellsRows}
+use Rattle.mrp_net.specs.Names.{IsNamed}
+use Rattle.mrp_net.specs.Plan.{Fits}
+use Rattle.mrp_loops.specs.Loop.{AreCodes, IsLoopFound, IsLoopFree}
+use Rattle.mrp_loops.specs.Sized.{IsSized}
+use Rattle.mrp_loops.specs.BoundFaults.{IsSupplyTooLarge, IsNeedTooLarge}
+use Rattle.mrp_plan.specs.Peg.{peg_terms}
+use Rattle.mrp_report.specs.Sending.{AppendsFront}
+use Rattle.mrp_report.specs.Report.{plan_text, late_text, peg_text, code_text}
+use Rattle.mrp_text.specs.declared.fault.PairName.{PairName}
+use Rattle.mrp_text.specs.declared.fault.TextFault.{TextFault}
+use Rattle.mrp_text.specs.declared.fault.TextFault.TheVariants as fault
+
+-- ---- the table of a text
+
+-- the rows of these bytes make the table. Where the bytes aren't known this says nothing
+abbrev pub IsTableOf : Option (List ℕ) → Table → Type 0
+IsTableOf known N = OfRecords (option_map strip_bom known) (λ rows. Reads rows (Ok N))
+
+-- so it is of the table of these bytes; where they aren't known, of some table
+abbrev pub OfTable : Option (List ℕ) → (Table → Type 0) → Type 0
+OfTable known says = (N : Table) × IsTable N × IsTableOf known N × says N
+
+-- ---- reports
+
+-- a network that can be planned: it has no loop, and supply and need of each pair are within the bound
+abbrev pub IsPlannable : Table → Type 0
+IsPlannable N = IsSized N
+
+-- the plan rows and then the late rows of the plan: of a table of plans that fits, and only one does
+abbrev pub IsPlanReport : Table → List ℕ → Type 0
+IsPlanReport N text = IsPlannable N × ((plans : List PlanRows) × Fits N plans × (text ≡ plan_text N plans ++ late_text N plans))
+
+-- the code rows of the network
+abbrev pub IsCodeReport : Table → List ℕ → Type 0
+IsCodeReport N text = IsPlannable N × ((codes : List ℕ) × AreCodes N codes × (text ≡ code_text N codes))
+
+-- the peg rows of a pair in a period of the plan
+abbrev pub IsPegs : Table → ℕ → ℕ → List ℕ → Type 0
+IsPegs N x period text =
+    IsPlannable N × (period < horizon N) × ((plans : List PlanRows) × Fits N plans × (text ≡ peg_text N (peg_terms N plans x period)))
+
+-- those of the pair of these names
+abbrev pub IsPegReport : List ℕ → List ℕ → ℕ → Table → List ℕ → Type 0
+IsPegReport plant item period N text = (x : ℕ) × IsNamed N x plant item × IsPegs N x period text
+
+-- what became of a text: all of it was written; a front, at a failed write; nothing or a front,
+-- where memory was refused; nothing, at every other fault
+abbrev pub Writes : {U : Type 0} → Option (List ℕ) → Option (List ℕ) → Result U TextFault → (List ℕ → Type 0) → Type 0
+Writes old new (Ok _) IsText = (text : List ℕ) × IsText text × Appends old new text
+Writes old new (Err fault.WriteFault) IsText = (text : List ℕ) × IsText text × AppendsFront old new text
+Writes old new (Err fault.Memory) IsText = Keeps old new ⊎ ((text : List ℕ) × IsText text × AppendsFront old new text)
+Writes old new (Err _) IsText = Keeps old new
+
+-- ---- refusals
+
+-- the names of the pair
+abbrev pub IsCalled : Table → ℕ → PairName → Type 0
+IsCalled N x name = IsNamed N x (string_bytes name.plant) (string_bytes name.item)
+
+-- the names of the pairs, in their order
+abbrev pub AreCalled : Table → List ℕ → List PairName → Type 0
+AreCalled N [] [] = Unit {0}
+AreCalled N [] (name ∷ names) = ⊥
+AreCalled N (x ∷ xs) [] = ⊥
+AreCalled N (x ∷ xs) (name ∷ names) = IsCalled N x name × AreCalled N xs names
+
+-- a loop of the network, by the names of its pairs
+abbrev pub IsLoopNamed : Table → List PairName → Type 0
+IsLoopNamed N names = (pairs : List ℕ) × IsLoopFound N pairs × AreCalled N pairs names
+
+-- the first pair in the table whose supply is above the bound
+abbrev pub IsSupplyNamed : Table → PairName → Type 0
+IsSupplyNamed N name = (x : ℕ) × IsSupplyTooLarge N x × IsCalled N x name
+
+-- the first pair, by its code and then in the table, whose supply and need are above the bound,
+-- where no supply is by itself
+abbrev pub IsNeedNamed : Table → List ℕ → PairName → Type 0
+IsNeedNamed N codes name = (x : ℕ) × IsNeedTooLarge N codes x × IsCalled N x name
+
+-- what a refusal of the loop check says
+abbrev pub IsLoopRefusal : Table → TextFault → Type 0
+IsLoopRefusal N (fault.Loop names) = IsLoopNamed N names.items
+IsLoopRefusal N fault.Memory = Unit {0}
+IsLoopRefusal N _ = ⊥
+
+-- what a refusal of the bound says
+abbrev pub IsBoundRefusal : Table → List ℕ → TextFault → Type 0
+IsBoundRefusal N codes (fault.SupplyTooLarge name) = IsSupplyNamed N name
+IsBoundRefusal N codes (fault.NeedTooLarge name) = IsNeedNamed N codes name
+IsBoundRefusal N codes fault.Memory = Unit {0}
+IsBoundRefusal N codes _ = ⊥
+
+-- what a refusal of a network says: a loop; or none, and a pair past the bound. Of a failed write
+-- and of refused memory it says nothing. No other fault comes after the table was read
+abbrev pub IsRefusal : Table → TextFault → Type 0
+IsRefusal N (fault.Loop names) = IsLoopNamed N names.items
+IsRefusal N (fault.SupplyTooLarge name) = IsLoopFree N × IsSupplyNamed N name
+IsRefusal N (fault.NeedTooLarge name) = IsLoopFree N × ((codes : List ℕ) × AreCodes N codes × IsNeedNamed N codes name)
+IsRefusal N fault.WriteFault = Unit {0}
+IsRefusal N fault.Memory = Unit {0}
+IsRefusal N _ = ⊥
+
+-- the same of a question about a pair in a period, which is asked of a network that can be planned:
+-- no such pair; or the pair, and no such period
+abbrev pub IsPegRefusal : List ℕ → List ℕ → ℕ → Table → TextFault → Type 0
+IsPegRefusal plant item period N fault.NoPair = IsPlannable N × ((x : ℕ) → ¬ (IsNamed N x plant item))
+IsPegRefusal plant item period N fault.NoPeriod = IsPlannable N × ((x : ℕ) × IsNamed N x plant item × (horizon N ≤ period))
+IsPegRefusal plant item period N fault = IsRefusal N fault
+
+-- what a fault of reading says: it is the first of the rows
+abbrev pub IsReadRefusal : Option (List ℕ) → TextFault → Type 0
+IsReadRefusal known (fault.Table e) = OfRecords (option_map strip_bom known) (TellsRows (Err e))
+IsReadRefusal known fault.Memory = Unit {0}
+IsReadRefusal known _ = ⊥
+
+-- what a fault says of these bytes: the first fault of their rows; or they make a table, and the
+-- fault says this of its network. Of refused memory it says nothing
+abbrev pub IsTextRefusal : Option (List ℕ) → (Table → TextFault → Type 0) → TextFault → Type 0
+IsTextRefusal known says (fault.Table e) = OfRecords (option_map strip_bom known) (TellsRows (Err e))
+IsTextRefusal known says fault.Memory = Unit {0}
+IsTextRefusal known says other = OfTable known (λ N. says N other)

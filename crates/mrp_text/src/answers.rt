@@ -1,0 +1,50 @@
+//! What the program does for a choice, and the status with which it ends.
+
+ghost use Rattle.std.specs.Prelude.{◌≡◌, IfErr};
+ghost use Rattle.mrp_words.specs.Choice.{IsInRange};
+ghost use Rattle.mrp_text.specs.Answer.{IsAnswer, IsAnswerRefusal, exit_status_of};
+ghost use Rattle.mrp_text.specs.Fault.{IsBeforeWriting};
+ghost use Rattle.mrp_text.specs.Text.{Writes, OfTable, IsTextRefusal};
+
+use crate::fault::{TextFault, status};
+use crate::text::{check_text, drive_text, peg_text};
+use mrp_words::Choice;
+use std::alloc::Global;
+use std::io::{Read, Write};
+
+/// Does what was chosen: reads a table and writes the report that the choice asks for.
+///
+/// # Errors
+///
+/// As [`TextFault`] says. Nothing is written after a fault of the input.
+pub fn answer<R: Read + Drop, W: Write>(
+    alloc: Global,
+    choice: Choice<'_>,
+    reader: R,
+    writer: &mut W,
+) -> Result<(), TextFault>
+    requires { IsInRange choice }
+    ensures text { Writes (W.contents writer.old) (W.contents writer.new) result (λ text. OfTable (R.remaining reader) (λ N. IsAnswer choice.entry N text)) }
+    ensures refusal { IfErr result (IsTextRefusal (R.remaining reader) (IsAnswerRefusal choice.entry)) }
+    ensures untouched { IfErr result (λ fault. IsBeforeWriting fault → writer.new ≡ writer.old) }
+{
+    match choice {
+        Choice::Plan { capacity, .. } => drive_text(alloc, reader, writer, capacity),
+        Choice::Check => check_text(alloc, reader, writer),
+        Choice::Peg {
+            plant,
+            item,
+            period,
+        } => peg_text(alloc, reader, writer, plant, item, period),
+    }
+}
+
+/// The status of the process: 0 where the work was done, else that of the fault.
+pub fn exit_status(done: &Result<(), TextFault>) -> u8
+    ensures { result ≡ exit_status_of done.now }
+{
+    match done {
+        Ok(()) => 0,
+        Err(fault) => status(fault),
+    }
+}

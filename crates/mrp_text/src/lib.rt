@@ -1,0 +1,19 @@
+//! The planner as a library: a table from any reader, a report to any writer.
+//!
+//! [`drive_text`] writes the plan, [`check_text`] the low-level codes, and [`peg_text`] what a gross
+//! requirement consists of; [`answer`] does the one of them that the words of a command line chose.
+//! Where a text was not written whole, a [`TextFault`] says why: [`write_fault`] writes the line that
+//! reports it, and [`status`] and [`exit_status`] are the statuses with which a program ends.
+//!
+//! No call ends the process: a growth that is refused is [`TextFault::Memory`].
+#![tactic(auto)]
+
+mod answers;
+mod fault;
+mod lines;
+mod text;
+
+pub use answers::{answer, exit_status};
+pub use fault::{PairName, TextFault, status};
+pub use lines::write_fault;
+pub use text::{check_text, drive_text, peg_text};
