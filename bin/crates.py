@@ -45,17 +45,20 @@ def link_or_copy(source, to):
 
 
 @contextlib.contextmanager
-def room(name, kept="incremental"):
-    """Gives the folder of a copy of the crate, with what it keeps in out/KEPT, in a repository of its own with the libraries below it."""
+def room(name):
+    """Gives the folder of a copy of the crate, with what its checks keep, in a repository of its own with the libraries below it."""
     lines, below = lines_of_list(), libraries_below()[name]
     with tempfile.TemporaryDirectory(prefix=f"{name}-") as top:
         with open(f"{top}/crates.txt", "w", encoding="utf-8") as file:
             file.writelines(f"{lines[it]}\n" for it in [*below, name])
         for library in below:
-            for part in (*PARTS, "out/rlib"):
+            for part in PARTS:
                 copy_tree(f"{TOP}/crates/{library}/{part}", f"{top}/crates/{library}/{part}", link_or_copy)
-        for part in (*PARTS, os.path.normpath(f"out/{kept}")):
+        for part in (*PARTS, "out/incremental"):
             copy_tree(f"{TOP}/crates/{name}/{part}", f"{top}/crates/{name}/{part}")
+        # (rt writes a library into a folder that it has cleared, never over an older one)
+        for it in [*below, name]:
+            copy_tree(f"{TOP}/crates/{it}/out/rlib", f"{top}/crates/{it}/out/rlib", link_or_copy)
         yield f"{top}/crates/{name}"
 
 
