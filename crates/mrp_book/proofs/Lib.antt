@@ -1,0 +1,7 @@
+pub mod Advancing
+pub mod Deciding
+pub mod Following
+pub mod Opening
+pub mod Places
+pub mod Showing
+pub mod Turns

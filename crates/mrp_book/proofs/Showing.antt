@@ -1,0 +1,68 @@
+-- What a record that is booked or refused says of the lists that a book shows.
+use Rattle.std.proofs.Common.{◌≡◌, ℕ, ◌<◌, ◌==◌, length, arith, Some, None, Option, List, [], ◌∷◌, ◌++◌, refl, sym, ◌∙◌, ap, subst}
+use Rattle.std.specs.Prelude.{option_map, position, slice_get, slice_index_or, Result, Ok, Err, OnOk, IfErr}
+use Rattle.std.proofs.lemmas.Option.{slice_get_read}
+use Rattle.mrp_record.specs.declared.record.Record.{Record}
+use Rattle.mrp_record.specs.Entries.{contents}
+use Rattle.mrp_record.specs.Form.{FormItem, LaneForm, item_on, IsInForm}
+use Rattle.mrp_book.specs.declared.fault.BookFault.{BookFault}
+use Rattle.mrp_book.specs.After.{after, Books}
+use Rattle.mrp_book.specs.declared.item.ItemFigure.{ItemFigure}
+use Rattle.mrp_book.specs.Faults.{find_item, first_fault}
+use Rattle.mrp_book.specs.Figures.{Figures, figure_of, figures, Shows}
+use Rattle.mrp_book.proofs.Advancing.{figures_after}
+use Rattle.mrp_book.proofs.Deciding.{continues, find_figure, no_fault}
+use Rattle.mrp_book.proofs.Following.{in_form_push, in_form_last}
+use Rattle.mrp_book.proofs.Places.{found_figure, found_nowhere}
+
+pub booked : (old new : Figures) (r : Record) → first_fault old r ≡ None → new ≡ after old r
+    → (form : LaneForm) (records : List Record) → Shows form old records → Shows form new (records ++ r ∷ [])
+booked old new r free is form records s =
+    let none : first_fault (figures form records) r ≡ None = ap (λ (f : Figures). first_fault f r) (sym s.is) ∙ free in
+    let c = continues form records s.in_form r none in
+    record {
+      lane = s.lane;
+      in_form = in_form_push form records r s.in_form c;
+      is = is ∙ ap (λ (f : Figures). after f r) s.is ∙ sym (figures_after form records r s.lane.once c.fits);
+    }
+
+pub refused : (old : Figures) (r : Record) (f : BookFault) → first_fault old r ≡ Some f
+    → (form : LaneForm) (records : List Record) → Shows form old records → (first_fault (figures form records) r ≡ Some f) × (IsInForm form (records ++ r ∷ []) → ⊥)
+refused old r f e form records s =
+    let fault : first_fault (figures form records) r ≡ Some f = ap (λ (g : Figures). first_fault g r) (sym s.is) ∙ e in
+    (fault, λ h. let none = no_fault form records s.in_form r (in_form_last form records r h) in differ f (sym fault ∙ none))
+  where
+    differ : (f : BookFault) → Some f ≡ None → ⊥
+    differ f e = cc (e)
+
+-- what a book knows of an item is what each shown list gives
+pub shown : {A : Type 0} (f : ItemFigure → A) (form : LaneForm) (records : List Record) (book : Figures) (item : ℕ) (o : Option ItemFigure) → find_item book.items item ≡ o → Shows form book records
+    → option_map f o ≡ option_map (λ i. f (figure_of (contents records) i)) (item_on form item)
+shown {A} f form records book item o e s =
+    let all : o ≡ option_map (figure_of (contents records)) (item_on form item) =
+    sym e ∙ ap (λ (b : Figures). find_item b.items item) s.is ∙ find_figure (contents records) form.items item in
+    ap (option_map f) all ∙ twice (item_on form item)
+  where
+    twice : (o : Option FormItem) → option_map f (option_map (figure_of (contents records)) o) ≡ option_map (λ i. f (figure_of (contents records) i)) o
+    twice None = refl
+    twice (Some i) = refl
+
+pub found_none : (items : List ItemFigure) (item : ℕ) → None ≡ position (λ g. g.item.0 == item) items → find_item items item ≡ None
+found_none items item e = found_nowhere (λ (g : ItemFigure). g.item.0 == item) items (sym e)
+
+pub found_some : (now inside : List ItemFigure) (item k : ℕ) (g : ItemFigure) → inside ≡ now → Some k ≡ position (λ g. g.item.0 == item) now → k < length now → g ≡ slice_index_or inside k g
+    → find_item now item ≡ Some g
+found_some now inside item k g same e within is =
+    let here : k < length inside = omega (arith, ap length same, within) in
+    let at : slice_get now k ≡ Some g = subst (λ (z : List ItemFigure). slice_get z k ≡ Some g) same (slice_get_read inside (length inside) k g refl here is) in
+    found_figure now item k g (sym e) at
+
+pub books_booked : (old new : Figures) (r : Record) (result : Result (Unit {0}) BookFault) → Books old new r result
+    → OnOk result ((form : LaneForm) (records : List Record) → Shows form old records → Shows form new (records ++ r ∷ []))
+books_booked old new r (Ok u) h = booked old new r h.0 h.1
+books_booked old new r (Err f) h = tt
+
+pub books_refused : (old new : Figures) (r : Record) (result : Result (Unit {0}) BookFault) → Books old new r result
+    → IfErr result (λ fault. (form : LaneForm) (records : List Record) → Shows form old records → (first_fault (figures form records) r ≡ Some fault) × (IsInForm form (records ++ r ∷ []) → ⊥))
+books_refused old new r (Ok u) h = tt
+books_refused old new r (Err f) h = refused old r f h.0

@@ -1,0 +1,4 @@
+pub mod After
+pub mod Faults
+pub mod Figures
+pub mod Laws

@@ -1,0 +1,18 @@
+//! The cumulative book of a lane's receiver: it takes exactly the records that keep the list in form,
+//! and keeps figures only.
+//!
+//! Contracts speak of every list of records that a book shows; none is stored.
+#![tactic(auto)]
+
+mod book;
+mod fault;
+mod figure;
+mod item;
+pub mod laws;
+
+pub use book::Book;
+pub use fault::BookFault;
+pub use figure::LaneFigure;
+pub use item::{BookItem, ItemFigure};
+pub use mrp_net::{ItemNo, LaneKind, LaneNo};
+pub use mrp_record::Record;

@@ -1,0 +1,10 @@
+pub mod Beginnings
+pub mod BlockForm
+pub mod Figures
+pub mod Forming
+pub mod Fronts
+pub mod Loads
+pub mod Own
+pub mod Running
+pub mod Standing
+pub mod Tallies

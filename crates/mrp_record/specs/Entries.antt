@@ -1,0 +1,142 @@
+-- What the records of a lane say apart from their numbers, and what a list of them says of one item.
+use Rattle.std.specs.Prelude.{ℕ, ◌+◌, ◌==◌, ◌&&◌, nat_lt, not, Bool, true, false, List, length, map, filter, filter_map, fold, sum_by, count_by, Option, Some}
+use Rattle.std.specs.Prelude.{None}
+use Rattle.std.specs.List.{list_any}
+use Rattle.mrp_record.specs.declared.record.Record.{Record}
+use Rattle.mrp_record.specs.declared.record.Record.TheVariants.{Line, ItemEnd, Reset, Close}
+
+-- a record without its number
+pub data Entry : Type 0 where
+  LineOf : (item period quantity cumulative : ℕ) → Entry
+  EndOf : (item lines cumulative : ℕ) → Entry
+  ResetOf : (item closed : ℕ) → Entry
+  Closing : Entry
+
+abbrev pub number_of : Record → ℕ
+number_of (Line number item period quantity cumulative) = number
+number_of (ItemEnd number item lines cumulative) = number
+number_of (Reset number item closed) = number
+number_of (Close number) = number
+
+abbrev pub content : Record → Entry
+content (Line number item period quantity cumulative) = LineOf item.0 period quantity cumulative
+content (ItemEnd number item lines cumulative) = EndOf item.0 lines cumulative
+content (Reset number item closed) = ResetOf item.0 closed
+content (Close number) = Closing
+
+abbrev pub contents : List Record → List Entry
+contents records = map content records
+
+-- a delivery: so many pieces in a period
+pub record Delivery : Type 0 where
+  pub period : ℕ
+  pub quantity : ℕ
+
+-- ---- the records of one item
+
+abbrev pub is_of : ℕ → Entry → Bool
+is_of item (LineOf i period quantity cumulative) = i == item
+is_of item (EndOf i lines cumulative) = i == item
+is_of item (ResetOf i closed) = i == item
+is_of item Closing = false
+
+abbrev pub entries_of : ℕ → List Entry → List Entry
+entries_of item entries = filter (is_of item) entries
+
+abbrev pub is_line : Entry → Bool
+is_line (LineOf item period quantity cumulative) = true
+is_line (EndOf item lines cumulative) = false
+is_line (ResetOf item closed) = false
+is_line Closing = false
+
+abbrev pub is_end : Entry → Bool
+is_end (LineOf item period quantity cumulative) = false
+is_end (EndOf item lines cumulative) = true
+is_end (ResetOf item closed) = false
+is_end Closing = false
+
+abbrev pub is_reset : Entry → Bool
+is_reset (LineOf item period quantity cumulative) = false
+is_reset (EndOf item lines cumulative) = false
+is_reset (ResetOf item closed) = true
+is_reset Closing = false
+
+abbrev pub is_closing : Entry → Bool
+is_closing (LineOf item period quantity cumulative) = false
+is_closing (EndOf item lines cumulative) = false
+is_closing (ResetOf item closed) = false
+is_closing Closing = true
+
+-- the deliveries of its lines, in order
+abbrev pub delivery_of : Entry → Option Delivery
+delivery_of (LineOf item period quantity cumulative) = Some (record { period = period; quantity = quantity })
+delivery_of (EndOf item lines cumulative) = None
+delivery_of (ResetOf item closed) = None
+delivery_of Closing = None
+
+abbrev pub deliveries : ℕ → List Entry → List Delivery
+deliveries item entries = filter_map delivery_of (entries_of item entries)
+
+-- how many lines it has
+abbrev pub line_count : ℕ → List Entry → ℕ
+line_count item entries = count_by is_line (entries_of item entries)
+
+-- the first period after that of its last line; 0 without a line
+abbrev pub next_after : ℕ → Entry → ℕ
+next_after next (LineOf item period quantity cumulative) = period + 1
+next_after next (EndOf item lines cumulative) = next
+next_after next (ResetOf item closed) = next
+next_after next Closing = next
+
+abbrev pub next_period : ℕ → List Entry → ℕ
+next_period item entries = fold next_after 0 (entries_of item entries)
+
+-- its figures have started anew; its block has ended; its block has begun and hasn't ended
+abbrev pub was_reset : ℕ → List Entry → Bool
+was_reset item entries = list_any is_reset (entries_of item entries)
+
+abbrev pub is_ended : ℕ → List Entry → Bool
+is_ended item entries = list_any is_end (entries_of item entries)
+
+abbrev pub is_open : ℕ → List Entry → Bool
+is_open item entries = nat_lt 0 (length (entries_of item entries)) && not (is_ended item entries)
+
+-- the lane is closed
+abbrev pub is_closed : List Entry → Bool
+is_closed entries = list_any is_closing entries
+
+-- ---- its figures
+
+-- the pieces of its lines
+abbrev pub quantity_of : Entry → ℕ
+quantity_of (LineOf item period quantity cumulative) = quantity
+quantity_of (EndOf item lines cumulative) = 0
+quantity_of (ResetOf item closed) = 0
+quantity_of Closing = 0
+
+abbrev pub moved : ℕ → List Entry → ℕ
+moved item entries = sum_by quantity_of (entries_of item entries)
+
+-- the figure in force: the opening figure and the lines since, or after a reset the lines since that
+abbrev pub figure_after : ℕ → Entry → ℕ
+figure_after figure (LineOf item period quantity cumulative) = figure + quantity
+figure_after figure (EndOf item lines cumulative) = figure
+figure_after figure (ResetOf item closed) = 0
+figure_after figure Closing = figure
+
+abbrev pub in_force : ℕ → ℕ → List Entry → ℕ
+in_force opening item entries = fold figure_after opening (entries_of item entries)
+
+-- the figures closed by resets
+abbrev pub closed_of : Entry → ℕ
+closed_of (LineOf item period quantity cumulative) = 0
+closed_of (EndOf item lines cumulative) = 0
+closed_of (ResetOf item closed) = closed
+closed_of Closing = 0
+
+abbrev pub closed_by : ℕ → List Entry → ℕ
+closed_by item entries = sum_by closed_of (entries_of item entries)
+
+-- the cumulative figure: the figure in force with the closed years added
+abbrev pub cum : ℕ → ℕ → List Entry → ℕ
+cum opening item entries = in_force opening item entries + closed_by item entries

@@ -1,0 +1,4 @@
+pub mod Entries
+pub mod Form
+pub mod Laws
+pub mod Text

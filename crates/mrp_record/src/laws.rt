@@ -1,0 +1,50 @@
+//! Laws of the texts of lanes. Each is the contract of a function that does nothing.
+
+ghost use Rattle.mrp_record.specs.Laws.{EmptyIsABeginning, FrontsAreBeginnings, FrontsAreNested, NothingFollowsClosing, ClosedIsWhole, TextsHaveOneLength};
+ghost use Rattle.mrp_record.specs.Laws.{BeginningsAreNoLonger};
+ghost use Rattle.mrp_record.specs.Laws.{EndedBlocksAreWhole, EndedBlocksBringDeliveries, EndedBlocksBringPeriods, EndedBlocksBringTotals, EndedItemsAreDone};
+ghost use Rattle.mrp_record.specs.Laws.{CumIsOpeningAndMoved, BeginningsAreInForm, FiguresAreSmall, CumsAreSmall};
+
+/// The list without records is a legal beginning, and so is each front of a legal beginning. Of two
+/// fronts of one text one is a front of the other.
+pub fn fronts_are_beginnings()
+    ensures empty { EmptyIsABeginning }
+    ensures fronts { FrontsAreBeginnings }
+    ensures nested { FrontsAreNested }
+{}
+
+/// Nothing follows the closing record, and a legal beginning that ends with it is a whole text.
+pub fn closing_is_last()
+    ensures nothing { NothingFollowsClosing }
+    ensures whole { ClosedIsWhole }
+{}
+
+/// All texts of a lane have one length, and no legal beginning is longer.
+pub fn texts_have_one_length()
+    ensures texts { TextsHaveOneLength }
+    ensures beginnings { BeginningsAreNoLonger }
+{}
+
+/// An item whose end has come has brought its whole block, and with it its load, delivery by
+/// delivery, period by period and in total. It gets no more records.
+pub fn ended_blocks_are_whole()
+    ensures whole { EndedBlocksAreWhole }
+    ensures deliveries { EndedBlocksBringDeliveries }
+    ensures periods { EndedBlocksBringPeriods }
+    ensures totals { EndedBlocksBringTotals }
+    ensures done { EndedItemsAreDone }
+{}
+
+/// On a legal beginning the cumulative figure of an item, closed years added, is its opening figure
+/// and the pieces of all its lines so far.
+pub fn cum_is_opening_and_moved()
+    ensures { CumIsOpeningAndMoved }
+{}
+
+/// A legal beginning of loads within bounds is in form, and no figure in it is above 10^15 pieces, nor
+/// is a cumulative figure with the closed years added.
+pub fn beginnings_are_in_form()
+    ensures form { BeginningsAreInForm }
+    ensures figures { FiguresAreSmall }
+    ensures cums { CumsAreSmall }
+{}
