@@ -5,7 +5,8 @@ use Rattle.mrp_report.specs.declared.fault.ReportFault.TheVariants as report
 use Rattle.mrp_tables.specs.declared.fault.TableFaultKind.{TableFaultKind}
 use Rattle.mrp_tables.specs.declared.fault.TableFaultKind.TheVariants as kind
 use Rattle.mrp_text.specs.declared.fault.TextFault.{TextFault}
-use Rattle.mrp_text.specs.declared.fault.TextFault.TheVariants.{Table, Loop, SupplyTooLarge, NeedTooLarge, NoPair, NoPeriod, ThreadRefused, GateShut, Stopped, WriteFault, Memory}
+use Rattle.mrp_text.specs.declared.fault.TextFault.TheVariants.{Table, Loop, SupplyTooLarge, NeedTooLarge, NoPair, NoPeriod}
+use Rattle.mrp_text.specs.declared.fault.TextFault.TheVariants.{ThreadRefused, GateShut, Stopped, WriteFault, Memory}
 
 -- the fault of a text after a fault of a report
 abbrev pub IsOfReport : ReportFault → TextFault → Type 0

@@ -10,7 +10,8 @@ use Rattle.mrp_tables.specs.declared.fault.TableFaultKind.{TableFaultKind}
 use Rattle.mrp_tables.specs.declared.fault.TableFaultKind.TheVariants as kind
 use Rattle.mrp_text.specs.declared.fault.PairName.{PairName}
 use Rattle.mrp_text.specs.declared.fault.TextFault.{TextFault}
-use Rattle.mrp_text.specs.declared.fault.TextFault.TheVariants.{Table, Loop, SupplyTooLarge, NeedTooLarge, NoPair, NoPeriod, ThreadRefused, GateShut, Stopped, WriteFault, Memory}
+use Rattle.mrp_text.specs.declared.fault.TextFault.TheVariants.{Table, Loop, SupplyTooLarge, NeedTooLarge, NoPair, NoPeriod}
+use Rattle.mrp_text.specs.declared.fault.TextFault.TheVariants.{ThreadRefused, GateShut, Stopped, WriteFault, Memory}
 
 -- the whole text was sent, or else a front of it
 abbrev pub SendsText : {U E : Type 0} → Option (List ℕ) → Option (List ℕ) → Result U E → List ℕ → Type 0

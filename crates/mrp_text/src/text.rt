@@ -7,7 +7,8 @@ ghost use Rattle.std.specs.Prelude.{◌≡◌, ◌≢◌, ◌≤◌, ◌<◌, ma
 ghost use Rattle.mrp_rows.specs.Table.{IsTable, IsPair, horizon};
 ghost use Rattle.mrp_loops.specs.Loop.{AreCodes, IsLoopFree};
 ghost use Rattle.mrp_text.specs.Fault.{IsBeforeWriting, IsLate};
-ghost use Rattle.mrp_text.specs.Text.{Writes, OfTable, IsTableOf, IsPlannable, IsPlanReport, IsCodeReport, IsPegReport, IsPegs, IsCalled, AreCalled, IsLoopRefusal, IsBoundRefusal, IsRefusal, IsPegRefusal, IsReadRefusal, IsTextRefusal};
+ghost use Rattle.mrp_text.specs.Text.{Writes, OfTable, IsTableOf, IsPlannable, IsPlanReport, IsCodeReport, IsPegReport, IsPegs, IsCalled, AreCalled};
+ghost use Rattle.mrp_text.specs.Text.{IsLoopRefusal, IsBoundRefusal, IsRefusal, IsPegRefusal, IsReadRefusal, IsTextRefusal};
 ghost use Rattle.mrp_words.specs.declared.words.TheConstants.{MOST_CAPACITY};
 
 use crate::fault::{PairName, TextFault};
