@@ -3,10 +3,14 @@ import contextlib
 import os
 import re
 import shutil
+import signal
+import subprocess
 import tempfile
+import threading
 
 TOP = os.path.dirname(os.path.dirname(os.path.realpath(__file__)))
 PARTS = ("src", "specs", "proofs")
+RUNNING, STOPPED = set(), threading.Event()
 
 
 def lines_of_list():
@@ -47,6 +51,8 @@ def link_or_copy(source, to):
 @contextlib.contextmanager
 def room(name):
     """Gives the folder of a copy of the crate, with what its checks keep, in a repository of its own with the libraries below it."""
+    if STOPPED.is_set():
+        raise InterruptedError
     lines, below = lines_of_list(), libraries_below()[name]
     with tempfile.TemporaryDirectory(prefix=f"{name}-") as top:
         with open(f"{top}/crates.txt", "w", encoding="utf-8") as file:
@@ -60,6 +66,31 @@ def room(name):
         for it in [*below, name]:
             copy_tree(f"{TOP}/crates/{it}/out/rlib", f"{top}/crates/{it}/out/rlib", link_or_copy)
         yield f"{top}/crates/{name}"
+
+
+def run(words, folder):
+    """Runs a command in a folder, and returns its status and what it said."""
+    how = {"stdin": subprocess.DEVNULL, "stdout": subprocess.PIPE, "stderr": subprocess.STDOUT}
+    with subprocess.Popen(words, cwd=folder, text=True, errors="replace", **how) as child:
+        RUNNING.add(child)
+        if STOPPED.is_set():
+            child.terminate()
+        said = child.communicate()[0]
+        RUNNING.discard(child)
+    return child.returncode, said
+
+
+def end_with_children():
+    """Has a signal that ends this program end what it runs first, so that no check goes on alone and each room is removed."""
+
+    def stop(number, _):
+        STOPPED.set()
+        for child in [*RUNNING]:
+            child.terminate()
+        raise SystemExit(128 + number)
+
+    for it in (signal.SIGHUP, signal.SIGINT, signal.SIGTERM):
+        signal.signal(it, stop)
 
 
 def memory_free():
