@@ -1,4 +1,4 @@
-use Rattle.std.proofs.Common.{◌≡◌, ◌+◌, ◌∙◌, ap, get_or, List, Ok, sym, arith}
+use Rattle.std.proofs.Common.{◌∙◌, ap, get_or, List, Ok, sym, arith}
 use Rattle.mrp_rows.specs.declared.rows.SourceRow.{SourceRow}
 use Rattle.mrp_rows.specs.Table.{Table}
 use Rattle.mrp_tables.proofs.Accept.{table_is}
