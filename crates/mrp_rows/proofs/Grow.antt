@@ -5,7 +5,7 @@ use Rattle.std.specs.Str.{bytes_eq}
 use Rattle.std.proofs.lemmas.List.Elements.{All-push, All-weaker}
 use Rattle.std.proofs.lemmas.List.{length_push}
 use Rattle.mrp_rows.specs.declared.rows.TheConstants.{MOST_BILLS, MOST_OF_A_KIND, MOST_PAIRS, MOST_PLANTS, MOST_SOURCES}
-use Rattle.mrp_rows.specs.Table.{Table, IsName, IsRead, IsLimited, horizon, IsPairRow, IsSourceRow, IsBillRow, IsDemandRow, IsReceiptRow, IsShipRow, IsCumRow, IsResetRow}
+use Rattle.mrp_rows.specs.Table.{Table, IsName, IsRead, horizon, IsPairRow, IsSourceRow, IsBillRow, IsDemandRow, IsReceiptRow, IsShipRow, IsCumRow, IsResetRow}
 use Rattle.mrp_rows.specs.Growing.{add_item, with_plant, with_item, with_pair, with_source, with_bill, with_demand, with_receipt, with_ship, with_cum, with_reset}
 use Rattle.mrp_rows.specs.declared.rows.PairRow.{PairRow}
 use Rattle.mrp_rows.specs.declared.rows.SourceRow.{SourceRow}
@@ -77,6 +77,7 @@ read-with_plant N x read named room =
     let longer : length M.plants ≡ length N.plants + 1 = length_push N.plants x in
     let g : Grows N M = record { periods = refl; plants = omega (arith, longer); items = omega arith; pairs = omega arith } in
     record {
+      calendar = read.calendar;
       limits = record { some_periods = read.limits.some_periods; periods = read.limits.periods; plants = omega (arith, longer, room); items = read.limits.items; pairs = read.limits.pairs; sources = read.limits.sources; bills = read.limits.bills; demands = read.limits.demands; receipts = read.limits.receipts; ships = read.limits.ships; cums = read.limits.cums; resets = read.limits.resets };
       plants = All-push IsName N.plants x read.plants named;
       items = read.items;
@@ -96,6 +97,7 @@ read-with_pair N x read row room =
     let longer : length M.pairs ≡ length N.pairs + 1 = length_push N.pairs x in
     let g : Grows N M = record { periods = refl; plants = omega arith; items = omega arith; pairs = omega (arith, longer) } in
     record {
+      calendar = read.calendar;
       limits = record { some_periods = read.limits.some_periods; periods = read.limits.periods; plants = read.limits.plants; items = read.limits.items; pairs = omega (arith, longer, room); sources = read.limits.sources; bills = read.limits.bills; demands = read.limits.demands; receipts = read.limits.receipts; ships = read.limits.ships; cums = read.limits.cums; resets = read.limits.resets };
       plants = read.plants;
       items = read.items;
@@ -115,6 +117,7 @@ read-with_source N x read row room =
     let longer : length M.sources ≡ length N.sources + 1 = length_push N.sources x in
     let g : Grows N M = record { periods = refl; plants = omega arith; items = omega arith; pairs = omega arith } in
     record {
+      calendar = read.calendar;
       limits = record { some_periods = read.limits.some_periods; periods = read.limits.periods; plants = read.limits.plants; items = read.limits.items; pairs = read.limits.pairs; sources = omega (arith, longer, room); bills = read.limits.bills; demands = read.limits.demands; receipts = read.limits.receipts; ships = read.limits.ships; cums = read.limits.cums; resets = read.limits.resets };
       plants = read.plants;
       items = read.items;
@@ -134,6 +137,7 @@ read-with_bill N x read row room =
     let longer : length M.bills ≡ length N.bills + 1 = length_push N.bills x in
     let g : Grows N M = record { periods = refl; plants = omega arith; items = omega arith; pairs = omega arith } in
     record {
+      calendar = read.calendar;
       limits = record { some_periods = read.limits.some_periods; periods = read.limits.periods; plants = read.limits.plants; items = read.limits.items; pairs = read.limits.pairs; sources = read.limits.sources; bills = omega (arith, longer, room); demands = read.limits.demands; receipts = read.limits.receipts; ships = read.limits.ships; cums = read.limits.cums; resets = read.limits.resets };
       plants = read.plants;
       items = read.items;
@@ -153,6 +157,7 @@ read-with_demand N x read row room =
     let longer : length M.demands ≡ length N.demands + 1 = length_push N.demands x in
     let g : Grows N M = record { periods = refl; plants = omega arith; items = omega arith; pairs = omega arith } in
     record {
+      calendar = read.calendar;
       limits = record { some_periods = read.limits.some_periods; periods = read.limits.periods; plants = read.limits.plants; items = read.limits.items; pairs = read.limits.pairs; sources = read.limits.sources; bills = read.limits.bills; demands = omega (arith, longer, room); receipts = read.limits.receipts; ships = read.limits.ships; cums = read.limits.cums; resets = read.limits.resets };
       plants = read.plants;
       items = read.items;
@@ -172,6 +177,7 @@ read-with_receipt N x read row room =
     let longer : length M.receipts ≡ length N.receipts + 1 = length_push N.receipts x in
     let g : Grows N M = record { periods = refl; plants = omega arith; items = omega arith; pairs = omega arith } in
     record {
+      calendar = read.calendar;
       limits = record { some_periods = read.limits.some_periods; periods = read.limits.periods; plants = read.limits.plants; items = read.limits.items; pairs = read.limits.pairs; sources = read.limits.sources; bills = read.limits.bills; demands = read.limits.demands; receipts = omega (arith, longer, room); ships = read.limits.ships; cums = read.limits.cums; resets = read.limits.resets };
       plants = read.plants;
       items = read.items;
@@ -191,6 +197,7 @@ read-with_ship N x read row room =
     let longer : length M.ships ≡ length N.ships + 1 = length_push N.ships x in
     let g : Grows N M = record { periods = refl; plants = omega arith; items = omega arith; pairs = omega arith } in
     record {
+      calendar = read.calendar;
       limits = record { some_periods = read.limits.some_periods; periods = read.limits.periods; plants = read.limits.plants; items = read.limits.items; pairs = read.limits.pairs; sources = read.limits.sources; bills = read.limits.bills; demands = read.limits.demands; receipts = read.limits.receipts; ships = omega (arith, longer, room); cums = read.limits.cums; resets = read.limits.resets };
       plants = read.plants;
       items = read.items;
@@ -210,6 +217,7 @@ read-with_cum N x read row room =
     let longer : length M.cums ≡ length N.cums + 1 = length_push N.cums x in
     let g : Grows N M = record { periods = refl; plants = omega arith; items = omega arith; pairs = omega arith } in
     record {
+      calendar = read.calendar;
       limits = record { some_periods = read.limits.some_periods; periods = read.limits.periods; plants = read.limits.plants; items = read.limits.items; pairs = read.limits.pairs; sources = read.limits.sources; bills = read.limits.bills; demands = read.limits.demands; receipts = read.limits.receipts; ships = read.limits.ships; cums = omega (arith, longer, room); resets = read.limits.resets };
       plants = read.plants;
       items = read.items;
@@ -229,6 +237,7 @@ read-with_reset N x read row room =
     let longer : length M.resets ≡ length N.resets + 1 = length_push N.resets x in
     let g : Grows N M = record { periods = refl; plants = omega arith; items = omega arith; pairs = omega arith } in
     record {
+      calendar = read.calendar;
       limits = record { some_periods = read.limits.some_periods; periods = read.limits.periods; plants = read.limits.plants; items = read.limits.items; pairs = read.limits.pairs; sources = read.limits.sources; bills = read.limits.bills; demands = read.limits.demands; receipts = read.limits.receipts; ships = read.limits.ships; cums = read.limits.cums; resets = omega (arith, longer, room) };
       plants = read.plants;
       items = read.items;
@@ -263,6 +272,7 @@ read-with_item N name read named room =
     let bounds = length-add_item-le N.items name in
     let g : Grows N M = record { periods = refl; plants = omega arith; items = bounds.0; pairs = omega arith } in
     record {
+      calendar = read.calendar;
       limits = record { some_periods = read.limits.some_periods; periods = read.limits.periods; plants = read.limits.plants; items = omega (arith, bounds.1, room); pairs = read.limits.pairs; sources = read.limits.sources; bills = read.limits.bills; demands = read.limits.demands; receipts = read.limits.receipts; ships = read.limits.ships; cums = read.limits.cums; resets = read.limits.resets };
       plants = read.plants;
       items = names-add_item N.items name read.items named;

@@ -1,5 +1,5 @@
 -- The places of keys.
-use Rattle.std.proofs.Common.{◌≡◌, ◌≤◌, ◌<◌, ℕ, get_or, ◌+◌, ◌==◌, ◌&&◌, ◌||◌, Bool, cond, true, false, not, ltb, if◌then◌else◌, List, [], ◌∷◌, ◌++◌, map, length, position, slice_get, unwrap_or, option_map, Option, None, Some, IsSome, IfSome, is_some, ◌↔◌, String, Global, refl, ap, sym, ◌∙◌, subst, arith, rules}
+use Rattle.std.proofs.Common.{◌≡◌, ◌<◌, ℕ, get_or, ◌==◌, ◌&&◌, Bool, cond, true, false, not, ltb, if◌then◌else◌, List, [], ◌∷◌, ◌++◌, map, length, position, slice_get, unwrap_or, option_map, Option, None, Some, IsSome, IfSome, is_some, ◌↔◌, String, Global, refl, ap, sym, ◌∙◌, subst, arith, rules}
 use Rattle.std.specs.List.{All, IsDistinct, position_or_len, list_any}
 use Rattle.std.specs.Str.{bytes_eq}
 use Rattle.std.specs.String.{string_bytes, string_eq, string_eq_equiv}

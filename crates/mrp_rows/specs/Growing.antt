@@ -1,5 +1,5 @@
 -- The table with one row more.
-use Rattle.std.specs.Prelude.{ℕ, ◌<◌, ◌∷◌, ◌++◌, [], List, length, map, if◌then◌else◌, Bool, not, nat_lt}
+use Rattle.std.specs.Prelude.{ℕ, ◌∷◌, ◌++◌, [], List, length, map, if◌then◌else◌, Bool, not, nat_lt}
 use Rattle.std.specs.List.{list_any}
 use Rattle.std.specs.Str.{bytes_eq}
 use Rattle.std.specs.declared.string.String.{String}

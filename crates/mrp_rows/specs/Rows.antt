@@ -1,5 +1,4 @@
 -- What the rows of a table say, with names as numbers.
-use Rattle.std.specs.Prelude.{ℕ}
 use Rattle.mrp_lot.specs.declared.params.PairParams.{PairParams}
 use Rattle.mrp_rows.specs.declared.rows.PairRow.{PairRow}
 

@@ -5,11 +5,11 @@ use Rattle.std.specs.List.Sorted.{IsNonDecreasingBy}
 use Rattle.std.specs.Str.{bytes_eq}
 use Rattle.mrp_qty.specs.declared.quantity.TheConstants.{MOST}
 use Rattle.mrp_qty.specs.declared.horizon.TheConstants.{LONGEST}
-use Rattle.mrp_cal.specs.Calendar.{CalendarTerms}
+use Rattle.mrp_cal.specs.Calendar.{CalendarTerms, IsCalendar}
 use Rattle.mrp_lot.specs.Lot.{IsRule}
 use Rattle.mrp_lot.specs.declared.rule.TheConstants.{LONGEST_LEAD}
 use Rattle.mrp_rows.specs.declared.rows.TheConstants.{MOST_BILLS, MOST_IN_ROW, MOST_OF_A_KIND, MOST_PAIRS, MOST_PER, MOST_PLANTS, MOST_SOURCES}
-use Rattle.mrp_spell.specs.declared.supplies.TheConstants.{MOST_SHARE}
+use Rattle.mrp_spell.specs.declared.supplies.TheConstants.{MOST_SHARE, MOST_SOURCES_OF_PAIR}
 use Rattle.mrp_rows.specs.declared.rows.BillRow.{BillRow}
 use Rattle.mrp_rows.specs.declared.rows.CumRow.{CumRow}
 use Rattle.mrp_rows.specs.declared.rows.DemandRow.{DemandRow}
@@ -121,8 +121,10 @@ pub record IsLimited (N : Table) : Type 0 where
   pub cums : length N.cums ≤ MOST_OF_A_KIND
   pub resets : length N.resets ≤ MOST_SOURCES
 
--- what the rows read so far say: names are names, and each row is in range and names what is there
+-- what the rows read so far say: the calendar is one, names are names, and each row is in range and
+-- names what is there
 pub record IsRead (N : Table) : Type 0 where
+  pub calendar : IsCalendar N.calendar
   pub limits : IsLimited N
   pub plants : All IsName N.plants
   pub items : All IsName N.items
@@ -212,10 +214,17 @@ abbrev pub rises_from : ℕ → List ℕ → Bool
 rises_from low [] = true
 rises_from low (n ∷ ns) = nat_le low n && rises_from n ns
 
--- sources stand in the order of their pairs and are other plants than the pair's; the parent of a
--- component is made at the component's plant; what is shipped comes from a source
+-- a pair of the item has a row
+abbrev pub is_item_of_pair : Table → ℕ → Bool
+is_item_of_pair N item = list_any (λ p. p.item.0 == item) N.pairs
+
+-- each item is some pair's; sources stand in the order of their pairs, at most four to a pair, and are
+-- other plants than the pair's; the parent of a component is made at the component's plant; what is
+-- shipped comes from a source, and where the count of a source starts anew its shipments arrive in order
 pub record IsSourced (N : Table) : Type 0 where
+  pub items : (item : ℕ) → item < length N.items → is_item_of_pair N item ≡ true
   pub order : IsNonDecreasingBy (λ s. s.pair.0) N.sources
+  pub few : (x : ℕ) → IsPair N x → length (sources_of_pair N x) ≤ MOST_SOURCES_OF_PAIR
   pub supplies : (x : ℕ) → IsPair N x → HasSupply (supply_at N x) (sources_of_pair N x)
   pub others : All (λ s. (s.plant.0 == plant_at N s.pair.0) ≡ false) N.sources
   pub parents : All (λ b. supply_at N b.parent.0 ≡ supply.Make) N.bills
@@ -223,6 +232,7 @@ pub record IsSourced (N : Table) : Type 0 where
   pub ships : All (λ s. is_taken_from N s.pair.0 s.from.0 ≡ true) N.ships
   pub cums : All (λ c. is_taken_from N c.pair.0 c.from.0 ≡ true) N.cums
   pub resets : All (λ r. is_taken_from N r.pair.0 r.from.0 ≡ true) N.resets
+  pub arrive : All (λ r. rises_from 0 (arrivals N r.from.0 r.pair.0) ≡ true) N.resets
 
 -- what every accepted table says: the pair behind each source has a row too
 pub record IsTable (N : Table) : Type 0 where

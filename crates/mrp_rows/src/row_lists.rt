@@ -53,7 +53,6 @@ impl Model for RowLists {
 
 impl RowLists {
     ghost use Rattle.std.specs.Prelude.{◌≡◌, ◌≤◌, ◌<◌, ◌==◌, ◌&&◌, [], length, option_map, position, IfOk, IfSome, OnOk};
-    ghost use Rattle.mrp_qty.specs.declared.horizon.TheConstants.{LONGEST};
     ghost use Rattle.mrp_rows.specs.declared.rows.TheConstants.{MOST_BILLS, MOST_OF_A_KIND, MOST_PAIRS, MOST_PLANTS, MOST_SOURCES};
     ghost use Rattle.std.specs.Prelude.{false, is_some, slice_get, unwrap_or, Some};
     ghost use Rattle.std.specs.List.{list_any};
@@ -63,8 +62,6 @@ impl RowLists {
 
     /// The lists after the run row.
     pub fn new(alloc: Global, calendar: Calendar) -> RowLists
-        requires some { 1 ≤ calendar.periods }
-        requires periods { calendar.periods ≤ LONGEST }
         ensures rows { IsRead result }
         ensures table { result ≡ record { calendar = calendar; plants = []; items = []; pairs = []; sources = []; bills = []; demands = []; receipts = []; ships = []; cums = []; resets = [] } }
     {

@@ -2,5 +2,6 @@ pub mod Apart
 pub mod Decimals
 pub mod Lists
 pub mod Mapped
+pub mod Ranges
 pub mod Shares
 pub mod Wholes

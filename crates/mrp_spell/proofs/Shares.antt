@@ -1,5 +1,5 @@
 -- The sources of a pair, one after the other.
-use Rattle.std.proofs.Common.{◌≡◌, ℕ, zero, suc, ◌+◌, ◌-◌, ◌<◌, Bool, true, false, if◌then◌else◌, List, [], ◌∷◌, ◌++◌, Option, Some, None, Result, Ok, Err, refl, sym, ap, ◌∙◌, arith}
+use Rattle.std.proofs.Common.{◌≡◌, ℕ, zero, suc, ◌-◌, ◌<◌, true, false, if◌then◌else◌, List, [], ◌∷◌, ◌++◌, Option, Some, None, sym, ap, ◌∙◌, arith}
 use Rattle.mrp_spell.specs.Supplies.{SourceTerms, names_plant, shared_source, shared_after, shared_rest, shared_sources}
 
 pub shared_sources-none : (n : ℕ) (before : List SourceTerms) (low : ℕ) (text : List ℕ) → n ≡ 0 → shared_sources n before low text ≡ None

@@ -1,5 +1,5 @@
 -- How it is spelled where a pair comes from, and what each plant's share is.
-use Rattle.std.specs.Prelude.{◌≡◌, ◌≤◌, ℕ, zero, suc, ◌+◌, ◌-◌, ◌==◌, ◌&&◌, nat_le, Bool, if◌then◌else◌, List, [], ◌∷◌, ◌++◌, codes, length, Option, Some, None, option_map}
+use Rattle.std.specs.Prelude.{◌≡◌, ◌≤◌, ◌<◌, ℕ, zero, suc, ◌+◌, ◌-◌, ◌==◌, ◌&&◌, nat_le, Bool, if◌then◌else◌, List, [], ◌∷◌, ◌++◌, codes, length, Option, Some, None, option_map, All}
 use Rattle.std.specs.List.{IsDistinct, list_any}
 use Rattle.std.specs.Str.{bytes_eq}
 use Rattle.mrp_spell.specs.declared.supplies.TheConstants.{MOST_SHARE, MOST_SOURCES_OF_PAIR}
@@ -89,9 +89,15 @@ abbrev pub ShareFrom : ℕ → List SourceTerms → ℕ → Type 0
 ShareFrom low [] high = high ≡ low
 ShareFrom low (s ∷ ss) high = (s.low ≡ low) × ShareFrom s.high ss high
 
--- at most four plants, all different, whose shares are the whole
+-- a share that ends after it begins, and within the whole
+pub record IsShare (s : SourceTerms) : Type 0 where
+  pub rises : s.low < s.high
+  pub ends : s.high ≤ MOST_SHARE
+
+-- at most four plants, all different, each with a share, and the shares are together the whole
 pub record AreWhole (ss : List SourceTerms) : Type 0 where
   pub few : length ss ≤ MOST_SOURCES_OF_PAIR
+  pub each : All IsShare ss
   pub apart : IsDistinct is_same_plant ss
   pub shares : ShareFrom 0 ss MOST_SHARE
 

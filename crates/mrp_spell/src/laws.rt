@@ -5,7 +5,8 @@ ghost use Rattle.mrp_spell.specs.Supplies.{IsWholeSupply, supply_of, SupplyTerms
 
 use crate::supplies::{MOST_SHARE, MOST_SOURCES_OF_PAIR};
 
-/// What is spelled after `from:` is at most four plants, all different, whose shares are the whole.
+/// What is spelled after `from:` is at most four plants, all different, each with a share, and their
+/// shares are together the whole.
 pub fn supplies_are_whole()
     ensures { (text : List ℕ) (supply : SupplyTerms) → supply_of text ≡ Some supply → IsWholeSupply supply }
 {}

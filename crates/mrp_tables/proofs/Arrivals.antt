@@ -1,5 +1,5 @@
 -- The shipments of each source.
-use Rattle.std.proofs.Common.{◌≡◌, ◌≢◌, ◌+◌, ◌*◌, ◌<◌, ◌==◌, ◌&&◌, ◌||◌, ℕ, nat_le, nat_lt, not, Bool, true, false, List, [], ◌∷◌, ◌++◌, length, map, get_or, set, position, Option, Some, None, IsSome, refl, sym, ap, ◌∙◌, subst, ⊎_elim, arith}
+use Rattle.std.proofs.Common.{◌≡◌, ◌≢◌, ◌*◌, ◌<◌, ◌==◌, ◌&&◌, ◌||◌, ℕ, nat_le, nat_lt, not, Bool, true, false, List, [], ◌∷◌, ◌++◌, length, map, get_or, set, position, Option, Some, None, IsSome, refl, sym, ap, ◌∙◌, subst, ⊎_elim, arith}
 use Rattle.std.specs.Cmp.{IsEquivalence}
 use Rattle.std.specs.List.{All, IsDistinct, filter, list_all, list_any}
 use Rattle.std.proofs.lemmas.Bool.{eq-eqb, eqb-true, false≢true}
@@ -195,7 +195,7 @@ found_lane f x keys sources (Some k) d is at found =
     any_source f x keys sources is ∙ list_any_at (λ (s : SourceRow). (s.plant.0 == f.0) && (s.pair.0 == x.0)) sources k d p.0 p.1
 
 -- a key among such that are sources is a source
-among_lanes : (keys some : List LaneKey) (q : LaneKey) → AreLanes keys some → list_any (is_same_lane q) some ≡ true → has_lane keys q ≡ true
+pub among_lanes : (keys some : List LaneKey) (q : LaneKey) → AreLanes keys some → list_any (is_same_lane q) some ≡ true → has_lane keys q ≡ true
 among_lanes keys [] q all any = absurd (cc)
 among_lanes keys (k ∷ ks) q all any =
     let p = both (has_lane keys k) (list_all (has_lane keys) ks) all in

@@ -96,7 +96,9 @@ bill_keeps N row b once sourced is =
         resets = once.resets;
       },
       record {
+        items = sourced.items;
         order = sourced.order;
+        few = sourced.few;
         supplies = sourced.supplies;
         others = sourced.others;
         parents = All-push (λ b. supply_at N b.parent.0 ≡ supply.Make) N.bills b sourced.parents says.made;
@@ -104,5 +106,6 @@ bill_keeps N row b once sourced is =
         ships = sourced.ships;
         cums = sourced.cums;
         resets = sourced.resets;
+        arrive = sourced.arrive;
       },
     )

@@ -1,11 +1,11 @@
 -- A pair row more, with its item and its sources.
-use Rattle.std.proofs.Common.{◌≡◌, ◌≤◌, ◌<◌, ℕ, ◌+◌, ◌==◌, ◌&&◌, Bool, true, false, not, ltb, if◌then◌else◌, get_or, List, [], ◌∷◌, ◌++◌, map, length, Option, Some, None, is_some, option_map, position, slice_get, unwrap_or, Ok, refl, ap, sym, ◌∙◌, subst, ⊎_elim, arith}
+use Rattle.std.proofs.Common.{◌≡◌, ◌≤◌, ◌<◌, ℕ, ◌+◌, ◌*◌, ◌==◌, ◌&&◌, ◌||◌, Bool, true, false, not, ltb, if◌then◌else◌, get_or, List, [], ◌∷◌, ◌++◌, map, length, Option, Some, None, is_some, option_map, position, slice_get, unwrap_or, Ok, refl, ap, sym, ◌∙◌, subst, ⊎_elim, arith}
 use Rattle.std.specs.List.{All, IsDistinct, filter, list_all, list_any}
 use Rattle.std.specs.Str.{bytes_eq}
 use Rattle.std.proofs.lemmas.Bool.{and_left, and_parts, and_right, cases_lt, eq-eqb, ne_eqb, not-true}
-use Rattle.std.proofs.lemmas.List.{append-nil, length_push}
-use Rattle.std.proofs.lemmas.List.Elements.{All-append, All-cons, All-from_recursion, All-head, All-map, All-nil, All-tail, All-weaker, filter-append, recursion_from_All}
-use Rattle.std.proofs.lemmas.List.Folds.{list_any_none}
+use Rattle.std.proofs.lemmas.List.{append-nil, length-append, length-map, length_push}
+use Rattle.std.proofs.lemmas.List.Elements.{All-append, All-cons, All-from_recursion, All-head, All-map, All-nil, All-push, All-tail, All-weaker, filter-append, recursion_from_All}
+use Rattle.std.proofs.lemmas.List.Folds.{list_any-append, list_any_none}
 use Rattle.std.proofs.lemmas.Map.Keys.{IsDistinct-cons, IsDistinct-head, IsDistinct-tail}
 use Rattle.std.proofs.lemmas.Slice.Eq.{bytes_eq-Decides}
 use Rattle.mrp_rows.specs.declared.numbers.PlantNo.{PlantNo}
@@ -17,12 +17,18 @@ use Rattle.mrp_rows.specs.declared.rows.Supply.TheVariants as supply
 use Rattle.mrp_spell.specs.Supplies.{names_plant, SourceTerms, SupplyTerms, MakeTerms, BuyTerms, FromTerms}
 use Rattle.mrp_rows.specs.Growing.{add_item}
 use Rattle.mrp_rows.specs.Names.{has_plant, pair_named, pair_of, plant_no}
-use Rattle.mrp_tables.specs.Grammar.{knows_sources, PairTerms, pair_fits, pair_row, pair_terms, pair_with, source_row, supply_kind, with_pair_terms}
-use Rattle.mrp_spell.specs.Supplies.{is_same_plant, IsWholeSupply, named_sources}
-use Rattle.mrp_rows.specs.Table.{Table, HasSupply, IsRead, IsOnce, IsPair, IsSourced, is_same_pair, is_same_source, plant_at, sources_of_pair, supply_at}
+use Rattle.mrp_tables.specs.Grammar.{knows_sources, PairTerms, pair_fits, pair_row, pair_terms, pair_with, place_of, source_row, supply_kind, with_pair_terms}
+use Rattle.mrp_spell.specs.Supplies.{is_same_plant, IsShare, IsWholeSupply, named_sources}
+use Rattle.mrp_spell.specs.declared.supplies.TheConstants.{MOST_SOURCES_OF_PAIR}
+use Rattle.mrp_rows.specs.Table.{Table, HasSupply, is_item_of_pair, IsRead, IsOnce, IsPair, IsPairRow, IsSourced, IsSourceRow, is_same_pair, is_same_source, plant_at, sources_of_pair, supply_at}
+use Rattle.mrp_tables.specs.declared.kind.Kind.{Kind}
+use Rattle.mrp_tables.specs.declared.kind.Kind.TheVariants as kind
+use Rattle.mrp_tables.specs.Reading.{IsReadSoFar}
 use Rattle.mrp_spell.proofs.Lists.{All-from_any, distinct_append, distinct_push, IsDistinct-nil}
-use Rattle.mrp_tables.proofs.KeepingLists.{any-from_no_position, any-from_position, any_left, distinct_name, filter_everything, filter_nothing, get_last, get_left, names_at, ordered_append, position-from_any, position_last}
-use Rattle.mrp_tables.proofs.KeepingShares.{pair_terms_are, shares_are}
+use Rattle.mrp_tables.proofs.KeepingLists.{any-from_no_position, any-from_position, any_left, distinct_name, filter_everything, filter_nothing, get_last, get_left, names_at, ordered_append, position-from_any, position_last, position_there}
+use Rattle.mrp_rows.proofs.Grow.{bills_grow, cums_grow, demands_grow, Grows, length-add_item-le, names-add_item, pairs_grow, receipts_grow, resets_grow, ships_grow, sources_grow}
+use Rattle.mrp_tables.proofs.KeepingRead.{lt_test, plant_within}
+use Rattle.mrp_tables.proofs.KeepingShares.{named_few, named_shares, pair_terms_are, shares_are, SpellsPair}
 use Rattle.mrp_tables.proofs.KeepingSteps.{after, after_check, after_some, same_Ok}
 
 -- ---- what a pair row that fits says
@@ -40,6 +46,7 @@ record Fitting (N : Table) (t : PairTerms) (plant : PlantNo) : Type 0 where
   at : plant_no N t.plant ≡ Some plant.0
   known : All (λ s. has_plant N s.plant ≡ true) (named_sources t.supply)
   others : names_plant (named_sources t.supply) t.plant ≡ false
+  room : length N.pairs < MOST_PAIRS
 
 fits : (N : Table) (t : PairTerms) (plant : PlantNo) → pair_fits N t ≡ Ok plant → Fitting N t plant
 unfolding pair_fits
@@ -56,6 +63,7 @@ fits N t plant is =
       at = at;
       known = all_pass (λ s. has_plant N s.plant) (named_sources t.supply) c.0;
       others = not-true (names_plant (named_sources t.supply) t.plant) d.0;
+      room = lt_test (length N.pairs) MOST_PAIRS e.0;
     }
 
 -- ---- places of names
@@ -89,6 +97,40 @@ distinct_items items name d = by (list_any (bytes_eq name) items) refl
     by : (b : Bool) → list_any (bytes_eq name) items ≡ b → IsDistinct bytes_eq (if b then items else items ++ name ∷ [])
     by true e = d
     by false e = distinct_name items name d e
+
+-- ---- the items with it
+
+item_added : (items : List (List ℕ)) (name : List ℕ) → list_any (bytes_eq name) (add_item items name) ≡ true
+item_added items name = by (list_any (bytes_eq name) items) refl
+  where
+    by : (b : Bool) → list_any (bytes_eq name) items ≡ b → list_any (bytes_eq name) (if b then items else items ++ name ∷ []) ≡ true
+    by true e = e
+    by false e = list_any-append (bytes_eq name) items (name ∷ []) ∙ rw (e, (bytes_eq-Decides name name).1 refl) refl
+
+-- a name that is there has a place among the names
+place_within : (names : List (List ℕ)) (name : List ℕ) → list_any (bytes_eq name) names ≡ true → unwrap_or (position (bytes_eq name) names) 0 < length names
+place_within names name there =
+    let at = position-from_any (bytes_eq name) names there in
+    subst (λ (o : Option ℕ). unwrap_or o 0 < length names) (sym at.1) (position_there (bytes_eq name) names at.0 at.1).1
+
+no_place : {X : Type 0} (p : X → Bool) (xs : List X) → list_any p xs ≡ false → position p xs ≡ None
+no_place p xs none = by (position p xs) refl
+  where
+    by : (o : Option ℕ) → position p xs ≡ o → o ≡ None
+    by None is = refl
+    by (Some i) is = absurd (let some = any-from_position p xs i is in cc)
+
+-- an item past those before is the new one
+last_item : (items : List (List ℕ)) (name : List ℕ) (i : ℕ) → i < length (add_item items name) → length items ≤ i → (i ≡ length items) × (position (bytes_eq name) items ≡ None)
+last_item items name i = by (list_any (bytes_eq name) items) refl
+  where
+    by : (b : Bool) → list_any (bytes_eq name) items ≡ b → i < length (if b then items else items ++ name ∷ []) → length items ≤ i → (i ≡ length items) × (position (bytes_eq name) items ≡ None)
+    by true e lt le = absurd (omega arith)
+    by false e lt le = (omega (arith, length_push items name), no_place (bytes_eq name) items e)
+
+last_hits : (b c : Bool) → c ≡ true → (b || (c || false)) ≡ true
+last_hits true c e = refl
+last_hits false c e = rw e refl
 
 -- ---- the pair is new
 
@@ -132,7 +174,7 @@ supply_is N x MakeTerms h = refl
 supply_is N x BuyTerms h = refl
 supply_is N x (FromTerms ss) h = shares_are N x 0 ss h.shares
 
-module _ (N : Table) (plant : PlantNo) (t : PairTerms) (read : IsRead N) (once : IsOnce N) (sourced : IsSourced N) (fit : Fitting N t plant) (named : IsWholeSupply t.supply) where
+module _ (N : Table) (plant : PlantNo) (t : PairTerms) (read : IsRead N) (once : IsOnce N) (sourced : IsSourced N) (fit : Fitting N t plant) (says : SpellsPair t) where
   abbrev M : Table
   M = with_pair_terms N plant t
 
@@ -165,7 +207,7 @@ module _ (N : Table) (plant : PlantNo) (t : PairTerms) (read : IsRead N) (once :
     plants = once.plants;
     items = distinct_items N.items t.item once.items;
     pairs = distinct_push is_same_pair N.pairs new_row once.pairs (new_pair N plant.0 t.item (λ k d lt. (read.pairs k d lt).item) fit.new);
-    sources = distinct_append is_same_source N.sources new_rows once.sources (named_rows N (length N.pairs) t.supply named fit.known)
+    sources = distinct_append is_same_source N.sources new_rows once.sources (named_rows N (length N.pairs) t.supply says.supply fit.known)
         (All-weaker (λ s. s.pair.0 < length N.pairs) (λ s. All (λ r. is_same_source s r ≡ false) new_rows)
         (λ s lt. All-weaker (λ r. r.pair.0 ≡ length N.pairs) (λ r. is_same_source s r ≡ false)
         (λ r e. and_right (s.plant.0 == r.plant.0) (s.pair.0 == r.pair.0) (ne_eqb s.pair.0 r.pair.0 (λ same. absurd (omega arith)))) new_rows new_sources) N.sources old_sources);
@@ -206,7 +248,7 @@ module _ (N : Table) (plant : PlantNo) (t : PairTerms) (read : IsRead N) (once :
           let kind : supply_at M (length N.pairs) ≡ supply_kind t.supply = ap (λ o. unwrap_or (option_map (λ p. p.supply) o) supply.Buy) last_pair in
           subst (λ (y : ℕ). HasSupply (supply_at M y) (sources_of_pair M y)) at
           (subst (λ (s : Supply). HasSupply s (sources_of_pair M (length N.pairs))) (sym kind)
-          (subst (λ (l : List SourceRow). HasSupply (supply_kind t.supply) l) (sym new_kept) (supply_is N (length N.pairs) t.supply named)))
+          (subst (λ (l : List SourceRow). HasSupply (supply_kind t.supply) l) (sym new_kept) (supply_is N (length N.pairs) t.supply says.supply)))
 
   old_other : (s : SourceRow) → s.pair.0 < length N.pairs → (s.plant.0 == plant_at N s.pair.0) ≡ false → (s.plant.0 == plant_at M s.pair.0) ≡ false
   old_other s lt e = ap (λ z. s.plant.0 == z) (old_plant s.pair.0 lt) ∙ e
@@ -226,8 +268,42 @@ module _ (N : Table) (plant : PlantNo) (t : PairTerms) (read : IsRead N) (once :
       (All-map (λ s. (s.plant.0 == plant_at M s.pair.0) ≡ false) (source_row N (length N.pairs)) (named_sources t.supply)
       (λ k d lt. new_other (get_or (named_sources t.supply) k d) (All-from_any (λ s. bytes_eq s.plant t.plant) (named_sources t.supply) fit.others k d lt) (fit.known k d lt)))
 
+  -- ---- each item is some pair's, and a pair has few sources
+
+  pair_items : (item : ℕ) → item < length M.items → is_item_of_pair M item ≡ true
+  pair_items item within = ⊎_elim left right (cases_lt item (length N.items))
+    where
+      left : item < length N.items → is_item_of_pair M item ≡ true
+      left lt = any_left (λ p. p.item.0 == item) N.pairs (new_row ∷ []) (sourced.items item lt)
+
+      right : length N.items ≤ item → is_item_of_pair M item ≡ true
+      right le =
+          let last = last_item N.items t.item item within le in
+          let place : new_row.item.0 ≡ item = new_item N.items t.item last.1 ∙ sym last.0 in
+          list_any-append (λ (p : PairRow). p.item.0 == item) N.pairs (new_row ∷ [])
+          ∙ last_hits (list_any (λ (p : PairRow). p.item.0 == item) N.pairs) (new_row.item.0 == item) (eq-eqb new_row.item.0 item place)
+
+  new_size : length new_rows ≤ MOST_SOURCES_OF_PAIR
+  new_size = omega (arith, length-map (named_sources t.supply) (source_row N (length N.pairs)), named_few t.supply says.supply)
+
+  pair_few : (x : ℕ) → IsPair M x → length (sources_of_pair M x) ≤ MOST_SOURCES_OF_PAIR
+  pair_few x within = ⊎_elim left right (cases_lt x (length N.pairs))
+    where
+      left : x < length N.pairs → length (sources_of_pair M x) ≤ MOST_SOURCES_OF_PAIR
+      left lt = subst (λ (l : List SourceRow). length l ≤ MOST_SOURCES_OF_PAIR) (sym (old_kept x lt)) (sourced.few x lt)
+
+      right : length N.pairs ≤ x → length (sources_of_pair M x) ≤ MOST_SOURCES_OF_PAIR
+      right le =
+          let longer : length M.pairs ≡ length N.pairs + 1 = length_push N.pairs new_row in
+          let at : length N.pairs ≡ x = omega arith in
+          subst (λ (y : ℕ). length (sources_of_pair M y) ≤ MOST_SOURCES_OF_PAIR) at
+          (subst (λ (l : List SourceRow). length l ≤ MOST_SOURCES_OF_PAIR) (sym new_kept) new_size)
+
   pair_sourced : IsSourced M
   pair_sourced = record {
+    items = pair_items;
+    few = pair_few;
+    arrive = sourced.arrive;
     order = ordered_append (λ s. s.pair.0) (length N.pairs) N.sources new_rows sourced.order (λ k d lt. omega (arith, old_sources k d lt)) new_sources;
     supplies = pair_supplies;
     others = pair_others;
@@ -238,11 +314,85 @@ module _ (N : Table) (plant : PlantNo) (t : PairTerms) (read : IsRead N) (once :
     resets = λ k d lt. any_left _ N.sources new_rows (sourced.resets k d lt);
   }
 
-pub pair_keeps : (N M : Table) (row : List (List ℕ)) → IsRead N → IsOnce N → IsSourced N → pair_row N row ≡ Ok M → IsOnce M × IsSourced M
-pair_keeps N M row read once sourced is =
+  -- ---- the pair, its item and its sources are in range
+
+  more_pairs : length M.pairs ≡ length N.pairs + 1
+  more_pairs = length_push N.pairs new_row
+
+  more_items : length M.items ≤ length N.items + 1
+  more_items = (length-add_item-le N.items t.item).1
+
+  more_sources : length M.sources ≤ length N.sources + MOST_SOURCES_OF_PAIR
+  more_sources = omega (arith, length-append N.sources new_rows, new_size)
+
+  grows : Grows N M
+  grows = record { periods = refl; plants = omega arith; items = (length-add_item-le N.items t.item).0; pairs = omega (arith, more_pairs) }
+
+  row_in : IsPairRow M new_row
+  row_in = record {
+    plant = plant_within N t.plant plant.0 fit.at;
+    item = place_within (add_item N.items t.item) t.item (item_added N.items t.item);
+    rule = says.rule;
+    lead = says.lead;
+    on_hand = says.on_hand;
+    safety = says.safety;
+  }
+
+  source_in : (s : SourceTerms) → IsShare s → has_plant N s.plant ≡ true → IsSourceRow M (source_row N (length N.pairs) s)
+  source_in s share known = record { pair = omega (arith, more_pairs); plant = place_within N.plants s.plant known; rises = share.rises; ends = omega (arith, share.ends) }
+
+  sources_in : All (IsSourceRow M) new_rows
+  sources_in =
+      All-map (IsSourceRow M) (source_row N (length N.pairs)) (named_sources t.supply)
+      (λ k d lt. source_in (get_or (named_sources t.supply) k d) (named_shares t.supply says.supply k d lt) (fit.known k d lt))
+
+  pair_read : length N.items ≤ length N.pairs → length N.sources ≤ MOST_SOURCES_OF_PAIR * length N.pairs → IsRead M
+  pair_read few_items few_sources = record {
+    calendar = read.calendar;
+    limits = record {
+      some_periods = read.limits.some_periods;
+      periods = read.limits.periods;
+      plants = read.limits.plants;
+      items = omega (arith, more_items, few_items, fit.room);
+      pairs = omega (arith, more_pairs, fit.room);
+      sources = omega (arith, more_sources, few_sources, fit.room);
+      bills = read.limits.bills;
+      demands = read.limits.demands;
+      receipts = read.limits.receipts;
+      ships = read.limits.ships;
+      cums = read.limits.cums;
+      resets = read.limits.resets;
+    };
+    plants = read.plants;
+    items = names-add_item N.items t.item read.items says.item;
+    pairs = All-push (IsPairRow M) N.pairs new_row (pairs_grow N M grows N.pairs read.pairs) row_in;
+    sources = All-append (IsSourceRow M) N.sources new_rows (sources_grow N M grows N.sources read.sources) sources_in;
+    bills = bills_grow N M grows N.bills read.bills;
+    demands = demands_grow N M grows N.demands read.demands;
+    receipts = receipts_grow N M grows N.receipts read.receipts;
+    ships = ships_grow N M grows N.ships read.ships;
+    cums = cums_grow N M grows N.cums read.cums;
+    resets = resets_grow N M grows N.resets read.resets;
+  }
+
+-- a pair row more stands after the run, the plants and other pairs
+pub pair_keeps : (N M : Table) (last : Kind) (row : List (List ℕ)) → IsReadSoFar N last → place_of last ≤ place_of kind.Pair → pair_row N row ≡ Ok M → IsReadSoFar M kind.Pair
+pair_keeps N M last row so_far before is =
     let a = after (pair_terms row) _ M is in
     let b = after (pair_fits N a.0) _ M a.2 in
     let same : with_pair_terms N b.0 a.0 ≡ M = same_Ok _ M b.2 in
     let fit = fits N a.0 b.0 b.1 in
-    let named = pair_terms_are row a.0 a.1 in
-    subst (λ (m : Table). IsOnce m × IsSourced m) same (pair_once N b.0 a.0 read once sourced fit named, pair_sourced N b.0 a.0 read once sourced fit named)
+    let says = pair_terms_are row a.0 a.1 in
+    let made = with_pair_terms N b.0 a.0 in
+    let read = so_far.read in
+    let once = so_far.once in
+    let sourced = so_far.sourced in
+    let kept : IsReadSoFar made kind.Pair = record {
+      read = pair_read N b.0 a.0 read once sourced fit says so_far.items so_far.sources;
+      once = pair_once N b.0 a.0 read once sourced fit says;
+      sourced = pair_sourced N b.0 a.0 read once sourced fit says;
+      items = omega (arith, more_items N b.0 a.0 read once sourced fit says, more_pairs N b.0 a.0 read once sourced fit says, so_far.items);
+      sources = omega (arith, more_sources N b.0 a.0 read once sourced fit says, more_pairs N b.0 a.0 read once sourced fit says, so_far.sources);
+      resets = λ lt. so_far.resets (omega (arith, before));
+    } in
+    subst (λ (m : Table). IsReadSoFar m kind.Pair) same kept

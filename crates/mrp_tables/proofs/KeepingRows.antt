@@ -1,5 +1,5 @@
 -- Rows of one list more: plants, demands, receipts, and rows on what one plant ships to another.
-use Rattle.std.proofs.Common.{◌≡◌, ℕ, ◌==◌, ◌&&◌, true, false, not, List, Option, Some, None, is_some, length, ltb, option_map, Ok, ap, sym, ◌∙◌, subst}
+use Rattle.std.proofs.Common.{◌≡◌, ℕ, ◌==◌, ◌&&◌, true, false, not, List, [], Option, Some, None, is_some, length, ltb, option_map, Ok, ap, sym, ◌∙◌, subst, arith}
 use Rattle.std.specs.List.{list_any}
 use Rattle.std.proofs.lemmas.Bool.{not-true}
 use Rattle.std.proofs.lemmas.List.Elements.{All-push}
@@ -45,7 +45,9 @@ plant_keeps N row name once sourced is = (
     resets = once.resets;
   },
   record {
+    items = sourced.items;
     order = sourced.order;
+    few = sourced.few;
     supplies = sourced.supplies;
     others = sourced.others;
     parents = sourced.parents;
@@ -53,6 +55,7 @@ plant_keeps N row name once sourced is = (
     ships = sourced.ships;
     cums = sourced.cums;
     resets = sourced.resets;
+    arrive = sourced.arrive;
   },
 )
 
@@ -62,7 +65,9 @@ pub demand_keeps : (N : Table) (x : DemandRow) → IsOnce N → IsSourced N → 
 demand_keeps N x once sourced = (
   record { plants = once.plants; items = once.items; pairs = once.pairs; sources = once.sources; bills = once.bills; cums = once.cums; resets = once.resets },
   record {
+    items = sourced.items;
     order = sourced.order;
+    few = sourced.few;
     supplies = sourced.supplies;
     others = sourced.others;
     parents = sourced.parents;
@@ -70,6 +75,7 @@ demand_keeps N x once sourced = (
     ships = sourced.ships;
     cums = sourced.cums;
     resets = sourced.resets;
+    arrive = sourced.arrive;
   },
 )
 
@@ -77,7 +83,9 @@ pub receipt_keeps : (N : Table) (x : ReceiptRow) → IsOnce N → IsSourced N �
 receipt_keeps N x once sourced = (
   record { plants = once.plants; items = once.items; pairs = once.pairs; sources = once.sources; bills = once.bills; cums = once.cums; resets = once.resets },
   record {
+    items = sourced.items;
     order = sourced.order;
+    few = sourced.few;
     supplies = sourced.supplies;
     others = sourced.others;
     parents = sourced.parents;
@@ -85,18 +93,19 @@ receipt_keeps N x once sourced = (
     ships = sourced.ships;
     cums = sourced.cums;
     resets = sourced.resets;
+    arrive = sourced.arrive;
   },
 )
 
 -- ---- lanes
 
 -- the plant and the pair of a lane that is there, and its source
-record OnLane (N : Table) (l : NamedLane) (lane : KnownLane) : Type 0 where
-  from : l.from ≡ Some lane.from
-  pair : l.pair ≡ Some lane.pair
-  place : l.place ≡ Some lane.place
+pub record OnLane (N : Table) (l : NamedLane) (lane : KnownLane) : Type 0 where
+  pub from : l.from ≡ Some lane.from
+  pub pair : l.pair ≡ Some lane.pair
+  pub place : l.place ≡ Some lane.place
 
-on_lane : (N : Table) (l : NamedLane) (lane : KnownLane) → known_lane l ≡ Ok lane → OnLane N l lane
+pub on_lane : (N : Table) (l : NamedLane) (lane : KnownLane) → known_lane l ≡ Ok lane → OnLane N l lane
 unfolding known_lane
 on_lane N l lane is =
     let a = after_some l.from _ _ lane is in
@@ -136,11 +145,13 @@ ship_lane N row x is =
     let same : record { from = b.0.from; pair = b.0.pair; period = a.0.1; quantity = a.0.2 } ≡ x = same_Ok _ x c.1 in
     subst (λ (y : ShipRow). is_taken_from N y.pair.0 y.from.0 ≡ true) same (taken N a.0.0 b.0 (on_lane N (lane_named N a.0.0) b.0 b.1))
 
-pub ship_keeps : (N : Table) (row : List (List ℕ)) (x : ShipRow) → IsOnce N → IsSourced N → ship_of N row ≡ Ok x → IsOnce (with_ship N x) × IsSourced (with_ship N x)
-ship_keeps N row x once sourced is = (
+pub ship_keeps : (N : Table) (row : List (List ℕ)) (x : ShipRow) → IsOnce N → IsSourced N → N.resets ≡ [] → ship_of N row ≡ Ok x → IsOnce (with_ship N x) × IsSourced (with_ship N x)
+ship_keeps N row x once sourced none is = (
   record { plants = once.plants; items = once.items; pairs = once.pairs; sources = once.sources; bills = once.bills; cums = once.cums; resets = once.resets },
   record {
+    items = sourced.items;
     order = sourced.order;
+    few = sourced.few;
     supplies = sourced.supplies;
     others = sourced.others;
     parents = sourced.parents;
@@ -148,6 +159,7 @@ ship_keeps N row x once sourced is = (
     ships = All-push (λ s. is_taken_from N s.pair.0 s.from.0 ≡ true) N.ships x sourced.ships (ship_lane N row x is);
     cums = sourced.cums;
     resets = sourced.resets;
+    arrive = λ k d lt. absurd (omega (arith, ap length none, lt));
   },
 )
 
@@ -191,7 +203,9 @@ cum_keeps N row x once sourced is =
         resets = once.resets;
       },
       record {
+        items = sourced.items;
         order = sourced.order;
+        few = sourced.few;
         supplies = sourced.supplies;
         others = sourced.others;
         parents = sourced.parents;
@@ -199,6 +213,7 @@ cum_keeps N row x once sourced is =
         ships = sourced.ships;
         cums = All-push (λ s. is_taken_from N s.pair.0 s.from.0 ≡ true) N.cums x sourced.cums says.0;
         resets = sourced.resets;
+        arrive = sourced.arrive;
       },
     )
 
@@ -215,6 +230,7 @@ new_reset N (Some f) (Some p) c fresh ef ep =
     ∙ ap (λ (y : PairNo). list_any (λ d. (d.from.0 == f.0) && (d.pair.0 == y.0)) N.resets) (sym sp) ∙ fresh
 
 reset_lane : (N : Table) (row : List (List ℕ)) (x : ResetRow) → reset_of N row ≡ Ok x → (is_taken_from N x.pair.0 x.from.0 ≡ true) × (list_any (λ c. is_same_reset c x) N.resets ≡ false)
+    × (rises_from 0 (arrivals N x.from.0 x.pair.0) ≡ true)
 unfolding reset_of
 reset_lane N row x is =
     let a = after (reset_terms row (horizon N)) _ x is in
@@ -227,6 +243,7 @@ reset_lane N row x is =
     let fresh : has_reset N l ≡ false = not-true (has_reset N l) z.0 in (
       subst (λ (y : ResetRow). is_taken_from N y.pair.0 y.from.0 ≡ true) same (taken N a.0.0 b.0 on),
       new_reset N l.from l.pair x fresh (on.from ∙ ap (λ (y : ResetRow). Some y.from) same) (on.pair ∙ ap (λ (y : ResetRow). Some y.pair) same),
+      subst (λ (y : ResetRow). rises_from 0 (arrivals N y.from.0 y.pair.0) ≡ true) same c.0,
     )
 
 pub reset_keeps : (N : Table) (row : List (List ℕ)) (x : ResetRow) → IsOnce N → IsSourced N → reset_of N row ≡ Ok x → IsOnce (with_reset N x) × IsSourced (with_reset N x)
@@ -242,7 +259,9 @@ reset_keeps N row x once sourced is =
         resets = distinct_push is_same_reset N.resets x once.resets says.1;
       },
       record {
+        items = sourced.items;
         order = sourced.order;
+        few = sourced.few;
         supplies = sourced.supplies;
         others = sourced.others;
         parents = sourced.parents;
@@ -250,5 +269,6 @@ reset_keeps N row x once sourced is =
         ships = sourced.ships;
         cums = sourced.cums;
         resets = All-push (λ s. is_taken_from N s.pair.0 s.from.0 ≡ true) N.resets x sourced.resets says.0;
+        arrive = All-push (λ s. rises_from 0 (arrivals N s.from.0 s.pair.0) ≡ true) N.resets x sourced.arrive says.2;
       },
     )

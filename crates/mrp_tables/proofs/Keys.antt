@@ -1,15 +1,6 @@
 -- The places of keys.
-use Rattle.std.proofs.Common.{◌≡◌, ◌≤◌, ◌<◌, ℕ, get_or, ◌+◌, ◌==◌, ◌&&◌, ◌||◌, Bool, cond, true, false, not, ltb, if◌then◌else◌, List, [], ◌∷◌, ◌++◌, map, length, position, slice_get, unwrap_or, option_map, Option, None, Some, IsSome, IfSome, is_some, ◌↔◌, String, Global, refl, ap, sym, ◌∙◌, subst, arith, rules}
-use Rattle.std.specs.List.{All, IsDistinct, position_or_len, list_any}
-use Rattle.std.specs.Str.{bytes_eq}
-use Rattle.std.specs.String.{string_bytes, string_eq, string_eq_equiv}
-use Rattle.std.proofs.lemmas.List.{length-map, map-append}
-use Rattle.std.proofs.lemmas.Bool.Decides.{nat_tests}
-use Rattle.std.proofs.lemmas.List.Sums.{fails_before_first, position_or_len_is}
-use Rattle.std.proofs.lemmas.Bool.{lt-ltb}
-use Rattle.std.proofs.lemmas.Slice.Eq.{bytes_eq-Decides}
-use Rattle.std.proofs.lemmas.Option.{get_or_from_slice_get}
-use Rattle.std.proofs.lemmas.Map.Keys.{apart_from_distinct}
+use Rattle.std.proofs.Common.{◌≡◌, ◌==◌, ◌&&◌, List, map, position, ap, ◌∙◌}
+use Rattle.std.specs.List.{list_any}
 use Rattle.mrp_rows.specs.declared.rows.ResetRow.{ResetRow}
 use Rattle.mrp_tables.specs.Lists.{bill_key_of, cum_key_of, lane_of, reset_key_of}
 use Rattle.mrp_tables.specs.contracts.draft.BillKeyPartialEq.TheImpl as bill

@@ -10,7 +10,7 @@ use Rattle.mrp_tables.specs.declared.fault.TableFaultKind.TheVariants as fault
 use Rattle.mrp_tables.specs.declared.kind.Kind.{Kind}
 use Rattle.mrp_rows.specs.Table.{Table}
 use Rattle.mrp_tables.specs.Left.{GoesOn, OfLeft, StartsBadly, state_of, TakesRow, TellsNext, TellsTaken}
-use Rattle.mrp_tables.specs.Reading.{at_row, go_on, kind_of_row, OfRows, row_after, rows_after}
+use Rattle.mrp_tables.specs.Reading.{kind_of_row, OfRows, row_after, rows_after}
 
 -- what holds, also where nothing is to be said
 pub of_rows_from : (k : TableFaultKind) (P Q : Type 0) → (P → Q) → OfRows k P → OfRows k Q

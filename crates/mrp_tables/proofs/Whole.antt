@@ -1,5 +1,5 @@
 -- The whole table: the first row, the rows after it, and the test that waits for the last.
-use Rattle.std.proofs.Common.{◌≡◌, ℕ, ◌+◌, Bool, true, false, List, [], ◌∷◌, Option, Some, None, Result, Ok, Err, MatchResult, refl, sym, ap, ◌∙◌, option_map}
+use Rattle.std.proofs.Common.{◌≡◌, ℕ, false, List, [], ◌∷◌, Option, Some, None, Result, Ok, Err, MatchResult, refl, sym, ap, option_map}
 use Rattle.std.specs.List.{list_all}
 use Rattle.std.specs.Str.{is_utf8}
 use Rattle.csv.specs.declared.parser.State.{State}
@@ -12,25 +12,25 @@ use Rattle.mrp_tables.specs.declared.fault.TableFaultKind.{TableFaultKind}
 use Rattle.mrp_tables.specs.declared.fault.TableFaultKind.TheVariants as fault
 use Rattle.mrp_tables.specs.declared.kind.Kind.{Kind}
 use Rattle.mrp_tables.specs.declared.kind.Kind.TheVariants as kind
-use Rattle.mrp_rows.specs.Table.{IsOnce, IsSourced, Table}
+use Rattle.mrp_rows.specs.Table.{Table}
 use Rattle.mrp_tables.specs.Grammar.{RunTerms}
-use Rattle.mrp_tables.specs.Left.{OfLeft, records_in, StartsBadly, state_of, TakesRow, TellsFirstAt, TellsRest}
-use Rattle.mrp_tables.specs.Reading.{empty_table, first_terms, go_on, kind_of_row, OfRecords, OfRows, read_from, Reads, rows_after, started, Starts, StartsWith, TellsRows, waiting}
+use Rattle.mrp_tables.specs.Left.{OfLeft, records_in, StartsBadly, state_of, TakesRow, TellsFirstAt}
+use Rattle.mrp_tables.specs.Reading.{empty_table, first_terms, go_on, IsCalendarOf, IsReadSoFar, OfRecords, OfRows, read_from, Reads, rows_after, started, Starts, StartsWith, TellsRows, waiting}
 use Rattle.mrp_tables.proofs.Keeping.{empty_keeps}
 use Rattle.mrp_tables.proofs.Loop.{kind_no_text, of_left_from, of_rows, of_rows_from}
 
 -- ---- the first row
 
 -- a table that a run starts has no other row
-run_is : (N : Table) (c : Result CalendarTerms CalFault) → Ok N ≡ started c → IsOnce N × IsSourced N
-run_is N (Ok c) e = let same : N ≡ empty_table c = cc in rw same (empty_keeps c)
-run_is N (Err e) same = absurd (cc)
+run_is : (N : Table) (t : RunTerms) (c : Result CalendarTerms CalFault) → IsCalendarOf t c → Ok N ≡ started c → IsReadSoFar N kind.Run
+run_is N t (Ok c) is e = let same : N ≡ empty_table c = cc in rw same (empty_keeps c is.1)
+run_is N t (Err e) is same = absurd (cc)
 
-starts_keep : (N : Table) (terms : Result RunTerms TableFaultKind) → StartsWith terms (Ok N) → IsOnce N × IsSourced N
-starts_keep N (Ok t) s = run_is N s.0 s.2
+starts_keep : (N : Table) (terms : Result RunTerms TableFaultKind) → StartsWith terms (Ok N) → IsReadSoFar N kind.Run
+starts_keep N (Ok t) s = run_is N t s.0 s.1 s.2
 starts_keep N (Err e) s = absurd (cc s)
 
-pub first_keeps : (N : Table) (row : List (List ℕ)) → Starts row (Ok N) → IsOnce N × IsSourced N
+pub first_keeps : (N : Table) (row : List (List ℕ)) → Starts row (Ok N) → IsReadSoFar N kind.Run
 first_keeps N row s = starts_keep N (first_terms row) s
 
 -- a first row that isn't text

@@ -14,8 +14,8 @@ use Rattle.mrp_tables.specs.declared.fault.TableFaultKind.{TableFaultKind}
 use Rattle.mrp_tables.specs.declared.fault.TableFaultKind.TheVariants as fault
 use Rattle.mrp_tables.specs.declared.kind.Kind.{Kind}
 use Rattle.mrp_tables.specs.declared.kind.Kind.TheVariants as kind
-use Rattle.mrp_rows.specs.Table.{Table, IsOnce, IsSourced}
-use Rattle.mrp_tables.specs.Reading.{OfRows, rows_after, Starts}
+use Rattle.mrp_rows.specs.Table.{Table}
+use Rattle.mrp_tables.specs.Reading.{IsReadSoFar, OfRows, rows_after, Starts}
 
 -- the records of a text from a state on
 abbrev pub records_in : State → List ℕ → List (List (List ℕ))
@@ -74,9 +74,9 @@ TellsFirstAt (Err e) row = OfRows e.kind (Starts row (Err e.kind)) × (e.row ≡
 abbrev pub state_of : Draft → Table × Kind
 state_of d = (d.lists, d.last)
 
--- no row twice, and pairs come from where the table says
+-- what the rows read so far say of the state of the reading
 abbrev pub IsKept : Draft → Type 0
-IsKept d = IsOnce d.lists × IsSourced d.lists
+IsKept d = IsReadSoFar d.lists d.last
 
 -- the rows left, read on from the later state, make what they made before
 abbrev pub GoesOn : Option (List (List (List ℕ))) → Option (List (List (List ℕ))) → ℕ → Table × Kind → ℕ → Table × Kind → Type 0

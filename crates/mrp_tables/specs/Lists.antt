@@ -1,7 +1,6 @@
 -- What is true of the rows while they are read.
-use Rattle.std.specs.Prelude.{◌≡◌, ℕ, ◌+◌, ◌*◌, ◌≤◌, ◌<◌, ◌==◌, ◌&&◌, ◌||◌, ◌∷◌, ◌++◌, [], List, length, map, filter, if◌then◌else◌, IfSome, Bool, true, not, nat_lt, nat_le}
+use Rattle.std.specs.Prelude.{◌≡◌, ℕ, ◌+◌, ◌*◌, ◌≤◌, ◌<◌, ◌==◌, ◌&&◌, ◌||◌, ◌∷◌, [], List, length, map, IfSome, Bool, true, not, nat_lt}
 use Rattle.std.specs.List.{IsDistinct, list_all, list_any}
-use Rattle.std.specs.Str.{bytes_eq}
 use Rattle.mrp_rows.specs.Table.{Table, IsRead, arrivals_of, rises_from}
 use Rattle.mrp_rows.specs.Turns.{row_count}
 use Rattle.mrp_spell.specs.declared.supplies.TheConstants.{MOST_SOURCES_OF_PAIR}

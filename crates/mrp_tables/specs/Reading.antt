@@ -1,5 +1,5 @@
 -- The grammar of a whole table: its rows one after the other, and the test that waits for the last.
-use Rattle.std.specs.Prelude.{◌≡◌, ℕ, ◌+◌, ◌==◌, not, Bool, true, false, if◌then◌else◌, List, [], ◌∷◌, length, Option, Some, None, option_map, Result, Ok, Err}
+use Rattle.std.specs.Prelude.{◌≡◌, ℕ, ◌+◌, ◌*◌, ◌≤◌, ◌<◌, Bool, true, false, if◌then◌else◌, List, [], ◌∷◌, length, Option, Some, None, Result, Ok, Err}
 use Rattle.std.specs.List.{list_all}
 use Rattle.std.specs.Str.{is_utf8}
 use Rattle.csv.specs.Reading.{default_config, records}
@@ -11,9 +11,10 @@ use Rattle.mrp_tables.specs.declared.fault.TableFaultKind.TheVariants as fault
 use Rattle.mrp_tables.specs.declared.kind.Kind.{Kind}
 use Rattle.mrp_tables.specs.declared.kind.Kind.TheVariants as kind
 use Rattle.mrp_rows.specs.declared.rows.SourceRow.{SourceRow}
-use Rattle.mrp_rows.specs.Table.{Table}
+use Rattle.mrp_rows.specs.Table.{IsOnce, IsRead, IsSourced, Table}
+use Rattle.mrp_spell.specs.declared.supplies.TheConstants.{MOST_SOURCES_OF_PAIR}
 use Rattle.mrp_rows.specs.Growing.{lacks_pair}
-use Rattle.mrp_tables.specs.Grammar.{◌>>=◌, bill_row, check, cum_row, demand_row, field, may_follow, pair_row, plant_row, receipt_row, reset_row, row_kind, run_terms, RunTerms, ship_row}
+use Rattle.mrp_tables.specs.Grammar.{◌>>=◌, bill_row, check, cum_row, demand_row, may_follow, pair_row, place_of, plant_row, receipt_row, reset_row, row_kind, run_terms, RunTerms, ship_row}
 
 -- the kind of a row whose fields are text
 unfoldable pub kind_of_row : List (List ℕ) → Result Kind TableFaultKind
@@ -84,6 +85,16 @@ row_after s row = do
   _ ← check (may_follow k s.1) fault.KindOrder
   N ← row_of_kind k s.0 row
   Ok (N, k)
+
+-- what the rows read so far say: no row stands twice, pairs come from where the table says, and each
+-- pair row names one item and at most four sources; no count starts anew before the reset rows
+pub record IsReadSoFar (N : Table) (last : Kind) : Type 0 where
+  pub read : IsRead N
+  pub once : IsOnce N
+  pub sourced : IsSourced N
+  pub items : length N.items ≤ length N.pairs
+  pub sources : length N.sources ≤ MOST_SOURCES_OF_PAIR * length N.pairs
+  pub resets : place_of last < place_of kind.Reset → N.resets ≡ []
 
 -- a row's fault with its number
 abbrev pub at_row : {A : Type 0} → ℕ → Result A TableFaultKind → Result A TableFault

@@ -1,22 +1,14 @@
 -- What a row spells, before its names are looked up.
-use Rattle.std.specs.Prelude.{◌≡◌, ℕ, ◌≤◌, ◌<◌, Bool, List, length, map, All, Option, None, Some, option_map}
-use Rattle.std.specs.Borrow.{Bor}
-use Rattle.std.specs.List.{IsDistinct}
-use Rattle.std.specs.Str.{bytes_eq}
+use Rattle.std.specs.Prelude.{◌≤◌}
 use Rattle.mrp_lot.specs.Lot.{IsRule}
 use Rattle.mrp_lot.specs.declared.rule.TheConstants.{LONGEST_LEAD}
-use Rattle.mrp_rows.specs.declared.rows.TheConstants.{MOST_IN_ROW, MOST_PER}
-use Rattle.mrp_spell.specs.declared.supplies.TheConstants.{MOST_SHARE, MOST_SOURCES_OF_PAIR}
-use Rattle.mrp_spell.specs.declared.supplies.SpelledSource.{SpelledSource}
-use Rattle.mrp_spell.specs.declared.supplies.SpelledSupply.{SpelledSupply}
-use Rattle.mrp_spell.specs.declared.supplies.SpelledSupply.TheVariants.{Make, Buy, From}
+use Rattle.mrp_rows.specs.declared.rows.TheConstants.{MOST_IN_ROW}
 use Rattle.mrp_spell.specs.Spelled.{HasSources, supply_view}
 use Rattle.mrp_tables.specs.declared.spelled.SpelledPair.{SpelledPair}
 use Rattle.mrp_tables.specs.declared.spelled.SpelledBill.{SpelledBill}
 use Rattle.mrp_tables.specs.declared.spelled.SpelledAmount.{SpelledAmount}
 use Rattle.mrp_tables.specs.declared.spelled.SpelledLane.{SpelledLane}
 use Rattle.mrp_tables.specs.declared.spelled.SpelledRun.{SpelledRun}
-use Rattle.mrp_spell.specs.Supplies.{SourceTerms, SupplyTerms, MakeTerms, BuyTerms, FromTerms}
 use Rattle.mrp_rows.specs.Table.{IsName}
 use Rattle.mrp_tables.specs.Grammar.{AmountTerms, BillTerms, LaneTerms, PairTerms, RunTerms}
 

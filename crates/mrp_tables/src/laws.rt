@@ -2,10 +2,8 @@
 ghost use Rattle.std.specs.Prelude.{◌≡◌, ◌+◌, ◌*◌, ℕ, List, Ok};
 ghost use Rattle.csv.specs.Reading.{AreRecords, default_config, records};
 ghost use Rattle.csv.specs.declared.parser.State.TheVariants.{StartRecord};
-ghost use Rattle.mrp_cal.specs.Calendar.{CalendarTerms};
-ghost use Rattle.mrp_tables.specs.declared.kind.Kind.{Kind};
-ghost use Rattle.mrp_tables.specs.Reading.{empty_table, row_after};
-ghost use Rattle.mrp_rows.specs.Table.{IsOnce, IsRead, IsSourced, Table};
+ghost use Rattle.mrp_tables.specs.Reading.{Reads};
+ghost use Rattle.mrp_rows.specs.Table.{IsTable, Table};
 
 use crate::reading::MAX_TURNS;
 use mrp_rows::{MOST_BILLS, MOST_OF_A_KIND, MOST_PAIRS, MOST_PLANTS, MOST_SOURCES};
@@ -15,10 +13,9 @@ pub fn turns_are_rows()
     ensures { MAX_TURNS ≡ 1 + MOST_PLANTS + MOST_PAIRS + MOST_BILLS + 4 * MOST_OF_A_KIND + MOST_SOURCES + 1 }
 {}
 
-/// What each row kept keeps: no row stands twice, and what is taken from a plant has its source.
-pub fn rows_keep_tables()
-    ensures first { (c : CalendarTerms) → IsOnce (empty_table c) × IsSourced (empty_table c) }
-    ensures rows { (N M : Table) (k l : Kind) (row : List (List ℕ)) → IsRead N → IsOnce N → IsSourced N → row_after (N, k) row ≡ Ok (M, l) → IsOnce M × IsSourced M }
+/// What is read is a table: rows that the grammar reads say all that an accepted table says.
+pub fn what_is_read_is_a_table()
+    ensures { (rows : List (List (List ℕ))) (N : Table) → Reads rows (Ok N) → IsTable N }
 {}
 
 /// The records that the grammar speaks of are all the records of a text.

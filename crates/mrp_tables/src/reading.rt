@@ -2,7 +2,6 @@ ghost use Rattle.std.specs.Prelude.{◌≡◌, ◌+◌, ◌≤◌, ◌<◌, true
 ghost use Rattle.csv.specs.Reading.{strip_bom};
 ghost use Rattle.csv.specs.Records.{AllText, fields_of};
 ghost use Rattle.mrp_tables.specs.Lists.{IsDraft};
-ghost use Rattle.mrp_rows.specs.Table.{IsOnce, IsSourced};
 ghost use Rattle.mrp_tables.specs.Reading.{OfRecords, TellsRows, waiting};
 ghost use Rattle.mrp_rows.specs.Turns.{row_count};
 ghost use Rattle.mrp_tables.specs.Left.{fault_of, GivesAll, IsKept, OfLeft, TellsFirstAt, TellsNext, TellsRest, TellsTaken, left_of, state_of};
@@ -89,8 +88,7 @@ fn read_rows<R: Read, L: Ledger>(
 /// The table of all rows read, where each pair that a pair is taken from has a row.
 fn accept(draft: Draft) -> Result<Tables, TableFault>
     requires draft { IsDraft draft }
-    requires once { IsOnce draft.lists }
-    requires sourced { IsSourced draft.lists }
+    requires kept { IsKept draft }
     ensures exact { MatchResult result (λ tables. waiting draft.lists ≡ Ok tables) (λ e. waiting draft.lists ≡ Err e) }
     ensures same { IfOk result (λ tables. tables ≡ draft.lists) }
 {

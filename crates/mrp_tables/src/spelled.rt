@@ -118,7 +118,6 @@ fn run_of(row: &StringRecord) -> Result<SpelledRun<'_>, TableFaultKind>
 /// The calendar of a run row.
 pub(crate) fn spelled_run(row: &StringRecord) -> Result<Calendar, TableFaultKind>
     ensures exact { TellsRun result (fields_of row.now) }
-    ensures periods { IfOk result (λ calendar. (1 ≤ calendar.periods) × (calendar.periods ≤ LONGEST)) }
 {
     let run = run_of(row)?;
     let Some(horizon) = Horizon::new(run.periods) else {

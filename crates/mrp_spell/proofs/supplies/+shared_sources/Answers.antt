@@ -1,4 +1,4 @@
-use Rattle.std.proofs.Common.{◌+◌, ◌≤◌, length, ◌<◌, ◌-◌, ◌∙◌, ◌++◌, ◌∷◌, [], List, ℕ, Option, None, Result, map, option_map, sym, ap, subst, arith, Bor, Vec, Global}
+use Rattle.std.proofs.Common.{◌+◌, ◌≤◌, length, ◌<◌, ◌-◌, ◌∙◌, ◌++◌, ◌∷◌, [], List, ℕ, Option, None, map, option_map, sym, ap, subst, arith, Bor, Vec, Global}
 use Rattle.std.proofs.lemmas.List.{length_push, map-append}
 use Rattle.std.proofs.lemmas.Result.{IfOk-weaker}
 use Rattle.mrp_spell.specs.declared.supplies.SpelledSource.{SpelledSource}

@@ -1,4 +1,4 @@
-use Rattle.std.proofs.Common.{◌≡◌, ◌+◌, ◌∙◌, ap, get_or, List, Ok, sym, arith}
+use Rattle.std.proofs.Common.{◌∙◌, ap, get_or, List, Ok, sym, arith}
 use Rattle.mrp_rows.specs.declared.rows.SourceRow.{SourceRow}
 use Rattle.mrp_rows.specs.Table.{Table}
 use Rattle.mrp_tables.proofs.Accept.{table_is}
@@ -6,7 +6,7 @@ use Rattle.mrp_tables.proofs.Waiting.{none_waits, waits_at}
 use Rattle.mrp_tables.proofs.reading.accept.Goals as goal
 
 pub of-requires : goal.of-requires
-of-requires c = record { table = table_is c.args.draft.lists c.requires.draft.rows c.requires.once c.requires.sourced (sym c.in_default.ensures.place) }
+of-requires c = record { table = table_is c.args.draft.lists c.args.draft.last c.requires.kept (sym c.in_default.ensures.place) }
 
 pub returns-in-Some-clause-exact : goal.returns-in-Some-clause-exact
 returns-in-Some-clause-exact c =

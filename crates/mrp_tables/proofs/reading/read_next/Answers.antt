@@ -31,5 +31,4 @@ returns-clause-exact g c =
 pub returns-clause-kept : goal.returns-clause-kept
 returns-clause-kept g c =
     let good = added c.args.draft.now c.add.new.self c.args.number (fields_of c.next_row.new.row) c.add.result c.at_row.result _ c.at_row.ensures.same c.in_ok-at_row.was c.add.ensures.exact in
-    row_after_keeps c.args.draft.now.lists c.add.new.self.lists c.args.draft.now.last c.add.new.self.last (fields_of c.next_row.new.row)
-    c.requires.draft.rows c.requires.kept.0 c.requires.kept.1 good
+    row_after_keeps (state_of c.args.draft.now) (state_of c.add.new.self) (fields_of c.next_row.new.row) c.requires.kept good

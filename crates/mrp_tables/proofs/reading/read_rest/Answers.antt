@@ -1,4 +1,4 @@
-use Rattle.std.proofs.Common.{rules, arith}
+use Rattle.std.proofs.Common.{arith}
 use Rattle.std.proofs.lemmas.Result.{err_from_is_err_and}
 use Rattle.mrp_tables.specs.Left.{left_of, state_of}
 use Rattle.mrp_tables.proofs.Loop.{goes_to_fault, next_true}

@@ -1,7 +1,7 @@
 use Rattle.std.proofs.Common.{◌≡◌, ◌+◌, ℕ, Result, Ok, Err, IfOk, ap, arith}
 use Rattle.std.proofs.lemmas.Result.{err_from_is_err_and}
 use Rattle.csv.specs.Records.{fields_of}
-use Rattle.mrp_tables.specs.Left.{left_of, state_of}
+use Rattle.mrp_tables.specs.Left.{left_of}
 use Rattle.mrp_rows.specs.Table.{Table}
 use Rattle.mrp_rows.specs.Turns.{row_count}
 use Rattle.mrp_tables.proofs.Loop.{some_there}

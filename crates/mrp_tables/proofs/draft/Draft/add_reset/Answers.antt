@@ -1,4 +1,4 @@
-use Rattle.std.proofs.Common.{◌≡◌, ◌+◌, ◌<◌, ◌∷◌, ◌++◌, [], List, if◌then◌else◌, length, map, ◌∙◌, ap, subst, sym, not, true, false, true≢false, refl, arith, rules}
+use Rattle.std.proofs.Common.{◌≡◌, ◌+◌, ◌<◌, ◌∷◌, ◌++◌, [], List, if◌then◌else◌, length, map, ◌∙◌, ap, subst, sym, not, true≢false, refl, arith, rules}
 use Rattle.std.specs.List.{IsDistinct}
 use Rattle.std.proofs.lemmas.List.{length-map, length_push, map-append}
 use Rattle.mrp_tables.specs.declared.draft.LaneKey.{LaneKey}

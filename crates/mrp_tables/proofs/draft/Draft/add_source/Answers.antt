@@ -1,4 +1,4 @@
-use Rattle.std.proofs.Common.{◌≡◌, ◌+◌, ◌∷◌, ◌++◌, [], List, ℕ, Option, if◌then◌else◌, unwrap_or, length, ◌∙◌, ap, subst, sym, not, true, false, true≢false, refl}
+use Rattle.std.proofs.Common.{◌≡◌, ◌∷◌, ◌++◌, [], List, ℕ, Option, if◌then◌else◌, unwrap_or, length, ◌∙◌, ap, subst, sym, not, false, true≢false, refl}
 use Rattle.std.proofs.lemmas.List.{length_push}
 use Rattle.mrp_tables.specs.declared.draft.LaneKey.{LaneKey}
 use Rattle.mrp_rows.specs.declared.numbers.PlantNo.{PlantNo}

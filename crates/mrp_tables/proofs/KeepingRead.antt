@@ -1,0 +1,272 @@
+-- A row more that fits is in range, and names what is there.
+use Rattle.std.proofs.Common.{◌≡◌, ◌≤◌, ◌<◌, ℕ, ◌-◌, ◌==◌, ◌&&◌, Bool, true, false, not, ltb, if◌then◌else◌, get_or, List, [], ◌∷◌, map, length, Option, Some, None, is_some, option_map, position, Result, Ok, Err, ok_or, refl, ap, ◌∙◌, subst, arith}
+use Rattle.std.specs.List.{All, IsDistinct}
+use Rattle.std.specs.Str.{bytes_eq}
+use Rattle.std.proofs.lemmas.Bool.Decides.{nat_tests}
+use Rattle.std.proofs.lemmas.List.{get_or-map as read-map, length-map, length_push}
+use Rattle.std.proofs.lemmas.List.Elements.{All-head, All-tail}
+use Rattle.std.proofs.lemmas.Map.Keys.{apart_from_distinct, IsDistinct-from_apart}
+use Rattle.std.proofs.lemmas.Map.Made.{length-le_from_is_member}
+use Rattle.mrp_qty.specs.declared.quantity.TheConstants.{MOST}
+use Rattle.mrp_rows.specs.declared.numbers.PlantNo.{PlantNo}
+use Rattle.mrp_rows.specs.declared.numbers.PairNo.{PairNo}
+use Rattle.mrp_rows.specs.declared.rows.TheConstants.{MOST_BILLS, MOST_IN_ROW, MOST_OF_A_KIND, MOST_PER, MOST_PLANTS}
+use Rattle.mrp_rows.specs.declared.rows.BillRow.{BillRow}
+use Rattle.mrp_rows.specs.declared.rows.CumRow.{CumRow}
+use Rattle.mrp_rows.specs.declared.rows.DemandRow.{DemandRow}
+use Rattle.mrp_rows.specs.declared.rows.ReceiptRow.{ReceiptRow}
+use Rattle.mrp_rows.specs.declared.rows.ResetRow.{ResetRow}
+use Rattle.mrp_rows.specs.declared.rows.ShipRow.{ShipRow}
+use Rattle.mrp_rows.specs.Growing.{with_bill, with_cum, with_demand, with_plant, with_receipt, with_reset, with_ship}
+use Rattle.mrp_rows.specs.Names.{has_plant, pair_named, pair_of, plant_no}
+use Rattle.mrp_rows.specs.Table.{arrivals, horizon, IsBillRow, IsCumRow, IsDemandRow, IsName, IsOnce, IsRead, IsReceiptRow, IsResetRow, IsShipRow, is_same_reset, IsSourced, rises_from, Table}
+use Rattle.mrp_rows.proofs.Grow.{read-with_bill, read-with_cum, read-with_demand, read-with_plant, read-with_receipt, read-with_reset, read-with_ship}
+use Rattle.mrp_spell.specs.Spelling.{is_name, number_within}
+use Rattle.mrp_spell.proofs.Ranges.{within_range}
+use Rattle.mrp_tables.specs.declared.fault.TableFaultKind.{TableFaultKind}
+use Rattle.mrp_tables.specs.declared.fault.TableFaultKind.TheVariants as fault
+use Rattle.mrp_tables.specs.declared.lanes.KnownLane.{KnownLane}
+use Rattle.mrp_tables.specs.Grammar.{amount_terms, AmountTerms, bill_fits, bill_of, bill_terms, BillTerms, cum_of, cum_terms, demand_of, field, has_bill, has_cum, has_reset, is_made, known_lane, known_pair, lane_named, lane_terms, LaneTerms, name_of, plant_of, plant_terms, ranged, receipt_of, reset_of, reset_terms, ship_of, ship_terms}
+use Rattle.mrp_tables.specs.Lists.{AreLanes, has_lane, is_same_lane, lane_of, reset_key_of}
+use Rattle.mrp_tables.proofs.Arrivals.{among_lanes, same_lane_laws}
+use Rattle.mrp_tables.proofs.KeepingLists.{position_there}
+use Rattle.mrp_tables.proofs.KeepingRows.{on_lane}
+use Rattle.mrp_tables.proofs.KeepingSteps.{after, after_check, after_some, same_Ok}
+use Rattle.mrp_tables.proofs.Keys.{any_source}
+
+-- ---- fields
+
+pub ranged_is : (text : List ℕ) (low high n : ℕ) → ranged text low high ≡ Ok n → (low ≤ n) × (n ≤ high)
+ranged_is text low high n e = by (number_within text low high) refl e
+  where
+    by : (o : Option ℕ) → number_within text low high ≡ o → ◌≡◌ {A = Result ℕ TableFaultKind} (ok_or o fault.BadNumber) (Ok n) → (low ≤ n) × (n ≤ high)
+    by (Some m) is e = within_range text low high n (is ∙ ap (λ x. Some x) (same_Ok m n e))
+    by None is e = absurd (cc)
+
+pub named_is : (text name : List ℕ) → name_of text ≡ Ok name → IsName name
+named_is text name e = by (is_name text) refl e
+  where
+    by : (b : Bool) → is_name text ≡ b → ◌≡◌ {A = Result (List ℕ) TableFaultKind} (if b then Ok text else Err fault.BadName) (Ok name) → IsName name
+    by true is e = subst IsName (same_Ok text name e) is
+    by false is e = absurd (cc)
+
+pub lt_test : (m n : ℕ) → ltb m n ≡ true → m < n
+lt_test m n e = grind (arith, nat_tests)
+
+-- ---- places
+
+pub plant_within : (N : Table) (name : List ℕ) (p : ℕ) → plant_no N name ≡ Some p → p < length N.plants
+plant_within N name p is = (position_there (bytes_eq name) N.plants p is).1
+
+pair_within : (N : Table) (plant : Option ℕ) (item : List ℕ) (x : ℕ) → pair_named N plant item ≡ Some x → x < length N.pairs
+pair_within N None item x is = absurd (cc)
+pair_within N (Some p) item x is = by (position (bytes_eq item) N.items) is
+  where
+    by : (o : Option ℕ) → pair_of N p o ≡ Some x → x < length N.pairs
+    by None e = absurd (cc)
+    by (Some i) e = (position_there (λ q. (q.plant.0 == p) && (q.item.0 == i)) N.pairs x e).1
+
+known_within : (N : Table) (plant item : List ℕ) (found : PlantNo × PairNo) → known_pair N plant item ≡ Ok found → found.1.0 < length N.pairs
+unfolding known_pair
+known_within N plant item found is =
+    let a = after_some (plant_no N plant) _ _ found is in
+    let b = after_some (pair_named N (Some a.0) item) _ _ found a.2 in
+    let same : ◌≡◌ {A = PlantNo × PairNo} (record { 0 = a.0 }, record { 0 = b.0 }) found = same_Ok _ found b.2 in
+    subst (λ (f : PlantNo × PairNo). f.1.0 < length N.pairs) same (pair_within N (Some a.0) item b.0 b.1)
+
+some_plant : (o : Option ℕ) (f : PlantNo) (n : ℕ) → ((p : ℕ) → o ≡ Some p → p < n) → ◌≡◌ {A = Option PlantNo} (option_map (λ p. record { 0 = p }) o) (Some f) → f.0 < n
+some_plant (Some p) f n within e = let same : ◌≡◌ {A = PlantNo} (record { 0 = p }) f = cc in subst (λ (x : PlantNo). x.0 < n) same (within p refl)
+some_plant None f n within e = absurd (cc)
+
+some_pair : (o : Option ℕ) (x : PairNo) (n : ℕ) → ((p : ℕ) → o ≡ Some p → p < n) → ◌≡◌ {A = Option PairNo} (option_map (λ p. record { 0 = p }) o) (Some x) → x.0 < n
+some_pair (Some p) x n within e = let same : ◌≡◌ {A = PairNo} (record { 0 = p }) x = cc in subst (λ (y : PairNo). y.0 < n) same (within p refl)
+some_pair None x n within e = absurd (cc)
+
+lane_within : (N : Table) (t : LaneTerms) (lane : KnownLane) → known_lane (lane_named N t) ≡ Ok lane → (lane.from.0 < length N.plants) × (lane.pair.0 < length N.pairs)
+lane_within N t lane is =
+    let on = on_lane N (lane_named N t) lane is in (
+      some_plant (plant_no N t.from) lane.from (length N.plants) (plant_within N t.from) on.from,
+      some_pair (pair_named N (plant_no N t.to) t.item) lane.pair (length N.pairs) (pair_within N (plant_no N t.to) t.item) on.pair,
+    )
+
+-- ---- plants
+
+pub plant_read : (N : Table) (row : List (List ℕ)) (name : List ℕ) → IsRead N → plant_of N row ≡ Ok name → IsRead (with_plant N name)
+unfolding plant_of
+plant_read N row name read is =
+    let a = after (plant_terms row) _ name is in
+    let b = after_check (not (has_plant N a.0)) _ _ name a.2 in
+    let c = after_check (ltb (length N.plants) MOST_PLANTS) _ _ name b.1 in
+    read-with_plant N name read (subst IsName (same_Ok a.0 name c.1) (named_is (field row 1) a.0 a.1)) (lt_test (length N.plants) MOST_PLANTS c.0)
+
+-- ---- bills
+
+per_is : (row : List (List ℕ)) (t : BillTerms) → bill_terms row ≡ Ok t → (1 ≤ t.per) × (t.per ≤ MOST_PER)
+unfolding bill_terms
+per_is row t is =
+    let a = after (name_of (field row 1)) _ t is in
+    let b = after (name_of (field row 2)) _ t a.2 in
+    let c = after (name_of (field row 3)) _ t b.2 in
+    let d = after (ranged (field row 4) 1 MOST_PER) _ t c.2 in
+    let same : record { plant = a.0; parent = b.0; component = c.0; per = d.0 } ≡ t = same_Ok _ t d.2 in
+    subst (λ (x : BillTerms). (1 ≤ x.per) × (x.per ≤ MOST_PER)) same (ranged_is (field row 4) 1 MOST_PER d.0 d.1)
+
+bill_within : (N : Table) (t : BillTerms) (b : BillRow) → (1 ≤ t.per) × (t.per ≤ MOST_PER) → bill_fits N t ≡ Ok b → IsBillRow N b × (length N.bills < MOST_BILLS)
+unfolding bill_fits
+bill_within N t b per is =
+    let plant = plant_no N t.plant in
+    let parent = pair_named N plant t.parent in
+    let component = pair_named N plant t.component in
+    let h1 = after_check (not (has_bill N parent component)) _ _ b is in
+    let h2 = after_check (is_some plant) _ _ b h1.1 in
+    let h3 = after_some parent _ _ b h2.1 in
+    let h4 = after_some component _ _ b h3.2 in
+    let h5 = after_check (is_made N h3.0) _ _ b h4.2 in
+    let h6 = after_check (ltb (length N.bills) MOST_BILLS) _ _ b h5.1 in
+    let same : record { parent = record { 0 = h3.0 }; component = record { 0 = h4.0 }; per = t.per } ≡ b = same_Ok _ b h6.1 in (
+      subst (IsBillRow N) same (record { parent = pair_within N plant t.parent h3.0 h3.1; component = pair_within N plant t.component h4.0 h4.1; some = per.0; few = per.1 }),
+      lt_test (length N.bills) MOST_BILLS h6.0,
+    )
+
+pub bill_read : (N : Table) (row : List (List ℕ)) (b : BillRow) → IsRead N → bill_of N row ≡ Ok b → IsRead (with_bill N b)
+bill_read N row b read is =
+    let a = after (bill_terms row) (bill_fits N) b is in
+    let within = bill_within N a.0 b (per_is row a.0 a.1) a.2 in
+    read-with_bill N b read within.0 within.1
+
+-- ---- demands and receipts
+
+-- a period of the plan
+abbrev Falls : Table → ℕ → Type 0
+Falls N t = t < horizon N
+
+period_is : (N : Table) (text : List ℕ) (t : ℕ) → IsRead N → ranged text 0 (horizon N - 1) ≡ Ok t → Falls N t
+period_is N text t read is = let within = ranged_is text 0 (horizon N - 1) t is in omega (arith, within.1, read.limits.some_periods)
+
+record IsAmountOf (N : Table) (t n : ℕ) : Type 0 where
+  period : Falls N t
+  some : 1 ≤ n
+  few : n ≤ MOST_IN_ROW
+
+amount_is : (N : Table) (row : List (List ℕ)) (t : AmountTerms) → IsRead N → amount_terms row (horizon N) ≡ Ok t → IsAmountOf N t.period t.quantity
+unfolding amount_terms
+amount_is N row t read is =
+    let a = after (name_of (field row 1)) _ t is in
+    let b = after (name_of (field row 2)) _ t a.2 in
+    let c = after (ranged (field row 3) 0 (horizon N - 1)) _ t b.2 in
+    let d = after (ranged (field row 4) 1 MOST_IN_ROW) _ t c.2 in
+    let same : record { plant = a.0; item = b.0; period = c.0; quantity = d.0 } ≡ t = same_Ok _ t d.2 in
+    let few = ranged_is (field row 4) 1 MOST_IN_ROW d.0 d.1 in
+    subst (λ (x : AmountTerms). IsAmountOf N x.period x.quantity) same (record { period = period_is N (field row 3) c.0 read c.1; some = few.0; few = few.1 })
+
+pub demand_read : (N : Table) (row : List (List ℕ)) (x : DemandRow) → IsRead N → demand_of N row ≡ Ok x → IsRead (with_demand N x)
+unfolding demand_of
+demand_read N row x read is =
+    let a = after (amount_terms row (horizon N)) _ x is in
+    let b = after (known_pair N a.0.plant a.0.item) _ x a.2 in
+    let c = after_check (ltb (length N.demands) MOST_OF_A_KIND) _ _ x b.2 in
+    let same : record { pair = b.0.1; period = a.0.period; quantity = a.0.quantity } ≡ x = same_Ok _ x c.1 in
+    let says = amount_is N row a.0 read a.1 in
+    let made : IsDemandRow N x = subst (IsDemandRow N) same (record { pair = known_within N a.0.plant a.0.item b.0 b.1; period = says.period; some = says.some; quantity = says.few }) in
+    read-with_demand N x read made (lt_test (length N.demands) MOST_OF_A_KIND c.0)
+
+pub receipt_read : (N : Table) (row : List (List ℕ)) (x : ReceiptRow) → IsRead N → receipt_of N row ≡ Ok x → IsRead (with_receipt N x)
+unfolding receipt_of
+receipt_read N row x read is =
+    let a = after (amount_terms row (horizon N)) _ x is in
+    let b = after (known_pair N a.0.plant a.0.item) _ x a.2 in
+    let c = after_check (ltb (length N.receipts) MOST_OF_A_KIND) _ _ x b.2 in
+    let same : record { pair = b.0.1; period = a.0.period; quantity = a.0.quantity } ≡ x = same_Ok _ x c.1 in
+    let says = amount_is N row a.0 read a.1 in
+    let made : IsReceiptRow N x = subst (IsReceiptRow N) same (record { pair = known_within N a.0.plant a.0.item b.0 b.1; period = says.period; some = says.some; quantity = says.few }) in
+    read-with_receipt N x read made (lt_test (length N.receipts) MOST_OF_A_KIND c.0)
+
+-- ---- lanes
+
+shipment_is : (N : Table) (row : List (List ℕ)) (t : LaneTerms × ℕ × ℕ) → IsRead N → ship_terms row (horizon N) ≡ Ok t → IsAmountOf N t.1 t.2
+unfolding ship_terms
+shipment_is N row t read is =
+    let a = after (lane_terms row) _ t is in
+    let b = after (ranged (field row 4) 0 (horizon N - 1)) _ t a.2 in
+    let c = after (ranged (field row 5) 1 MOST_IN_ROW) _ t b.2 in
+    let same : ◌≡◌ {A = LaneTerms × ℕ × ℕ} (a.0, b.0, c.0) t = same_Ok _ t c.2 in
+    let few = ranged_is (field row 5) 1 MOST_IN_ROW c.0 c.1 in
+    subst (λ (x : LaneTerms × ℕ × ℕ). IsAmountOf N x.1 x.2) same (record { period = period_is N (field row 4) b.0 read b.1; some = few.0; few = few.1 })
+
+pub ship_read : (N : Table) (row : List (List ℕ)) (x : ShipRow) → IsRead N → ship_of N row ≡ Ok x → IsRead (with_ship N x)
+unfolding ship_of
+ship_read N row x read is =
+    let a = after (ship_terms row (horizon N)) _ x is in
+    let b = after (known_lane (lane_named N a.0.0)) _ x a.2 in
+    let c = after_check (ltb (length N.ships) MOST_OF_A_KIND) _ _ x b.2 in
+    let same : record { from = b.0.from; pair = b.0.pair; period = a.0.1; quantity = a.0.2 } ≡ x = same_Ok _ x c.1 in
+    let says = shipment_is N row a.0 read a.1 in
+    let lane = lane_within N a.0.0 b.0 b.1 in
+    let made : IsShipRow N x = subst (IsShipRow N) same (record { from = lane.0; pair = lane.1; period = says.period; some = says.some; quantity = says.few }) in
+    read-with_ship N x read made (lt_test (length N.ships) MOST_OF_A_KIND c.0)
+
+figure_is : (row : List (List ℕ)) (t : LaneTerms × ℕ) → cum_terms row ≡ Ok t → t.1 ≤ MOST
+unfolding cum_terms
+figure_is row t is =
+    let a = after (lane_terms row) _ t is in
+    let b = after (ranged (field row 4) 0 MOST) _ t a.2 in
+    let same : ◌≡◌ {A = LaneTerms × ℕ} (a.0, b.0) t = same_Ok _ t b.2 in
+    subst (λ (x : LaneTerms × ℕ). x.1 ≤ MOST) same (ranged_is (field row 4) 0 MOST b.0 b.1).1
+
+pub cum_read : (N : Table) (row : List (List ℕ)) (x : CumRow) → IsRead N → cum_of N row ≡ Ok x → IsRead (with_cum N x)
+unfolding cum_of
+cum_read N row x read is =
+    let a = after (cum_terms row) _ x is in
+    let l = lane_named N a.0.0 in
+    let z = after_check (not (has_cum N l)) _ _ x a.2 in
+    let b = after (known_lane l) _ x z.1 in
+    let c = after_check (ltb (length N.cums) MOST_OF_A_KIND) _ _ x b.2 in
+    let same : record { from = b.0.from; pair = b.0.pair; figure = a.0.1 } ≡ x = same_Ok _ x c.1 in
+    let lane = lane_within N a.0.0 b.0 b.1 in
+    let made : IsCumRow N x = subst (IsCumRow N) same (record { from = lane.0; pair = lane.1; figure = figure_is row a.0 a.1 }) in
+    read-with_cum N x read made (lt_test (length N.cums) MOST_OF_A_KIND c.0)
+
+-- ---- new starts
+
+are_lanes : (N : Table) (resets : List ResetRow) → All (λ r. has_lane (map lane_of N.sources) (reset_key_of r) ≡ true) resets → AreLanes (map lane_of N.sources) (map reset_key_of resets)
+are_lanes N [] all = refl
+are_lanes N (r ∷ rs) all =
+    rw (All-head (λ r. has_lane (map lane_of N.sources) (reset_key_of r) ≡ true) r rs all)
+    (are_lanes N rs (All-tail (λ r. has_lane (map lane_of N.sources) (reset_key_of r) ≡ true) r rs all))
+
+-- there is at most one new start for each source
+resets_few : (N : Table) → IsOnce N → IsSourced N → length N.resets ≤ length N.sources
+resets_few N once sourced =
+    let keys = map lane_of N.sources in
+    let some = map reset_key_of N.resets in
+    let found : All (λ r. has_lane keys (reset_key_of r) ≡ true) N.resets = λ k d lt. any_source (get_or N.resets k d).from (get_or N.resets k d).pair keys N.sources refl ∙ sourced.resets k d lt in
+    let size = length-map N.resets reset_key_of in
+    let distinct : IsDistinct is_same_lane some =
+    IsDistinct-from_apart is_same_lane some (λ i j d lt within.
+    let r : ResetRow = record { from = d.from; pair = d.pair; period = 0 } in
+    let other = apart_from_distinct is_same_reset N.resets i j r once.resets lt (omega (arith, size, within)) in
+    let at : (k : ℕ) → k < length N.resets → get_or some k d ≡ reset_key_of (get_or N.resets k r) = λ k kn. read-map reset_key_of N.resets k r d kn in
+    rw (at i (omega (arith, size, lt, within)), at j (omega (arith, size, within))) other) in
+    let few = length-le_from_is_member same_lane_laws some keys distinct (λ q m. among_lanes keys some q (are_lanes N N.resets found) m) in
+    omega (arith, few, size, length-map N.sources lane_of)
+
+start_is : (N : Table) (row : List (List ℕ)) (t : LaneTerms × ℕ) → IsRead N → reset_terms row (horizon N) ≡ Ok t → Falls N t.1
+unfolding reset_terms
+start_is N row t read is =
+    let a = after (lane_terms row) _ t is in
+    let b = after (ranged (field row 4) 0 (horizon N - 1)) _ t a.2 in
+    let same : ◌≡◌ {A = LaneTerms × ℕ} (a.0, b.0) t = same_Ok _ t b.2 in
+    subst (λ (x : LaneTerms × ℕ). Falls N x.1) same (period_is N (field row 4) b.0 read b.1)
+
+pub reset_read : (N : Table) (row : List (List ℕ)) (x : ResetRow) → IsRead N → IsOnce (with_reset N x) → IsSourced (with_reset N x) → reset_of N row ≡ Ok x → IsRead (with_reset N x)
+unfolding reset_of
+reset_read N row x read once sourced is =
+    let a = after (reset_terms row (horizon N)) _ x is in
+    let l = lane_named N a.0.0 in
+    let z = after_check (not (has_reset N l)) _ _ x a.2 in
+    let b = after (known_lane l) _ x z.1 in
+    let c = after_check (rises_from 0 (arrivals N b.0.from.0 b.0.pair.0)) _ _ x b.2 in
+    let same : record { from = b.0.from; pair = b.0.pair; period = a.0.1 } ≡ x = same_Ok _ x c.1 in
+    let lane = lane_within N a.0.0 b.0 b.1 in
+    let made : IsResetRow N x = subst (IsResetRow N) same (record { from = lane.0; pair = lane.1; period = start_is N row a.0 read a.1 }) in
+    read-with_reset N x read made (omega (arith, resets_few (with_reset N x) once sourced, length_push N.resets x, read.limits.sources))
