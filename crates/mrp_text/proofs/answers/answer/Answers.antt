@@ -1,4 +1,10 @@
 use Rattle.mrp_text.proofs.answers.answer.Goals as goal
 
+pub returns-in-Plan-clause-text : goal.returns-in-Plan-clause-text
+returns-in-Plan-clause-text g c = rw (c.in-Plan.is) c.drive_text.ensures.text
+
+pub returns-in-Check-clause-text : goal.returns-in-Check-clause-text
+returns-in-Check-clause-text g c = rw (c.in-Check.is) c.check_text.ensures.text
+
 pub returns-in-Peg-clause-text : goal.returns-in-Peg-clause-text
 returns-in-Peg-clause-text g c = rw (c.in-Peg.is) c.peg_text.ensures.text
