@@ -1,14 +1,9 @@
 //! The text functions on worked tables: the bytes of each report, and the line and the status of
-//! each fault; and the calls of the crates below on small ones, here since a crate with tests is
-//! proved twice.
+//! each fault. The calls of the crates below are tried in `mrp_cases`.
 
 mod damage;
 mod firms;
-mod loops;
-mod networks;
-mod planning;
 mod plans;
-mod reading;
 mod refusals;
 mod shipping;
 mod streams;

@@ -16,6 +16,3 @@ pub use laws::{
 pub use params::{Late, PairParams};
 pub use rule::{LONGEST_LEAD, MOST_IN_RULE, Rule};
 pub use sizing::lot;
-
-#[cfg(test)]
-mod tests;

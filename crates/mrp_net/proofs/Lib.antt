@@ -16,13 +16,5 @@ pub mod Pieces
 pub mod Twos
 pub mod EdgesOnce
 pub mod Arriving
-pub mod Once
-pub mod Loading
-pub mod Pushing
-pub mod Seeing
-pub mod SeeingLanes
 pub mod Lengths
 pub mod Ends
-pub mod OwnEdges
-pub mod Views
-pub mod Placing

@@ -8,7 +8,3 @@ pub mod Sources
 pub mod Routes
 pub mod Texts
 pub mod Laws
-pub mod Loads
-pub mod View
-pub mod Seen
-pub mod ViewLaws

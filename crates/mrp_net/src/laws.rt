@@ -1,5 +1,4 @@
-//! Laws of sources and shares and of the pairs of a table, of routes and lanes, of edges, and of what
-//! plants see.
+//! Laws of sources and shares and of the pairs of a table, of routes and lanes, and of edges.
 //! Each is the contract of a function that does nothing.
 
 ghost use Rattle.mrp_net.specs.Laws.{PartsAreWhole, NeedsAreWhole, PartsAreWithin, OthersHaveNoSources, OthersHaveComponents, BoughtHaveNoEdges};
@@ -8,7 +7,6 @@ ghost use Rattle.mrp_net.specs.Laws.{SourcePairsAreThere, LocalEdgesAreBills, Lo
 ghost use Rattle.mrp_net.specs.Laws.{GrossIsLocalAndCalled, PlansLookAtDemanders, SourcesHaveLanes, LanesComeInTwos, LanesStandOnce, LanesJoinTwoPlants};
 ghost use Rattle.mrp_net.specs.Laws.{ItemsHaveSources, OpeningsAreSupplied, IncomingComesOverLanes, ShipmentsAreOfItems};
 ghost use Rattle.mrp_net.specs.Laws.{OneEdgeJoinsTwoPairs, DemandersStandOnce};
-ghost use Rattle.mrp_net.specs.ViewLaws.{ViewsSayEnough, ViewsHaveLanesIn, ViewsHaveLanesOut, ViewsHaveParents, ViewsHaveBills};
 
 /// The parts of a release over the sources of a pair that is taken from plants add up to the release,
 /// and so does what it asks of its suppliers: nothing is lost or made up by rounding.
@@ -118,24 +116,4 @@ pub fn shipments_come_over_lanes()
 pub fn one_edge_joins_two_pairs()
     ensures edges { OneEdgeJoinsTwoPairs }
     ensures demanders { DemandersStandOnce }
-{}
-
-/// What a plant sees of an accepted table says all that it needs to know to plan alone: no pair, item
-/// or lane stands twice, edges and lanes name its own pairs, amounts are in range, and before each
-/// schedule lane that it sends it receives the despatch lane of the same two plants.
-pub fn views_say_enough()
-    ensures { ViewsSayEnough }
-{}
-
-/// A plant sees the lanes that it receives and those that it sends, in lane order, and no other.
-pub fn views_have_their_lanes()
-    ensures incoming { ViewsHaveLanesIn }
-    ensures outgoing { ViewsHaveLanesOut }
-{}
-
-/// The edges that a plant sees are those of its components: to each of its pairs they are the pair's
-/// own, and they ask of it what the component rows ask.
-pub fn views_have_their_edges()
-    ensures parents { ViewsHaveParents }
-    ensures bills { ViewsHaveBills }
 {}

@@ -11,14 +11,8 @@ mod lanes;
 pub mod laws;
 mod network;
 mod sums;
-mod view;
-mod viewing;
 
 pub use edge::Edge;
 pub use lane::{Lane, LaneKind, LaneNo, Shipment};
 pub use mrp_rows::{ItemNo, PairNo, PairRow, PlantNo, SourceRow, Supply};
 pub use network::Network;
-pub use view::{
-    IncomingItem, IncomingItems, IncomingLane, OutgoingItem, OutgoingItems, OutgoingLane,
-    PlantEdge, PlantPair, PlantView,
-};

@@ -15,6 +15,3 @@ mod release;
 
 pub use mrp_lot::{Late, PairParams};
 pub use plan::{PairPlan, is_plan, plan_pair};
-
-#[cfg(test)]
-mod tests;

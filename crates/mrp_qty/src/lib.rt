@@ -17,6 +17,3 @@ pub use laws::limits_are_numbers;
 pub use memory::Memory;
 pub use quantity::{MOST, Qty};
 pub use row::Row;
-
-#[cfg(test)]
-mod tests;

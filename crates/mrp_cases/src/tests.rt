@@ -1,0 +1,12 @@
+//! Each call once on a case that was worked by hand, from quantities to the plans of networks.
+
+mod commands;
+mod dates;
+mod loops;
+mod lots;
+mod netting;
+mod networks;
+mod planning;
+mod quantities;
+mod reading;
+mod views;

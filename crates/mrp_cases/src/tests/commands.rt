@@ -1,0 +1,58 @@
+use clap::error::ErrorKind;
+use mrp_words::{Choice, ChooseFault, choose};
+use std::alloc::Global;
+
+/// What `clap` says of words that are refused, if it says something.
+fn refusal(alloc: Global, words: &[&str]) -> Option<ErrorKind> {
+    match choose(alloc, words) {
+        Err(ChooseFault::Words(error)) => Some(error.kind()),
+        _ => None,
+    }
+}
+
+#[test]
+fn commands_have_their_values(rt: HostRuntime) {
+    let alloc = rt.alloc();
+    let plain = Choice::Plan {
+        workers: 1,
+        capacity: 64,
+        single: false,
+    };
+    assert!(rt; matches!(choose(alloc, &["mrp", "plan"]), Ok(choice) if choice == plain));
+    let words = [
+        "mrp",
+        "plan",
+        "--single",
+        "--workers",
+        "64",
+        "--capacity=65536",
+    ];
+    let full = Choice::Plan {
+        workers: 64,
+        capacity: 65_536,
+        single: true,
+    };
+    assert!(rt; matches!(choose(alloc, &words), Ok(choice) if choice == full));
+    assert!(rt; matches!(choose(alloc, &["mrp", "check"]), Ok(Choice::Check)));
+    let asked = Choice::Peg {
+        plant: "P1",
+        item: "WHEEL",
+        period: 103,
+    };
+    let words = ["mrp", "peg", "P1", "WHEEL", "103"];
+    assert!(rt; matches!(choose(alloc, &words), Ok(choice) if choice == asked));
+}
+
+#[test]
+fn other_words_are_refused(rt: HostRuntime) {
+    let alloc = rt.alloc();
+    assert!(rt; refusal(alloc, &["mrp"]).is_some());
+    assert!(rt; refusal(alloc, &["mrp", "make"]).is_some());
+    assert!(rt; refusal(alloc, &["mrp", "plan", "--workers", "0"]).is_some());
+    assert!(rt; refusal(alloc, &["mrp", "plan", "--workers", "65"]).is_some());
+    assert!(rt; refusal(alloc, &["mrp", "plan", "--capacity", "65537"]).is_some());
+    assert!(rt; refusal(alloc, &["mrp", "peg", "P1", "WHEEL"]).is_some());
+    assert!(rt; refusal(alloc, &["mrp", "peg", "P1", "WHEEL", "104"]).is_some());
+    let help = refusal(alloc, &["mrp", "--help"]);
+    assert!(rt; help == Some(ErrorKind::DisplayHelp));
+}

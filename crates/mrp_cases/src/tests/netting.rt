@@ -1,0 +1,198 @@
+ghost use Rattle.std.specs.Prelude.{◌≡◌, ◌+◌, ◌≤◌, length, IfOk};
+ghost use Rattle.mrp_lot.specs.Lot.{IsRule, rule_quantities};
+ghost use Rattle.mrp_lot.specs.declared.rule.TheConstants.{LONGEST_LEAD};
+
+use mrp_lot::Rule;
+use mrp_netting::{PairParams, PairPlan, plan_pair};
+use mrp_qty::{Horizon, Qty, Row};
+use std::alloc::Global;
+use std::test::Fail;
+
+fn row(alloc: Global, amounts: &[u64]) -> Result<Row, Fail> {
+    let horizon = Horizon::new(amounts.len() as u64).ok_or("no horizon")?;
+    let mut row = Row::zero(alloc, horizon)?;
+    for (t, amount) in amounts.iter().enumerate() {
+        row.set(t, Qty::new(*amount).ok_or("too large")?);
+    }
+    Ok(row)
+}
+
+fn shows(row: &Row, expected: &[u64]) -> bool {
+    let row = row.as_slice();
+    row.len() == expected.len() && row.iter().zip(expected).all(|(q, e)| q.get() == *e)
+}
+
+/// A pair with nothing on hand, no safety stock and no lead time.
+fn pair(rule: Rule) -> PairParams
+    ensures { result ≡ record { rule = rule; lead = 0; on_hand = 0; safety = 0 } }
+{
+    PairParams {
+        rule,
+        lead: 0,
+        on_hand: Qty::ZERO,
+        safety: Qty::ZERO,
+    }
+}
+
+/// Plans into `plan`, whatever it holds.
+fn plan_again(
+    alloc: Global,
+    params: &PairParams,
+    incoming: &[u64],
+    gross: &[u64],
+    plan: &mut PairPlan,
+) -> Result<(), Fail>
+    requires rule { IsRule params.now.rule }
+    requires lead { params.now.lead ≤ LONGEST_LEAD }
+    requires small { params.now.on_hand + params.now.safety + rule_quantities params.now.rule ≤ 1000000 }
+{
+    let incoming = row(alloc, incoming)?;
+    let gross = row(alloc, gross)?;
+    if incoming.len() != gross.len() || plan.len() != gross.len() {
+        return Err("the horizons differ")?;
+    }
+    if incoming.total() > 1_000_000 || gross.total() > 1_000_000 {
+        return Err("too large")?;
+    }
+    plan_pair(params, &incoming, &gross, plan);
+    Ok(())
+}
+
+fn planned(
+    alloc: Global,
+    params: &PairParams,
+    incoming: &[u64],
+    gross: &[u64],
+) -> Result<PairPlan, Fail>
+    requires rule { IsRule params.now.rule }
+    requires lead { params.now.lead ≤ LONGEST_LEAD }
+    requires small { params.now.on_hand + params.now.safety + rule_quantities params.now.rule ≤ 1000000 }
+{
+    let horizon = Horizon::new(gross.len() as u64).ok_or("no horizon")?;
+    let mut plan = PairPlan::new(alloc, horizon)?;
+    plan_again(alloc, params, incoming, gross, &mut plan)?;
+    Ok(plan)
+}
+
+#[test]
+fn a_minimum_and_a_multiple(rt: HostRuntime) -> Result<(), Fail> {
+    let params = PairParams {
+        rule: Rule::MinMultiple(20, 5),
+        lead: 0,
+        on_hand: Qty::of(12),
+        safety: Qty::of(5),
+    };
+    let plan = planned(rt.alloc(), &params, &[0, 0, 0], &[10, 10, 10])?;
+    assert_eq!(rt; plan.len(), 3);
+    assert!(rt; shows(plan.gross(), &[10, 10, 10]));
+    assert!(rt; shows(plan.incoming(), &[0, 0, 0]));
+    assert!(rt; shows(plan.order(), &[20, 0, 20]));
+    assert!(rt; shows(plan.release(), &[20, 0, 20]));
+    assert!(rt; shows(plan.available(), &[22, 12, 22]));
+    assert_eq!(rt; plan.late_count(), 0);
+    Ok(())
+}
+
+#[test]
+fn an_order_is_late(rt: HostRuntime) -> Result<(), Fail> {
+    let params = PairParams {
+        lead: 3,
+        ..pair(Rule::LotForLot)
+    };
+    let plan = planned(rt.alloc(), &params, &[0, 0], &[0, 7])?;
+    assert!(rt; shows(plan.order(), &[0, 7]));
+    assert!(rt; shows(plan.release(), &[7, 0]));
+    assert!(rt; shows(plan.available(), &[0, 0]));
+    assert_eq!(rt; plan.late_count(), 1);
+    let late = plan.late(0);
+    assert_eq!(rt; late.period, 1);
+    assert_eq!(rt; late.quantity.get(), 7);
+    assert_eq!(rt; late.by, 2);
+    let copy = plan.copy(rt.alloc())?;
+    assert!(rt; shows(copy.release(), &[7, 0]));
+    assert_eq!(rt; copy.late_count(), 1);
+    Ok(())
+}
+
+#[test]
+fn an_order_covers_two_periods(rt: HostRuntime) -> Result<(), Fail> {
+    let params = pair(Rule::Periods(2));
+    let plan = planned(rt.alloc(), &params, &[0, 0, 0], &[5, 7, 9])?;
+    assert!(rt; shows(plan.order(), &[12, 0, 9]));
+    assert!(rt; shows(plan.available(), &[7, 0, 0]));
+    let plan = planned(rt.alloc(), &params, &[0, 9], &[5, 3])?;
+    assert!(rt; shows(plan.order(), &[5, 0]));
+    assert!(rt; shows(plan.available(), &[0, 6]));
+    Ok(())
+}
+
+#[test]
+fn a_plan_is_used_again(rt: HostRuntime) -> Result<(), Fail> {
+    let late = PairParams {
+        lead: 3,
+        ..pair(Rule::LotForLot)
+    };
+    let mut plan = planned(rt.alloc(), &late, &[0, 0], &[4, 7])?;
+    assert_eq!(rt; plan.late_count(), 2);
+    plan_again(
+        rt.alloc(),
+        &pair(Rule::Periods(2)),
+        &[0, 9],
+        &[5, 3],
+        &mut plan,
+    )?;
+    assert!(rt; shows(plan.release(), &[5, 0]));
+    assert_eq!(rt; plan.late_count(), 0);
+    Ok(())
+}
+
+#[test]
+fn a_textbook_record_with_a_fixed_quantity(rt: HostRuntime) -> Result<(), Fail> {
+    let params = PairParams {
+        rule: Rule::Fixed(50),
+        lead: 1,
+        on_hand: Qty::of(4),
+        safety: Qty::ZERO,
+    };
+    let plan = planned(rt.alloc(), &params, &[50, 0, 0, 0, 0], &[0, 10, 0, 40, 10])?;
+    assert!(rt; shows(plan.available(), &[54, 44, 44, 4, 44]));
+    assert!(rt; shows(plan.release(), &[0, 0, 0, 50, 0]));
+    assert_eq!(rt; plan.late_count(), 0);
+    Ok(())
+}
+
+#[test]
+fn fixed_quantities_over_ten_periods(rt: HostRuntime) -> Result<(), Fail> {
+    let gross = [20, 50, 10, 50, 50, 10, 20, 40, 20, 30];
+    let plan = planned(rt.alloc(), &pair(Rule::Fixed(100)), &[0; 10], &gross)?;
+    assert!(rt; shows(plan.order(), &[100, 0, 0, 100, 0, 0, 100, 0, 0, 0]));
+    Ok(())
+}
+
+#[test]
+fn two_periods_at_a_time_over_a_year(rt: HostRuntime) -> Result<(), Fail> {
+    let gross = [10, 62, 12, 130, 154, 129, 88, 52, 124, 160, 238, 41];
+    let plan = planned(rt.alloc(), &pair(Rule::Periods(2)), &[0; 12], &gross)?;
+    assert!(rt;
+        shows(
+            plan.order(),
+            &[72, 0, 142, 0, 283, 0, 140, 0, 284, 0, 279, 0]
+        )
+    );
+    Ok(())
+}
+
+#[test]
+fn a_plan_takes_another_over(rt: HostRuntime) -> Result<(), Fail> {
+    let late = PairParams {
+        lead: 3,
+        ..pair(Rule::LotForLot)
+    };
+    let plan = planned(rt.alloc(), &late, &[0, 0], &[4, 7])?;
+    let mut room = planned(rt.alloc(), &pair(Rule::Periods(2)), &[0, 9], &[5, 3])?;
+    room.copy_from(&plan);
+    assert!(rt; shows(room.release(), &[11, 0]));
+    assert!(rt; shows(room.gross(), &[4, 7]));
+    assert_eq!(rt; room.late_count(), 2);
+    Ok(())
+}

@@ -1,0 +1,70 @@
+-- The loops that make a plant's view: what passes a test is pushed, in order.
+use Rattle.std.proofs.Common.{◌≡◌, ℕ, ◌+◌, ◌<◌, Bool, true, false, cond, List, [], ◌∷◌, ◌++◌, length, get_or, map, take, sym, ap, ◌∙◌, add-one}
+use Rattle.std.specs.List.{filter, flat_map, range_with_len}
+use Rattle.std.proofs.lemmas.List.{append-nil, append_assoc, map-append}
+use Rattle.std.proofs.lemmas.List.Elements.{filter-append, filter_more}
+use Rattle.mrp_rows.specs.Table.{Table, horizon}
+use Rattle.mrp_view.specs.declared.view.IncomingLane.{IncomingLane}
+use Rattle.mrp_view.specs.declared.view.OutgoingLane.{OutgoingLane}
+use Rattle.mrp_view.specs.declared.view.PlantEdge.{PlantEdge}
+use Rattle.mrp_view.specs.declared.view.PlantPair.{PlantPair}
+use Rattle.mrp_net.specs.Sums.{row_of, demand, received}
+use Rattle.mrp_view.specs.View.{PlantRows, plant_pairs, plant_edges, plant_amounts, edges_to, incoming_lanes, outgoing_lanes, plant_rows}
+use Rattle.mrp_group.proofs.Grouping.{range-suc}
+
+-- one number more of a range
+range_more : {Y : Type 0} (f : ℕ → Y) (p : ℕ → Bool) (k : ℕ) (b : Bool) → p k ≡ b → map f (filter p (range_with_len 0 (k + 1))) ≡ map f (filter p (range_with_len 0 k)) ++ map f (cond b (k ∷ []) [])
+range_more {Y} f p k b h =
+    ap (λ (z : ℕ). map f (filter p (range_with_len 0 z))) (add-one k)
+    ∙ ap (λ (z : List ℕ). map f (filter p z)) (range-suc k)
+    ∙ ap (map f) (filter-append p (range_with_len 0 k) (k ∷ []))
+    ∙ map-append f (filter p (range_with_len 0 k)) (filter p (k ∷ []))
+    ∙ ap (λ (z : Bool). map f (filter p (range_with_len 0 k)) ++ map f (cond z (k ∷ []) [])) h
+
+pub range_pushed : {Y : Type 0} (f : ℕ → Y) (p : ℕ → Bool) (k : ℕ) (before : List Y) (y : Y) → p k ≡ true → before ≡ map f (filter p (range_with_len 0 k)) → y ≡ f k → before ++ y ∷ [] ≡ map f (filter p (range_with_len 0 (k + 1)))
+range_pushed {Y} f p k before y passes was is =
+    ap (λ (z : List Y). z ++ y ∷ []) was ∙ ap (λ (z : Y). map f (filter p (range_with_len 0 k)) ++ z ∷ []) is ∙ sym (range_more f p k true passes)
+
+pub range_passed : {Y : Type 0} (f : ℕ → Y) (p : ℕ → Bool) (k : ℕ) (before : List Y) → p k ≡ false → before ≡ map f (filter p (range_with_len 0 k)) → before ≡ map f (filter p (range_with_len 0 (k + 1)))
+range_passed f p k before fails was = was ∙ sym (append-nil (map f (filter p (range_with_len 0 k)))) ∙ sym (range_more f p k false fails)
+
+-- one element more of a list
+take_more_passing : {X Y : Type 0} (f : X → Y) (p : X → Bool) (xs : List X) (i : ℕ) (d : X) (b : Bool) → i < length xs → p (get_or xs i d) ≡ b → map f (filter p (take (i + 1) xs)) ≡ map f (filter p (take i xs)) ++ map f (cond b (get_or xs i d ∷ []) [])
+take_more_passing {X} {Y} f p xs i d b lt h =
+    ap (map f) (filter_more p xs i d lt)
+    ∙ map-append f (filter p (take i xs)) (cond (p (get_or xs i d)) (get_or xs i d ∷ []) [])
+    ∙ ap (λ (z : Bool). map f (filter p (take i xs)) ++ map f (cond z (get_or xs i d ∷ []) [])) h
+
+pub taken_pushed : {X Y : Type 0} (f : X → Y) (p : X → Bool) (xs : List X) (i : ℕ) (d : X) (first now : List Y) → i < length xs → p (get_or xs i d) ≡ true → now ≡ first ++ map f (filter p (take i xs)) → now ++ f (get_or xs i d) ∷ [] ≡ first ++ map f (filter p (take (i + 1) xs))
+taken_pushed {X} {Y} f p xs i d first now lt passes was =
+    ap (λ (z : List Y). z ++ f (get_or xs i d) ∷ []) was
+    ∙ append_assoc first (map f (filter p (take i xs))) (f (get_or xs i d) ∷ [])
+    ∙ ap (λ (z : List Y). first ++ z) (sym (take_more_passing f p xs i d true lt passes))
+
+pub taken_passed : {X Y : Type 0} (f : X → Y) (p : X → Bool) (xs : List X) (i : ℕ) (d : X) (first now : List Y) → i < length xs → p (get_or xs i d) ≡ false → now ≡ first ++ map f (filter p (take i xs)) → now ≡ first ++ map f (filter p (take (i + 1) xs))
+taken_passed {X} {Y} f p xs i d first now lt fails was =
+    was
+    ∙ ap (λ (z : List Y). first ++ z) (sym (append-nil (map f (filter p (take i xs)))) ∙ sym (take_more_passing f p xs i d false lt fails))
+
+-- all parts of the view
+abbrev rows : ℕ → List PlantPair → List PlantEdge → List ℕ → List ℕ → List IncomingLane → List OutgoingLane → PlantRows
+rows h pairs edges demands receipts ins outs =
+    record { horizon = h; pairs = pairs; edges = edges; demands = demands; receipts = receipts; incoming = ins; outgoing = outs }
+
+pub rows_are : (N : Table) (plant h : ℕ) (pairs : List PlantPair) (edges : List PlantEdge) (demands receipts : List ℕ) (ins : List IncomingLane) (outs : List OutgoingLane)
+    → h ≡ horizon N → pairs ≡ plant_pairs N plant → edges ≡ flat_map (λ p. edges_to N p.number.0) pairs
+    → demands ≡ flat_map (λ p. row_of N (demand N p.number.0)) pairs → receipts ≡ flat_map (λ p. row_of N (received N p.number.0)) pairs
+    → ins ≡ incoming_lanes N plant → outs ≡ outgoing_lanes N plant
+    → rows h pairs edges demands receipts ins outs ≡ plant_rows N plant
+rows_are N plant h pairs edges demands receipts ins outs is_h is_pairs is_edges is_demands is_receipts is_ins is_outs =
+    let all = plant_pairs N plant in
+    let edges_are : edges ≡ plant_edges N plant = is_edges ∙ ap (flat_map (λ (p : PlantPair). edges_to N p.number.0)) is_pairs in
+    let demands_are : demands ≡ plant_amounts N (demand N) plant = is_demands ∙ ap (flat_map (λ (p : PlantPair). row_of N (demand N p.number.0))) is_pairs in
+    let receipts_are : receipts ≡ plant_amounts N (received N) plant = is_receipts ∙ ap (flat_map (λ (p : PlantPair). row_of N (received N p.number.0))) is_pairs in
+    ap (λ (z : ℕ). rows z pairs edges demands receipts ins outs) is_h
+    ∙ ap (λ (z : List PlantPair). rows (horizon N) z edges demands receipts ins outs) is_pairs
+    ∙ ap (λ (z : List PlantEdge). rows (horizon N) all z demands receipts ins outs) edges_are
+    ∙ ap (λ (z : List ℕ). rows (horizon N) all (plant_edges N plant) z receipts ins outs) demands_are
+    ∙ ap (λ (z : List ℕ). rows (horizon N) all (plant_edges N plant) (plant_amounts N (demand N) plant) z ins outs) receipts_are
+    ∙ ap (λ (z : List IncomingLane). rows (horizon N) all (plant_edges N plant) (plant_amounts N (demand N) plant) (plant_amounts N (received N) plant) z outs) is_ins
+    ∙ ap (λ (z : List OutgoingLane). rows (horizon N) all (plant_edges N plant) (plant_amounts N (demand N) plant) (plant_amounts N (received N) plant) (incoming_lanes N plant) z) is_outs

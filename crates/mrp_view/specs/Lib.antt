@@ -1,0 +1,4 @@
+pub mod Loads
+pub mod View
+pub mod Seen
+pub mod Laws
