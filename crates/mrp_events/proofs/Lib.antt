@@ -1,0 +1,4 @@
+pub mod Delivered
+pub mod Small
+pub mod Keeping
+pub mod Ordering

@@ -1,0 +1,4 @@
+pub mod Loads
+pub mod LoadLaws
+pub mod State
+pub mod Laws

@@ -1,0 +1,47 @@
+-- Laws of what lanes carry.
+use Rattle.std.specs.Prelude.{◌≤◌, List, All, Contains}
+use Rattle.mrp_qty.specs.declared.quantity.TheConstants.{MOST}
+use Rattle.mrp_rows.specs.declared.numbers.ItemNo.{ItemNo}
+use Rattle.mrp_rows.specs.Table.{Table, IsTable, horizon}
+use Rattle.mrp_net.specs.declared.lane.Lane.{Lane}
+use Rattle.mrp_net.specs.Lanes.{lane_items, opening}
+use Rattle.mrp_net.specs.Texts.{longest_text}
+use Rattle.mrp_loops.specs.Sized.{IsSized}
+use Rattle.mrp_record.specs.declared.record.Record.{Record}
+use Rattle.mrp_record.specs.Entries.{number_of, content}
+use Rattle.mrp_record.specs.Form.{LaneForm, IsInForm}
+use Rattle.mrp_record.specs.Laws.{AreLoads, AreSmall, HasSmallFigures, form_of}
+use Rattle.mrp_record.specs.Text.{IsBeginning, length_of_text}
+use Rattle.mrp_events.specs.Loads.{loads, is_rising}
+
+-- a lane has one load of each of its items
+abbrev pub LoadsStandOnce : Type 0
+LoadsStandOnce = (N : Table) → IsTable N → (lane : Lane) → AreLoads (loads N lane)
+
+-- the loads of a sized network are small: deliveries of one piece at least, in the horizon, on a schedule
+-- lane in rising periods, where figures start anew in the order of arrival, and no figure above 10^15
+abbrev pub LoadsAreSmall : Type 0
+LoadsAreSmall = (N : Table) → IsSized N → (lane : Lane) → AreSmall (is_rising lane.kind) (horizon N) (loads N lane)
+
+-- no item's figures begin above 10^15
+abbrev pub OpeningsAreSmall : Type 0
+OpeningsAreSmall =
+    (N : Table) → IsSized N → (lane : Lane) (item : ItemNo) → Contains (lane_items N lane) item → opening N lane item ≤ MOST
+
+-- what a receiver knows of a lane
+abbrev pub lane_form : Table → Lane → LaneForm
+lane_form N lane = form_of (is_rising lane.kind) (horizon N) (loads N lane)
+
+-- each legal beginning is in form, and its numbers and figures are at most 10^15
+abbrev pub LegalIsInForm : Type 0
+LegalIsInForm =
+    (N : Table) → IsSized N → (lane : Lane) (records : List Record) → IsBeginning (loads N lane) records → IsInForm (lane_form N lane) records
+
+abbrev pub LegalFiguresAreSmall : Type 0
+LegalFiguresAreSmall =
+    (N : Table) → IsSized N → (lane : Lane) (records : List Record) → IsBeginning (loads N lane) records
+    → All (λ r. (number_of r ≤ MOST) × HasSmallFigures (content r)) records
+
+-- the texts of a lane are within the length that is read off the table alone
+abbrev pub TextsAreNoLonger : Type 0
+TextsAreNoLonger = (N : Table) (lane : Lane) → length_of_text (loads N lane) ≤ longest_text N lane

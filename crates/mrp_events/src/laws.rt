@@ -1,0 +1,52 @@
+//! Laws of what lanes carry, and of every run. Each is the contract of a function that does nothing.
+
+ghost use Rattle.mrp_events.specs.LoadLaws.{LoadsStandOnce, LoadsAreSmall, OpeningsAreSmall, LegalIsInForm, LegalFiguresAreSmall, TextsAreNoLonger};
+ghost use Rattle.mrp_events.specs.Laws.{LanesKeepOrder, SentIsDecided, NothingIsLost, ClosedLanesAreWhole};
+
+/// A lane has one load of each of its items. Those of a sized network are small: each delivery is of
+/// one piece at least and in the horizon, on a schedule lane their periods rise, and opening figure and
+/// deliveries of an item are together at most 10^15 pieces.
+pub fn loads_are_small()
+    ensures once { LoadsStandOnce }
+    ensures small { LoadsAreSmall }
+{}
+
+/// Over a sized network each legal beginning is in form, so its receiver can book it record by record,
+/// and its numbers and figures are at most 10^15.
+pub fn beginnings_are_in_form()
+    ensures form { LegalIsInForm }
+    ensures figures { LegalFiguresAreSmall }
+{}
+
+/// In a sized network no item's figures begin above 10^15 pieces, on either lane.
+pub fn openings_are_small()
+    ensures { OpeningsAreSmall }
+{}
+
+/// No text of a lane is longer than what is read off the table without any plan.
+pub fn texts_have_the_lanes_length()
+    ensures { TextsAreNoLonger }
+{}
+
+/// Whatever events happen, in every state that they lead to the records taken on a lane are those sent,
+/// in order and each once, but for the last ones, which lie in the mailbox and are at most as many as it
+/// holds. What is sent is a legal beginning, nothing after the closing record.
+pub fn lanes_keep_order()
+    ensures { LanesKeepOrder }
+{}
+
+/// On a schedule lane each record that has been sent is of an item whose customer's pair is planned.
+pub fn sent_is_decided()
+    ensures { SentIsDecided }
+{}
+
+/// In every state that events lead to, an item's cumulative figure shipped over a lane is the one
+/// received and the pieces in the mailbox, closed years added.
+pub fn nothing_is_lost()
+    ensures { NothingIsLost }
+{}
+
+/// Once a lane's closing record is taken, its whole text is, and nothing else has been sent.
+pub fn closed_lanes_are_whole()
+    ensures { ClosedLanesAreWhole }
+{}
