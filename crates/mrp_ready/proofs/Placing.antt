@@ -2,12 +2,12 @@
 use Rattle.std.proofs.Common.{◌≡◌, ℕ, ◌+◌, ◌-◌, ◌<◌, ◌≤◌, List, [], ◌∷◌, ◌++◌, inl, inr, length, get_or, set, take, map, refl, sym, ap, ◌∙◌, subst, arith}
 use Rattle.std.specs.Prelude.{◌↔◌, swap, Contains}
 use Rattle.std.specs.List.{range_with_len}
-use Rattle.std.proofs.lemmas.Bool.{cases_eq}
-use Rattle.std.proofs.lemmas.List.{get_or-set_same, get_or-set_other, get_or-take, get_or_default, get_or-map, length-set, length-map, length-take-le, take_more, take-set-le, ext_get_or}
+use Rattle.std.proofs.lemmas.Bool.{cases_eq, cases_lt}
+use Rattle.std.proofs.lemmas.List.{get_or-set_same, get_or-set_other, get_or-take, get_or_default, get_or_read, get_or-map, length-set, length-map, length-take-le, take_more, take-set-le, ext_get_or}
 use Rattle.std.proofs.lemmas.List.Edits.{Swapped, swapped_from_swap, swap_is, length-swap}
 use Rattle.std.proofs.lemmas.List.FromFn.{get_or-range_with_len, length-range_with_len, fill_by_all}
 use Rattle.mrp_rows.specs.declared.numbers.PairNo.{PairNo}
-use Rattle.mrp_ready.specs.Chosen.{AreApart, ArePlaced, number_at}
+use Rattle.mrp_ready.specs.Chosen.{AreApart, ArePlaced, Chosen, chosen, number_at}
 
 -- the slots once the places in slots i and j change places
 abbrev pub slots_after : List ℕ → List ℕ → ℕ → ℕ → List ℕ
@@ -271,3 +271,63 @@ ArePlaced-first numbers places slots is same =
 pub numbers-first : (numbers : List PairNo) (slots : List ℕ) → slots ≡ range_with_len 0 (length numbers) → map (number_at numbers) slots ≡ numbers
 numbers-first numbers slots is =
     ap (λ (z : List ℕ). map (number_at numbers) z) is ∙ sym (fill_by_all (number_at numbers) numbers (length numbers) none refl (λ k h. refl))
+
+-- ---- the changes of the set
+
+-- the places of the set as its value shows them
+pub shown_where : (numbers : List PairNo) (places slots : List ℕ) (count : ℕ) (v : Chosen) → ArePlaced numbers places slots count → chosen numbers places slots count ≡ v → (y : ℕ) → Contains v.places y ↔ ((y < length slots) × (get_or slots y 0 < count))
+shown_where numbers places slots count v are shown y =
+    subst (λ (w : Chosen). Contains w.places y ↔ ((y < length slots) × (get_or slots y 0 < count))) shown (chosen_where numbers places slots count are y)
+
+-- a pair that isn't chosen stands in a later slot
+pub later_slot : (numbers : List PairNo) (places slots : List ℕ) (count x i : ℕ) (v : Chosen) → ArePlaced numbers places slots count → chosen numbers places slots count ≡ v → i ≡ get_or slots x i → x < length v.numbers → (Contains v.places x → ⊥) → (x < length slots) × (i ≡ get_or slots x 0) × (count ≤ i) × (i < length slots)
+later_slot numbers places slots count x i v are shown read known absent =
+    let within : x < length slots = omega (arith, ap (λ (w : Chosen). length w.numbers) shown, length-map slots (number_at numbers)) in
+    let is : i ≡ get_or slots x 0 = get_or_read slots x i within read 0 in (
+      within,
+      is,
+      elim (cases_lt i count) as (λ _. count ≤ i) [
+        | inl less ↦ absurd (absent ((shown_where numbers places slots count v are shown x).1 (within, omega (arith, is))))
+        | inr le ↦ le
+      ],
+      omega (arith, is, are.slot_within x within),
+    )
+
+pub inserted : (numbers : List PairNo) (places slots : List ℕ) (count x i : ℕ) (v : Chosen) (later_numbers : List PairNo) (later_places later_slots : List ℕ) → ArePlaced numbers places slots count → chosen numbers places slots count ≡ v → i ≡ get_or slots x i → x < length v.numbers → (Contains v.places x → ⊥)
+    → later_numbers ≡ swap numbers i count → later_places ≡ swap places i count → later_slots ≡ slots_after places slots i count
+    → ArePlaced later_numbers later_places later_slots (count + 1) × (map (number_at later_numbers) later_slots ≡ v.numbers) × (take (count + 1) later_places ≡ v.places ++ x ∷ [])
+inserted numbers places slots count x i v later_numbers later_places later_slots are shown read known absent numbers_are places_are slots_are =
+    let late = later_slot numbers places slots count x i v are shown read known absent in
+    let in_count : count < length slots = omega (arith, late.2, late.3) in
+    let added : take (count + 1) (swap places i count) ≡ take count places ++ x ∷ [] =
+    ap (λ (z : ℕ). take (count + 1) (swap places z count)) late.1 ∙ chosen_more numbers places slots count x are late.0 (omega (arith, late.1, late.2)) in
+    rw (numbers_are, places_are, slots_are) (
+      ArePlaced-exchange numbers places slots count i count (count + 1) are late.3 in_count (omega arith),
+      numbers-exchange numbers places slots count i count are late.3 in_count ∙ ap (λ (w : Chosen). w.numbers) shown,
+      added ∙ ap (λ (w : Chosen). w.places ++ x ∷ []) shown,
+    )
+
+pub removed : (numbers : List PairNo) (places slots : List ℕ) (count x i : ℕ) (v : Chosen) (later_numbers : List PairNo) (later_places later_slots : List ℕ) → ArePlaced numbers places slots count → chosen numbers places slots count ≡ v → i ≡ get_or slots x i → Contains v.places x
+    → later_numbers ≡ swap numbers i (count - 1) → later_places ≡ swap places i (count - 1) → later_slots ≡ slots_after places slots i (count - 1)
+    → ArePlaced later_numbers later_places later_slots (count - 1) × (map (number_at later_numbers) later_slots ≡ v.numbers) × ((y : ℕ) → Contains (take (count - 1) later_places) y ↔ (Contains v.places y × (y ≡ x → ⊥)))
+removed numbers places slots count x i v later_numbers later_places later_slots are shown read has numbers_are places_are slots_are =
+    let place = (shown_where numbers places slots count v are shown x).0 has in
+    let is : i ≡ get_or slots x 0 = get_or_read slots x i place.0 read 0 in
+    let in_i : i < length slots = omega (arith, is, are.slot_within x place.0) in
+    let last : ℕ = count - 1 in
+    let one : count ≡ last + 1 = omega (arith, place.1) in
+    let in_last : last < length slots = omega (arith, are.few) in
+    let had : Contains (take count places) x = subst (λ (w : Chosen). Contains w.places x) (sym shown) has in
+    let fewer : (y : ℕ) → Contains (take last (swap places i last)) y ↔ (Contains v.places y × (y ≡ x → ⊥)) = λ y.
+    subst (λ (w : Chosen). Contains (take last (swap places i last)) y ↔ (Contains w.places y × (y ≡ x → ⊥))) shown
+    (subst (λ (z : ℕ). Contains (take last (swap places z last)) y ↔ (Contains (take count places) y × (y ≡ x → ⊥))) (sym is)
+    (chosen_fewer numbers places slots count last x are one had y)) in
+    rw (numbers_are, places_are, slots_are) (
+      ArePlaced-exchange numbers places slots count i last last are in_i in_last (omega arith),
+      numbers-exchange numbers places slots count i last are in_i in_last ∙ ap (λ (w : Chosen). w.numbers) shown,
+      fewer,
+    )
+
+pub first_set : (numbers given : List PairNo) (places slots : List ℕ) → numbers ≡ given → places ≡ range_with_len 0 (length given) → slots ≡ range_with_len 0 (length given) → ArePlaced numbers places slots 0 × (map (number_at numbers) slots ≡ given)
+first_set numbers given places slots same places_are slots_are =
+    rw same (ArePlaced-first given places slots places_are slots_are, numbers-first given slots slots_are)

@@ -32,10 +32,8 @@ impl PairSet {
         ensures numbers { IfOk result (λ s. s.numbers ≡ numbers.now) }
         ensures empty { IfOk result (λ s. s.places ≡ []) }
     {
-        Ok(PairSet {
-            slots: Slots::new(alloc, numbers)?,
-            count: 0,
-        })
+        let slots = Slots::new(alloc, numbers)?;
+        Ok(PairSet { slots, count: 0 })
     }
 
     /// Chooses the pair at a place.
