@@ -10,6 +10,10 @@ use Rattle.std.proofs.lemmas.List.Folds.{sum_by-replicate}
 use Rattle.mrp_rows.specs.declared.numbers.PairNo.{PairNo}
 use Rattle.mrp_ready.specs.Progress.{Progress, is_planned, left_of, times, CanBePlanned, IsListed, IsLess, Lowers, IsKept}
 
+-- a test counts where it passes
+abbrev one_if : Bool → ℕ
+one_if b = cond b 1 0
+
 -- ---- a ready pair is planned
 
 IsListed-planned : (waits : List ℕ) (planned : List Bool) (ready later : List ℕ) (x : ℕ) → IsListed waits planned ready → x < length planned → ((y : ℕ) → Contains later y ↔ (Contains ready y × (y ≡ x → ⊥))) → IsListed waits (set planned x true) later
@@ -31,7 +35,7 @@ IsListed-planned waits planned ready later x listed within others = record {
 pub left-planned : (planned : List Bool) (x : ℕ) → x < length planned → is_planned planned x ≡ false → left_of (set planned x true) + 1 ≡ left_of planned
 left-planned planned x within free =
     let sums = sum_by-set (λ (p : Bool). cond (not p) 1 0) planned x true false within in
-    let one : cond (not (get_or planned x false)) 1 0 ≡ 1 = rw free refl in
+    let one : one_if (not (get_or planned x false)) ≡ 1 = rw free refl in
     omega (arith, sums, one)
 
 pub IsKept-planned : (progress : Progress) (left less : ℕ) (numbers : List PairNo) (later : List ℕ) (x : ℕ) → IsKept progress left → Contains progress.ready x → left ≡ less + 1 → numbers ≡ progress.numbers → ((y : ℕ) → Contains later y ↔ (Contains progress.ready y × (y ≡ x → ⊥))) → IsKept (record { numbers = numbers; waits = progress.waits; planned = set progress.planned x true; ready = later }) less
@@ -107,6 +111,25 @@ IsKept-lowered progress left numbers later y v kept within some same free waits 
   left_is = kept.left_is;
 }
 
+-- y waits for one less, as a value of the struct is seen before it and its fields after it: `was` is what it waited for, `now` what is read then
+lowered_read : (inside value : Progress) (y was now : ℕ) → inside ≡ value → y < length value.waits → 0 < get_or value.waits y 0 → was ≡ get_or inside.waits y was → now ≡ get_or (set inside.waits y (was - 1)) y now → (y < length inside.waits) × (0 < get_or inside.waits y 0) × (now ≡ was - 1)
+lowered_read inside value y was now shown known some read_was read_now =
+    let within : y < length inside.waits = subst (λ (v : Progress). y < length v.waits) (sym shown) known in (
+      within,
+      subst (λ (v : Progress). 0 < get_or v.waits y 0) (sym shown) some,
+      read_now ∙ get_or-set_same inside.waits y (was - 1) now within,
+    )
+
+pub lowered_free : (inside value : Progress) (left : ℕ) (numbers : List PairNo) (later : List ℕ) (y was now : ℕ) → IsKept inside left → inside ≡ value → y < length value.waits → 0 < get_or value.waits y 0 → was ≡ get_or inside.waits y was → now ≡ get_or (set inside.waits y (was - 1)) y now → now ≡ 0 → numbers ≡ inside.numbers → later ≡ inside.ready ++ y ∷ [] → IsKept (record { numbers = numbers; waits = set inside.waits y (was - 1); planned = inside.planned; ready = later }) left
+lowered_free inside value left numbers later y was now kept shown known some read_was read_now none same added =
+    let reads = lowered_read inside value y was now shown known some read_was read_now in
+    IsKept-lowered inside left numbers later y (was - 1) kept reads.0 reads.1 same (λ _. added) (λ more. absurd (omega (arith, reads.2)))
+
+pub lowered_waiting : (inside value : Progress) (left y was now : ℕ) → IsKept inside left → inside ≡ value → y < length value.waits → 0 < get_or value.waits y 0 → was ≡ get_or inside.waits y was → now ≡ get_or (set inside.waits y (was - 1)) y now → (now ≡ 0 → ⊥) → IsKept (record { numbers = inside.numbers; waits = set inside.waits y (was - 1); planned = inside.planned; ready = inside.ready }) left
+lowered_waiting inside value left y was now kept shown known some read_was read_now ne =
+    let reads = lowered_read inside value y was now shown known some read_was read_now in
+    IsKept-lowered inside left inside.numbers inside.ready y (was - 1) kept reads.0 reads.1 refl (λ zero. absurd (ne (reads.2 ∙ zero))) (λ _. refl)
+
 -- ---- the components, one after another
 
 pub Lowers-none : (old : Progress) → Lowers old old []
@@ -122,7 +145,7 @@ Lowers-none old = record {
 pub still_waits : (old now : Progress) (components : List ℕ) (i c : ℕ) → i < length components → c ≡ get_or components i c → Lowers old now (take i components) → c < length old.waits → ((y : ℕ) → y < length old.waits → times y components ≤ get_or old.waits y 0) → 0 < get_or now.waits c 0
 still_waits old now components i c lt is lowers known waits =
     let more : times c (take (i + 1) components) ≡ times c (take i components) + cond (eqb (get_or components i c) c) 1 0 = sum_by_more (λ (z : ℕ). cond (eqb z c) 1 0) components i c lt in
-    let one : cond (eqb (get_or components i c) c) 1 0 ≡ 1 = let e : eqb (get_or components i c) c ≡ true = eq-eqb (get_or components i c) c (sym is) in rw e refl in
+    let one : one_if (eqb (get_or components i c) c) ≡ 1 = let e : eqb (get_or components i c) c ≡ true = eq-eqb (get_or components i c) c (sym is) in rw e refl in
     omega (arith, more, one, lowers.fewer.fewer c known, waits c known, sum_by-take-le (λ (z : ℕ). cond (eqb z c) 1 0) components (i + 1))
 
 pub Lowers-more : (old now later : Progress) (components : List ℕ) (i c : ℕ) → i < length components → c ≡ get_or components i c → Lowers old now (take i components) → c < length old.waits → 0 < get_or now.waits c 0
@@ -140,12 +163,12 @@ Lowers-more old now later components i c lt is lowers known some numbers planned
             let was = lowers.fewer.fewer y h in
             elim (cases_eq y c) as (λ _. get_or later.waits y 0 + times y (take (i + 1) components) ≡ get_or old.waits y 0) [
               | inl e ↦
-                  let one : cond (eqb (get_or components i c) y) 1 0 ≡ 1 = let t : eqb (get_or components i c) y ≡ true = eq-eqb (get_or components i c) y (sym is ∙ sym e) in rw t refl in
+                  let one : one_if (eqb (get_or components i c) y) ≡ 1 = let t : eqb (get_or components i c) y ≡ true = eq-eqb (get_or components i c) y (sym is ∙ sym e) in rw t refl in
                   let here : get_or later.waits y 0 ≡ v = ap (λ (z : List ℕ). get_or z y 0) waits ∙ ap (λ (z : ℕ). get_or (set now.waits c v) z 0) e ∙ get_or-set_same now.waits c v 0 (omega (arith, lowers.fewer.size)) in
                   let at : get_or now.waits y 0 ≡ get_or now.waits c 0 = ap (λ (z : ℕ). get_or now.waits z 0) e in
                   omega (arith, more, one, here, at, was)
               | inr ne ↦
-                  let none : cond (eqb (get_or components i c) y) 1 0 ≡ 0 = let t : eqb (get_or components i c) y ≡ false = ne_eqb (get_or components i c) y (λ q. ne (sym q ∙ sym is)) in rw t refl in
+                  let none : one_if (eqb (get_or components i c) y) ≡ 0 = let t : eqb (get_or components i c) y ≡ false = ne_eqb (get_or components i c) y (λ q. ne (sym q ∙ sym is)) in rw t refl in
                   let here : get_or later.waits y 0 ≡ get_or now.waits y 0 = ap (λ (z : List ℕ). get_or z y 0) waits ∙ get_or-set_other now.waits c y v 0 ne in
                   omega (arith, more, none, here, was)
             ];
@@ -156,7 +179,32 @@ Lowers-more old now later components i c lt is lowers known some numbers planned
 
 -- ---- at first nothing is planned
 
-pub first_listed : (waits ready : List ℕ) (n : ℕ) → length waits ≡ n → ((x : ℕ) → Contains ready x ↔ ((x < length waits) × (get_or waits x 0 ≡ 0))) → IsListed waits (replicate n false) ready
+-- of the places below n, those that wait for nothing
+abbrev pub AreFree : List ℕ → List ℕ → ℕ → Type 0
+AreFree places waits n = (x : ℕ) → Contains places x ↔ ((x < n) × (get_or waits x 0 ≡ 0))
+
+pub AreFree-more : (places waits : List ℕ) (i : ℕ) → AreFree places waits i → get_or waits i 0 ≡ 0 → AreFree (places ++ i ∷ []) waits (i + 1)
+AreFree-more places waits i are none x = (
+  λ is. elim (Contains-push_cases places i x is) as (λ _. (x < i + 1) × (get_or waits x 0 ≡ 0)) [
+    | inl was ↦ let p = (are x).0 was in (omega (arith, p.0), p.1)
+    | inr e ↦ (omega arith, ap (λ (z : ℕ). get_or waits z 0) (sym e) ∙ none)
+  ],
+  λ p. elim (cases_eq x i) as (λ _. Contains (places ++ i ∷ []) x) [
+    | inl e ↦ subst (λ (z : ℕ). Contains (places ++ i ∷ []) z) (sym e) (Contains-push places i)
+    | inr ne ↦ let less : x < i = omega (arith, p.0) in Contains-append_left places (i ∷ []) x ((are x).1 (less, p.1))
+  ],
+)
+
+pub AreFree-same : (places waits : List ℕ) (i : ℕ) → AreFree places waits i → (get_or waits i 0 ≡ 0 → ⊥) → AreFree places waits (i + 1)
+AreFree-same places waits i are some x = (
+  λ is. let p = (are x).0 is in (omega (arith, p.0), p.1),
+  λ p.
+      let ne : x ≡ i → ⊥ = λ e. some (ap (λ (z : ℕ). get_or waits z 0) (sym e) ∙ p.1) in
+      let less : x < i = omega (arith, p.0) in
+      (are x).1 (less, p.1),
+)
+
+pub first_listed : (waits ready : List ℕ) (n : ℕ) → length waits ≡ n → AreFree ready waits (length waits) → IsListed waits (replicate n false) ready
 first_listed waits ready n size exact = record {
   exact = λ x. (
     λ is.
@@ -173,7 +221,7 @@ unplanned_at_first n x =
       | inr past ↦ get_or_past (replicate n false) x false (omega (arith, length-replicate n false))
     ]
 
-pub IsKept-first : (numbers : List PairNo) (waits ready : List ℕ) (n : ℕ) → length numbers ≡ n → length waits ≡ n → ((x : ℕ) → Contains ready x ↔ ((x < length waits) × (get_or waits x 0 ≡ 0))) → IsKept (record { numbers = numbers; waits = waits; planned = replicate n false; ready = ready }) n
+pub IsKept-first : (numbers : List PairNo) (waits ready : List ℕ) (n : ℕ) → length numbers ≡ n → length waits ≡ n → AreFree ready waits (length waits) → IsKept (record { numbers = numbers; waits = waits; planned = replicate n false; ready = ready }) n
 IsKept-first numbers waits ready n numbered size exact = record {
   numbered = numbered ∙ sym size;
   marked = length-replicate n false ∙ sym size;

@@ -1,4 +1,4 @@
-ghost use Rattle.std.specs.Prelude.{◌≡◌, ◌<◌, IfOk, IsTrue, ◌↔◌};
+ghost use Rattle.std.specs.Prelude.{◌≡◌, ℕ, ◌<◌, ◌↔◌, IfOk, IsTrue, Contains, length, slice_index};
 
 use crate::PairNo;
 use crate::pair_set::PairSet;
@@ -29,7 +29,7 @@ impl Model for Readiness {
 }
 
 impl Readiness {
-    ghost use Rattle.std.specs.Prelude.{ℕ, Bool, true, false, ◌+◌, ◌-◌, ◌≢◌, ◌≤◌, List, [], ◌∷◌, ◌++◌, All, Contains, length, map, replicate, slice_index, slice_set, if◌then◌else◌, ◌==◌};
+    ghost use Rattle.std.specs.Prelude.{true, false, ◌+◌, ◌-◌, ◌≢◌, ◌≤◌, List, All, map, replicate, slice_set};
     ghost use Rattle.mrp_ready.specs.declared.join.Join.{Join};
     ghost use Rattle.mrp_ready.specs.Chosen.{AreApart, number_at};
     ghost use Rattle.mrp_ready.specs.Progress.{CanBePlanned, IsListed, IsLess, Lowers, is_planned, left_of, times};
