@@ -1,0 +1,4 @@
+pub mod Chosen
+pub mod Progress
+pub mod Counts
+pub mod Laws
