@@ -2,3 +2,6 @@ pub mod Delivered
 pub mod Small
 pub mod Keeping
 pub mod Ordering
+pub mod Going
+pub mod Counting
+pub mod Finishing

@@ -2,3 +2,4 @@ pub mod Loads
 pub mod LoadLaws
 pub mod State
 pub mod Laws
+pub mod Progress

@@ -2,6 +2,7 @@
 
 ghost use Rattle.mrp_events.specs.LoadLaws.{LoadsStandOnce, LoadsAreSmall, OpeningsAreSmall, LegalIsInForm, LegalFiguresAreSmall, TextsAreNoLonger};
 ghost use Rattle.mrp_events.specs.Laws.{LanesKeepOrder, SentIsDecided, NothingIsLost, ClosedLanesAreWhole};
+ghost use Rattle.mrp_events.specs.Progress.{RunsBeginWithSteps, EventsAreSteps, NoneIsLeftAtTheEnd, NoScheduleSticks, EventsAndStepsLeft, LongestRunsFinish};
 
 /// A lane has one load of each of its items. Those of a sized network are small: each delivery is of
 /// one piece at least and in the horizon, on a schedule lane their periods rise, and opening figure and
@@ -49,4 +50,21 @@ pub fn nothing_is_lost()
 /// Once a lane's closing record is taken, its whole text is, and nothing else has been sent.
 pub fn closed_lanes_are_whole()
     ensures { ClosedLanesAreWhole }
+{}
+
+/// A run begins with all steps of the network to go, each event that is enabled takes one of them, and
+/// none is left exactly where each lane is closed and each pair planned.
+pub fn steps_are_counted()
+    ensures begin { RunsBeginWithSteps }
+    ensures events { EventsAreSteps }
+    ensures end { NoneIsLeftAtTheEnd }
+{}
+
+/// No schedule sticks: in a network without loops, whatever has happened so far and however few
+/// records a mailbox holds, if it is one at least, the run is finished or some event is enabled. So
+/// a list of enabled events that can't be made longer takes all steps, and the run is finished.
+pub fn no_schedule_sticks()
+    ensures sticks { NoScheduleSticks }
+    ensures left { EventsAndStepsLeft }
+    ensures longest { LongestRunsFinish }
 {}
