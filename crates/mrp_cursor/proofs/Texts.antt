@@ -17,9 +17,9 @@ use Rattle.mrp_record.specs.Text.{Load, block, block_length, IsText}
 use Rattle.mrp_record.proofs.Own.{AllOf-block, none_closing, list_any-append, list_any-front}
 use Rattle.mrp_record.proofs.Running.{length-block}
 use Rattle.mrp_cursor.specs.Cursor.{OutFigures, Goods, load_of, blocks}
-use Rattle.mrp_cursor.specs.Laws.{Agrees, ShownBegin, ClosedIsShown, ClosedShowsWhole, ShownAreShort, QueuedArePlaces}
+use Rattle.mrp_cursor.specs.Laws.{Agrees, ShownBegin, ClosedIsShown, ClosedShowsWhole, ShownAreShort, SmallAreBounded, QueuedArePlaces}
 use Rattle.mrp_cursor.specs.Shows.{ShowsSent, left_from, figure_at, reset_at}
-use Rattle.mrp_cursor.proofs.Lists.{drop_there, none_there, Contains-first, Contains-rest, elements_are, range_below, any_right}
+use Rattle.mrp_cursor.proofs.Lists.{contains_there, drop_there, none_there, Contains-first, Contains-rest, elements_are, range_below, any_right}
 
 -- ---- places
 
@@ -218,3 +218,10 @@ shown_are_short goods o sent most h small =
           let left = queue_is_left goods o sent h is_open in
           omega (arith, few, within, sent_size, ap length left.1, length-append (contents sent) left.0)
     ]
+
+pub small_are_bounded : SmallAreBounded
+small_are_bounded goods o sent most h small room =
+    record {
+      number = omega (arith, h.next, shown_are_short goods o sent most h (λ place there. (small place there).1));
+      head = λ place at. (small place (contains_there o.queue o.head place at)).0;
+    }
