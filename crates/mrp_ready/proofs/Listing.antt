@@ -8,7 +8,7 @@ use Rattle.std.proofs.lemmas.List.Elements.{Contains-push, Contains-push_cases, 
 use Rattle.std.proofs.lemmas.List.Sums.{sum_by-set, sum_by_more, sum_by-take-le}
 use Rattle.std.proofs.lemmas.List.Folds.{sum_by-replicate}
 use Rattle.mrp_rows.specs.declared.numbers.PairNo.{PairNo}
-use Rattle.mrp_ready.specs.Progress.{Progress, is_planned, left_of, times, CanBePlanned, IsListed, IsLess, Lowers, IsKept}
+use Rattle.mrp_ready.specs.Progress.{Progress, is_planned, left_of, times, IsFree, IsListed, IsLess, Lowers, IsKept}
 
 -- a test counts where it passes
 abbrev one_if : Bool → ℕ
@@ -66,19 +66,19 @@ IsListed-lowered progress left later y v kept within some free_then waits_then =
     let size : length (set waits y v) ≡ length waits = length-set waits y v in
     let here : get_or (set waits y v) y 0 ≡ v = get_or-set_same waits y v 0 within in
     let other : (z : ℕ) → (z ≡ y → ⊥) → get_or (set waits y v) z 0 ≡ get_or waits z 0 = λ z ne. get_or-set_other waits y z v 0 ne in
-    let kept_free : (z : ℕ) → Contains progress.ready z → CanBePlanned (set waits y v) progress.planned z = λ z is.
+    let kept_free : (z : ℕ) → Contains progress.ready z → IsFree (set waits y v) progress.planned z = λ z is.
     let free = (kept.listed.exact z).0 is in
     let ne : z ≡ y → ⊥ = λ e. let same : get_or waits z 0 ≡ get_or waits y 0 = ap (λ (w : ℕ). get_or waits w 0) e in omega (arith, free.waits_for_none, same) in
     record { known = rw size free.known; waits_for_none = other z ne ∙ free.waits_for_none; unplanned = free.unplanned } in
-    let was_free : (z : ℕ) → (z ≡ y → ⊥) → CanBePlanned (set waits y v) progress.planned z → Contains progress.ready z = λ z ne free.
+    let was_free : (z : ℕ) → (z ≡ y → ⊥) → IsFree (set waits y v) progress.planned z → Contains progress.ready z = λ z ne free.
     (kept.listed.exact z).1 record { known = omega (arith, free.known, size); waits_for_none = sym (other z ne) ∙ free.waits_for_none; unplanned = free.unplanned } in
     elim (cases_eq v 0) as (λ _. IsListed (set waits y v) progress.planned later) [
       | inl none ↦
           rw (free_then none) record {
             exact = λ z. (
-              λ is. elim (Contains-push_cases progress.ready y z is) as (λ _. CanBePlanned (set waits y v) progress.planned z) [
+              λ is. elim (Contains-push_cases progress.ready y z is) as (λ _. IsFree (set waits y v) progress.planned z) [
                 | inl was ↦ kept_free z was
-                | inr e ↦ subst (λ (w : ℕ). CanBePlanned (set waits y v) progress.planned w) e record {
+                | inr e ↦ subst (λ (w : ℕ). IsFree (set waits y v) progress.planned w) e record {
                   known = rw size within;
                   waits_for_none = here ∙ none;
                   unplanned = waiting_unplanned progress left y kept some;
@@ -180,11 +180,11 @@ Lowers-more old now later components i c lt is lowers known some numbers planned
 -- ---- at first nothing is planned
 
 -- of the places below n, those that wait for nothing
-abbrev pub AreFree : List ℕ → List ℕ → ℕ → Type 0
-AreFree places waits n = (x : ℕ) → Contains places x ↔ ((x < n) × (get_or waits x 0 ≡ 0))
+abbrev pub WaitForNone : List ℕ → List ℕ → ℕ → Type 0
+WaitForNone places waits n = (x : ℕ) → Contains places x ↔ ((x < n) × (get_or waits x 0 ≡ 0))
 
-pub AreFree-more : (places waits : List ℕ) (i : ℕ) → AreFree places waits i → get_or waits i 0 ≡ 0 → AreFree (places ++ i ∷ []) waits (i + 1)
-AreFree-more places waits i are none x = (
+pub WaitForNone-more : (places waits : List ℕ) (i : ℕ) → WaitForNone places waits i → get_or waits i 0 ≡ 0 → WaitForNone (places ++ i ∷ []) waits (i + 1)
+WaitForNone-more places waits i are none x = (
   λ is. elim (Contains-push_cases places i x is) as (λ _. (x < i + 1) × (get_or waits x 0 ≡ 0)) [
     | inl was ↦ let p = (are x).0 was in (omega (arith, p.0), p.1)
     | inr e ↦ (omega arith, ap (λ (z : ℕ). get_or waits z 0) (sym e) ∙ none)
@@ -195,8 +195,8 @@ AreFree-more places waits i are none x = (
   ],
 )
 
-pub AreFree-same : (places waits : List ℕ) (i : ℕ) → AreFree places waits i → (get_or waits i 0 ≡ 0 → ⊥) → AreFree places waits (i + 1)
-AreFree-same places waits i are some x = (
+pub WaitForNone-same : (places waits : List ℕ) (i : ℕ) → WaitForNone places waits i → (get_or waits i 0 ≡ 0 → ⊥) → WaitForNone places waits (i + 1)
+WaitForNone-same places waits i are some x = (
   λ is. let p = (are x).0 is in (omega (arith, p.0), p.1),
   λ p.
       let ne : x ≡ i → ⊥ = λ e. some (ap (λ (z : ℕ). get_or waits z 0) (sym e) ∙ p.1) in
@@ -204,7 +204,7 @@ AreFree-same places waits i are some x = (
       (are x).1 (less, p.1),
 )
 
-pub first_listed : (waits ready : List ℕ) (n : ℕ) → length waits ≡ n → AreFree ready waits (length waits) → IsListed waits (replicate n false) ready
+pub first_listed : (waits ready : List ℕ) (n : ℕ) → length waits ≡ n → WaitForNone ready waits (length waits) → IsListed waits (replicate n false) ready
 first_listed waits ready n size exact = record {
   exact = λ x. (
     λ is.
@@ -221,7 +221,7 @@ unplanned_at_first n x =
       | inr past ↦ get_or_past (replicate n false) x false (omega (arith, length-replicate n false))
     ]
 
-pub IsKept-first : (numbers : List PairNo) (waits ready : List ℕ) (n : ℕ) → length numbers ≡ n → length waits ≡ n → AreFree ready waits (length waits) → IsKept (record { numbers = numbers; waits = waits; planned = replicate n false; ready = ready }) n
+pub IsKept-first : (numbers : List PairNo) (waits ready : List ℕ) (n : ℕ) → length numbers ≡ n → length waits ≡ n → WaitForNone ready waits (length waits) → IsKept (record { numbers = numbers; waits = waits; planned = replicate n false; ready = ready }) n
 IsKept-first numbers waits ready n numbered size exact = record {
   numbered = numbered ∙ sym size;
   marked = length-replicate n false ∙ sym size;
