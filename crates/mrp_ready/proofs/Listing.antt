@@ -1,14 +1,13 @@
 -- The list of the pairs that can be planned, as one is planned and others wait for less.
 use Rattle.std.proofs.Common.{◌≡◌, ℕ, ◌+◌, ◌-◌, ◌<◌, ◌≤◌, Bool, true, false, not, cond, eqb, List, [], ◌∷◌, ◌++◌, inl, inr, length, get_or, set, take, refl, sym, ap, ◌∙◌, subst, arith}
 use Rattle.std.specs.Prelude.{◌↔◌, Contains, replicate}
-use Rattle.std.specs.List.{All, count_by, sum_by}
 use Rattle.std.proofs.lemmas.Bool.{cases_eq, cases_lt, eq-eqb, ne_eqb, both_ways, false_from_ne_true}
 use Rattle.std.proofs.lemmas.List.{get_or-set_same, get_or-set_other, get_or_past, get_or-replicate, length-replicate, length-set}
 use Rattle.std.proofs.lemmas.List.Elements.{Contains-push, Contains-push_cases, Contains-append_left}
 use Rattle.std.proofs.lemmas.List.Sums.{sum_by-set, sum_by_more, sum_by-take-le}
 use Rattle.std.proofs.lemmas.List.Folds.{sum_by-replicate}
 use Rattle.mrp_rows.specs.declared.numbers.PairNo.{PairNo}
-use Rattle.mrp_ready.specs.Progress.{Progress, is_planned, left_of, times, IsFree, IsListed, IsLess, Lowers, IsKept}
+use Rattle.mrp_ready.specs.Progress.{Progress, is_planned, left_of, times, IsFree, IsListed, Lowers, IsKept}
 
 -- a test counts where it passes
 abbrev one_if : Bool → ℕ
@@ -214,7 +213,7 @@ first_listed waits ready n size exact = record {
   );
 }
 
-unplanned_at_first : (n x : ℕ) → is_planned (replicate n false) x ≡ false
+pub unplanned_at_first : (n x : ℕ) → is_planned (replicate n false) x ≡ false
 unplanned_at_first n x =
     elim (cases_lt x n) as (λ _. is_planned (replicate n false) x ≡ false) [
       | inl less ↦ get_or-replicate n x false false less

@@ -1,5 +1,5 @@
 -- How far the planning of a plant's pairs is. A pair is named by its place there.
-use Rattle.std.specs.Prelude.{◌≡◌, ◌≢◌, ◌↔◌, ◌<◌, ◌+◌, ◌==◌, ℕ, Bool, true, false, not, List, length, count_by, slice_index, slice_index_or, Contains}
+use Rattle.std.specs.Prelude.{◌≡◌, ◌↔◌, ◌<◌, ◌+◌, ◌==◌, ℕ, Bool, true, false, not, List, length, count_by, slice_index, slice_index_or, Contains}
 use Rattle.mrp_rows.specs.declared.numbers.PairNo.{PairNo}
 
 -- by place the pair's number, how much it waits for, and whether it is planned; and the pairs that can be planned

@@ -3,7 +3,7 @@ ghost use Rattle.std.specs.List.{range_with_len};
 ghost use Rattle.mrp_ready.specs.Counts.{components_of};
 
 use crate::Join;
-use mrp_group::{KeyOf, group};
+use mrp_group::{Groups, KeyOf, group};
 use std::alloc::{AllocError, Global};
 use std::marker::Model;
 
@@ -11,8 +11,7 @@ use std::marker::Model;
 /// see by place the list of their places.
 #[derive(Drop)]
 pub struct Components {
-    all: Vec<usize>,
-    starts: Vec<usize>,
+    groups: Groups<usize>,
 }
 
 impl Model for Components {
@@ -21,9 +20,9 @@ impl Model for Components {
 
     ghost Value = { List (List ℕ) };
 
-    ghost view = { λ c. parts c.all.items c.starts.items };
+    ghost view = { λ c. parts c.groups.rows.items c.groups.starts.items };
 
-    ghost invariant = { λ c. ArePartsOf c.all.items c.starts.items };
+    ghost invariant = { λ c. ArePartsOf c.groups.rows.items c.groups.starts.items };
 }
 
 impl Components {
@@ -37,14 +36,12 @@ impl Components {
         requires known { All (λ j. j.demander < pairs) joins.now }
         ensures { IfOk result (λ c. c ≡ map (components_of joins.now) (range_with_len 0 pairs)) }
     {
-        let groups = group(alloc, &ByDemander, joins, pairs)?;
-        let all = groups
-            .rows
-            .iter()
-            .map(|join| join.component)
-            .collect(alloc)?;
-        let starts = groups.starts;
-        Ok(Components { all, starts })
+        let grouped = group(alloc, &ByDemander, joins, pairs)?;
+        let rows = component_places(alloc, &grouped.rows)?;
+        let starts = grouped.starts;
+        Ok(Components {
+            groups: Groups { rows, starts },
+        })
     }
 
     /// The places of the components that go into the pair at `x`.
@@ -52,8 +49,15 @@ impl Components {
         requires { x < length self.now }
         ensures { slice_get self.now x ≡ Some result.now }
     {
-        &self.all[self.starts[x]..self.starts[x + 1]]
+        self.groups.get(x)
     }
+}
+
+/// The component of each join.
+fn component_places(alloc: Global, joins: &[Join]) -> Result<Vec<usize>, AllocError>
+    ensures { IfOk result (λ places. places.items ≡ map (λ j. j.component) joins.now) }
+{
+    joins.iter().map(|join| join.component).collect(alloc)
 }
 
 /// Puts joins into groups by their demanders.

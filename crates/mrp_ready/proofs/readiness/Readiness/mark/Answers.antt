@@ -1,6 +1,6 @@
-use Rattle.std.proofs.Common.{◌≡◌, ◌+◌, ◌-◌, ◌<◌, ◌≤◌, length, arith, ap, sym, subst}
+use Rattle.std.proofs.Common.{◌≡◌, ◌+◌, ◌-◌, arith, sym, subst}
 use Rattle.std.specs.Prelude.{Contains}
-use Rattle.mrp_ready.specs.Progress.{Progress, left_of}
+use Rattle.mrp_ready.specs.Progress.{Progress}
 use Rattle.mrp_ready.proofs.Listing.{IsKept-planned, left-planned}
 use Rattle.mrp_ready.proofs.readiness.Readiness.mark.Goals as goal
 
