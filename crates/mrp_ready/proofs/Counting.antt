@@ -13,7 +13,7 @@ use Rattle.mrp_ready.specs.Counts.{Awaited, AreCounts, AreCounted, AreFirstCount
 use Rattle.mrp_ready.specs.Laws.{ReadyWhereNothingIsOpen, ComponentsWait, EndingOpensFewer, OpenBlocksAreAwaited}
 
 -- a test counts where it passes
-abbrev one_if : Bool → ℕ
+abbrev pub one_if : Bool → ℕ
 one_if b = cond b 1 0
 
 -- a join counts where it is one of the pair and its demander isn't planned

@@ -8,10 +8,7 @@ use Rattle.std.proofs.lemmas.List.Sums.{sum_by-set, sum_by_more, sum_by-take-le}
 use Rattle.std.proofs.lemmas.List.Folds.{sum_by-replicate}
 use Rattle.mrp_rows.specs.declared.numbers.PairNo.{PairNo}
 use Rattle.mrp_ready.specs.Progress.{Progress, is_planned, left_of, times, IsFree, IsListed, Lowers, IsKept}
-
--- a test counts where it passes
-abbrev one_if : Bool → ℕ
-one_if b = cond b 1 0
+use Rattle.mrp_ready.proofs.Counting.{one_if}
 
 -- ---- a ready pair is planned
 
@@ -51,6 +48,19 @@ IsKept-planned progress left less numbers later x kept has one same others =
       ];
       left_is = omega (arith, kept.left_is, left-planned progress.planned x within free.unplanned);
     }
+
+-- what is known of the fields where a pair of the value is ready
+pub ready_inside : (inside value : Progress) (left x : ℕ) → IsKept inside left → inside ≡ value → Contains value.ready x → Contains inside.ready x × IsFree inside.waits inside.planned x × (x < length inside.planned) × (left ≡ (left - 1) + 1)
+ready_inside inside value left x kept shown has =
+    let here : Contains inside.ready x = subst (λ (v : Progress). Contains v.ready x) (sym shown) has in
+    let free = (kept.listed.exact x).0 here in
+    let within : x < length inside.planned = omega (arith, kept.marked, free.known) in
+    (here, free, within, omega (arith, kept.left_is, left-planned inside.planned x within free.unplanned))
+
+pub planned_inside : (inside value : Progress) (left x : ℕ) (numbers : List PairNo) (later : List ℕ) → IsKept inside left → inside ≡ value → Contains value.ready x → numbers ≡ inside.numbers → ((y : ℕ) → Contains later y ↔ (Contains inside.ready y × (y ≡ x → ⊥))) → IsKept (record { numbers = numbers; waits = inside.waits; planned = set inside.planned x true; ready = later }) (left - 1)
+planned_inside inside value left x numbers later kept shown has same others =
+    let here = ready_inside inside value left x kept shown has in
+    IsKept-planned inside left (left - 1) numbers later x kept here.0 here.3 same others
 
 -- ---- a pair waits for one less
 
@@ -213,7 +223,7 @@ first_listed waits ready n size exact = record {
   );
 }
 
-pub unplanned_at_first : (n x : ℕ) → is_planned (replicate n false) x ≡ false
+unplanned_at_first : (n x : ℕ) → is_planned (replicate n false) x ≡ false
 unplanned_at_first n x =
     elim (cases_lt x n) as (λ _. is_planned (replicate n false) x ≡ false) [
       | inl less ↦ get_or-replicate n x false false less
@@ -228,3 +238,12 @@ IsKept-first numbers waits ready n numbered size exact = record {
   rested = λ x is. absurd (both_ways (is_planned (replicate n false) x) (unplanned_at_first n x) is);
   left_is = omega (arith, sum_by-replicate (λ (p : Bool). cond (not p) 1 0) n false);
 }
+
+pub first_inside : (numbers given : List PairNo) (waits read : List ℕ) (planned : List Bool) (ready : List ℕ) → planned ≡ replicate (length given) false → read ≡ waits → length waits ≡ length given → numbers ≡ given → WaitForNone ready read (length read) → IsKept (record { numbers = numbers; waits = waits; planned = planned; ready = ready }) (length given)
+first_inside numbers given waits read planned ready none same size numbers_are free =
+    let wait : WaitForNone ready waits (length waits) = subst (λ (w : List ℕ). WaitForNone ready w (length w)) same free in
+    subst (λ (p : List Bool). IsKept (record { numbers = numbers; waits = waits; planned = p; ready = ready }) (length given)) (sym none)
+    (IsKept-first numbers waits ready (length given) (ap length numbers_are) size wait)
+
+pub none_planned : (planned : List Bool) (n x : ℕ) → planned ≡ replicate n false → is_planned planned x ≡ false
+none_planned planned n x none = ap (λ (p : List Bool). is_planned p x) none ∙ unplanned_at_first n x

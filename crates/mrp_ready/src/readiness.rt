@@ -158,8 +158,8 @@ impl Readiness {
         requires waits { (y : ℕ) → y < length self.old.waits → times y components.now ≤ slice_index self.old.waits y }
         ensures { Lowers self.old self.new components.now }
     {
-        for &y in components {
-            self.lower(y);
+        for &component in components {
+            self.lower(component);
         }
     }
 
