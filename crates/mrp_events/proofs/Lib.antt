@@ -1,8 +1,11 @@
 pub mod Delivered
+pub mod Calling
 pub mod Small
 pub mod Keeping
 pub mod Ordering
 pub mod Going
-pub mod Calling
+pub mod Summing
 pub mod Counting
 pub mod Finishing
+pub mod Bringing
+pub mod Planned

@@ -3,3 +3,4 @@ pub mod LoadLaws
 pub mod State
 pub mod Laws
 pub mod Progress
+pub mod Local

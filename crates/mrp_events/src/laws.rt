@@ -2,6 +2,7 @@
 
 ghost use Rattle.mrp_events.specs.LoadLaws.{LoadsStandOnce, LoadsAreSmall, OpeningsAreSmall, LegalIsInForm, LegalFiguresAreSmall, TextsAreNoLonger};
 ghost use Rattle.mrp_events.specs.Laws.{LanesKeepOrder, SentIsDecided, NothingIsLost, ClosedLanesAreWhole};
+ghost use Rattle.mrp_events.specs.Local.{PlannedAreReady, DespatchesBringIncoming, SchedulesBringGross, LocalPlansAreThePlan};
 ghost use Rattle.mrp_events.specs.Progress.{RunsBeginWithSteps, EventsAreSteps, NoneIsLeftAtTheEnd, NoScheduleSticks, EventsAndStepsLeft, LongestRunsFinish};
 
 /// A lane has one load of each of its items. Those of a sized network are small: each delivery is of
@@ -67,4 +68,24 @@ pub fn no_schedule_sticks()
     ensures sticks { NoScheduleSticks }
     ensures left { EventsAndStepsLeft }
     ensures longest { LongestRunsFinish }
+{}
+
+/// A pair that is planned was ready and stays so: its demanders at its own plant are planned, and each
+/// lane to the plant has brought its whole block of the item.
+pub fn planned_are_ready()
+    ensures { PlannedAreReady }
+{}
+
+/// What taken lanes have brought to a ready pair is what the network's plan says: with the receipt rows
+/// all that comes in, and with the demand rows and what the parents at its plant ask the gross
+/// requirements.
+pub fn taken_blocks_bring_the_plan()
+    ensures incoming { DespatchesBringIncoming }
+    ensures gross { SchedulesBringGross }
+{}
+
+/// Local plans are the plan: where the plan of each ready pair is made from its own rows, its parents'
+/// plans and what has been taken, it is that of the one plan of the whole network.
+pub fn local_plans_are_the_plan()
+    ensures { LocalPlansAreThePlan }
 {}
