@@ -34,8 +34,7 @@ use Rattle.mrp_events.specs.Loads.{delivery_of, delivery_in, by_period, called_i
 use Rattle.mrp_events.specs.Local.{AreLegal, brought_by, brought, DespatchesBringIncoming, SchedulesBringGross}
 use Rattle.mrp_events.specs.State.{IsReady}
 use Rattle.mrp_events.proofs.Calling.{called_pair, pair_behind, source_over}
-use Rattle.mrp_events.proofs.Ordering.{load_is_there}
-use Rattle.mrp_events.proofs.Small.{loads_stand_once}
+use Rattle.mrp_events.proofs.Small.{loads_stand_once, load_is_there}
 use Rattle.mrp_events.proofs.Summing.{sum_same, by_number}
 
 -- ---- whether a lane has an item

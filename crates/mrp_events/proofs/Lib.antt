@@ -9,3 +9,4 @@ pub mod Counting
 pub mod Finishing
 pub mod Bringing
 pub mod Planned
+pub mod Sending

@@ -25,7 +25,7 @@ use Rattle.mrp_net.specs.Texts.{longest_block}
 use Rattle.mrp_net.proofs.Behind.{items_have_sources}
 use Rattle.mrp_net.proofs.Covering.{lane_items_stand_once}
 use Rattle.mrp_net.proofs.Lengths.{block_is_short, lane_items_are_few}
-use Rattle.mrp_net.proofs.Members.{In, All-in}
+use Rattle.mrp_net.proofs.Members.{In, In-from_contains, Contains-from_in, In-map, All-in}
 use Rattle.mrp_net.proofs.Routing.{opening_despatch, map-map}
 use Rattle.mrp_net.proofs.Sharing.{sum_map}
 use Rattle.mrp_group.proofs.Kept.{sum_filter}
@@ -39,7 +39,7 @@ use Rattle.mrp_record.specs.Laws.{AreLoads, IsSmall, AreSmall}
 use Rattle.mrp_record.specs.Text.{Load, total, block_length, length_of_text}
 use Rattle.mrp_record.proofs.Forming as forming
 use Rattle.mrp_events.specs.Loads.{delivery_of, despatched, called_in, called, lines_by, load_of, loads, is_rising}
-use Rattle.mrp_events.specs.LoadLaws.{LoadsStandOnce, LoadsAreSmall, OpeningsAreSmall, LegalIsInForm, LegalFiguresAreSmall, TextsAreNoLonger}
+use Rattle.mrp_events.specs.LoadLaws.{LoadsStandOnce, LoadsAreSmall, OpeningsAreSmall, LegalIsInForm, LegalFiguresAreSmall, LegalCumsAreSmall, TextsAreNoLonger}
 use Rattle.mrp_events.proofs.Calling.{source_over, source_item}
 use Rattle.mrp_events.proofs.Delivered.{by_period_total, by_period_some, by_period_inside, by_period_rises, by_period_length, in_order, rises_in_order}
 
@@ -57,6 +57,9 @@ loads_distinct N lane (item ∷ items) h = (none_alike N lane item items h.0, lo
 
 pub loads_stand_once : LoadsStandOnce
 loads_stand_once N is lane = loads_distinct N lane (lane_items N lane) (lane_items_stand_once N is lane)
+
+pub load_is_there : (N : Table) (lane : Lane) (item : ItemNo) → Contains (lane_items N lane) item → Contains (loads N lane) (load_of N lane item)
+load_is_there N lane item h = Contains-from_in (loads N lane) (load_of N lane item) (In-map (load_of N lane) (lane_items N lane) item (In-from_contains (lane_items N lane) item h))
 
 -- ---- lengths
 
@@ -99,6 +102,15 @@ in_order_by key xs rises i j d le h =
     let second = get_or-map key xs j d 0 h in
     omega (arith, first, second, rises_in_order 0 (map key xs) rises i j 0 le (omega (arith, length-map xs key)))
 
+-- the pieces of a despatch lane's shipments of an item
+pub shipped_total : (N : Table) (lane : Lane) (item : ItemNo) → total (despatched N lane item) ≡ shipped_from N (pair_on N lane item) (supplier_of lane)
+shipped_total N lane item =
+    let x : ℕ = pair_on N lane item in
+    let p : ℕ = supplier_of lane in
+    sum_map (λ (l : Delivery). l.quantity) delivery_of (shipments N lane item)
+    ∙ sum_map (λ (s : Shipment). s.quantity) shipment_of (ships_from N x p)
+    ∙ sum_filter (λ (s : ShipRow). s.quantity) (λ (s : ShipRow). (s.pair.0 == x) && (s.from.0 == p)) N.ships
+
 module _ (N : Table) (sized : IsSized N) (lane : Lane) (item : ItemNo) (has : HasSource N lane item) where
   abbrev x : ℕ
   x = pair_on N lane item
@@ -120,12 +132,6 @@ module _ (N : Table) (sized : IsSized N) (lane : Lane) (item : ItemNo) (has : Ha
       All-map (λ (l : Delivery). l.period < horizon N) delivery_of (shipments N lane item)
       (All-map (λ (s : Shipment). s.period < horizon N) shipment_of (ships_from N x p)
       (All-filter is_sent (λ (s : ShipRow). s.period < horizon N) N.ships (λ k d h. (sized.table.read.ships k d h).period)))
-
-  shipped_total : total (despatched N lane item) ≡ shipped_from N x p
-  shipped_total =
-      sum_map (λ (l : Delivery). l.quantity) delivery_of (shipments N lane item)
-      ∙ sum_map (λ (s : Shipment). s.quantity) shipment_of (ships_from N x p)
-      ∙ sum_filter (λ (s : ShipRow). s.quantity) is_sent N.ships
 
   within : figure N x p + shipped_from N x p ≤ MOST
   within =
@@ -171,7 +177,7 @@ module _ (N : Table) (sized : IsSized N) (lane : Lane) (item : ItemNo) (has : Ha
     inside = shipped_inside;
     rises = λ t. absurd (false≢true t);
     order = shipped_order;
-    figures = omega (arith, opening_despatch N lane item e, shipped_total, within);
+    figures = omega (arith, opening_despatch N lane item e, shipped_total N lane item, within);
   }
   small_by Schedule e =
       let amount = called_in N (source_on N lane item) in
@@ -205,3 +211,8 @@ legal_is_in_form N sized lane records h =
 pub legal_figures_are_small : LegalFiguresAreSmall
 legal_figures_are_small N sized lane records h =
     forming.figures_are_small (is_rising lane.kind) (horizon N) (loads N lane) (loads_stand_once N sized.table lane) (loads_are_small N sized lane) records h
+
+pub legal_cums_are_small : LegalCumsAreSmall
+legal_cums_are_small N sized lane records h item there =
+    forming.cums_are_small (is_rising lane.kind) (horizon N) (loads N lane) (loads_stand_once N sized.table lane) (loads_are_small N sized lane) records h
+    (load_of N lane item) (load_is_there N lane item there)

@@ -4,3 +4,4 @@ pub mod State
 pub mod Laws
 pub mod Progress
 pub mod Local
+pub mod Seen

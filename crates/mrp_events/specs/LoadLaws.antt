@@ -8,7 +8,7 @@ use Rattle.mrp_net.specs.Lanes.{lane_items, opening}
 use Rattle.mrp_net.specs.Texts.{longest_text}
 use Rattle.mrp_loops.specs.Sized.{IsSized}
 use Rattle.mrp_record.specs.declared.record.Record.{Record}
-use Rattle.mrp_record.specs.Entries.{number_of, content}
+use Rattle.mrp_record.specs.Entries.{number_of, content, contents, cum}
 use Rattle.mrp_record.specs.Form.{LaneForm, IsInForm}
 use Rattle.mrp_record.specs.Laws.{AreLoads, AreSmall, HasSmallFigures, form_of}
 use Rattle.mrp_record.specs.Text.{IsBeginning, length_of_text}
@@ -41,6 +41,12 @@ abbrev pub LegalFiguresAreSmall : Type 0
 LegalFiguresAreSmall =
     (N : Table) → IsSized N → (lane : Lane) (records : List Record) → IsBeginning (loads N lane) records
     → All (λ r. (number_of r ≤ MOST) × HasSmallFigures (content r)) records
+
+-- so are cumulative figures, closed years added
+abbrev pub LegalCumsAreSmall : Type 0
+LegalCumsAreSmall =
+    (N : Table) → IsSized N → (lane : Lane) (records : List Record) → IsBeginning (loads N lane) records
+    → (item : ItemNo) → Contains (lane_items N lane) item → cum (opening N lane item) item.0 (contents records) ≤ MOST
 
 -- the texts of a lane are within the length that is read off the table alone
 abbrev pub TextsAreNoLonger : Type 0

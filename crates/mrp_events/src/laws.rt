@@ -1,8 +1,9 @@
 //! Laws of what lanes carry, and of every run. Each is the contract of a function that does nothing.
 
-ghost use Rattle.mrp_events.specs.LoadLaws.{LoadsStandOnce, LoadsAreSmall, OpeningsAreSmall, LegalIsInForm, LegalFiguresAreSmall, TextsAreNoLonger};
+ghost use Rattle.mrp_events.specs.LoadLaws.{LoadsStandOnce, LoadsAreSmall, OpeningsAreSmall, LegalIsInForm, LegalFiguresAreSmall, LegalCumsAreSmall, TextsAreNoLonger};
 ghost use Rattle.mrp_events.specs.Laws.{LanesKeepOrder, SentIsDecided, NothingIsLost, ClosedLanesAreWhole};
 ghost use Rattle.mrp_events.specs.Local.{PlannedAreReady, DespatchesBringIncoming, SchedulesBringGross, LocalPlansAreThePlan};
+ghost use Rattle.mrp_events.specs.Seen.{DespatchesAreSeen, SchedulesAreSeen, SchedulesOpenAfterShipments, FormsAreSeen, BroughtIsSeen};
 ghost use Rattle.mrp_events.specs.Progress.{RunsBeginWithSteps, EventsAreSteps, NoneIsLeftAtTheEnd, NoScheduleSticks, EventsAndStepsLeft, LongestRunsFinish};
 
 /// A lane has one load of each of its items. Those of a sized network are small: each delivery is of
@@ -14,10 +15,11 @@ pub fn loads_are_small()
 {}
 
 /// Over a sized network each legal beginning is in form, so its receiver can book it record by record,
-/// and its numbers and figures are at most 10^15.
+/// and its numbers and figures are at most 10^15, cumulative figures with the closed years added.
 pub fn beginnings_are_in_form()
     ensures form { LegalIsInForm }
     ensures figures { LegalFiguresAreSmall }
+    ensures cums { LegalCumsAreSmall }
 {}
 
 /// In a sized network no item's figures begin above 10^15 pieces, on either lane.
@@ -88,4 +90,20 @@ pub fn taken_blocks_bring_the_plan()
 /// plans and what has been taken, it is that of the one plan of the whole network.
 pub fn local_plans_are_the_plan()
     ensures { LocalPlansAreThePlan }
+{}
+
+/// What a plant sees of the lanes that it sends says their loads: despatches by the shipments on their
+/// way, schedules by the source's share of what the plan releases for the customer's pair. A schedule
+/// begins at the figure that the despatch lane of the same two plants has reached with the item's block.
+pub fn loads_are_seen()
+    ensures despatches { DespatchesAreSeen }
+    ensures schedules { SchedulesAreSeen }
+    ensures opening { SchedulesOpenAfterShipments }
+{}
+
+/// What a plant sees of the lanes that it receives says what form their records have, and what they
+/// have brought to each of its pairs.
+pub fn incoming_lanes_are_seen()
+    ensures forms { FormsAreSeen }
+    ensures brought { BroughtIsSeen }
 {}
