@@ -34,7 +34,7 @@ lanes_keep_order N capacity s reached l within =
       room = h.room;
       sent = h.legal;
       taken = front_is_legal N capacity l s h;
-      last = λ before after r is closing.
+      last = λ before after r closing is.
           nothing_follows_closing (loads N (lane_at N l)) before after r closing (subst (IsBeginning (loads N (lane_at N l))) is h.legal);
     }
 

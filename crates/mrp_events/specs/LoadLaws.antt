@@ -26,7 +26,8 @@ LoadsAreSmall = (N : Table) → IsSized N → (lane : Lane) → AreSmall (is_ris
 -- no item's figures begin above 10^15
 abbrev pub OpeningsAreSmall : Type 0
 OpeningsAreSmall =
-    (N : Table) → IsSized N → (lane : Lane) (item : ItemNo) → Contains (lane_items N lane) item → opening N lane item ≤ MOST
+    (N : Table) → IsSized N → (lane : Lane) (item : ItemNo) → Contains (lane_items N lane) item
+    → opening N lane item ≤ MOST
 
 -- what a receiver knows of a lane
 abbrev pub lane_form : Table → Lane → LaneForm
@@ -35,7 +36,8 @@ lane_form N lane = form_of (is_rising lane.kind) (horizon N) (loads N lane)
 -- each legal beginning is in form, and its numbers and figures are at most 10^15
 abbrev pub LegalIsInForm : Type 0
 LegalIsInForm =
-    (N : Table) → IsSized N → (lane : Lane) (records : List Record) → IsBeginning (loads N lane) records → IsInForm (lane_form N lane) records
+    (N : Table) → IsSized N → (lane : Lane) (records : List Record) → IsBeginning (loads N lane) records
+    → IsInForm (lane_form N lane) records
 
 abbrev pub LegalFiguresAreSmall : Type 0
 LegalFiguresAreSmall =

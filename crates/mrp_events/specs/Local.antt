@@ -20,10 +20,14 @@ use Rattle.mrp_events.specs.State.{State, IsReady, IsReached}
 abbrev pub brought_by : Table → (ℕ → List Record) → ℕ → ℕ → ℕ → ℕ
 brought_by N taken x period l = quantity_in period (deliveries (pair_at N x).item.0 (contents (taken l)))
 
--- and all lanes of a kind that arrive at its plant
+-- a lane of the kind that arrives at the plant
+abbrev pub arrives : Table → (LaneKind → Bool) → ℕ → ℕ → Bool
+arrives N is_kind plant l = is_kind (lane_at N l).kind && ((lane_at N l).receiver.0 == plant)
+
+-- what all lanes of the kind that arrive at its plant have brought
 abbrev pub brought : Table → (ℕ → List Record) → (LaneKind → Bool) → ℕ → ℕ → ℕ
 brought N taken is_kind x period =
-    sum_by (λ l. if is_kind (lane_at N l).kind && ((lane_at N l).receiver.0 == (pair_at N x).plant.0) then brought_by N taken x period l else 0)
+    sum_by (λ l. if arrives N is_kind (pair_at N x).plant.0 l then brought_by N taken x period l else 0)
     (range_with_len 0 (length (lanes N)))
 
 -- what comes in for a pair: its receipt rows, and what despatch lanes have brought
@@ -37,7 +41,8 @@ local_gross N taken plans x period =
 
 -- its local plan, beside the plans of its parents
 abbrev pub local_plan : Table → (ℕ → List Record) → List PlanRows → ℕ → PlanRows
-local_plan N taken plans x = one (params_at N x) (row_of N (local_incoming N taken x)) (row_of N (local_gross N taken plans x))
+local_plan N taken plans x =
+    one (params_at N x) (row_of N (local_incoming N taken x)) (row_of N (local_gross N taken plans x))
 
 -- what has been taken is a legal beginning on each lane
 abbrev pub AreLegal : Table → (ℕ → List Record) → Type 0
@@ -54,13 +59,15 @@ PlannedAreReady =
 -- to a ready pair the lanes have brought what comes in by the plan of the network
 abbrev pub DespatchesBringIncoming : Type 0
 DespatchesBringIncoming =
-    (N : Table) → IsTable N → (taken : ℕ → List Record) → AreLegal N taken → (planned : ℕ → Bool) (x : ℕ) → IsPair N x → IsReady N planned taken x
+    (N : Table) → IsTable N → (taken : ℕ → List Record) → AreLegal N taken
+    → (planned : ℕ → Bool) (x : ℕ) → IsPair N x → IsReady N planned taken x
     → (period : ℕ) → local_incoming N taken x period ≡ incoming N x period
 
 -- and what its customers call for by that plan
 abbrev pub SchedulesBringGross : Type 0
 SchedulesBringGross =
-    (N : Table) → IsTable N → (taken : ℕ → List Record) → AreLegal N taken → (planned : ℕ → Bool) (x : ℕ) → IsPair N x → IsReady N planned taken x
+    (N : Table) → IsTable N → (taken : ℕ → List Record) → AreLegal N taken
+    → (planned : ℕ → Bool) (x : ℕ) → IsPair N x → IsReady N planned taken x
     → (period : ℕ) → period < horizon N → local_gross N taken (plan_of N) x period ≡ gross N (plan_of N) x period
 
 -- plans of ready pairs, each made from its own rows, its parents' plans and what has been taken
@@ -71,5 +78,5 @@ AreLocal N taken planned plans =
 -- local plans are the plan: each is that of the one plan of the whole network
 abbrev pub LocalPlansAreThePlan : Type 0
 LocalPlansAreThePlan =
-    (N : Table) → IsTable N → IsLoopFree N → (taken : ℕ → List Record) → AreLegal N taken → (planned : ℕ → Bool) (plans : List PlanRows)
-    → AreLocal N taken planned plans → (x : ℕ) → IsPair N x → planned x ≡ true → rows_at plans x ≡ rows_at (plan_of N) x
+    (N : Table) → IsTable N → IsLoopFree N → (taken : ℕ → List Record) → AreLegal N taken
+    → (planned : ℕ → Bool) (plans : List PlanRows) → AreLocal N taken planned plans → (x : ℕ) → IsPair N x → planned x ≡ true → rows_at plans x ≡ rows_at (plan_of N) x

@@ -11,6 +11,7 @@ use Rattle.mrp_net.specs.Lanes.{lane_at, lane_items, opening}
 use Rattle.mrp_net.specs.Laws.{AreBothLanes, released}
 use Rattle.mrp_net.specs.Loads as seen
 use Rattle.mrp_net.specs.Plan.{plan_of}
+use Rattle.mrp_net.specs.Sources.{source_on}
 use Rattle.mrp_net.specs.Sums.{pair_at}
 use Rattle.mrp_net.specs.View.{incoming_lane, outgoing_item, plant_rows}
 use Rattle.mrp_record.specs.declared.record.Record.{Record}
@@ -43,21 +44,23 @@ schedule_load periods opening release i = record {
 -- they are the loads of the lane: schedules by the plan of the customer's pair
 abbrev pub DespatchesAreSeen : Type 0
 DespatchesAreSeen =
-    (N : Table) (lane : Lane) (item : ItemNo) → lane.kind ≡ Despatch → load_of N lane item ≡ despatch_load (outgoing_item N lane item)
+    (N : Table) (lane : Lane) (item : ItemNo) → lane.kind ≡ Despatch
+    → load_of N lane item ≡ despatch_load (outgoing_item N lane item)
 
 abbrev pub SchedulesAreSeen : Type 0
 SchedulesAreSeen =
     (N : Table) (lane : Lane) (item : ItemNo) → lane.kind ≡ Schedule
     → load_of N lane item
-    ≡ schedule_load (horizon N) (opening N lane item) (released (plan_of N) (outgoing_item N lane item).customer.0) (outgoing_item N lane item)
+    ≡ schedule_load (horizon N) (opening N lane item) (released (plan_of N) (source_on N lane item).pair.0)
+    (outgoing_item N lane item)
 
 -- a schedule lane's figures begin where those of the despatch lane of the same two plants stand once
 -- the item's block is taken
 abbrev pub SchedulesOpenAfterShipments : Type 0
 SchedulesOpenAfterShipments =
     (N : Table) → IsTable N → (despatch schedule : Lane) → AreBothLanes despatch schedule
-    → (records : List Record) → IsBeginning (loads N despatch) records → (item : ItemNo) → Contains (lane_items N despatch) item
-    → is_ended item.0 (contents records) ≡ true
+    → (records : List Record) → IsBeginning (loads N despatch) records
+    → (item : ItemNo) → Contains (lane_items N despatch) item → is_ended item.0 (contents records) ≡ true
     → cum (opening N despatch item) item.0 (contents records) ≡ opening N schedule item
 
 -- ---- lanes that it receives
@@ -75,7 +78,8 @@ FormsAreSeen = (N : Table) (l : ℕ) → lane_form N (lane_at N l) ≡ seen_form
 -- what the lanes of a kind have brought of an item in a period, of those that come in
 abbrev pub brought_in : List IncomingLane → (ℕ → List Record) → (LaneKind → Bool) → ℕ → ℕ → ℕ
 brought_in lanes taken is_kind item period =
-    sum_by (λ lane. if is_kind lane.kind then quantity_in period (deliveries item (contents (taken lane.number.0))) else 0) lanes
+    let by_lane = λ (lane : IncomingLane). quantity_in period (deliveries item (contents (taken lane.number.0))) in
+    sum_by (λ lane. if is_kind lane.kind then by_lane lane else 0) lanes
 
 -- all that has been brought to a pair is what the plant sees come in
 abbrev pub BroughtIsSeen : Type 0

@@ -52,7 +52,8 @@ pub record CanTake (N : Table) (s : State) (l : ℕ) (r : Record) : Type 0 where
 -- a lane that arrives at the plant with the item has brought the item's whole block
 abbrev pub HasBrought : Table → (ℕ → List Record) → ℕ → ItemNo → ℕ → Type 0
 HasBrought N taken plant item l =
-    (lane_at N l).receiver.0 ≡ plant → Contains (lane_items N (lane_at N l)) item → is_ended item.0 (contents (taken l)) ≡ true
+    (lane_at N l).receiver.0 ≡ plant → Contains (lane_items N (lane_at N l)) item
+    → is_ended item.0 (contents (taken l)) ≡ true
 
 -- the pair's demanders at its own plant are planned, and each lane to the plant has brought what it has of
 -- the item: the schedule lanes of its customers and the despatch lanes of its sources

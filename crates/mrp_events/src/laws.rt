@@ -1,10 +1,14 @@
 //! Laws of what lanes carry, and of every run. Each is the contract of a function that does nothing.
 
-ghost use Rattle.mrp_events.specs.LoadLaws.{LoadsStandOnce, LoadsAreSmall, OpeningsAreSmall, LegalIsInForm, LegalFiguresAreSmall, LegalCumsAreSmall, TextsAreNoLonger};
+ghost use Rattle.mrp_events.specs.LoadLaws.{LoadsStandOnce, LoadsAreSmall, OpeningsAreSmall, TextsAreNoLonger};
+ghost use Rattle.mrp_events.specs.LoadLaws.{LegalIsInForm, LegalFiguresAreSmall, LegalCumsAreSmall};
 ghost use Rattle.mrp_events.specs.Laws.{LanesKeepOrder, SentIsDecided, NothingIsLost, ClosedLanesAreWhole};
-ghost use Rattle.mrp_events.specs.Local.{PlannedAreReady, DespatchesBringIncoming, SchedulesBringGross, LocalPlansAreThePlan};
-ghost use Rattle.mrp_events.specs.Seen.{DespatchesAreSeen, SchedulesAreSeen, SchedulesOpenAfterShipments, FormsAreSeen, BroughtIsSeen};
-ghost use Rattle.mrp_events.specs.Progress.{RunsBeginWithSteps, EventsAreSteps, NoneIsLeftAtTheEnd, NoScheduleSticks, EventsAndStepsLeft, LongestRunsFinish};
+ghost use Rattle.mrp_events.specs.Local.{PlannedAreReady, LocalPlansAreThePlan, DespatchesBringIncoming};
+ghost use Rattle.mrp_events.specs.Local.{SchedulesBringGross};
+ghost use Rattle.mrp_events.specs.Seen.{DespatchesAreSeen, SchedulesAreSeen, SchedulesOpenAfterShipments};
+ghost use Rattle.mrp_events.specs.Seen.{FormsAreSeen, BroughtIsSeen};
+ghost use Rattle.mrp_events.specs.Progress.{RunsBeginWithSteps, EventsAreSteps, NoneIsLeftAtTheEnd};
+ghost use Rattle.mrp_events.specs.Progress.{NoScheduleSticks, EventsAndStepsLeft, LongestRunsFinish};
 
 /// A lane has one load of each of its items. Those of a sized network are small: each delivery is of
 /// one piece at least and in the horizon, on a schedule lane their periods rise, and opening figure and
