@@ -1,0 +1,6 @@
+pub mod Bytes
+pub mod Loop
+pub mod Names
+pub mod Rows
+pub mod Spelling
+pub mod Taking
