@@ -1,5 +1,5 @@
 -- The places of names.
-use Rattle.std.proofs.Common.{◌≡◌, ◌<◌, ℕ, get_or, true, List, length, position, slice_get, option_map, [], Option, Some, None, IfSome, IfNone, refl, sym, ap, ◌∙◌}
+use Rattle.std.proofs.Common.{◌≡◌, ◌<◌, ℕ, get_or, List, length, position, slice_get, option_map, [], Option, Some, None, IfSome, IfNone, refl, sym, ap, ◌∙◌}
 use Rattle.std.specs.List.{Contains, IsDistinct}
 use Rattle.std.specs.Str.{bytes_eq}
 use Rattle.std.proofs.lemmas.Map.Keys.{apart_from_distinct}

@@ -1,5 +1,5 @@
 -- A row that is read as a record is the row of that record.
-use Rattle.std.proofs.Common.{◌≡◌, ◌<◌, ◌==◌, ◌&&◌, ◌||◌, ◌^◌, ℕ, nat_lt, Bool, true, false, if◌then◌else◌, List, [], ◌∷◌, length, decimal, codes, Option, Some, None, Result, Ok, Err, ok_or, option_map, refl, sym, ap, subst, ◌∙◌, arith}
+use Rattle.std.proofs.Common.{◌≡◌, ◌<◌, ◌==◌, ℕ, Bool, true, false, if◌then◌else◌, List, [], ◌∷◌, length, codes, Option, Some, None, Result, Ok, Err, ok_or, refl, ap, subst, ◌∙◌, arith}
 use Rattle.std.specs.List.{All, list_all}
 use Rattle.std.specs.Str.{bytes_eq, is_utf8}
 use Rattle.std.proofs.lemmas.List.Elements.{All-cons, All-nil}
@@ -14,7 +14,7 @@ use Rattle.mrp_rows.specs.declared.numbers.ItemNo.{ItemNo}
 use Rattle.mrp_rows.specs.Table.{Table}
 use Rattle.mrp_record.specs.declared.record.Record.{Record}
 use Rattle.mrp_record.specs.declared.record.Record.TheVariants.{Line, ItemEnd, Reset, Close}
-use Rattle.mrp_tables.specs.Grammar.{field, is_empty, is_free}
+use Rattle.mrp_tables.specs.Grammar.{field, is_empty}
 use Rattle.mrp_stream.specs.declared.fault.RecordFaultKind.{RecordFaultKind}
 use Rattle.mrp_stream.specs.declared.fault.RecordFaultKind.TheVariants as fault
 use Rattle.mrp_stream.specs.declared.kind.Kind.{Kind}
@@ -147,11 +147,13 @@ line_is N row r k e =
     let q = number_field row 4 quantity.0 quantity.1 in
     let c = number_field row 5 cumulative.0 cumulative.1 in
     let i = item_field N row item.0 item.1 in
-    spells_as N row r (Line number.0 item.0 period.0 quantity.0 cumulative.0) item.2
-    (record {
-      numbers = short_four number.0 period.0 quantity.0 cumulative.0 n.1 p.1 q.1 c.1;
-      item = i.0;
-    }, row_is row _ _ _ _ _ _ k.six k.word n.0 i.1 p.0 q.0 c.0)
+    spells_as N row r (Line number.0 item.0 period.0 quantity.0 cumulative.0) item.2 (
+      record {
+        numbers = short_four number.0 period.0 quantity.0 cumulative.0 n.1 p.1 q.1 c.1;
+        item = i.0;
+      },
+      row_is row _ _ _ _ _ _ k.six k.word n.0 i.1 p.0 q.0 c.0,
+    )
 
 end_is : (N : Table) (row : List (List ℕ)) (r : Record) → IsOfKind row kind.ItemEnd → end_of N row ≡ Ok r → Spells N row r
 unfolding end_of
@@ -164,11 +166,13 @@ end_is N row r k e =
     let l = number_field row 3 lines.0 lines.1 in
     let c = number_field row 4 cumulative.0 cumulative.1 in
     let i = item_field N row item.0 item.1 in
-    spells_as N row r (ItemEnd number.0 item.0 lines.0 cumulative.0) item.2
-    (record {
-      numbers = short_three number.0 lines.0 cumulative.0 n.1 l.1 c.1;
-      item = i.0;
-    }, row_is row _ _ _ _ _ _ k.six k.word n.0 i.1 l.0 c.0 (empty_is (field row 5) k.free))
+    spells_as N row r (ItemEnd number.0 item.0 lines.0 cumulative.0) item.2 (
+      record {
+        numbers = short_three number.0 lines.0 cumulative.0 n.1 l.1 c.1;
+        item = i.0;
+      },
+      row_is row _ _ _ _ _ _ k.six k.word n.0 i.1 l.0 c.0 (empty_is (field row 5) k.free),
+    )
 
 reset_is : (N : Table) (row : List (List ℕ)) (r : Record) → IsOfKind row kind.Reset → reset_of N row ≡ Ok r → Spells N row r
 unfolding reset_of
@@ -180,11 +184,13 @@ reset_is N row r k e =
     let c = number_field row 3 closed.0 closed.1 in
     let i = item_field N row item.0 item.1 in
     let free = both_true (is_empty (field row 4)) (is_empty (field row 5)) k.free in
-    spells_as N row r (Reset number.0 item.0 closed.0) item.2
-    (record {
-      numbers = short_two number.0 closed.0 n.1 c.1;
-      item = i.0;
-    }, row_is row _ _ _ _ _ _ k.six k.word n.0 i.1 c.0 (empty_is (field row 4) free.0) (empty_is (field row 5) free.1))
+    spells_as N row r (Reset number.0 item.0 closed.0) item.2 (
+      record {
+        numbers = short_two number.0 closed.0 n.1 c.1;
+        item = i.0;
+      },
+      row_is row _ _ _ _ _ _ k.six k.word n.0 i.1 c.0 (empty_is (field row 4) free.0) (empty_is (field row 5) free.1),
+    )
 
 close_is : (N : Table) (row : List (List ℕ)) (r : Record) → IsOfKind row kind.Close → close_of row ≡ Ok r → Spells N row r
 unfolding close_of
@@ -194,9 +200,10 @@ close_is N row r k e =
     let five = both_true _ (is_empty (field row 5)) k.free in
     let four = both_true _ (is_empty (field row 4)) five.0 in
     let three = both_true (is_empty (field row 2)) (is_empty (field row 3)) four.0 in
-    spells_as N row r (Close number.0) number.2
-    (record { numbers = short_one number.0 n.1; item = tt },
-    row_is row _ _ _ _ _ _ k.six k.word n.0 (empty_is (field row 2) three.0) (empty_is (field row 3) three.1) (empty_is (field row 4) four.1) (empty_is (field row 5) five.1))
+    spells_as N row r (Close number.0) number.2 (
+      record { numbers = short_one number.0 n.1; item = tt },
+      row_is row _ _ _ _ _ _ k.six k.word n.0 (empty_is (field row 2) three.0) (empty_is (field row 3) three.1) (empty_is (field row 4) four.1) (empty_is (field row 5) five.1),
+    )
 
 of_kind_is : (N : Table) (row : List (List ℕ)) (r : Record) (k : Kind) → IsOfKind row k → of_kind N row k ≡ Ok r → Spells N row r
 of_kind_is N row r kind.Line k e = line_is N row r k e

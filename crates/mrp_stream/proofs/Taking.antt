@@ -1,5 +1,5 @@
 -- What taking a row answers.
-use Rattle.std.proofs.Common.{◌≡◌, ℕ, Bool, true, false, ◌<◌, List, [], ◌∷◌, ◌++◌, Option, Some, None, Result, Ok, Err, refl, sym, ap, ◌∙◌}
+use Rattle.std.proofs.Common.{◌≡◌, ℕ, Bool, true, false, List, Option, Ok, Err, refl}
 use Rattle.std.specs.List.{list_all}
 use Rattle.std.specs.Str.{is_utf8}
 use Rattle.csv.specs.Reading.{ExplainsRead, ReadRecord}
@@ -8,7 +8,7 @@ use Rattle.csv.specs.declared.error.ErrorKind.TheVariants as error
 use Rattle.csv.specs.declared.reader.Reader.{Reader}
 use Rattle.mrp_rows.specs.Table.{Table}
 use Rattle.mrp_tables.specs.declared.fault.TableFaultKind.TheVariants as table_fault
-use Rattle.mrp_tables.specs.Left.{GivesAll, left_of, OfLeft, StartsBadly}
+use Rattle.mrp_tables.specs.Left.{GivesAll, left_of, StartsBadly}
 use Rattle.mrp_tables.proofs.Taken.{ends_rows, explains_as, takes_row}
 use Rattle.mrp_tables.proofs.Loop.{of_left_from}
 use Rattle.mrp_stream.specs.declared.fault.RecordFaultKind.{RecordFaultKind}

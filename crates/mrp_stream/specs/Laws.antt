@@ -1,11 +1,10 @@
 -- Laws of the text of records.
-use Rattle.std.specs.Prelude.{◌≡◌, ◌⊎◌, ◌↔◌, ◌≤◌, ℕ, List, length, map, All, Ok}
+use Rattle.std.specs.Prelude.{◌≡◌, ◌⊎◌, ◌↔◌, ℕ, List, map, All, Ok}
 use Rattle.csv.specs.Reading.{default_config, records, strip_bom}
 use Rattle.mrp_rows.specs.Table.{IsTable, Table}
 use Rattle.mrp_record.specs.declared.record.Record.{Record}
 use Rattle.mrp_stream.specs.declared.fault.RecordFault.{RecordFault}
 use Rattle.mrp_stream.specs.declared.fault.RecordFaultKind.TheVariants as fault
-use Rattle.mrp_stream.specs.declared.reading.TheConstants.{MOST_RECORDS}
 use Rattle.mrp_stream.specs.Rows.{HasRow, record_fields, records_text}
 use Rattle.mrp_stream.specs.Grammar.{record_of}
 use Rattle.mrp_stream.specs.Reading.{AreRowsOf, HasFault}

@@ -1,5 +1,5 @@
 -- The rows that a reader has left, and what the steps of the reading answer of them.
-use Rattle.std.specs.Prelude.{◌≡◌, ℕ, ◌+◌, ◌≤◌, ◌<◌, Bool, true, false, List, [], ◌∷◌, ◌++◌, length, map, All, Option, Some, None, Result, Ok, Err}
+use Rattle.std.specs.Prelude.{◌≡◌, ℕ, ◌<◌, Bool, true, false, List, [], ◌∷◌, ◌++◌, length, map, Option, Some, None, Result, Ok, Err}
 use Rattle.csv.specs.declared.error.ErrorKind.{ErrorKind}
 use Rattle.csv.specs.declared.error.ErrorKind.TheVariants as error
 use Rattle.mrp_rows.specs.Table.{Table}
@@ -9,7 +9,7 @@ use Rattle.mrp_stream.specs.declared.fault.RecordFaultKind.{RecordFaultKind}
 use Rattle.mrp_stream.specs.declared.fault.RecordFaultKind.TheVariants as fault
 use Rattle.mrp_stream.specs.declared.reading.TheConstants.{MOST_RECORDS}
 use Rattle.mrp_stream.specs.Rows.{HasRow, record_fields}
-use Rattle.mrp_stream.specs.Reading.{StartsWithFault, StopsAfter}
+use Rattle.mrp_stream.specs.Reading.{StartsWithFault}
 
 -- what an error of the reading is called
 abbrev pub fault_of : ErrorKind → RecordFaultKind

@@ -14,6 +14,3 @@ pub use fault::{RecordFault, RecordFaultKind};
 pub use mrp_record::Record;
 pub use reading::{MOST_RECORDS, read_records};
 pub use writing::write_record;
-
-#[cfg(test)]
-mod tests;

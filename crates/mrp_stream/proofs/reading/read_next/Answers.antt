@@ -1,8 +1,7 @@
-use Rattle.std.proofs.Common.{◌≡◌, Err, Ok, ap, length, refl, rules, sym, ◌∙◌}
+use Rattle.std.proofs.Common.{◌≡◌, Err, Ok, length, refl, rules, sym, ◌∙◌}
 use Rattle.std.proofs.lemmas.Result.{err_from_is_err_and}
 use Rattle.csv.specs.Records.{fields_of}
 use Rattle.mrp_tables.specs.Left.{left_of}
-use Rattle.mrp_stream.specs.Grammar.{record_of}
 use Rattle.mrp_stream.proofs.Loop.{adds_record, bad_told, fault_told, none_there, room_for, some_there}
 use Rattle.mrp_stream.proofs.Spelling.{text_record}
 use Rattle.mrp_stream.proofs.reading.read_next.Goals as goal

@@ -1,4 +1,4 @@
-use Rattle.std.proofs.Common.{◌≡◌, ◌≤◌, ◌+◌, arith, length, sym}
+use Rattle.std.proofs.Common.{◌≤◌, arith, length, sym}
 use Rattle.mrp_tables.specs.Left.{left_of}
 use Rattle.mrp_stream.proofs.Loop.{count_next, ended, few_next, next_so_far, stopped, told_none, told_record}
 use Rattle.mrp_stream.proofs.reading.read_rows.Goals as goal
