@@ -9,6 +9,7 @@ mod networks;
 mod planning;
 mod plans;
 mod reading;
+mod records;
 mod refusals;
 mod shipping;
 mod streams;
