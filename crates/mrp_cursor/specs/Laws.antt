@@ -96,7 +96,9 @@ ShownBegin =
 
 -- the cursor is closed exactly where the shown list is
 abbrev pub ClosedIsShown : Type 0
-ClosedIsShown = (goods : ℕ → Goods) (o : OutFigures) (sent : List Record) → ShowsSent goods o sent → o.closed ≡ is_closed (contents sent)
+ClosedIsShown =
+    (goods : ℕ → Goods) (o : OutFigures) (sent : List Record)
+    → ShowsSent goods o sent → o.closed ≡ is_closed (contents sent)
 
 -- a cursor that is closed shows the whole text
 abbrev pub ClosedShowsWhole : Type 0
