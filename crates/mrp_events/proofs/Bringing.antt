@@ -39,10 +39,10 @@ use Rattle.mrp_events.proofs.Summing.{sum_same, by_number}
 
 -- ---- whether a lane has an item
 
-abbrev has_item : Table → Lane → ItemNo → Bool
+abbrev pub has_item : Table → Lane → ItemNo → Bool
 has_item N lane item = list_any (λ (i : ItemNo). i.0 == item.0) (lane_items N lane)
 
-item_there : (N : Table) (lane : Lane) (item : ItemNo) → has_item N lane item ≡ true → Contains (lane_items N lane) item
+pub item_there : (N : Table) (lane : Lane) (item : ItemNo) → has_item N lane item ≡ true → Contains (lane_items N lane) item
 item_there N lane item has =
     let found = any_some (λ (i : ItemNo). i.0 == item.0) (lane_items N lane) has in
     let same : found.0 ≡ item = ap (λ (z : ℕ). let i : ItemNo = record { 0 = z } in i) (eqb-true found.0.0 item.0 found.2) in
@@ -58,7 +58,7 @@ there_is_item (i ∷ items) item h = elim (cases_Bool (i.0 == item.0)) [
   ]
 ]
 
-not_there : (N : Table) (lane : Lane) (item : ItemNo) → has_item N lane item ≡ false → ¬ Contains (lane_items N lane) item
+pub not_there : (N : Table) (lane : Lane) (item : ItemNo) → has_item N lane item ≡ false → ¬ Contains (lane_items N lane) item
 not_there N lane item none there = both_ways (has_item N lane item) none (there_is_item (lane_items N lane) item (In-from_contains (lane_items N lane) item there))
 
 no_load : (N : Table) (lane : Lane) (item : ItemNo) (items : List ItemNo) → list_any (λ (i : ItemNo). i.0 == item.0) items ≡ false → load_count item.0 (map (load_of N lane) items) ≡ 0
