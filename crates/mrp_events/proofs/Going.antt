@@ -93,7 +93,7 @@ decided_of N planned lane load e told of item is kind =
     let same : load.item ≡ item.0 = eqb-true load.item item.0 (sym (of item.0) ∙ is) in
     subst (λ (z : ℕ). planned (pair_no N (customer_of lane) z) ≡ true) same (planned_by_kind lane.kind planned (taker N lane load) told kind)
 
-AllOf_at : (item : ℕ) (xs ys : List Entry) (e : Entry) → AllOf item (xs ++ e ∷ ys) → (other : ℕ) → is_of other e ≡ (item == other)
+pub AllOf_at : (item : ℕ) (xs ys : List Entry) (e : Entry) → AllOf item (xs ++ e ∷ ys) → (other : ℕ) → is_of other e ≡ (item == other)
 AllOf_at item [] ys e h = h.0
 AllOf_at item (x ∷ xs) ys e h = AllOf_at item xs ys e h.1
 
@@ -233,13 +233,15 @@ module _ (N : Table) (capacity l : ℕ) (s : State) (keeps : LaneKeeps N capacit
   send : (e : Entry) (rest : List Entry) → IsText all (entries ++ e ∷ rest) → IsDecided N s.planned lane e → SendsOn N capacity s l
   send e rest text decided =
       let r : Record = numbered (1 + length (s.sent l)) e in
-      let is : content r ≡ e = content_numbered (1 + length (s.sent l)) e in
-      (r, record {
-        lane = within;
-        legal = legal_with all (s.sent l) e rest keeps.legal.numbered text;
-        decided = subst (IsDecided N s.planned lane) (sym is) decided;
-        room = room;
-      })
+      let is : content r ≡ e = content_numbered (1 + length (s.sent l)) e in (
+        r,
+        record {
+          lane = within;
+          legal = legal_with all (s.sent l) e rest keeps.legal.numbered text;
+          decided = subst (IsDecided N s.planned lane) (sym is) decided;
+          room = room;
+        },
+      )
 
   told_item : (item : ItemNo) → MayTell N s.planned lane item → told (load_of N lane item) ≡ true
   told_item item h = told_by_kind lane.kind s.planned (pair_on N lane item) h
@@ -320,7 +322,7 @@ module _ (N : Table) (capacity l : ℕ) (s : State) (keeps : LaneKeeps N capacit
     closed = λ every. subst (λ (z : List Entry). is_closed z ≡ true) (sym is) (any_right is_closing (flat_map block order) (Closing ∷ []) refl);
   }
 
-  sends_or_told : SendsOn N capacity s l ⊎ HasTold N s l
+  pub sends_or_told : SendsOn N capacity s l ⊎ HasTold N s l
   sends_or_told =
       let text = keeps.legal.text in
       elim (stands text.order entries keeps.legal.rest text.is) [

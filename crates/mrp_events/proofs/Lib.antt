@@ -10,3 +10,4 @@ pub mod Finishing
 pub mod Bringing
 pub mod Planned
 pub mod Sending
+pub mod Deciding

@@ -7,6 +7,7 @@ ghost use Rattle.mrp_events.specs.Local.{PlannedAreReady, LocalPlansAreThePlan, 
 ghost use Rattle.mrp_events.specs.Local.{SchedulesBringGross};
 ghost use Rattle.mrp_events.specs.Seen.{DespatchesAreSeen, SchedulesAreSeen, SchedulesOpenAfterShipments};
 ghost use Rattle.mrp_events.specs.Seen.{FormsAreSeen, BroughtIsSeen};
+ghost use Rattle.mrp_events.specs.Deciding.{EventsAreDecided, EveryListRuns};
 ghost use Rattle.mrp_events.specs.Progress.{RunsBeginWithSteps, EventsAreSteps, NoneIsLeftAtTheEnd};
 ghost use Rattle.mrp_events.specs.Progress.{NoScheduleSticks, EventsAndStepsLeft, LongestRunsFinish};
 
@@ -110,4 +111,11 @@ pub fn loads_are_seen()
 pub fn incoming_lanes_are_seen()
     ensures forms { FormsAreSeen }
     ensures brought { BroughtIsSeen }
+{}
+
+/// In each state that events lead to an event is enabled or isn't, so each list of events, enabled or
+/// not, leads from the opening state to some state.
+pub fn every_list_runs()
+    ensures decided { EventsAreDecided }
+    ensures runs { EveryListRuns }
 {}
