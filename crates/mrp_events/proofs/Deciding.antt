@@ -1,31 +1,30 @@
 -- Each event is enabled or isn't, so each list of events runs.
-use Rattle.std.proofs.Common.{◌≡◌, ℕ, zero, suc, ◌+◌, ◌<◌, ◌≤◌, ◌==◌, Bool, true, false, cond, List, [], ◌∷◌, ◌++◌, ◌⊎◌, inl, inr, length, refl, sym, ap, subst, ◌∙◌, arith, length-append, All, Contains}
-use Rattle.std.specs.List.{flat_map, list_any}
+use Rattle.std.proofs.Common.{◌≡◌, ℕ, zero, suc, ◌+◌, ◌<◌, ◌≤◌, Bool, true, false, cond, List, [], ◌∷◌, ◌++◌, ◌⊎◌, inl, inr, length, refl, sym, ap, subst, ◌∙◌, arith, length-append, All, Contains}
+use Rattle.std.specs.List.{flat_map}
 use Rattle.std.specs.List.Sorted.{IsPermutation}
-use Rattle.std.proofs.lemmas.Bool.{cases_Bool, cases_eq, both_ways, eq-eqb, false≢true}
-use Rattle.std.proofs.lemmas.List.{append-nil}
+use Rattle.std.proofs.lemmas.Bool.{cases_Bool, cases_eq, both_ways, eq-eqb}
 use Rattle.std.proofs.lemmas.List.Elements.{All-map}
 use Rattle.mrp_rows.specs.declared.numbers.ItemNo.{ItemNo}
-use Rattle.mrp_rows.specs.Table.{Table, IsTable, IsPair}
+use Rattle.mrp_rows.specs.Table.{Table, IsTable}
 use Rattle.mrp_net.specs.declared.edge.Edge.{Edge}
 use Rattle.mrp_net.specs.declared.lane.Lane.{Lane}
 use Rattle.mrp_net.specs.Edges.{edges}
-use Rattle.mrp_net.specs.Lanes.{lanes, lane_at, lane_items, pair_on}
+use Rattle.mrp_net.specs.Lanes.{lanes, lane_at, lane_items}
 use Rattle.mrp_net.specs.Sums.{pair_at}
 use Rattle.mrp_net.proofs.Members.{In, In-append_right, In-flat_map, In-from_contains, All-in}
 use Rattle.mrp_loops.specs.Loop.{HasEdge}
 use Rattle.mrp_loops.proofs.Edges.{HasEdge-from_in}
 use Rattle.mrp_record.specs.declared.record.Record.{Record}
-use Rattle.mrp_record.specs.Entries.{Entry, EndOf, Closing, content, contents, is_closing, is_closed, is_ended, is_of, entries_of}
+use Rattle.mrp_record.specs.Entries.{Entry, EndOf, content, contents, is_closing, is_closed, is_ended, is_of, entries_of}
 use Rattle.mrp_record.specs.Text.{Load, block, body, last_figure, text_of}
 use Rattle.mrp_record.proofs.Beginnings.{contents_parts, ended_items_are_done}
 use Rattle.mrp_record.proofs.Own.{AllOf, AllOf-block, none_closing, list_any-append}
-use Rattle.mrp_record.proofs.Standing.{IsWithin, IsAtClosing, IsAtEnd, stands}
+use Rattle.mrp_record.proofs.Standing.{IsWithin, stands}
 use Rattle.mrp_events.specs.declared.event.Event.{Event}
 use Rattle.mrp_events.specs.declared.event.Event.TheVariants.{Send, Receive, Plan}
 use Rattle.mrp_events.specs.Deciding.{EventsAreDecided, EveryListRuns}
 use Rattle.mrp_events.specs.Loads.{loads, load_of}
-use Rattle.mrp_events.specs.State.{State, opening_state, IsDecided, HasBrought, IsReady, CanSend, CanTake, CanPlan, after_send, after_take, after_plan, Step, IsEnabled, Happens, Run, IsReached}
+use Rattle.mrp_events.specs.State.{State, opening_state, IsDecided, HasBrought, IsReady, CanSend, CanTake, CanPlan, after_send, after_take, after_plan, IsEnabled, Happens, Run}
 use Rattle.mrp_events.proofs.Bringing.{has_item, item_there, not_there}
 use Rattle.mrp_events.proofs.Going.{AllOf_at, HasTold, MayTell, SendsOn, item_of_load, in_order, from_order, sends_or_told}
 use Rattle.mrp_events.proofs.Keeping.{LaneKeeps, Keeps, keeps, keeps_event, opening_keeps}

@@ -3,8 +3,8 @@
 ghost use Rattle.mrp_events.specs.LoadLaws.{LoadsStandOnce, LoadsAreSmall, OpeningsAreSmall, TextsAreNoLonger};
 ghost use Rattle.mrp_events.specs.LoadLaws.{LegalIsInForm, LegalFiguresAreSmall, LegalCumsAreSmall};
 ghost use Rattle.mrp_events.specs.Laws.{LanesKeepOrder, SentIsDecided, NothingIsLost, ClosedLanesAreWhole};
-ghost use Rattle.mrp_events.specs.Local.{PlannedAreReady, LocalPlansAreThePlan, DespatchesBringIncoming};
-ghost use Rattle.mrp_events.specs.Local.{SchedulesBringGross};
+ghost use Rattle.mrp_events.specs.Local.{PlannedAreReady, DespatchesBringIncoming, SchedulesBringGross};
+ghost use Rattle.mrp_events.specs.Local.{LocalPlansAreThePlan, ReachedPlansAreThePlan};
 ghost use Rattle.mrp_events.specs.Seen.{DespatchesAreSeen, SchedulesAreSeen, SchedulesOpenAfterShipments};
 ghost use Rattle.mrp_events.specs.Seen.{FormsAreSeen, BroughtIsSeen};
 ghost use Rattle.mrp_events.specs.Deciding.{EventsAreDecided, EveryListRuns};
@@ -91,10 +91,12 @@ pub fn taken_blocks_bring_the_plan()
     ensures gross { SchedulesBringGross }
 {}
 
-/// Local plans are the plan: where the plan of each ready pair is made from its own rows, its parents'
-/// plans and what has been taken, it is that of the one plan of the whole network.
+/// Local plans are the plan: where a plant makes the plan of each ready pair from its own rows, its
+/// parents' plans and what has been taken, it is that of the one plan of the whole network. So it is
+/// for every planned pair in each state that events lead to.
 pub fn local_plans_are_the_plan()
-    ensures { LocalPlansAreThePlan }
+    ensures plant { LocalPlansAreThePlan }
+    ensures reached { ReachedPlansAreThePlan }
 {}
 
 /// What a plant sees of the lanes that it sends says their loads: despatches by the shipments on their
