@@ -11,3 +11,4 @@ pub mod Bringing
 pub mod Planned
 pub mod Sending
 pub mod Deciding
+pub mod Promising

@@ -6,7 +6,7 @@ ghost use Rattle.mrp_events.specs.Laws.{LanesKeepOrder, SentIsDecided, NothingIs
 ghost use Rattle.mrp_events.specs.Local.{PlannedAreReady, DespatchesBringIncoming, SchedulesBringGross};
 ghost use Rattle.mrp_events.specs.Local.{LocalPlansAreThePlan, ReachedPlansAreThePlan};
 ghost use Rattle.mrp_events.specs.Seen.{DespatchesAreSeen, SchedulesAreSeen, SchedulesOpenAfterShipments};
-ghost use Rattle.mrp_events.specs.Seen.{FormsAreSeen, BroughtIsSeen};
+ghost use Rattle.mrp_events.specs.Seen.{LocalLoadsAreTheLoads, FormsAreSeen, BroughtIsSeen};
 ghost use Rattle.mrp_events.specs.Deciding.{EventsAreDecided, EveryListRuns};
 ghost use Rattle.mrp_events.specs.Progress.{RunsBeginWithSteps, EventsAreSteps, NoneIsLeftAtTheEnd};
 ghost use Rattle.mrp_events.specs.Progress.{NoScheduleSticks, EventsAndStepsLeft, LongestRunsFinish};
@@ -106,6 +106,12 @@ pub fn loads_are_seen()
     ensures despatches { DespatchesAreSeen }
     ensures schedules { SchedulesAreSeen }
     ensures opening { SchedulesOpenAfterShipments }
+{}
+
+/// What a plant sends by its own plans is what its lanes carry: of each planned pair a schedule lane has
+/// the load by the pair's local plan, from the figure that the despatch lane before it has reached.
+pub fn local_loads_are_the_loads()
+    ensures { LocalLoadsAreTheLoads }
 {}
 
 /// What a plant sees of the lanes that it receives says what form their records have, and what they
