@@ -1,6 +1,7 @@
 //! Laws of what lanes carry, and of every run. Each is the contract of a function that does nothing.
 
 ghost use Rattle.mrp_events.specs.LoadLaws.{LoadsStandOnce, LoadsAreSmall, OpeningsAreSmall, TextsAreNoLonger};
+ghost use Rattle.mrp_events.specs.LoadLaws.{BeginningsAreNoLonger, StepsAreFew};
 ghost use Rattle.mrp_events.specs.LoadLaws.{LegalIsInForm, LegalFiguresAreSmall, LegalCumsAreSmall};
 ghost use Rattle.mrp_events.specs.Laws.{LanesKeepOrder, SentIsDecided, NothingIsLost, ClosedLanesAreWhole};
 ghost use Rattle.mrp_events.specs.Local.{PlannedAreReady, DespatchesBringIncoming, SchedulesBringGross};
@@ -32,9 +33,12 @@ pub fn openings_are_small()
     ensures { OpeningsAreSmall }
 {}
 
-/// No text of a lane is longer than what is read off the table without any plan.
+/// No text of a lane, and no legal beginning, is longer than what is read off the table without any plan.
+/// A run has at most 2 * 10^15 events, so its steps can be counted in 64 bits.
 pub fn texts_have_the_lanes_length()
-    ensures { TextsAreNoLonger }
+    ensures texts { TextsAreNoLonger }
+    ensures beginnings { BeginningsAreNoLonger }
+    ensures steps { StepsAreFew }
 {}
 
 /// Whatever events happen, in every state that they lead to the records taken on a lane are those sent,
