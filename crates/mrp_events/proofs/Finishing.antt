@@ -56,7 +56,7 @@ finished_at_rest N table s rest all = record {
   closed = λ l within.
       let r = rest l within in
       subst (λ (z : List Record). is_closed (contents z) ≡ true) r.same
-      (r.closed (λ item there kind. all (pair_on N (lane_at N l) item) (items_have_sources N table (lane_at N l) item there).customer.pair));
+      (r.told.closed (λ item there kind. all (pair_on N (lane_at N l) item) (items_have_sources N table (lane_at N l) item there).customer.pair));
   planned = all;
 }
 
@@ -75,7 +75,7 @@ plans_at_rest N table free capacity s rest x pair open_pair =
         brought = λ l within here there.
             let r = rest l within in
             let told : MayTell N s.planned (lane_at N l) (pair_at N y).item = λ kind. decided (pair_on N (lane_at N l) (pair_at N y).item) (calls_pair N table (lane_at N l) y first.1 kind here there) in
-            subst (λ (z : List Record). is_ended (pair_at N y).item.0 (contents z) ≡ true) r.same (r.ended (pair_at N y).item there told);
+            subst (λ (z : List Record). is_ended (pair_at N y).item.0 (contents z) ≡ true) r.same (r.told.ended (pair_at N y).item there told);
       };
     } in
     (Plan (record { 0 = y }), (after_plan s y, (can, refl)))

@@ -86,7 +86,7 @@ keeps_step N capacity s t (Receive l) keeps step = subst (Keeps N capacity) (sym
 keeps_step N capacity s t (Plan x) keeps step =
     subst (Keeps N capacity) (sym step.1) (λ k. planned_more N capacity k x.0 (s.sent k) (s.taken k) s.planned (keeps k))
 
-keeps_event : (N : Table) (capacity : ℕ) (s t : State) (event : Event) → Keeps N capacity s → Happens N capacity s event t → Keeps N capacity t
+pub keeps_event : (N : Table) (capacity : ℕ) (s t : State) (event : Event) → Keeps N capacity s → Happens N capacity s event t → Keeps N capacity t
 keeps_event N capacity s t event keeps h = elim h [
   | inl step ↦ keeps_step N capacity s t event keeps step
   | inr none ↦ subst (Keeps N capacity) (sym none.1) keeps
@@ -97,7 +97,7 @@ keeps_run N capacity s t [] keeps run = subst (Keeps N capacity) (sym run) keeps
 keeps_run N capacity s t (event ∷ events) keeps run =
     keeps_run N capacity run.0 t events (keeps_event N capacity s run.0 event keeps run.1) run.2
 
-opening_keeps : (N : Table) (capacity : ℕ) → Keeps N capacity opening_state
+pub opening_keeps : (N : Table) (capacity : ℕ) → Keeps N capacity opening_state
 opening_keeps N capacity l = record {
   mailbox = [];
   parts = refl;
