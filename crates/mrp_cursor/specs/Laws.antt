@@ -22,7 +22,7 @@ pub record IsQueued (goods : ℕ → Goods) (o : OutFigures) (item : ℕ) : Type
   pub there : Contains o.queue place
   pub is : (goods place).item ≡ item
 
--- a record may be sent where its item may, and the closing record ever
+-- a record may be sent where its item may, the closing record always
 abbrev pub MaySend : (ℕ → Goods) → OutFigures → Entry → Type 0
 MaySend goods o (LineOf item period quantity cumulative) = IsQueued goods o item
 MaySend goods o (EndOf item lines cumulative) = IsQueued goods o item
