@@ -11,6 +11,7 @@ use Rattle.mrp_record.specs.Text.{IsBeginning}
 use Rattle.mrp_record.proofs.Beginnings.{empty_is_a_beginning}
 use Rattle.mrp_events.specs.declared.event.Event.{Event}
 use Rattle.mrp_events.specs.declared.event.Event.TheVariants.{Send, Receive, Plan}
+use Rattle.mrp_events.specs.Deciding.{RunsGoOn, OpeningIsReached, ReachedGoesOn}
 use Rattle.mrp_events.specs.Loads.{loads}
 use Rattle.mrp_events.specs.State.{State, opening_state, IsDecided, CanSend, CanTake, changed, after_send, after_take, Step, Happens, Run, IsReached}
 
@@ -96,6 +97,17 @@ keeps_run : (N : Table) (capacity : ℕ) (s t : State) (events : List Event) →
 keeps_run N capacity s t [] keeps run = subst (Keeps N capacity) (sym run) keeps
 keeps_run N capacity s t (event ∷ events) keeps run =
     keeps_run N capacity run.0 t events (keeps_event N capacity s run.0 event keeps run.1) run.2
+
+pub runs_go_on : RunsGoOn
+runs_go_on N capacity s t next [] event run h = (next, (subst (λ (z : State). Happens N capacity z event next) run h), refl)
+runs_go_on N capacity s t next (first ∷ events) event run h = (run.0, run.1, runs_go_on N capacity run.0 t next events event run.2 h)
+
+pub opening_is_reached : OpeningIsReached
+opening_is_reached N capacity = ([], refl)
+
+pub reached_goes_on : ReachedGoesOn
+reached_goes_on N capacity s t event reached h =
+    (reached.0 ++ event ∷ [], runs_go_on N capacity opening_state s t reached.0 event reached.1 h)
 
 pub opening_keeps : (N : Table) (capacity : ℕ) → Keeps N capacity opening_state
 opening_keeps N capacity l = record {

@@ -1,5 +1,5 @@
 -- Laws of what lanes carry.
-use Rattle.std.specs.Prelude.{ℕ, ◌*◌, ◌≤◌, List, length, All, Contains}
+use Rattle.std.specs.Prelude.{◌*◌, ◌≤◌, List, length, All, Contains}
 use Rattle.mrp_qty.specs.declared.quantity.TheConstants.{MOST}
 use Rattle.mrp_rows.specs.declared.numbers.ItemNo.{ItemNo}
 use Rattle.mrp_rows.specs.Table.{Table, IsTable, horizon}

@@ -8,7 +8,7 @@ ghost use Rattle.mrp_events.specs.Local.{PlannedAreReady, DespatchesBringIncomin
 ghost use Rattle.mrp_events.specs.Local.{LocalPlansAreThePlan, ReachedPlansAreThePlan};
 ghost use Rattle.mrp_events.specs.Seen.{DespatchesAreSeen, SchedulesAreSeen, SchedulesOpenAfterShipments};
 ghost use Rattle.mrp_events.specs.Seen.{LocalLoadsAreTheLoads, FormsAreSeen, BroughtIsSeen};
-ghost use Rattle.mrp_events.specs.Deciding.{EventsAreDecided, EveryListRuns};
+ghost use Rattle.mrp_events.specs.Deciding.{EventsAreDecided, EveryListRuns, RunsGoOn, OpeningIsReached, ReachedGoesOn};
 ghost use Rattle.mrp_events.specs.Progress.{RunsBeginWithSteps, EventsAreSteps, NoneIsLeftAtTheEnd};
 ghost use Rattle.mrp_events.specs.Progress.{NoScheduleSticks, EventsAndStepsLeft, LongestRunsFinish};
 
@@ -130,4 +130,12 @@ pub fn incoming_lanes_are_seen()
 pub fn every_list_runs()
     ensures decided { EventsAreDecided }
     ensures runs { EveryListRuns }
+{}
+
+/// What happens after a run makes it longer. So events lead to the opening state, and from each state
+/// that they lead to to the one that an event leads to from there.
+pub fn runs_go_on()
+    ensures runs { RunsGoOn }
+    ensures opening { OpeningIsReached }
+    ensures next { ReachedGoesOn }
 {}
