@@ -11,7 +11,7 @@ use Rattle.mrp_net.specs.Laws.{AreBothLanes, released}
 use Rattle.mrp_net.specs.Plan.{rows_at, plan_of}
 use Rattle.mrp_net.specs.Sources.{source_on}
 use Rattle.mrp_net.specs.Sums.{pair_at}
-use Rattle.mrp_net.specs.View.{outgoing_item}
+use Rattle.mrp_view.specs.View.{outgoing_item}
 use Rattle.mrp_net.proofs.Behind.{items_have_sources}
 use Rattle.mrp_net.proofs.Routing.{opening_despatch}
 use Rattle.mrp_net.proofs.Twos.{lanes_come_in_twos}

@@ -6,15 +6,15 @@ use Rattle.mrp_rows.specs.Table.{Table, IsTable, horizon}
 use Rattle.mrp_net.specs.declared.lane.Lane.{Lane}
 use Rattle.mrp_net.specs.declared.lane.LaneKind.{LaneKind}
 use Rattle.mrp_net.specs.declared.lane.LaneKind.TheVariants.{Despatch, Schedule}
-use Rattle.mrp_net.specs.declared.view.IncomingItem.{IncomingItem}
-use Rattle.mrp_net.specs.declared.view.IncomingLane.{IncomingLane}
+use Rattle.mrp_view.specs.declared.view.IncomingItem.{IncomingItem}
+use Rattle.mrp_view.specs.declared.view.IncomingLane.{IncomingLane}
 use Rattle.mrp_net.specs.Lanes.{lanes, lane_at, lane_items, opening, pair_on}
 use Rattle.mrp_net.specs.Laws.{AreBothLanes, released}
-use Rattle.mrp_net.specs.Loads as seen
+use Rattle.mrp_view.specs.Loads as seen
 use Rattle.mrp_net.specs.Plan.{plan_of}
 use Rattle.mrp_net.specs.Sources.{source_on}
 use Rattle.mrp_net.specs.Sums.{pair_at}
-use Rattle.mrp_net.specs.View.{incoming_lane, outgoing_item, plant_rows}
+use Rattle.mrp_view.specs.View.{incoming_lane, outgoing_item, plant_rows}
 use Rattle.mrp_loops.specs.Loop.{IsLoopFree}
 use Rattle.mrp_record.specs.declared.record.Record.{Record}
 use Rattle.mrp_record.specs.Entries.{contents, cum, deliveries, is_ended}
