@@ -437,8 +437,8 @@ fn a_reader_that_fails(rt: HostRuntime) -> Result<(), Fail> {
         assert!(rt; false);
         return Ok(());
     };
-    // 44 bytes, seven a read: the rows end in the third, the fifth and the seventh read. A row is
-    // handed out once the read after its end came, and all rows are where that at the end fails.
+    // 44 bytes, seven a read: the rows end in the third, the fifth and the seventh read, and a row is
+    // handed out once the read after its end came.
     for (fails, row) in [
         (0, 1),
         (1, 1),
@@ -447,7 +447,7 @@ fn a_reader_that_fails(rt: HostRuntime) -> Result<(), Fail> {
         (4, 2),
         (5, 2),
         (6, 3),
-        (7, 4),
+        (7, 3),
     ] {
         let reader = Failing {
             left: DESPATCHES.as_bytes(),
