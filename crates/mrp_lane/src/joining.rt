@@ -5,7 +5,8 @@ ghost use Rattle.mrp_qty.specs.declared.quantity.TheConstants.{MOST};
 ghost use Rattle.mrp_lane.specs.Ends.{AreOfOneLane, HasLegalList};
 ghost use Rattle.mrp_lane.specs.Reconciled.{figure_of, figures_of, figures_on};
 
-use crate::ends::{SendEnd, TakeEnd, pop};
+use crate::send::SendEnd;
+use crate::take::{TakeEnd, pop};
 use crate::tally::ItemPieces;
 use crate::view::{LanePass, Mailbox, Meeting};
 use mrp_book::LaneFigure;
@@ -105,7 +106,7 @@ fn drained<R: Wait>(
     let mut left = Vec::new(alloc);
     for _ in rt.forever() {
         match pop(rt, mailbox, &mut pass) {
-            Some(record) => left.push(record)?,
+            Some(entry) => left.push(entry)?,
             None => break,
         }
     }

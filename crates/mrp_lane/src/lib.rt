@@ -6,16 +6,18 @@
 //! lane's text. Once both ends are in one thread again they can be reconciled.
 #![tactic(auto)]
 
-mod ends;
 mod joining;
 pub mod laws;
 mod making;
+mod send;
+mod take;
 mod tally;
 mod view;
 
-pub use ends::{SendEnd, TakeEnd};
 pub use joining::{Reconciled, reconcile};
 pub use making::{MOST_ROOM, lane};
 pub use mrp_book::LaneFigure;
 pub use mrp_net::{ItemNo, LaneNo};
 pub use mrp_record::Record;
+pub use send::SendEnd;
+pub use take::TakeEnd;

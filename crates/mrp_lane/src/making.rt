@@ -6,7 +6,8 @@ ghost use Rattle.mrp_net.specs.Texts.{longest_text};
 ghost use Rattle.mrp_lane.specs.Views.{sending, taking, unnamed};
 ghost use Rattle.mrp_lane.specs.declared.making.TheConstants.{MOST_ROOM};
 
-use crate::ends::{SendEnd, TakeEnd};
+use crate::send::SendEnd;
+use crate::take::TakeEnd;
 use crate::tally::Tally;
 use crate::view::{LanePass, Mailbox, Naming, Parting};
 use mrp_loops::SizedNet;

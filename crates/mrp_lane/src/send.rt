@@ -1,12 +1,13 @@
-//! The two ends of a lane.
-ghost use Rattle.std.specs.Prelude.{◌≡◌, true, List, [], ◌∷◌, ◌++◌, length, IfErr, IfNone, IfSome, OnOk};
+//! The sender's end of a lane.
+ghost use Rattle.std.specs.Prelude.{◌≡◌, ◌<◌, true, List, [], ◌∷◌, ◌++◌, length, IfErr, OnOk};
 ghost use Rattle.crossbeam_queue.specs.Passes.{view, IsPassOf, IsSamePass, ruled_capacity};
+ghost use Rattle.mrp_net.specs.Lanes.{lanes};
 ghost use Rattle.mrp_record.specs.declared.record.Record.{Record};
 ghost use Rattle.mrp_lane.specs.Ends.{HasLegalList, IsNext};
-ghost use Rattle.mrp_lane.specs.Views.{after_send, EndsWith, IsLegal, Takes};
+ghost use Rattle.mrp_lane.specs.Views.{after_send, EndsWith, IsLegal};
 
 use crate::tally::Tally;
-use crate::view::{LanePass, Mailbox, Sent, Taken};
+use crate::view::{LanePass, Mailbox, Sent};
 use mrp_net::LaneNo;
 use mrp_record::Record;
 use std::alloc::Global;
@@ -38,35 +39,12 @@ impl Model for SendEnd {
         ((known e.pass).sends ≡ true) × Holds (arc_value e.mailbox) e.pass e.lane.0 (known e.pass).sent e.tally };
 }
 
-/// The receiver's end of a lane.
-///
-/// Contracts see the lane's name and the list of all records that were taken.
-#[derive(Drop)]
-pub struct TakeEnd {
-    pub(crate) mailbox: Arc<Mailbox, Global>,
-    pub(crate) pass: LanePass,
-    pub(crate) lane: LaneNo,
-    pub(crate) tally: Tally,
-}
-
-impl Model for TakeEnd {
-    ghost use Rattle.std.specs.Prelude.{◌≡◌, true};
-    ghost use Rattle.std.specs.Arc.{arc_value};
-    ghost use Rattle.crossbeam_queue.specs.Passes.{view as known};
-    ghost use Rattle.mrp_lane.specs.Ends.{End, Holds, end_of};
-
-    ghost Value = { End };
-
-    ghost view = { λ e. end_of (arc_value e.mailbox) e.pass e.lane.0 (known e.pass).taken };
-
-    ghost invariant = { λ e.
-        ((known e.pass).takes ≡ true) × Holds (arc_value e.mailbox) e.pass e.lane.0 (known e.pass).taken e.tally };
-}
-
 impl SendEnd {
     /// The lane's number.
     pub fn lane(&self) -> LaneNo
-        ensures { result.0 ≡ self.now.name.lane }
+        ensures value { result.0 ≡ self.now.name.lane }
+        ensures there { result.0 < length (lanes self.now.name.network) }
+        ensures legal { HasLegalList self.now }
     {
         self.lane
     }
@@ -95,28 +73,6 @@ impl SendEnd {
     }
 }
 
-impl TakeEnd {
-    /// The lane's number.
-    pub fn lane(&self) -> LaneNo
-        ensures { result.0 ≡ self.now.name.lane }
-    {
-        self.lane
-    }
-
-    /// Takes the first record out of the mailbox, or answers `None` where at some moment of the call
-    /// there was none. It allocates nothing.
-    pub fn take<R: Wait>(&mut self, rt: &R) -> Option<Record>
-        ensures name { self.new.name ≡ self.old.name }
-        ensures taken { IfSome result (λ entry. self.new.list ≡ self.old.list ++ entry ∷ []) }
-        ensures legal { IfSome result (λ _. HasLegalList self.new) }
-        ensures none { IfNone result (self.new.list ≡ self.old.list) }
-    {
-        let entry = pop(rt, &self.mailbox, &mut self.pass)?;
-        self.tally.add(&entry);
-        Some(entry)
-    }
-}
-
 /// Pushes the record.
 fn push<R: Wait>(
     rt: &R,
@@ -135,17 +91,4 @@ fn push<R: Wait>(
     ensures full { IfErr result (λ _. (held : List Record) × (length held ≡ ruled_capacity mailbox.now) × EndsWith (view pass.old).sent held) }
 {
     mailbox.push_as::<Sent, R>(rt, pass, entry)
-}
-
-/// Pops the first record.
-pub(crate) fn pop<R: Wait>(rt: &R, mailbox: &Mailbox, pass: &mut LanePass) -> Option<Record>
-    requires pass { IsPassOf mailbox.now pass.old }
-    requires takes { (view pass.old).takes ≡ true }
-    requires named { (view pass.old).named ≡ true }
-    ensures same { IsSamePass pass.old pass.new }
-    ensures taken { IfSome result (λ entry. Takes (view pass.old) entry (view pass.new)) }
-    ensures unchanged { IfNone result (view pass.new ≡ view pass.old) }
-    ensures empty { IfNone result ((view pass.old).sends ≡ true → (view pass.old).sent ≡ (view pass.old).taken) }
-{
-    mailbox.pop_as::<Taken, R>(rt, pass)
 }

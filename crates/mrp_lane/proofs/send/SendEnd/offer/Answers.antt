@@ -3,7 +3,7 @@ use Rattle.crossbeam_queue.specs.Passes.{view}
 use Rattle.mrp_lane.specs.Ends.{End, IsNext}
 use Rattle.mrp_lane.specs.Views.{IsLegal}
 use Rattle.mrp_lane.proofs.Ending.{number_fits, more_fits, sends_on}
-use Rattle.mrp_lane.proofs.ends.SendEnd.offer.Goals as goal
+use Rattle.mrp_lane.proofs.send.SendEnd.offer.Goals as goal
 
 pub push-requires-clause-legal : goal.push-requires-clause-legal
 push-requires-clause-legal g c =

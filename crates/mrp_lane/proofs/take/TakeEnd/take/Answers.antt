@@ -1,6 +1,6 @@
 use Rattle.crossbeam_queue.specs.Passes.{view}
 use Rattle.mrp_lane.proofs.Ending.{number_fits, more_fits, taken_is_legal, taken_stays_legal, takes_on}
-use Rattle.mrp_lane.proofs.ends.TakeEnd.take.Goals as goal
+use Rattle.mrp_lane.proofs.take.TakeEnd.take.Goals as goal
 
 pub add-requires-clause-number : goal.add-requires-clause-number
 add-requires-clause-number g c =
