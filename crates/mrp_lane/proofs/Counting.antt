@@ -18,8 +18,7 @@ use Rattle.mrp_record.proofs.Beginnings.{beginnings_are_no_longer}
 use Rattle.mrp_record.proofs.Figures.{cum_is_opening_and_moved, moved_within}
 use Rattle.mrp_events.specs.Laws.{cum_on}
 use Rattle.mrp_events.specs.Loads.{loads, load_of}
-use Rattle.mrp_events.proofs.Ordering.{load_is_there}
-use Rattle.mrp_events.proofs.Small.{load_is_small, loads_are_small, loads_stand_once}
+use Rattle.mrp_events.proofs.Small.{load_is_small, load_is_there, loads_are_small, loads_stand_once}
 use Rattle.mrp_lane.specs.declared.tally.ItemPieces.{ItemPieces}
 use Rattle.mrp_lane.specs.Reconciled.{figures_of, figure_on, figures_on}
 use Rattle.mrp_lane.specs.Tallies.{is_same_item, pieces_in, with_record, counted, more_of, item_of, counts_of}

@@ -2,7 +2,7 @@ use Rattle.std.proofs.Common.{◌≡◌, ◌<◌, ◌==◌, ℕ, false, [], ◌�
 use Rattle.std.proofs.lemmas.Map.Keys.{IsDistinct-from_apart}
 use Rattle.mrp_book.specs.declared.item.BookItem.{BookItem}
 use Rattle.mrp_book.specs.Figures.{is_same_book_item}
-use Rattle.mrp.proofs.tests.records.book_of_two.Goals as goal
+use Rattle.mrp_cases.proofs.tests.records.book_of_two.Goals as goal
 
 two_apart : (a b : BookItem) → (a.item.0 == b.item.0) ≡ false → (i j : ℕ) (d : BookItem) → i < j → j < length (a ∷ b ∷ [])
     → is_same_book_item (get_or (a ∷ b ∷ []) i d) (get_or (a ∷ b ∷ []) j d) ≡ false
