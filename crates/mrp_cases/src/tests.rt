@@ -9,5 +9,4 @@ mod networks;
 mod planning;
 mod quantities;
 mod reading;
-mod records;
 mod views;
