@@ -1,0 +1,4 @@
+pub mod Bringing
+pub mod Booking
+pub mod Drafting
+pub mod Planned
