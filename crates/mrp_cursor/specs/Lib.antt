@@ -1,0 +1,4 @@
+pub mod Cursor
+pub mod Laws
+pub mod Next
+pub mod Shows

@@ -1,0 +1,49 @@
+//! Laws of cursors. Each is the contract of a function that does nothing.
+
+ghost use Rattle.mrp_cursor.specs.Laws.{GivenContinues, StepsShow, NoneIsLeft, QueuesShow, QueuedArePlaces, LooksAtQueued};
+ghost use Rattle.mrp_cursor.specs.Laws.{ShownBegin, ClosedIsShown, ClosedShowsWhole, ShownAreShort, SmallAreBounded};
+
+/// The record that a cursor gives may be sent: it continues the shown list to a legal beginning.
+pub fn given_continues()
+    ensures { GivenContinues }
+{}
+
+/// After a step a cursor shows the list with the given record.
+pub fn steps_show()
+    ensures { StepsShow }
+{}
+
+/// Where a cursor gives no record, none can be sent.
+pub fn none_is_left()
+    ensures { NoneIsLeft }
+{}
+
+/// A place that may now be sent comes to the end of the queue, and the shown list stays shown. The
+/// queue has places of the lane alone.
+pub fn queues_show()
+    ensures more { QueuesShow }
+    ensures places { QueuedArePlaces }
+{}
+
+/// A cursor looks at the goods of queued places alone.
+pub fn looks_at_queued()
+    ensures { LooksAtQueued }
+{}
+
+/// A shown list is a legal beginning.
+pub fn shown_begin()
+    ensures { ShownBegin }
+{}
+
+/// A shown list is no longer than the blocks that may be sent, and so a cursor's numbers and figures
+/// stay within 64 bits where the goods do.
+pub fn shown_are_short()
+    ensures short { ShownAreShort }
+    ensures bounded { SmallAreBounded }
+{}
+
+/// A cursor is closed exactly where the shown list is, and that is then the whole text.
+pub fn closed_is_whole()
+    ensures closed { ClosedIsShown }
+    ensures whole { ClosedShowsWhole }
+{}
