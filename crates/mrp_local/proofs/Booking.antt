@@ -1,12 +1,11 @@
 -- What has come over the lanes to a plant is what comes in and what is called for in the network.
-use Rattle.std.proofs.Common.{◌≡◌, ℕ, suc, zero, ◌+◌, ◌*◌, ◌<◌, ◌==◌, ◌&&◌, not, Bool, true, false, cond, inl, inr, List, [], ◌∷◌, length, get_or, map, refl, sym, ap, ◌∙◌, subst, arith, All, Contains}
+use Rattle.std.proofs.Common.{◌≡◌, ℕ, ◌+◌, ◌<◌, ◌==◌, ◌&&◌, Bool, true, false, cond, inl, inr, List, [], ◌∷◌, length, get_or, map, refl, sym, ap, ◌∙◌, subst, arith, All, Contains}
 use Rattle.std.specs.List.{filter, range_with_len, sum_by}
-use Rattle.std.proofs.lemmas.Bool.{cases_Bool, cases_eq, cond-true, cond-false, eqb-true, eq-eqb, ne_eqb}
+use Rattle.std.proofs.lemmas.Bool.{cases_eq, cond-true, cond-false, eqb-true, eq-eqb, ne_eqb}
 use Rattle.std.proofs.lemmas.List.{ext_get_or, map-id}
 use Rattle.std.proofs.lemmas.List.Elements.{All-filter, All-map, filter_passes}
-use Rattle.std.proofs.lemmas.List.FromFn.{get_or-map-range_with_len, length-map-range_with_len, length-range_with_len, get_or-range_with_len}
+use Rattle.std.proofs.lemmas.List.FromFn.{get_or-map-range_with_len, length-map-range_with_len}
 use Rattle.std.proofs.lemmas.List.Sums.{sum_by-cons}
-use Rattle.mrp_lot.specs.One.{PlanRows}
 use Rattle.mrp_lot.specs.RangeLaws.{placed_once}
 use Rattle.mrp_rows.specs.declared.numbers.ItemNo.{ItemNo}
 use Rattle.mrp_rows.specs.declared.rows.SourceRow.{SourceRow}
@@ -21,7 +20,7 @@ use Rattle.mrp_net.specs.Sums.{pair_at, no_pair, received, incoming}
 use Rattle.mrp_group.proofs.Kept.{sum_filter}
 use Rattle.mrp_net.proofs.Arriving.{incoming_comes_over_lanes}
 use Rattle.mrp_net.proofs.Covering.{sum_by-same, sum-flat_map}
-use Rattle.mrp_net.proofs.Members.{In, In-from_contains, In-filter, In-map, In-range, range_only, All-in}
+use Rattle.mrp_net.proofs.Members.{In, In-filter, In-map, In-range, All-in}
 use Rattle.mrp_net.proofs.Routing.{map-map, no_lanes, some_lanes}
 use Rattle.mrp_net.proofs.Sharing.{sum_map}
 use Rattle.mrp_view.specs.declared.view.IncomingItem.{IncomingItem}
@@ -31,7 +30,7 @@ use Rattle.mrp_view.proofs.Seeing.{below}
 use Rattle.mrp_record.specs.declared.record.Record.{Record}
 use Rattle.mrp_record.specs.Entries.{contents}
 use Rattle.mrp_events.specs.State as state
-use Rattle.mrp_local.specs.Local.{pieces_in, is_of_kind, booked_on, Carries, HasBrought, AreLegal}
+use Rattle.mrp_local.specs.Local.{pieces_in, is_of_kind, booked_on, HasBrought, AreLegal}
 use Rattle.mrp_local.proofs.Bringing.{despatches_bring, schedules_bring}
 
 -- ---- the lanes that a plant sees

@@ -1,16 +1,13 @@
 -- Local plans are the plan of the network, and a plant sees which of its pairs can be planned.
-use Rattle.std.proofs.Common.{◌≡◌, ℕ, suc, zero, ◌<◌, ◌==◌, Bool, true, List, get_or, refl, sym, ap, ◌∙◌, subst, arith, All, slice_index}
-use Rattle.mrp_lot.specs.One.{PlanRows, one, IsWithin}
+use Rattle.std.proofs.Common.{◌≡◌, ℕ, suc, zero, ◌<◌, Bool, true, List, get_or, sym, ap, ◌∙◌, subst, arith, slice_index}
+use Rattle.mrp_lot.specs.One.{PlanRows, IsWithin}
 use Rattle.mrp_lot.specs.OneLaws.{one-gross, one-incoming}
-use Rattle.mrp_rows.specs.Table.{Table, IsTable, IsPair}
-use Rattle.mrp_net.specs.Plan.{plan_of, pair_plan}
+use Rattle.mrp_rows.specs.Table.{Table, IsTable}
 use Rattle.mrp_net.specs.Sums.{pair_at, params_at}
 use Rattle.mrp_net.proofs.Members.{All-in}
 use Rattle.mrp_view.specs.declared.view.PlantEdge.{PlantEdge}
-use Rattle.mrp_view.specs.declared.view.PlantPair.{PlantPair}
 use Rattle.mrp_view.specs.View.{plant_pair, plant_pairs, plant_edges, plant_rows}
 use Rattle.mrp_loops.specs.Loop.{HasEdge, IsLoopFree, AreCodes}
-use Rattle.mrp_loops.specs.Sized.{IsSized}
 use Rattle.mrp_loops.specs.Within.{plan_at}
 use Rattle.mrp_loops.proofs.Codes.{edge_raises}
 use Rattle.mrp_loops.proofs.Coded.{codes_exist}
@@ -18,8 +15,7 @@ use Rattle.mrp_loops.proofs.Edges.{HasEdge-pairs}
 use Rattle.mrp_loops.proofs.OnePlan.{one_plan}
 use Rattle.mrp_loops.proofs.Within.{plan_is_within}
 use Rattle.mrp_record.specs.declared.record.Record.{Record}
-use Rattle.mrp_events.specs.State.{State, CanPlan}
-use Rattle.mrp_local.specs.Local.{local_incoming, local_gross, local_row, local_plan, AwaitsNothing, CanBePlanned, IsPlannedLocally, IsLocal, AreLegal}
+use Rattle.mrp_local.specs.Local.{local_incoming, local_gross, local_row, AwaitsNothing, IsPlannedLocally, IsLocal, AreLegal}
 use Rattle.mrp_local.specs.Laws.{IsPairAt, IsThePlan, LocalPlansAreThePlan, DraftsAreThePlan, DraftsAreWithin, PlannableIsLocal}
 use Rattle.mrp_local.proofs.Booking.{brought_over_lanes, brought_on_view}
 use Rattle.mrp_local.proofs.Drafting.{sees_pair, sees_edge, seen_edges, HasParents, draft_incoming, draft_gross, draft_plan}
@@ -47,7 +43,7 @@ module _ (N : Table) (is : IsTable N) (free : IsLoopFree N) (plant : ℕ) (taken
         plan = sym (draft_plan N is plant taken legal plans x at ready.brought parents) ∙ sym ((one_plan N is free).fits.rows x at.pair);
       }
 
-  own : (x : ℕ) → IsPairAt N plant x → planned x ≡ true → IsPlannedLocally (plant_rows N plant) taken planned plans (plant_pair N x)
+  pub own : (x : ℕ) → IsPairAt N plant x → planned x ≡ true → IsPlannedLocally (plant_rows N plant) taken planned plans (plant_pair N x)
   own x at done =
       All-in (λ p. planned p.number.0 ≡ true → IsPlannedLocally (plant_rows N plant) taken planned plans p) (plant_pairs N plant) (plant_pair N x) local (sees_pair N plant x at) done
 
