@@ -1,18 +1,18 @@
 -- Places that come to the queue, and the goods that a cursor looks at.
 use Rattle.std.proofs.Common.{◌≡◌, ℕ, ◌<◌, true, List, [], ◌∷◌, ◌++◌, inl, inr, refl, sym, ◌∙◌, ap, subst, length, take, drop, length-append, arith}
-use Rattle.std.specs.Prelude.{nat_lt, remove}
+use Rattle.std.specs.Prelude.{nat_lt, slice_index, ◌&&◌, remove}
 use Rattle.std.specs.List.{Contains, range_with_len}
 use Rattle.std.specs.List.Sorted.{IsPermutation}
-use Rattle.std.proofs.lemmas.Bool.{false≢true, lt-ltb, cond-true, cases_lt}
+use Rattle.std.proofs.lemmas.Bool.{false≢true, and_from, lt-ltb, cond-true, cases_lt}
 use Rattle.std.proofs.lemmas.List.{append-nil, take-append-le, take-append-drop}
 use Rattle.std.proofs.Math.Seq.{take-length}
-use Rattle.std.proofs.lemmas.List.FromFn.{length-range_with_len}
+use Rattle.std.proofs.lemmas.List.FromFn.{length-range_with_len, get_or-range_with_len}
 use Rattle.std.proofs.lemmas.List.Elements.{Contains-append_left, Contains-append_cases}
 use Rattle.std.proofs.lemmas.List.Sorted.{Contains-permutation, IsPermutation-more, IsPermutation-refl}
 use Rattle.mrp_record.specs.declared.record.Record.{Record}
 use Rattle.mrp_record.specs.Entries.{Entry}
 use Rattle.mrp_record.specs.Text.{block}
-use Rattle.mrp_cursor.specs.Cursor.{OutFigures, Goods, load_of, blocks, unsent}
+use Rattle.mrp_cursor.specs.Cursor.{OutFigures, IsQueue, Goods, load_of, blocks, unsent}
 use Rattle.mrp_cursor.specs.Laws.{QueuesShow, LooksAtQueued}
 use Rattle.mrp_cursor.specs.Next.{queued}
 use Rattle.mrp_cursor.specs.Shows.{ShowsSent, IsPart}
@@ -62,7 +62,8 @@ queues_show goods o sent place h inside absent =
     let later = is_later o.size o.queue h.later place h.places inside absent in
     let room : length o.queue < o.size = omega (arith, sizes_are o.size o.queue h.later h.places, later.1) in
     let longer : OutFigures = record o { queue = o.queue ++ place ∷ [] } in
-    let is : queued o place ≡ longer = cond-true {A = OutFigures} (nat_lt (length o.queue) o.size) longer o (lt-ltb (length o.queue) o.size room) in
+    let is : queued o place ≡ longer = cond-true {A = OutFigures} (nat_lt place o.size && nat_lt (length o.queue) o.size) longer o
+    (and_from (nat_lt place o.size) (nat_lt (length o.queue) o.size) (lt-ltb place o.size inside) (lt-ltb (length o.queue) o.size room)) in
     (ap (λ (z : OutFigures). z.queue) is, subst (λ (z : OutFigures). ShowsSent goods z sent) (sym is) (push_shows goods o sent place h later room))
 
 -- ---- goods of queued places
@@ -133,3 +134,13 @@ all_queued size slots queued o is count e =
     ∙ ap (λ (n : ℕ). unsent n (take queued slots)) length_is
     ∙ ap (λ (n : ℕ). unsent size (take n slots)) count
     ∙ ap (unsent size) (take-length slots ∙ is)
+
+pub all_fit : (size : ℕ) (slots : List ℕ) (queued : ℕ) → slots ≡ range_with_len 0 size → queued ≡ length slots → IsQueue 0 queued slots
+all_fit size slots queued is count =
+    let length_is : length slots ≡ size = ap length is ∙ length-range_with_len 0 size in
+    record {
+      within = omega arith;
+      room = omega arith;
+      places = λ i h.
+          omega (arith, ap (λ (z : List ℕ). slice_index z i) is, get_or-range_with_len 0 size i 0 (omega (arith, length_is, count, h)), length_is, count, h);
+    }

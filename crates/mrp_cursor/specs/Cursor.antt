@@ -1,5 +1,5 @@
 -- What a sender keeps of an outgoing lane, and what it has to send there.
-use Rattle.std.specs.Prelude.{ℕ, Bool, false, List, Option}
+use Rattle.std.specs.Prelude.{ℕ, ◌≤◌, ◌<◌, Bool, false, List, length, slice_index, Option}
 use Rattle.std.specs.List.{flat_map}
 use Rattle.mrp_record.specs.Entries.{Entry, Delivery}
 use Rattle.mrp_record.specs.Text.{Load, block}
@@ -18,6 +18,12 @@ pub record OutFigures : Type 0 where
   pub lines : ℕ
   pub moved : ℕ
   pub anew : Bool
+
+-- the queue stands at the front of the room for all places, and has places of the lane alone
+pub record IsQueue (head queued : ℕ) (slots : List ℕ) : Type 0 where
+  pub within : head ≤ queued
+  pub room : queued ≤ length slots
+  pub places : (i : ℕ) → i < queued → slice_index slots i < length slots
 
 -- the figures before the first record
 abbrev pub unsent : ℕ → List ℕ → OutFigures

@@ -28,8 +28,8 @@ pub struct OutCursor {
 }
 
 impl Model for OutCursor {
-    ghost use Rattle.std.specs.Prelude.{◌≤◌, take, length};
-    ghost use Rattle.mrp_cursor.specs.Cursor.{OutFigures};
+    ghost use Rattle.std.specs.Prelude.{take, length};
+    ghost use Rattle.mrp_cursor.specs.Cursor.{OutFigures, IsQueue};
 
     ghost Value = { OutFigures };
 
@@ -45,12 +45,12 @@ impl Model for OutCursor {
       anew = o.anew;
     } };
 
-    ghost invariant = { λ o. (o.head ≤ o.queued) × (o.queued ≤ length o.slots.items) };
+    ghost invariant = { λ o. IsQueue o.head o.queued o.slots.items };
 }
 
 impl OutCursor {
-    ghost use Rattle.std.specs.Prelude.{◌≤◌, [], slice_get, None, take, length};
-    ghost use Rattle.mrp_cursor.specs.Cursor.{Goods, unsent};
+    ghost use Rattle.std.specs.Prelude.{◌<◌, [], slice_get, IfSome, None, take, length};
+    ghost use Rattle.mrp_cursor.specs.Cursor.{Goods, IsQueue, unsent};
     ghost use Rattle.mrp_cursor.specs.declared.remainder.Due.TheVariants.{Moving, Restarting, Ending};
     ghost use Rattle.mrp_cursor.specs.Next.{due, figure_said, record_due, next_record, stepped, stepped_by, queued};
     ghost use Rattle.mrp_cursor.specs.Shows.{ShowsSent};
@@ -86,11 +86,12 @@ impl OutCursor {
     }
 
     /// The item at a place of the lane may now be sent: its block comes after those of the places queued
-    /// before. Nothing changes where as many places are queued as the lane has.
+    /// before. Nothing changes where the lane has no such place, or as many are queued as it has.
     pub fn push(&mut self, place: usize)
         ensures { self.new ≡ queued self.old place }
     {
-        if self.queued < self.slots.len() {
+        let size = self.slots.len();
+        if place < size && self.queued < size {
             self.slots[self.queued] = place;
             self.queued += 1;
         }
@@ -99,7 +100,8 @@ impl OutCursor {
     /// The place of the item whose block is to be sent, begun or not; `None` where all queued ones are
     /// sent.
     pub fn head(&self) -> Option<usize>
-        ensures { result ≡ slice_get self.now.queue self.now.head }
+        ensures value { result ≡ slice_get self.now.queue self.now.head }
+        ensures place { IfSome result (λ place. place < self.now.size) }
     {
         if self.head < self.queued {
             Some(self.slots[self.head])
@@ -145,7 +147,7 @@ impl OutCursor {
 
     /// The cursor before the first record, with the first places queued.
     fn unsent(slots: Vec<usize>, queued: usize) -> OutCursor
-        requires { queued ≤ length slots.items }
+        requires { IsQueue 0 queued slots.items }
         ensures { result ≡ unsent (length slots.items) (take queued slots.items) }
     {
         OutCursor {

@@ -2,3 +2,6 @@ pub mod Loads
 pub mod LoadLaws
 pub mod State
 pub mod Laws
+pub mod Progress
+pub mod Local
+pub mod Seen

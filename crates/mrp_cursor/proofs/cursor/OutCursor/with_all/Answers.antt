@@ -1,8 +1,12 @@
 use Rattle.std.proofs.Common.{◌≡◌, ap, length, arith}
 use Rattle.std.specs.List.{range_with_len}
 use Rattle.mrp_cursor.specs.Cursor.{OutFigures, unsent}
-use Rattle.mrp_cursor.proofs.Queues.{all_queued, all_show}
+use Rattle.mrp_cursor.proofs.Queues.{all_fit, all_queued, all_show}
 use Rattle.mrp_cursor.proofs.cursor.OutCursor.with_all.Goals as goal
+
+pub unsent-requires : goal.unsent-requires
+unsent-requires c =
+    all_fit c.args.size c.in_ok-slots.slots.items c.len-queued.result c.in_ok-slots.ensures (omega (arith, c.len-queued.ensures))
 
 before_all : (c : goal.After-unsent) → c.unsent.result ≡ unsent c.args.size (range_with_len 0 c.args.size)
 before_all c =

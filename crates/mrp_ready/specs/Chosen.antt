@@ -1,0 +1,30 @@
+-- Some of the pairs of a plant, and how slots keep them.
+use Rattle.std.specs.Prelude.{◌≡◌, ◌≢◌, ◌≤◌, ◌<◌, ℕ, List, length, map, take, slice_index, slice_index_or, AllPairs}
+use Rattle.mrp_rows.specs.declared.numbers.PairNo.{PairNo}
+
+-- the pair's number at each place of the plant, and the places that are chosen
+pub record Chosen : Type 0 where
+  pub numbers : List PairNo
+  pub places : List ℕ
+
+-- the pair's number at a place
+abbrev pub number_at : List PairNo → ℕ → PairNo
+number_at numbers x = slice_index_or numbers x (record { 0 = 0 })
+
+-- no place stands in the list twice
+abbrev pub AreApart : List ℕ → Type 0
+AreApart places = AllPairs (λ x y. x ≢ y) places
+
+-- the places in the first slots are chosen; `slots` says where each place stands, and `numbers` goes by slots
+abbrev pub chosen : List PairNo → List ℕ → List ℕ → ℕ → Chosen
+chosen numbers places slots count = record { numbers = map (number_at numbers) slots; places = take count places }
+
+-- each place stands in one slot, and each slot has one place
+pub record ArePlaced (numbers : List PairNo) (places slots : List ℕ) (count : ℕ) : Type 0 where
+  pub numbered : length numbers ≡ length slots
+  pub filled : length places ≡ length slots
+  pub few : count ≤ length slots
+  pub slot_within : (x : ℕ) → x < length slots → slice_index slots x < length slots
+  pub place_within : (i : ℕ) → i < length slots → slice_index places i < length slots
+  pub place_in : (x : ℕ) → x < length slots → slice_index places (slice_index slots x) ≡ x
+  pub slot_of : (i : ℕ) → i < length slots → slice_index slots (slice_index places i) ≡ i

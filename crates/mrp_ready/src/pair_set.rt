@@ -1,0 +1,76 @@
+ghost use Rattle.std.specs.Prelude.{◌≡◌, ◌<◌, IfOk, IsTrue, ◌↔◌};
+
+use crate::PairNo;
+use crate::slots::Slots;
+use std::alloc::{AllocError, Global};
+use std::marker::Model;
+
+/// Some of the pairs of a plant, by their places there. Each change is done in constant time and takes
+/// no memory: the chosen pairs stand in the first slots.
+#[derive(Drop)]
+pub(crate) struct PairSet {
+    slots: Slots,
+    count: usize,
+}
+
+impl Model for PairSet {
+    ghost use Rattle.mrp_ready.specs.Chosen.{Chosen, chosen, ArePlaced};
+
+    ghost Value = { Chosen };
+
+    ghost view = { λ s. chosen s.slots.numbers.items s.slots.places.items s.slots.slots.items s.count };
+
+    ghost invariant = { λ s. ArePlaced s.slots.numbers.items s.slots.places.items s.slots.slots.items s.count };
+}
+
+impl PairSet {
+    ghost use Rattle.std.specs.Prelude.{ℕ, ◌≢◌, [], ◌∷◌, ◌++◌, Contains, length, map};
+    ghost use Rattle.mrp_ready.specs.Chosen.{AreApart, number_at};
+
+    /// No pair chosen among those with these numbers.
+    pub(crate) fn new(alloc: Global, numbers: &[PairNo]) -> Result<PairSet, AllocError>
+        ensures numbers { IfOk result (λ s. s.numbers ≡ numbers.now) }
+        ensures empty { IfOk result (λ s. s.places ≡ []) }
+    {
+        let slots = Slots::new(alloc, numbers)?;
+        Ok(PairSet { slots, count: 0 })
+    }
+
+    /// Chooses the pair at a place.
+    pub(crate) fn insert(&mut self, x: usize)
+        requires known { x < length self.old.numbers }
+        requires absent { Contains self.old.places x → ⊥ }
+        ensures numbers { self.new.numbers ≡ self.old.numbers }
+        ensures added { self.new.places ≡ self.old.places ++ x ∷ [] }
+    {
+        let slot = self.slots.slots[x];
+        self.slots.exchange(slot, self.count);
+        self.count += 1;
+    }
+
+    /// Takes out the pair at a place.
+    pub(crate) fn remove(&mut self, x: usize)
+        requires { Contains self.old.places x }
+        ensures numbers { self.new.numbers ≡ self.old.numbers }
+        ensures others { (y : ℕ) → Contains self.new.places y ↔ (Contains self.old.places y × (y ≢ x)) }
+    {
+        let slot = self.slots.slots[x];
+        self.count -= 1;
+        self.slots.exchange(slot, self.count);
+    }
+
+    /// Whether the pair at a place is chosen; false where there is no such place.
+    pub(crate) fn contains(&self, x: usize) -> bool
+        ensures { IsTrue result ↔ Contains self.now.places x }
+    {
+        x < self.slots.slots.len() && self.slots.slots[x] < self.count
+    }
+
+    /// The numbers of the chosen pairs.
+    pub(crate) fn pairs(&self) -> &[PairNo]
+        ensures pairs { result.now ≡ map (number_at self.now.numbers) self.now.places }
+        ensures once { AreApart self.now.places }
+    {
+        &self.slots.numbers[..self.count]
+    }
+}
