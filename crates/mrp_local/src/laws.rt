@@ -1,7 +1,7 @@
 //! Laws of local plans and of what is sent by them. Each is the contract of a function that does nothing.
 
 ghost use Rattle.mrp_local.specs.Laws.{LocalPlansAreThePlan, DraftsAreThePlan, DraftsAreWithin, PlannableIsLocal};
-ghost use Rattle.mrp_local.specs.Laws.{LocalGoodsAreTheLoads, LocalGoodsAgree, LocalGoodsAreSmall, LocalGoodsAreBounded};
+ghost use Rattle.mrp_local.specs.Laws.{LocalGoodsAreTheLoads, LocalGoodsAgree, LocalGoodsAreSmall};
 
 /// Whatever has come to a plant so far, the pairs that it has planned have the plan of the network, and
 /// so will each pair for which nothing is missing.
@@ -30,8 +30,7 @@ pub fn local_goods_are_the_loads()
     ensures agree { LocalGoodsAgree }
 {}
 
-/// In a sized network they are small enough for a cursor's 64 bits.
+/// In a sized network they are small, and a cursor over them stays within its 64 bits.
 pub fn local_goods_are_small()
-    ensures small { LocalGoodsAreSmall }
-    ensures bounded { LocalGoodsAreBounded }
+    ensures { LocalGoodsAreSmall }
 {}
