@@ -1,5 +1,5 @@
 -- What a plant has of a pair by its view is what the network has of it, and so is its plan.
-use Rattle.std.proofs.Common.{◌≡◌, ℕ, ◌+◌, ◌*◌, ◌<◌, ◌==◌, Bool, true, cond, List, get_or, refl, sym, ap, ◌∙◌, subst, arith, All, slice_index}
+use Rattle.std.proofs.Common.{◌≡◌, ℕ, ◌*◌, ◌<◌, ◌==◌, Bool, cond, List, get_or, refl, sym, ap, ◌∙◌, subst, arith, All, slice_index}
 use Rattle.std.specs.List.{sum_by}
 use Rattle.std.proofs.lemmas.Bool.{eqb-true}
 use Rattle.mrp_lot.specs.One.{PlanRows, one}
@@ -29,7 +29,7 @@ use Rattle.mrp_events.specs.Seen.{brought_in}
 use Rattle.mrp_events.specs.State.{IsReady}
 use Rattle.mrp_events.proofs.Bringing.{despatches_bring_incoming, schedules_bring_gross, same_where}
 use Rattle.mrp_events.proofs.Sending.{brought_is_seen}
-use Rattle.mrp_local.specs.Local.{pieces_in, is_of_kind, asked_within, booked_on, local_incoming, local_gross, local_plan, local_row}
+use Rattle.mrp_local.specs.Local.{pieces_in, is_of_kind, asked_within, booked_on, local_incoming, local_gross, local_plan}
 use Rattle.mrp_local.specs.Laws.{IsPairAt}
 use Rattle.mrp_local.proofs.Seeing.{amount_is}
 

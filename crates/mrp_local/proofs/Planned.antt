@@ -13,7 +13,6 @@ use Rattle.mrp_loops.specs.Within.{plan_at}
 use Rattle.mrp_loops.proofs.Codes.{edge_raises}
 use Rattle.mrp_loops.proofs.Coded.{codes_exist}
 use Rattle.mrp_loops.proofs.Edges.{HasEdge-pairs}
-use Rattle.mrp_loops.proofs.OnePlan.{one_plan}
 use Rattle.mrp_loops.proofs.Within.{plan_is_within}
 use Rattle.mrp_record.specs.declared.record.Record.{Record}
 use Rattle.mrp_events.specs.Local.{AreLegal}

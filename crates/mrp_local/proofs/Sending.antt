@@ -1,5 +1,5 @@
 -- What a plant has to send over its lanes is what they carry in the network.
-use Rattle.std.proofs.Common.{◌≡◌, ℕ, ◌+◌, ◌-◌, ◌*◌, ◌/◌, ◌^◌, ◌<◌, ◌≤◌, ◌==◌, ◌&&◌, Bool, true, Some, ◌⊎◌, inl, inr, List, [], ◌∷◌, length, get_or, map, refl, sym, ap, ◌∙◌, subst, arith, All, Contains, slice_index}
+use Rattle.std.proofs.Common.{◌≡◌, ℕ, ◌+◌, ◌-◌, ◌^◌, ◌<◌, ◌≤◌, Bool, true, Some, List, [], ◌∷◌, length, get_or, refl, sym, ap, ◌∙◌, subst, arith, All, Contains, slice_index}
 use Rattle.std.specs.List.{filter}
 use Rattle.std.proofs.lemmas.Bool.{eqb-true}
 use Rattle.std.proofs.lemmas.List.{get_or-map, length-map}
@@ -8,43 +8,33 @@ use Rattle.std.proofs.lemmas.List.Sums.{sum_by-cons}
 use Rattle.std.proofs.lemmas.Option.{slice_get-get_or}
 use Rattle.mrp_lot.specs.One.{PlanRows}
 use Rattle.mrp_rows.specs.declared.numbers.ItemNo.{ItemNo}
-use Rattle.mrp_rows.specs.declared.numbers.PlantNo.{PlantNo}
-use Rattle.mrp_rows.specs.declared.rows.ShipRow.{ShipRow}
-use Rattle.mrp_rows.specs.Table.{Table, IsTable, horizon, pair_no}
+use Rattle.mrp_rows.specs.Table.{Table, IsTable, horizon}
 use Rattle.mrp_net.specs.declared.lane.Lane.{Lane}
 use Rattle.mrp_net.specs.declared.lane.LaneKind.{LaneKind}
 use Rattle.mrp_net.specs.declared.lane.LaneKind.TheVariants.{Despatch, Schedule}
-use Rattle.mrp_net.specs.declared.lane.Shipment.{Shipment}
 use Rattle.mrp_net.specs.Lanes.{lanes, lane_at, lane_items, shipments, customer_of}
 use Rattle.mrp_net.specs.Plan.{plan_of}
 use Rattle.mrp_net.specs.Sources.{source_on}
-use Rattle.mrp_net.specs.Sums.{pair_at}
 use Rattle.mrp_net.specs.Texts.{most_lines}
-use Rattle.mrp_group.proofs.Kept.{sum_filter}
 use Rattle.mrp_net.proofs.Behind.{items_have_sources}
 use Rattle.mrp_net.proofs.Lengths.{block_is_short, lane_items_are_few}
-use Rattle.mrp_net.proofs.Routing.{opening_despatch}
-use Rattle.mrp_net.proofs.Sharing.{sum_map}
-use Rattle.mrp_net.proofs.Twos.{lanes_come_in_twos}
 use Rattle.mrp_view.specs.declared.view.OutgoingLane.{OutgoingLane}
 use Rattle.mrp_view.specs.Loads as view
-use Rattle.mrp_view.specs.View.{goes_from, lane_numbers, sent_on, outgoing_item, outgoing_lane, outgoing_lanes, plant_rows}
+use Rattle.mrp_view.specs.View.{goes_from, lane_numbers, outgoing_item, outgoing_lane, outgoing_lanes, plant_rows}
 use Rattle.mrp_view.proofs.Seeing.{below}
 use Rattle.mrp_loops.specs.Loop.{IsLoopFree}
 use Rattle.mrp_loops.specs.Sized.{IsSized}
 use Rattle.mrp_loops.specs.Within.{plan_at}
 use Rattle.mrp_record.specs.declared.record.Record.{Record}
-use Rattle.mrp_record.specs.Entries.{Delivery, contents, cum, is_ended, moved}
-use Rattle.mrp_record.specs.Text.{Load, IsBeginning, total, block_length}
-use Rattle.mrp_record.proofs.Beginnings.{ended_blocks_bring_totals}
-use Rattle.mrp_record.proofs.Figures.{cum_is_opening_and_moved}
-use Rattle.mrp_events.specs.Loads.{delivery_of, by_period, called_in, lines_by, load_of, loads}
+use Rattle.mrp_record.specs.Entries.{Delivery}
+use Rattle.mrp_record.specs.Text.{Load, total, block_length}
+use Rattle.mrp_events.specs.Loads.{delivery_of, called_in, lines_by, load_of, loads}
 use Rattle.mrp_events.specs.Local as network
 use Rattle.mrp_events.specs.Seen.{schedule_load}
 use Rattle.mrp_events.proofs.Delivered.{by_period_length}
 use Rattle.mrp_events.proofs.Promising.{local_loads_are_the_loads}
 use Rattle.mrp_events.proofs.Sending.{despatches_are_seen, customer_by_schedule}
-use Rattle.mrp_events.proofs.Small.{loads_stand_once, load_is_small}
+use Rattle.mrp_events.proofs.Small.{load_is_small}
 use Rattle.mrp_cursor.specs.Cursor as cursor
 use Rattle.mrp_cursor.specs.Cursor.{OutFigures, Goods}
 use Rattle.mrp_cursor.specs.Laws.{IsSmall, IsBounded}

@@ -18,7 +18,8 @@ use Rattle.mrp_cursor.specs.Cursor.{OutFigures, Goods, load_of}
 use Rattle.mrp_cursor.specs.Laws.{Agrees, IsSmall, IsBounded}
 use Rattle.mrp_cursor.specs.Shows.{ShowsSent}
 use Rattle.mrp_local.specs.Goods.{IsSendable, goods_of}
-use Rattle.mrp_local.specs.Local.{local_incoming, local_gross, local_row, local_plan, AwaitsNothing, CanBePlanned, IsLocal}
+use Rattle.mrp_local.specs.Local.{local_incoming, local_gross, local_row, local_plan}
+use Rattle.mrp_local.specs.Local.{AwaitsNothing, CanBePlanned, IsLocal}
 
 -- a pair of the plant
 pub record IsPairAt (N : Table) (plant x : ℕ) : Type 0 where
@@ -26,7 +27,8 @@ pub record IsPairAt (N : Table) (plant x : ℕ) : Type 0 where
   pub at_plant : (pair_at N x).plant.0 ≡ plant
 
 -- what has come to a plant is on each lane a legal beginning of the lane's text, and its plans are made of that
-pub record PlansLocally (N : Table) (plant : ℕ) (taken : ℕ → List Record) (planned : ℕ → Bool) (plans : ℕ → PlanRows) : Type 0 where
+pub record PlansLocally (N : Table) (plant : ℕ) (taken : ℕ → List Record) (planned : ℕ → Bool) (plans : ℕ → PlanRows)
+    : Type 0 where
   pub legal : AreLegal N plant taken
   pub local : IsLocal (plant_rows N plant) taken planned plans
 
@@ -46,7 +48,8 @@ LocalPlansAreThePlan =
 
 -- and a pair for which nothing is missing gets it: what comes in and what is asked for are the network's,
 -- and so is the plan
-pub record GetsThePlan (N : Table) (V : PlantRows) (taken : ℕ → List Record) (plans : ℕ → PlanRows) (x : ℕ) : Type 0 where
+pub record GetsThePlan (N : Table) (V : PlantRows) (taken : ℕ → List Record) (plans : ℕ → PlanRows) (x : ℕ)
+    : Type 0 where
   pub incoming : (t : ℕ) → t < horizon N → local_incoming V taken (plant_pair N x) t ≡ incoming N x t
   pub gross : (t : ℕ) → t < horizon N → local_gross V taken plans (plant_pair N x) t ≡ gross N (plan_of N) x t
   pub plan : local_plan V taken plans (plant_pair N x) ≡ plan_at N x
@@ -56,19 +59,22 @@ DraftsAreThePlan =
     (N : Table) → IsTable N → IsLoopFree N
     → (plant : ℕ) (taken : ℕ → List Record) (planned : ℕ → Bool) (plans : ℕ → PlanRows)
     → PlansLocally N plant taken planned plans
-    → (x : ℕ) → IsPairAt N plant x → IsReadyAt N plant taken planned x → GetsThePlan N (plant_rows N plant) taken plans x
+    → (x : ℕ) → IsPairAt N plant x → IsReadyAt N plant taken planned x
+    → GetsThePlan N (plant_rows N plant) taken plans x
 
 -- in a sized network the quantities of its rows are together within 10^15
 abbrev pub HasSmallRows : Table → PlantRows → (ℕ → List Record) → (ℕ → PlanRows) → ℕ → Type 0
 HasSmallRows N V taken plans x =
-    IsWithin (params_at N x) (local_row V (local_incoming V taken (plant_pair N x))) (local_row V (local_gross V taken plans (plant_pair N x)))
+    IsWithin (params_at N x) (local_row V (local_incoming V taken (plant_pair N x)))
+    (local_row V (local_gross V taken plans (plant_pair N x)))
 
 abbrev pub DraftsAreWithin : Type 0
 DraftsAreWithin =
     (N : Table) → IsSized N
     → (plant : ℕ) (taken : ℕ → List Record) (planned : ℕ → Bool) (plans : ℕ → PlanRows)
     → PlansLocally N plant taken planned plans
-    → (x : ℕ) → IsPairAt N plant x → IsReadyAt N plant taken planned x → HasSmallRows N (plant_rows N plant) taken plans x
+    → (x : ℕ) → IsPairAt N plant x → IsReadyAt N plant taken planned x
+    → HasSmallRows N (plant_rows N plant) taken plans x
 
 -- ---- which pairs can be planned
 
@@ -91,7 +97,8 @@ LocalGoodsAreTheLoads =
     (N : Table) → IsTable N → IsLoopFree N
     → (plant : ℕ) (taken : ℕ → List Record) (planned : ℕ → Bool) (plans : ℕ → PlanRows)
     → PlansLocally N plant taken planned plans
-    → All (λ lane. HasGoods N planned lane (goods_of (plant_rows N plant) taken plans lane)) (plant_rows N plant).outgoing
+    → All (λ lane. HasGoods N planned lane (goods_of (plant_rows N plant) taken plans lane))
+    (plant_rows N plant).outgoing
 
 -- a queue of places that may be sent
 pub record QueuesSendable (planned : ℕ → Bool) (lane : OutgoingLane) (o : OutFigures) : Type 0 where
@@ -107,11 +114,13 @@ LocalGoodsAgree =
 -- in a sized network they are small, and a cursor that shows what was sent of them stays within 64 bits
 pub record HasSmallGoods (planned : ℕ → Bool) (lane : OutgoingLane) (goods : ℕ → Goods) : Type 0 where
   pub small : (place : ℕ) → IsSendable planned lane place → IsSmall (goods place)
-  pub bounded : (o : OutFigures) (sent : List Record) → QueuesSendable planned lane o → ShowsSent goods o sent → IsBounded goods o
+  pub bounded : (o : OutFigures) (sent : List Record)
+      → QueuesSendable planned lane o → ShowsSent goods o sent → IsBounded goods o
 
 abbrev pub LocalGoodsAreSmall : Type 0
 LocalGoodsAreSmall =
     (N : Table) → IsSized N
     → (plant : ℕ) (taken : ℕ → List Record) (planned : ℕ → Bool) (plans : ℕ → PlanRows)
     → PlansLocally N plant taken planned plans
-    → All (λ lane. HasSmallGoods planned lane (goods_of (plant_rows N plant) taken plans lane)) (plant_rows N plant).outgoing
+    → All (λ lane. HasSmallGoods planned lane (goods_of (plant_rows N plant) taken plans lane))
+    (plant_rows N plant).outgoing

@@ -1,7 +1,8 @@
 -- What a plant plans from its own view and from the records that have come to it. `taken` has the
 -- records of each lane by the lane's number, `planned` and `plans` say which pairs are planned and how,
 -- by the pair's number.
-use Rattle.std.specs.Prelude.{◌≡◌, ℕ, ◌+◌, ◌*◌, ◌==◌, if◌then◌else◌, not, Bool, true, false, List, map, filter, sum_by, slice_index, All, Contains}
+use Rattle.std.specs.Prelude.{◌≡◌, ℕ, ◌+◌, ◌*◌, ◌==◌, if◌then◌else◌, not, Bool, true, false}
+use Rattle.std.specs.Prelude.{List, map, filter, sum_by, slice_index, All, Contains}
 use Rattle.std.specs.List.{position_or_len, range_with_len}
 use Rattle.mrp_lot.specs.One.{PlanRows, one}
 use Rattle.mrp_rows.specs.declared.numbers.ItemNo.{ItemNo}
@@ -92,7 +93,8 @@ pub record CanBePlanned (V : PlantRows) (taken : ℕ → List Record) (planned :
 -- ---- plans
 
 -- a pair was planned when nothing was missing for it, and by the rules
-pub record IsPlannedLocally (V : PlantRows) (taken : ℕ → List Record) (planned : ℕ → Bool) (plans : ℕ → PlanRows) (p : PlantPair) : Type 0 where
+pub record IsPlannedLocally (V : PlantRows) (taken : ℕ → List Record) (planned : ℕ → Bool) (plans : ℕ → PlanRows) (p : PlantPair)
+    : Type 0 where
   pub ready : AwaitsNothing V taken planned p
   pub plan : plans p.number.0 ≡ local_plan V taken plans p
 

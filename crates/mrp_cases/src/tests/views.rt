@@ -47,7 +47,7 @@ fn first_item(network: &Network, l: LaneNo) -> Option<ItemNo>
 /// Whether both lanes have their items in the order of the customer's pairs.
 fn has_the_customers_order(net: &Network) -> bool {
     net.lanes() == 2
-        && net.item_name(ItemNo(1)) == "X"
+        && net.find_item("X") == Some(ItemNo(1))
         && net.lane_items(LaneNo(0)) == [ItemNo(1), ItemNo(0)].as_slice()
         && net.lane_items(LaneNo(1)) == [ItemNo(1), ItemNo(0)].as_slice()
 }
