@@ -26,7 +26,7 @@ use Rattle.mrp_loops.specs.Loop.{IsLoopFree}
 use Rattle.mrp_loops.specs.Sized.{IsSized}
 use Rattle.mrp_loops.specs.Within.{plan_at}
 use Rattle.mrp_record.specs.declared.record.Record.{Record}
-use Rattle.mrp_record.specs.Entries.{Delivery}
+use Rattle.mrp_record.specs.Entries.{Delivery, contents, cum}
 use Rattle.mrp_record.specs.Text.{Load, total, block_length}
 use Rattle.mrp_events.specs.Loads.{delivery_of, called_in, lines_by, load_of, loads}
 use Rattle.mrp_events.specs.Local as network
@@ -40,7 +40,7 @@ use Rattle.mrp_cursor.specs.Cursor.{OutFigures, Goods}
 use Rattle.mrp_cursor.specs.Laws.{IsSmall, IsBounded}
 use Rattle.mrp_cursor.specs.Shows.{ShowsSent}
 use Rattle.mrp_cursor.proofs.Texts.{small_are_bounded}
-use Rattle.mrp_local.specs.Goods.{opening_of, goods_by, goods_of, IsDecided, IsSendable}
+use Rattle.mrp_local.specs.Goods.{goods_by, goods_of, IsSendable}
 use Rattle.mrp_events.specs.Local.{AreLegal}
 use Rattle.mrp_local.specs.Local.{IsLocal}
 use Rattle.mrp_local.specs.Laws.{IsPairAt, PlansLocally, HasGoods, QueuesSendable, HasSmallGoods, LocalGoodsAreTheLoads, LocalGoodsAgree, LocalGoodsAreSmall}
@@ -60,7 +60,7 @@ module _ (N : Table) (is : IsTable N) (free : IsLoopFree N) (plant : ℕ) (taken
       (ready, network_plan N is plant planned taken legal x at ready free)
 
   abbrev Carried : LaneKind → Lane → ItemNo → Type 0
-  Carried kind lane item = load_of N lane item ≡ cursor.load_of (goods_by kind (plant_rows N plant) taken plans (outgoing_lane N l) (outgoing_item N lane item))
+  Carried kind lane item = load_of N lane item ≡ cursor.load_of (goods_by kind (plant_rows N plant) taken plans l (outgoing_item N lane item))
 
   called : l < length (lanes N) → (lane_at N l).sender.0 ≡ plant → (lane_at N l).kind ≡ Schedule → (item : ItemNo) → Contains (lane_items N (lane_at N l)) item
       → planned (source_on N (lane_at N l) item).pair.0 ≡ true → Carried Schedule (lane_at N l) item
@@ -68,7 +68,7 @@ module _ (N : Table) (is : IsTable N) (free : IsLoopFree N) (plant : ℕ) (taken
       let lane : Lane = lane_at N l in
       let has = items_have_sources N is lane item there in
       let i : view.Load = outgoing_item N lane item in
-      let opening : ℕ = opening_of taken (outgoing_lane N l) i in
+      let opening : ℕ = cum i.figure i.item.0 (contents (taken (l - 1))) in
       let mine : customer_of lane ≡ plant = customer_by_schedule lane kind ∙ here in
       let at : IsPairAt N plant i.customer.0 = subst (IsPairAt N plant) (sym has.taker) (record { pair = has.customer.pair; at_plant = has.customer.at_plant ∙ mine }) in
       let plan : plan_at N i.customer.0 ≡ plans i.customer.0 = sym (plans_are N is free plant taken legal planned plans local i.customer.0 at done) in
@@ -78,9 +78,9 @@ module _ (N : Table) (is : IsTable N) (free : IsLoopFree N) (plant : ℕ) (taken
       ∙ ap (λ (n : ℕ). schedule_load n opening (λ t. slice_index (plans i.customer.0).release t) i) whole
 
   by_kind : (kind : LaneKind) → l < length (lanes N) → (lane_at N l).sender.0 ≡ plant → (lane_at N l).kind ≡ kind → (item : ItemNo) → Contains (lane_items N (lane_at N l)) item
-      → IsDecided kind planned (outgoing_item N (lane_at N l) item) → Carried kind (lane_at N l) item
+      → (kind ≡ Schedule → planned (source_on N (lane_at N l) item).pair.0 ≡ true) → Carried kind (lane_at N l) item
   by_kind Despatch within here kind item there done = despatches_are_seen N (lane_at N l) item kind
-  by_kind Schedule within here kind item there done = called within here kind item there done
+  by_kind Schedule within here kind item there done = called within here kind item there (done refl)
 
   -- at each place of a lane that goes out
   pub goods_at : l < length (lanes N) → (lane_at N l).sender.0 ≡ plant → (place : ℕ) (d : ItemNo) → IsSendable planned (outgoing_lane N l) place
@@ -88,12 +88,12 @@ module _ (N : Table) (is : IsTable N) (free : IsLoopFree N) (plant : ℕ) (taken
   goods_at within here place d sendable =
       let lane : Lane = lane_at N l in
       let items : List ItemNo = lane_items N lane in
-      let inside : place < length items = omega (arith, sendable.there, length-map items (outgoing_item N lane)) in
+      let inside : place < length items = omega (arith, sendable.within, length-map items (outgoing_item N lane)) in
       let item : ItemNo = get_or items place d in
       let read : view.load_at (outgoing_lane N l).items place ≡ outgoing_item N lane item = get_or-map (outgoing_item N lane) items place d view.no_load inside in
       let carried = by_kind lane.kind within here refl item (Contains-get_or items place d inside)
-      (subst (IsDecided lane.kind planned) read sendable.decided) in
-      (inside, carried ∙ ap (λ (i : view.Load). cursor.load_of (goods_by lane.kind (plant_rows N plant) taken plans (outgoing_lane N l) i)) (sym read))
+      (λ kind. ap (λ (i : view.Load). planned i.customer.0) (sym read) ∙ sendable.decided kind) in
+      (inside, carried ∙ ap (λ (i : view.Load). cursor.load_of (goods_by lane.kind (plant_rows N plant) taken plans l i)) (sym read))
 
   no_item : ItemNo
   no_item = record { 0 = 0 }

@@ -6,9 +6,8 @@ use Rattle.std.specs.List.{range_with_len}
 use Rattle.mrp_lot.specs.One.{PlanRows}
 use Rattle.mrp_net.specs.declared.lane.LaneKind.{LaneKind}
 use Rattle.mrp_net.specs.declared.lane.LaneKind.TheVariants.{Despatch, Schedule}
-use Rattle.mrp_view.specs.declared.view.OutgoingItem.{OutgoingItem}
 use Rattle.mrp_view.specs.declared.view.OutgoingLane.{OutgoingLane}
-use Rattle.mrp_view.specs.Loads.{Load, bare, load_at}
+use Rattle.mrp_view.specs.Loads.{Load, load_at}
 use Rattle.mrp_view.specs.View.{PlantRows}
 use Rattle.mrp_record.specs.declared.record.Record.{Record}
 use Rattle.mrp_record.specs.Entries.{Delivery, contents, cum}
@@ -16,46 +15,51 @@ use Rattle.mrp_events.specs.Loads.{delivery_of, delivery_in, has_pieces}
 use Rattle.mrp_events.specs.Seen.{share_of}
 use Rattle.mrp_cursor.specs.Cursor.{Goods}
 
--- a despatch lane carries an item's shipments: those from a mark on
-abbrev pub shipped_from : Load → ℕ → List Delivery
-shipped_from load mark = map delivery_of (drop mark load.shipments)
+-- ---- despatch lanes
 
--- the share of a release that the lane's supplier is called for
-abbrev pub share : OutgoingItem → ℕ → ℕ
-share item release = share_of item.low item.high release
-
--- a schedule lane calls for the shares of the releases of the customer's plan: those of the periods from a
--- mark on, in which there is something to call for
-abbrev pub called_in : PlanRows → Load → ℕ → ℕ
-called_in plan load period = share (bare load) (slice_index plan.release period)
-
-abbrev pub called_from : ℕ → PlanRows → Load → ℕ → List Delivery
-called_from horizon plan load mark =
-    filter has_pieces (map (delivery_in (called_in plan load)) (range_with_len mark (horizon - mark)))
-
--- its figures open where those of the despatch lane of the same two plants stand, which has the number before
-abbrev pub opening_of : (ℕ → List Record) → OutgoingLane → Load → ℕ
-opening_of taken lane load = cum load.figure load.item.0 (contents (taken (lane.number.0 - 1)))
-
--- what a lane carries of the item at a place
-abbrev pub goods_by : LaneKind → PlantRows → (ℕ → List Record) → (ℕ → PlanRows) → OutgoingLane → Load → Goods
-goods_by Despatch V taken plans lane load =
-    record { item = load.item.0; opening = load.figure; reset = load.reset; from = shipped_from load }
-goods_by Schedule V taken plans lane load = record {
-  item = load.item.0;
-  opening = opening_of taken lane load;
-  reset = load.reset;
-  from = called_from V.horizon (plans load.customer.0) load;
+-- the shipments on their way, in table order
+abbrev pub despatch_goods : Load → Goods
+despatch_goods i = record {
+  item = i.item.0;
+  opening = i.figure;
+  reset = i.reset;
+  from = λ mark. map delivery_of (drop mark i.shipments);
 }
 
+-- ---- schedule lanes
+
+-- the supplier's share of a release
+abbrev pub share : Load → ℕ → ℕ
+share i release = share_of i.low i.high release
+
+-- its part of what the customer's plan releases in a period
+abbrev pub called_for : (ℕ → PlanRows) → Load → ℕ → ℕ
+called_for plans i period = share i (slice_index (plans i.customer.0).release period)
+
+-- an amount of each period from a mark on, as deliveries; a period without pieces has none
+abbrev pub by_period_from : (ℕ → ℕ) → ℕ → ℕ → List Delivery
+by_period_from amount periods mark = filter has_pieces (map (delivery_in amount) (range_with_len mark (periods - mark)))
+
+-- the parts of the customer's releases, beyond what the supplier's despatches so far come to
+abbrev pub schedule_goods : PlantRows → List Record → (ℕ → PlanRows) → Load → Goods
+schedule_goods V despatched plans i = record {
+  item = i.item.0;
+  opening = cum i.figure i.item.0 (contents despatched);
+  reset = i.reset;
+  from = by_period_from (called_for plans i) V.horizon;
+}
+
+-- ---- both
+
+-- of each item of a lane; the despatch lane of the same two plants has the number before a schedule lane's
+abbrev pub goods_by : LaneKind → PlantRows → (ℕ → List Record) → (ℕ → PlanRows) → ℕ → Load → Goods
+goods_by Despatch V taken plans l i = despatch_goods i
+goods_by Schedule V taken plans l i = schedule_goods V (taken (l - 1)) plans i
+
 abbrev pub goods_of : PlantRows → (ℕ → List Record) → (ℕ → PlanRows) → OutgoingLane → ℕ → Goods
-goods_of V taken plans lane place = goods_by lane.kind V taken plans lane (load_at lane.items place)
+goods_of V taken plans lane place = goods_by lane.kind V taken plans lane.number.0 (load_at lane.items place)
 
--- an item may be sent: on a schedule lane once the customer's pair is planned
-abbrev pub IsDecided : LaneKind → (ℕ → Bool) → Load → Type 0
-IsDecided Despatch planned load = Unit {0}
-IsDecided Schedule planned load = planned load.customer.0 ≡ true
-
+-- the items that may be sent: all on a despatch lane, on a schedule lane those whose customer's pair is planned
 pub record IsSendable (planned : ℕ → Bool) (lane : OutgoingLane) (place : ℕ) : Type 0 where
-  pub there : place < length lane.items
-  pub decided : IsDecided lane.kind planned (load_at lane.items place)
+  pub within : place < length lane.items
+  pub decided : lane.kind ≡ Schedule → planned (load_at lane.items place).customer.0 ≡ true

@@ -93,8 +93,8 @@ pub record CanBePlanned (V : PlantRows) (taken : ℕ → List Record) (planned :
 -- ---- plans
 
 -- a pair was planned when nothing was missing for it, and by the rules
-pub record IsPlannedLocally (V : PlantRows) (taken : ℕ → List Record) (planned : ℕ → Bool) (plans : ℕ → PlanRows) (p : PlantPair)
-    : Type 0 where
+pub record IsPlannedLocally (V : PlantRows) (taken : ℕ → List Record) (planned : ℕ → Bool) (plans : ℕ → PlanRows)
+    (p : PlantPair) : Type 0 where
   pub ready : AwaitsNothing V taken planned p
   pub plan : plans p.number.0 ≡ local_plan V taken plans p
 

@@ -149,7 +149,11 @@ fn what_a_supplier_sees(rt: HostRuntime) -> Result<(), Fail> {
     let net = firm(&rt)?;
     let view = PlantView::of(rt.alloc(), &net, PlantNo(1))?;
     assert_eq!(rt; view.outgoing().len(), 1);
-    assert!(rt; view.outgoing().first().is_some_and(|lane| sends_x(&lane.items)));
+    assert!(rt;
+        view.outgoing()
+            .first()
+            .is_some_and(|lane| sends_x(&lane.items))
+    );
     assert!(rt; sees_the_schedule(&view));
     Ok(())
 }
