@@ -1,0 +1,4 @@
+pub mod Seeing
+pub mod Drafting
+pub mod Planned
+pub mod Sending
