@@ -1,0 +1,4 @@
+pub mod State
+pub mod Shows
+pub mod Sending
+pub mod Laws
