@@ -1,19 +1,19 @@
 -- Waits as counts: of joins with unplanned demanders, and of awaited blocks that aren't ended.
-use Rattle.std.proofs.Common.{◌≡◌, ℕ, ◌+◌, ◌-◌, ◌<◌, ◌≤◌, ◌&&◌, Bool, true, false, not, cond, eqb, List, [], ◌∷◌, inl, inr, length, get_or, set, map, refl, sym, ap, ◌∙◌, subst, arith, Some}
-use Rattle.std.specs.Prelude.{slice_get, Contains}
-use Rattle.std.specs.List.{All, count_by, sum_by, filter}
+use Rattle.std.proofs.Common.{◌≡◌, ℕ, ◌+◌, ◌-◌, ◌<◌, ◌≤◌, ◌&&◌, Bool, true, false, not, cond, eqb, List, [], ◌∷◌, inl, inr, length, get_or, set, take, map, refl, sym, ap, ◌∙◌, subst, arith, Some}
+use Rattle.std.specs.Prelude.{slice_get}
+use Rattle.std.specs.List.{All, count_by, filter}
 use Rattle.std.proofs.lemmas.Bool.{cases_eq, eq-eqb, eqb-true, ne_eqb, and_from, and_parts, both_ways, false_from_ne_true, true_from_ne_false, not-true, not_from_false}
-use Rattle.std.proofs.lemmas.List.{get_or-set_same, get_or-set_other, length-set}
+use Rattle.std.proofs.lemmas.List.{get_or-set_same, get_or-set_other, length-set, length-take-le}
 use Rattle.std.proofs.lemmas.List.Elements.{All-weaker}
-use Rattle.std.proofs.lemmas.List.Sums.{sum_by-cons, sum_by-set, get_or-le-sum_by, sum_by-le}
+use Rattle.std.proofs.lemmas.List.Sums.{sum_by-cons, sum_by-set, get_or-le-sum_by, sum_by-le, count_by_more_yes, count_by_more_no, count_by-le-length}
 use Rattle.std.proofs.lemmas.Option.{slice_get_within, get_or_from_slice_get}
 use Rattle.mrp_ready.specs.declared.join.Join.{Join}
-use Rattle.mrp_ready.specs.Progress.{is_planned, times, CanBePlanned, IsLess, IsListed}
-use Rattle.mrp_ready.specs.Counts.{Awaited, AreCounts, IsOneEnded, components_of, open_blocks, unplanned}
-use Rattle.mrp_ready.specs.Laws.{NothingIsOpen, ReadyWhereNothingIsOpen, ComponentsWait, EndingOpensFewer, OpenBlocksAreAwaited}
+use Rattle.mrp_ready.specs.Progress.{is_planned, times, IsLess}
+use Rattle.mrp_ready.specs.Counts.{Awaited, AreCounts, AreCounted, AreFirstCounts, IsOneEnded, components_of, joins_of, open_blocks, unplanned}
+use Rattle.mrp_ready.specs.Laws.{ReadyWhereNothingIsOpen, ComponentsWait, EndingOpensFewer, OpenBlocksAreAwaited}
 
 -- a test counts where it passes
-abbrev one_if : Bool → ℕ
+abbrev pub one_if : Bool → ℕ
 one_if b = cond b 1 0
 
 -- a join counts where it is one of the pair and its demander isn't planned
@@ -23,6 +23,10 @@ waiting planned y j = cond (eqb j.component y && not (is_planned planned j.deman
 when_planned : (b : Bool) → cond (b && not true) 1 0 + cond b 1 0 ≡ cond (b && not false) 1 0
 when_planned true = refl
 when_planned false = refl
+
+when_unplanned : (b : Bool) → one_if (b && not false) ≡ one_if b
+when_unplanned true = refl
+when_unplanned false = refl
 
 -- the joins of x no longer count, each other as before
 waiting-set : (j : Join) (planned : List Bool) (x y : ℕ) → x < length planned → is_planned planned x ≡ false → waiting (set planned x true) y j + cond (eqb j.demander x) (cond (eqb j.component y) 1 0) 0 ≡ waiting planned y j
@@ -77,6 +81,20 @@ times-le (j ∷ joins) planned x y free =
     let was = sum_by-cons (waiting planned y) j joins in
     let components = times-cons j (filter (λ (i : Join). eqb i.demander x) joins) y (eqb j.demander x) in
     omega (arith, was, components, taken-le j planned x y free, times-le joins planned x y free)
+
+-- while nothing is planned, each join counts
+unplanned-none : (joins : List Join) (planned : List Bool) (y : ℕ) → ((x : ℕ) → is_planned planned x ≡ false) → unplanned joins planned y ≡ joins_of joins y
+unplanned-none [] planned y none = refl
+unplanned-none (j ∷ joins) planned y none =
+    let was = sum_by-cons (waiting planned y) j joins in
+    let all = sum_by-cons (λ (i : Join). cond (eqb i.component y) 1 0) j joins in
+    let same : waiting planned y j ≡ one_if (eqb j.component y) = rw (none j.demander) (when_unplanned (eqb j.component y)) in
+    omega (arith, was, all, same, unplanned-none joins planned y none)
+
+pub AreCounts-first : (waits : List ℕ) (joins : List Join) (planned : List Bool) (blocks : ℕ → ℕ) → ((x : ℕ) → is_planned planned x ≡ false) → AreFirstCounts waits joins blocks → AreCounts waits joins planned blocks
+AreCounts-first waits joins planned blocks none first = record {
+  counted = λ y h. omega (arith, first.counted y h, unplanned-none joins planned y none);
+}
 
 -- after a pair is settled, waits are the counts as before
 pub AreCounts-settled : (old new : List ℕ) (joins : List Join) (planned later : List Bool) (blocks : ℕ → ℕ) (components : List ℕ) (x : ℕ) → x < length planned → is_planned planned x ≡ false → later ≡ set planned x true → IsLess old new components → components ≡ components_of joins x → AreCounts old joins planned blocks → AreCounts new joins later blocks
@@ -189,3 +207,28 @@ open_blocks_are_awaited waits joins planned blocks counts k y is known =
     let some = get_or-le-sum_by (awaiting y) blocks k (block y false) (slice_get_within blocks k (block y false) is) in
     let one : awaiting y (get_or blocks k (block y false)) ≡ 1 = ap (awaiting y) here ∙ open_counts y in
     omega (arith, counts.counted y known, some, one)
+
+-- ---- what pairs wait for at first
+
+-- one row more is counted
+pub AreCounted-more : {X : Type 0} (key : X → ℕ) (old now : List ℕ) (rows : List X) (i : ℕ) (r : X) (v : ℕ) → i < length rows → r ≡ get_or rows i r → AreCounted key old now (take i rows) → key r < length old → v ≡ get_or now (key r) 0 + 1 → AreCounted key old (set now (key r) v) (take (i + 1) rows)
+AreCounted-more {X} key old now rows i r v lt is was known new = record {
+  size = length-set now (key r) v ∙ was.size;
+  counted = λ y h.
+      let here : key (get_or rows i r) ≡ key r = ap key (sym is) in
+      elim (cases_eq y (key r)) as (λ _. get_or (set now (key r) v) y 0 ≡ get_or old y 0 + count_by (λ (x : X). eqb (key x) y) (take (i + 1) rows)) [
+        | inl e ↦
+            let more = count_by_more_yes (λ (x : X). eqb (key x) y) rows i r lt (eq-eqb (key (get_or rows i r)) y (here ∙ sym e)) in
+            let at : get_or (set now (key r) v) y 0 ≡ v = ap (λ (z : ℕ). get_or (set now (key r) v) z 0) e ∙ get_or-set_same now (key r) v 0 (omega (arith, was.size)) in
+            let had : get_or now y 0 ≡ get_or now (key r) 0 = ap (λ (z : ℕ). get_or now z 0) e in
+            omega (arith, more, at, had, new, was.counted y h)
+        | inr ne ↦
+            let more = count_by_more_no (λ (x : X). eqb (key x) y) rows i r lt (ne_eqb (key (get_or rows i r)) y (λ q. ne (sym q ∙ here))) in
+            omega (arith, more, get_or-set_other now (key r) y v 0 ne, was.counted y h)
+      ];
+}
+
+-- no number is greater than at first by more than the rows so far
+pub AreCounted-le : {X : Type 0} (key : X → ℕ) (old now : List ℕ) (rows : List X) (i y : ℕ) → i ≤ length rows → AreCounted key old now (take i rows) → y < length old → get_or now y 0 ≤ get_or old y 0 + i
+AreCounted-le {X} key old now rows i y le was known =
+    omega (arith, was.counted y known, count_by-le-length (λ (x : X). eqb (key x) y) (take i rows), length-take-le i rows le)

@@ -1,18 +1,14 @@
 -- The list of the pairs that can be planned, as one is planned and others wait for less.
 use Rattle.std.proofs.Common.{◌≡◌, ℕ, ◌+◌, ◌-◌, ◌<◌, ◌≤◌, Bool, true, false, not, cond, eqb, List, [], ◌∷◌, ◌++◌, inl, inr, length, get_or, set, take, refl, sym, ap, ◌∙◌, subst, arith}
 use Rattle.std.specs.Prelude.{◌↔◌, Contains, replicate}
-use Rattle.std.specs.List.{All, count_by, sum_by}
 use Rattle.std.proofs.lemmas.Bool.{cases_eq, cases_lt, eq-eqb, ne_eqb, both_ways, false_from_ne_true}
 use Rattle.std.proofs.lemmas.List.{get_or-set_same, get_or-set_other, get_or_past, get_or-replicate, length-replicate, length-set}
 use Rattle.std.proofs.lemmas.List.Elements.{Contains-push, Contains-push_cases, Contains-append_left}
 use Rattle.std.proofs.lemmas.List.Sums.{sum_by-set, sum_by_more, sum_by-take-le}
 use Rattle.std.proofs.lemmas.List.Folds.{sum_by-replicate}
 use Rattle.mrp_rows.specs.declared.numbers.PairNo.{PairNo}
-use Rattle.mrp_ready.specs.Progress.{Progress, is_planned, left_of, times, CanBePlanned, IsListed, IsLess, Lowers, IsKept}
-
--- a test counts where it passes
-abbrev one_if : Bool → ℕ
-one_if b = cond b 1 0
+use Rattle.mrp_ready.specs.Progress.{Progress, is_planned, left_of, times, IsFree, IsListed, Lowers, IsKept}
+use Rattle.mrp_ready.proofs.Counting.{one_if}
 
 -- ---- a ready pair is planned
 
@@ -53,6 +49,19 @@ IsKept-planned progress left less numbers later x kept has one same others =
       left_is = omega (arith, kept.left_is, left-planned progress.planned x within free.unplanned);
     }
 
+-- what is known of the fields where a pair of the value is ready
+pub ready_inside : (inside value : Progress) (left x : ℕ) → IsKept inside left → inside ≡ value → Contains value.ready x → Contains inside.ready x × IsFree inside.waits inside.planned x × (x < length inside.planned) × (left ≡ (left - 1) + 1)
+ready_inside inside value left x kept shown has =
+    let here : Contains inside.ready x = subst (λ (v : Progress). Contains v.ready x) (sym shown) has in
+    let free = (kept.listed.exact x).0 here in
+    let within : x < length inside.planned = omega (arith, kept.marked, free.known) in
+    (here, free, within, omega (arith, kept.left_is, left-planned inside.planned x within free.unplanned))
+
+pub planned_inside : (inside value : Progress) (left x : ℕ) (numbers : List PairNo) (later : List ℕ) → IsKept inside left → inside ≡ value → Contains value.ready x → numbers ≡ inside.numbers → ((y : ℕ) → Contains later y ↔ (Contains inside.ready y × (y ≡ x → ⊥))) → IsKept (record { numbers = numbers; waits = inside.waits; planned = set inside.planned x true; ready = later }) (left - 1)
+planned_inside inside value left x numbers later kept shown has same others =
+    let here = ready_inside inside value left x kept shown has in
+    IsKept-planned inside left (left - 1) numbers later x kept here.0 here.3 same others
+
 -- ---- a pair waits for one less
 
 -- a pair that waits isn't planned
@@ -66,19 +75,19 @@ IsListed-lowered progress left later y v kept within some free_then waits_then =
     let size : length (set waits y v) ≡ length waits = length-set waits y v in
     let here : get_or (set waits y v) y 0 ≡ v = get_or-set_same waits y v 0 within in
     let other : (z : ℕ) → (z ≡ y → ⊥) → get_or (set waits y v) z 0 ≡ get_or waits z 0 = λ z ne. get_or-set_other waits y z v 0 ne in
-    let kept_free : (z : ℕ) → Contains progress.ready z → CanBePlanned (set waits y v) progress.planned z = λ z is.
+    let kept_free : (z : ℕ) → Contains progress.ready z → IsFree (set waits y v) progress.planned z = λ z is.
     let free = (kept.listed.exact z).0 is in
     let ne : z ≡ y → ⊥ = λ e. let same : get_or waits z 0 ≡ get_or waits y 0 = ap (λ (w : ℕ). get_or waits w 0) e in omega (arith, free.waits_for_none, same) in
     record { known = rw size free.known; waits_for_none = other z ne ∙ free.waits_for_none; unplanned = free.unplanned } in
-    let was_free : (z : ℕ) → (z ≡ y → ⊥) → CanBePlanned (set waits y v) progress.planned z → Contains progress.ready z = λ z ne free.
+    let was_free : (z : ℕ) → (z ≡ y → ⊥) → IsFree (set waits y v) progress.planned z → Contains progress.ready z = λ z ne free.
     (kept.listed.exact z).1 record { known = omega (arith, free.known, size); waits_for_none = sym (other z ne) ∙ free.waits_for_none; unplanned = free.unplanned } in
     elim (cases_eq v 0) as (λ _. IsListed (set waits y v) progress.planned later) [
       | inl none ↦
           rw (free_then none) record {
             exact = λ z. (
-              λ is. elim (Contains-push_cases progress.ready y z is) as (λ _. CanBePlanned (set waits y v) progress.planned z) [
+              λ is. elim (Contains-push_cases progress.ready y z is) as (λ _. IsFree (set waits y v) progress.planned z) [
                 | inl was ↦ kept_free z was
-                | inr e ↦ subst (λ (w : ℕ). CanBePlanned (set waits y v) progress.planned w) e record {
+                | inr e ↦ subst (λ (w : ℕ). IsFree (set waits y v) progress.planned w) e record {
                   known = rw size within;
                   waits_for_none = here ∙ none;
                   unplanned = waiting_unplanned progress left y kept some;
@@ -180,11 +189,11 @@ Lowers-more old now later components i c lt is lowers known some numbers planned
 -- ---- at first nothing is planned
 
 -- of the places below n, those that wait for nothing
-abbrev pub AreFree : List ℕ → List ℕ → ℕ → Type 0
-AreFree places waits n = (x : ℕ) → Contains places x ↔ ((x < n) × (get_or waits x 0 ≡ 0))
+abbrev pub WaitForNone : List ℕ → List ℕ → ℕ → Type 0
+WaitForNone places waits n = (x : ℕ) → Contains places x ↔ ((x < n) × (get_or waits x 0 ≡ 0))
 
-pub AreFree-more : (places waits : List ℕ) (i : ℕ) → AreFree places waits i → get_or waits i 0 ≡ 0 → AreFree (places ++ i ∷ []) waits (i + 1)
-AreFree-more places waits i are none x = (
+pub WaitForNone-more : (places waits : List ℕ) (i : ℕ) → WaitForNone places waits i → get_or waits i 0 ≡ 0 → WaitForNone (places ++ i ∷ []) waits (i + 1)
+WaitForNone-more places waits i are none x = (
   λ is. elim (Contains-push_cases places i x is) as (λ _. (x < i + 1) × (get_or waits x 0 ≡ 0)) [
     | inl was ↦ let p = (are x).0 was in (omega (arith, p.0), p.1)
     | inr e ↦ (omega arith, ap (λ (z : ℕ). get_or waits z 0) (sym e) ∙ none)
@@ -195,8 +204,8 @@ AreFree-more places waits i are none x = (
   ],
 )
 
-pub AreFree-same : (places waits : List ℕ) (i : ℕ) → AreFree places waits i → (get_or waits i 0 ≡ 0 → ⊥) → AreFree places waits (i + 1)
-AreFree-same places waits i are some x = (
+pub WaitForNone-same : (places waits : List ℕ) (i : ℕ) → WaitForNone places waits i → (get_or waits i 0 ≡ 0 → ⊥) → WaitForNone places waits (i + 1)
+WaitForNone-same places waits i are some x = (
   λ is. let p = (are x).0 is in (omega (arith, p.0), p.1),
   λ p.
       let ne : x ≡ i → ⊥ = λ e. some (ap (λ (z : ℕ). get_or waits z 0) (sym e) ∙ p.1) in
@@ -204,7 +213,7 @@ AreFree-same places waits i are some x = (
       (are x).1 (less, p.1),
 )
 
-pub first_listed : (waits ready : List ℕ) (n : ℕ) → length waits ≡ n → AreFree ready waits (length waits) → IsListed waits (replicate n false) ready
+pub first_listed : (waits ready : List ℕ) (n : ℕ) → length waits ≡ n → WaitForNone ready waits (length waits) → IsListed waits (replicate n false) ready
 first_listed waits ready n size exact = record {
   exact = λ x. (
     λ is.
@@ -221,7 +230,7 @@ unplanned_at_first n x =
       | inr past ↦ get_or_past (replicate n false) x false (omega (arith, length-replicate n false))
     ]
 
-pub IsKept-first : (numbers : List PairNo) (waits ready : List ℕ) (n : ℕ) → length numbers ≡ n → length waits ≡ n → AreFree ready waits (length waits) → IsKept (record { numbers = numbers; waits = waits; planned = replicate n false; ready = ready }) n
+pub IsKept-first : (numbers : List PairNo) (waits ready : List ℕ) (n : ℕ) → length numbers ≡ n → length waits ≡ n → WaitForNone ready waits (length waits) → IsKept (record { numbers = numbers; waits = waits; planned = replicate n false; ready = ready }) n
 IsKept-first numbers waits ready n numbered size exact = record {
   numbered = numbered ∙ sym size;
   marked = length-replicate n false ∙ sym size;
@@ -229,3 +238,12 @@ IsKept-first numbers waits ready n numbered size exact = record {
   rested = λ x is. absurd (both_ways (is_planned (replicate n false) x) (unplanned_at_first n x) is);
   left_is = omega (arith, sum_by-replicate (λ (p : Bool). cond (not p) 1 0) n false);
 }
+
+pub first_inside : (numbers given : List PairNo) (waits read : List ℕ) (planned : List Bool) (ready : List ℕ) → planned ≡ replicate (length given) false → read ≡ waits → length waits ≡ length given → numbers ≡ given → WaitForNone ready read (length read) → IsKept (record { numbers = numbers; waits = waits; planned = planned; ready = ready }) (length given)
+first_inside numbers given waits read planned ready none same size numbers_are free =
+    let wait : WaitForNone ready waits (length waits) = subst (λ (w : List ℕ). WaitForNone ready w (length w)) same free in
+    subst (λ (p : List Bool). IsKept (record { numbers = numbers; waits = waits; planned = p; ready = ready }) (length given)) (sym none)
+    (IsKept-first numbers waits ready (length given) (ap length numbers_are) size wait)
+
+pub none_planned : (planned : List Bool) (n x : ℕ) → planned ≡ replicate n false → is_planned planned x ≡ false
+none_planned planned n x none = ap (λ (p : List Bool). is_planned p x) none ∙ unplanned_at_first n x

@@ -4,7 +4,7 @@ use Rattle.std.specs.Prelude.{◌↔◌, swap, Contains}
 use Rattle.std.specs.List.{range_with_len}
 use Rattle.std.proofs.lemmas.Bool.{cases_eq, cases_lt}
 use Rattle.std.proofs.lemmas.List.{get_or-set_same, get_or-set_other, get_or-take, get_or_default, get_or_read, get_or-map, length-set, length-map, length-take-le, take_more, take-set-le, ext_get_or}
-use Rattle.std.proofs.lemmas.List.Edits.{Swapped, swapped_from_swap, swap_is, length-swap}
+use Rattle.std.proofs.lemmas.List.Edits.{swapped_from_swap, swap_is, length-swap}
 use Rattle.std.proofs.lemmas.List.FromFn.{get_or-range_with_len, length-range_with_len, fill_by_all}
 use Rattle.mrp_rows.specs.declared.numbers.PairNo.{PairNo}
 use Rattle.mrp_ready.specs.Chosen.{AreApart, ArePlaced, Chosen, chosen, number_at}

@@ -2,7 +2,7 @@
 use Rattle.std.specs.Prelude.{◌≡◌, ◌↔◌, ◌≤◌, ◌<◌, ℕ, Bool, true, false, List, length, All, Contains, slice_get, slice_index, slice_set, Some}
 use Rattle.mrp_ready.specs.declared.join.Join.{Join}
 use Rattle.mrp_ready.specs.Progress.{is_planned, IsListed, times}
-use Rattle.mrp_ready.specs.Counts.{Awaited, AreCounts, components_of, open_blocks, unplanned, IsOneEnded}
+use Rattle.mrp_ready.specs.Counts.{Awaited, AreCounts, components_of, open_blocks, IsOneEnded}
 
 -- a pair that isn't planned, has no demander at the plant that isn't planned, and awaits no block that isn't ended
 pub record NothingIsOpen (size : ℕ) (joins : List Join) (planned : List Bool) (blocks : List Awaited) (y : ℕ) : Type 0 where

@@ -1,5 +1,5 @@
 -- How far the planning of a plant's pairs is. A pair is named by its place there.
-use Rattle.std.specs.Prelude.{◌≡◌, ◌≢◌, ◌↔◌, ◌<◌, ◌+◌, ◌==◌, ℕ, Bool, true, false, not, List, length, count_by, slice_index, slice_index_or, Contains}
+use Rattle.std.specs.Prelude.{◌≡◌, ◌↔◌, ◌<◌, ◌+◌, ◌==◌, ℕ, Bool, true, false, not, List, length, count_by, slice_index, slice_index_or, Contains}
 use Rattle.mrp_rows.specs.declared.numbers.PairNo.{PairNo}
 
 -- by place the pair's number, how much it waits for, and whether it is planned; and the pairs that can be planned
@@ -17,15 +17,15 @@ is_planned planned x = slice_index_or planned x false
 abbrev pub left_of : List Bool → ℕ
 left_of planned = count_by (λ p. not p) planned
 
--- a pair that waits for nothing and isn't planned
-pub record CanBePlanned (waits : List ℕ) (planned : List Bool) (x : ℕ) : Type 0 where
+-- a pair that is free to be planned: it waits for nothing and isn't planned
+pub record IsFree (waits : List ℕ) (planned : List Bool) (x : ℕ) : Type 0 where
   pub known : x < length waits
   pub waits_for_none : slice_index waits x ≡ 0
   pub unplanned : is_planned planned x ≡ false
 
 -- the list has exactly the pairs that can be planned
 pub record IsListed (waits : List ℕ) (planned : List Bool) (ready : List ℕ) : Type 0 where
-  pub exact : (x : ℕ) → Contains ready x ↔ CanBePlanned waits planned x
+  pub exact : (x : ℕ) → Contains ready x ↔ IsFree waits planned x
 
 -- how often a pair stands in a list of components
 abbrev pub times : ℕ → List ℕ → ℕ

@@ -6,12 +6,16 @@
 //! planned: those can be planned.
 #![tactic(auto)]
 
+mod components;
 mod join;
 pub mod laws;
 mod pair_set;
 mod readiness;
 mod slots;
+mod waits;
 
+pub use components::Components;
 pub use join::Join;
 pub use mrp_rows::PairNo;
 pub use readiness::Readiness;
+pub use waits::first_waits;

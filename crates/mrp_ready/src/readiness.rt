@@ -32,8 +32,8 @@ impl Readiness {
     ghost use Rattle.std.specs.Prelude.{true, false, ◌+◌, ◌-◌, ◌≢◌, ◌≤◌, List, All, map, replicate, slice_set};
     ghost use Rattle.mrp_ready.specs.declared.join.Join.{Join};
     ghost use Rattle.mrp_ready.specs.Chosen.{AreApart, number_at};
-    ghost use Rattle.mrp_ready.specs.Progress.{CanBePlanned, IsListed, IsLess, Lowers, is_planned, left_of, times};
-    ghost use Rattle.mrp_ready.specs.Counts.{AreCounts, IsOneEnded, components_of};
+    ghost use Rattle.mrp_ready.specs.Progress.{IsFree, IsListed, IsLess, Lowers, is_planned, left_of, times};
+    ghost use Rattle.mrp_ready.specs.Counts.{AreCounts, AreFirstCounts, IsOneEnded, components_of};
 
     /// A plant of which no pair is planned.
     ///
@@ -53,6 +53,7 @@ impl Readiness {
         ensures waits { IfOk result (λ r. r.waits ≡ waits.items) }
         ensures planned { IfOk result (λ r. r.planned ≡ replicate (length numbers.now) false) }
         ensures listed { IfOk result (λ r. IsListed r.waits r.planned r.ready) }
+        ensures counts { IfOk result (λ r. (joins : List Join) (blocks : ℕ → ℕ) → AreFirstCounts waits.items joins blocks → AreCounts r.waits joins r.planned blocks) }
     {
         let planned = vec![in alloc; false; numbers.len()]?;
         let ready = waiting_for_none(alloc, numbers, &waits)?;
@@ -115,7 +116,7 @@ impl Readiness {
     /// Whether the pair at a place is ready; false where there is no such place.
     pub fn is_ready(&self, x: usize) -> bool
         ensures ready { IsTrue result ↔ Contains self.now.ready x }
-        ensures free { IsTrue result ↔ CanBePlanned self.now.waits self.now.planned x }
+        ensures free { IsTrue result ↔ IsFree self.now.waits self.now.planned x }
     {
         let _ = &self.waits;
         self.ready.contains(x)
@@ -138,7 +139,7 @@ impl Readiness {
     /// Counts a ready pair as planned; its components wait as before.
     fn mark(&mut self, x: usize)
         requires { Contains self.old.ready x }
-        ensures was_free { CanBePlanned self.old.waits self.old.planned x }
+        ensures was_free { IsFree self.old.waits self.old.planned x }
         ensures known { x < length self.old.planned }
         ensures numbers { self.new.numbers ≡ self.old.numbers }
         ensures waits { self.new.waits ≡ self.old.waits }
@@ -157,8 +158,8 @@ impl Readiness {
         requires waits { (y : ℕ) → y < length self.old.waits → times y components.now ≤ slice_index self.old.waits y }
         ensures { Lowers self.old self.new components.now }
     {
-        for &y in components {
-            self.lower(y);
+        for &component in components {
+            self.lower(component);
         }
     }
 

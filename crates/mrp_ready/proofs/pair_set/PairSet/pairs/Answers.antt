@@ -1,4 +1,4 @@
-use Rattle.std.proofs.Common.{◌≡◌, List, take, map, ap, ◌∙◌, subst}
+use Rattle.std.proofs.Common.{List, take, map, ap, ◌∙◌, subst}
 use Rattle.mrp_rows.specs.declared.numbers.PairNo.{PairNo}
 use Rattle.mrp_ready.specs.Chosen.{AreApart, Chosen, number_at}
 use Rattle.mrp_ready.proofs.Placing.{apart_first, numbers_first}

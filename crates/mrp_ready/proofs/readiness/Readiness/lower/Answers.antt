@@ -1,6 +1,3 @@
-use Rattle.std.proofs.Common.{◌≡◌, ◌-◌, ◌<◌, ℕ, length, get_or, arith, refl, ap, sym, ◌∙◌, subst}
-use Rattle.std.proofs.lemmas.List.{get_or_read, get_or-set_same, length-set}
-use Rattle.mrp_ready.specs.Progress.{Progress}
 use Rattle.mrp_ready.proofs.Listing.{lowered_free, lowered_waiting}
 use Rattle.mrp_ready.proofs.readiness.Readiness.lower.Goals as goal
 

@@ -2,5 +2,5 @@ use Rattle.std.proofs.Common.{take}
 use Rattle.mrp_ready.specs.Progress.{Lowers}
 use Rattle.mrp_ready.proofs.readiness.Readiness.lower_each.Given as goal
 
-abbrev pub invariant-loop-y : goal.invariant-loop-y
-invariant-loop-y l = Lowers l.initial.self l.self (take l.y-index l.components)
+abbrev pub invariant-loop-component : goal.invariant-loop-component
+invariant-loop-component l = Lowers l.initial.self l.self (take l.component-index l.components)
