@@ -1,0 +1,72 @@
+-- What an agent sends next on a lane, by the lane's place.
+use Rattle.std.specs.Prelude.{ℕ, ◌-◌, ◌+◌, ◌≤◌, List, length, map, find, slice_index, slice_get, Option, None, Some, option_map}
+use Rattle.std.specs.List.{range_with_len}
+use Rattle.mrp_net.specs.declared.lane.LaneKind.{LaneKind}
+use Rattle.mrp_net.specs.declared.lane.LaneKind.TheVariants.{Despatch, Schedule}
+use Rattle.mrp_net.specs.declared.lane.Shipment.{Shipment}
+use Rattle.mrp_view.specs.declared.view.OutgoingLane.{OutgoingLane}
+use Rattle.mrp_view.specs.declared.view.OutgoingItem.{OutgoingItem}
+use Rattle.mrp_view.specs.Loads.{Load, bare, load_at}
+use Rattle.mrp_record.specs.declared.record.Record.{Record}
+use Rattle.mrp_record.specs.Entries.{Delivery}
+use Rattle.mrp_events.specs.Loads.{delivery_in, has_pieces}
+use Rattle.mrp_book.specs.declared.item.ItemFigure.{ItemFigure}
+use Rattle.mrp_book.specs.Faults.{find_item}
+use Rattle.mrp_book.specs.Figures.{Figures}
+use Rattle.mrp_cursor.specs.declared.remainder.NextLine.{NextLine}
+use Rattle.mrp_cursor.specs.declared.remainder.Remainder.{Remainder}
+use Rattle.mrp_cursor.specs.Next.{next_record}
+use Rattle.mrp_agent.specs.State.{AgentState, book_at, out_at, incoming_place, outgoing_at, plans_of}
+use Rattle.mrp_agent.specs.Goods.{share}
+
+-- the cumulative figure of an item in a book
+abbrev pub figure_of : Option ItemFigure → ℕ
+figure_of None = 0
+figure_of (Some g) = g.figure + g.closed
+
+abbrev pub figure_in : Figures → ℕ → ℕ
+figure_in book item = figure_of (find_item book.items item)
+
+-- the first shipment from a mark on
+abbrev pub shipment_line : ℕ → Shipment → NextLine
+shipment_line mark s = record { period = s.period; quantity = s.quantity; after = mark + 1 }
+
+abbrev pub next_shipment : List Shipment → ℕ → Option NextLine
+next_shipment shipments mark = option_map (shipment_line mark) (slice_get shipments mark)
+
+-- the first period from a mark on in which there is something to call for
+abbrev pub call_line : Delivery → NextLine
+call_line line = record { period = line.period; quantity = line.quantity; after = line.period + 1 }
+
+abbrev pub next_called : List ℕ → OutgoingItem → ℕ → Option NextLine
+next_called release item mark =
+    option_map call_line (find has_pieces (map (delivery_in (λ period. share item (slice_index release period))) (range_with_len mark (length release - mark))))
+
+-- a share of thousandths
+pub record AreShares (item : OutgoingItem) : Type 0 where
+  pub rises : item.low ≤ item.high
+  pub ends : item.high ≤ 1000
+
+abbrev pub left_to_ship : Load → ℕ → Remainder
+left_to_ship load mark = record { item = load.item; opening = load.figure; reset = load.reset; line = next_shipment load.shipments mark }
+
+-- what is left of the item at a place from a mark on
+abbrev pub remainder_by : LaneKind → AgentState → OutgoingLane → Load → ℕ → Remainder
+remainder_by Despatch A lane load mark = left_to_ship load mark
+remainder_by Schedule A lane load mark = record {
+  item = load.item;
+  opening = figure_in (book_at A (incoming_place A.view (lane.number.0 - 1))) load.item.0;
+  reset = load.reset;
+  line = next_called (plans_of A load.customer.0).release (bare load) mark;
+}
+
+abbrev pub remainder : AgentState → OutgoingLane → ℕ → ℕ → Remainder
+remainder A lane mark place = remainder_by lane.kind A lane (load_at lane.items place) mark
+
+-- what is left of the item at the head
+abbrev pub left_at : AgentState → ℕ → Option Remainder
+left_at A k = option_map (remainder A (outgoing_at A.view k) (out_at A k).mark) (slice_get (out_at A k).queue (out_at A k).head)
+
+-- the record that is sent next
+abbrev pub next_out : AgentState → ℕ → Option Record
+next_out A k = next_record (out_at A k) (left_at A k)

@@ -1,0 +1,88 @@
+-- What the agent of a plant keeps, by places: a lane has a place among those that come in or among those
+-- that go out, and a pair one among the plant's pairs.
+use Rattle.std.specs.Prelude.{ℕ, ◌*◌, ◌+◌, ◌-◌, ◌^◌, ◌==◌, Bool, false, true, List, [], map, slice_index, slice_index_or, Option, None}
+use Rattle.std.specs.List.{position_or_len}
+use Rattle.mrp_lot.specs.One.{PlanRows}
+use Rattle.mrp_lot.specs.declared.params.PairParams.{PairParams}
+use Rattle.mrp_lot.specs.declared.rule.Rule.TheVariants.{LotForLot}
+use Rattle.mrp_rows.specs.declared.numbers.ItemNo.{ItemNo}
+use Rattle.mrp_rows.specs.declared.numbers.PairNo.{PairNo}
+use Rattle.mrp_net.specs.declared.lane.LaneKind.TheVariants.{Despatch}
+use Rattle.mrp_view.specs.declared.view.IncomingLane.{IncomingLane}
+use Rattle.mrp_view.specs.declared.view.OutgoingLane.{OutgoingLane}
+use Rattle.mrp_view.specs.declared.view.PlantPair.{PlantPair}
+use Rattle.mrp_view.specs.View.{PlantRows}
+use Rattle.mrp_book.specs.Figures.{Figures}
+use Rattle.mrp_cursor.specs.Cursor.{OutFigures}
+use Rattle.mrp_ready.specs.Progress.{Progress}
+
+-- What it sees; the book of each lane that comes in; by pair and period what comes in and what is asked for
+-- beside the parents, as far as it has come; the plan of each pair; which pairs are planned or can be; and
+-- the cursor of each lane that goes out.
+pub record AgentState : Type 0 where
+  pub view : PlantRows
+  pub books : List Figures
+  pub came : List ℕ
+  pub called : List ℕ
+  pub plans : List PlanRows
+  pub progress : Progress
+  pub outs : List OutFigures
+
+-- ---- look-ups, and what they read past the end
+
+abbrev pub no_plan : PlanRows
+no_plan = record { gross = []; incoming = []; order = []; release = []; available = []; late = [] }
+
+abbrev pub no_book : Figures
+no_book = record { rising = false; horizon = 0; next = 0; closed = false; begun = None; items = [] }
+
+abbrev pub no_out : OutFigures
+no_out = record { next = 0; closed = false; size = 0; queue = []; head = 0; mark = 0; lines = 0; moved = 0; anew = false }
+
+abbrev pub no_incoming : IncomingLane
+no_incoming = record { number = record { 0 = 0 }; kind = Despatch; items = [] }
+
+abbrev pub no_outgoing : OutgoingLane
+no_outgoing = record { number = record { 0 = 0 }; kind = Despatch; items = [] }
+
+-- the lane at a place, its book or its cursor
+abbrev pub incoming_at : PlantRows → ℕ → IncomingLane
+incoming_at V k = slice_index_or V.incoming k no_incoming
+
+abbrev pub outgoing_at : PlantRows → ℕ → OutgoingLane
+outgoing_at V k = slice_index_or V.outgoing k no_outgoing
+
+abbrev pub book_at : AgentState → ℕ → Figures
+book_at A k = slice_index_or A.books k no_book
+
+abbrev pub out_at : AgentState → ℕ → OutFigures
+out_at A k = slice_index_or A.outs k no_out
+
+-- the place of the lane with a number
+abbrev pub incoming_place : PlantRows → ℕ → ℕ
+incoming_place V l = position_or_len (λ lane. lane.number.0 == l) V.incoming
+
+abbrev pub outgoing_place : PlantRows → ℕ → ℕ
+outgoing_place V l = position_or_len (λ lane. lane.number.0 == l) V.outgoing
+
+-- the place of the pair with a number, and of the pair of an item
+abbrev pub pair_place : PlantRows → ℕ → ℕ
+pair_place V x = position_or_len (λ p. p.number.0 == x) V.pairs
+
+abbrev pub item_place : PlantRows → ItemNo → ℕ
+item_place V item = position_or_len (λ p. p.item.0 == item.0) V.pairs
+
+abbrev pub no_pair : PlantPair
+no_pair = record {
+  number = record { 0 = 0 };
+  item = record { 0 = 0 };
+  params = record { rule = LotForLot; lead = 0; on_hand = 0; safety = 0 };
+}
+
+-- the pair with a number
+abbrev pub pair_of : PlantRows → PairNo → PlantPair
+pair_of V x = slice_index_or V.pairs (pair_place V x.0) no_pair
+
+-- the plan that is kept of the pair with a number
+abbrev pub plans_of : AgentState → ℕ → PlanRows
+plans_of A x = slice_index_or A.plans (pair_place A.view x) no_plan
