@@ -1,10 +1,10 @@
 -- What the checks of a record say of its first fault, and what booking it keeps.
-use Rattle.std.proofs.Common.{◌≡◌, ℕ, ◌+◌, ◌<◌, ◌≤◌, ◌==◌, Bool, true, false, cond, not, ◌||◌, Ok, Err, Some, None, Option, List, [], ◌∷◌, ◌++◌, ◌⊎◌, inl, inr, refl, sym, ◌∙◌, ap, subst, length, map, set, zero, suc, arith}
+use Rattle.std.proofs.Common.{◌≡◌, ℕ, ◌+◌, ◌<◌, ◌≤◌, ◌==◌, Bool, true, false, cond, not, ◌||◌, Ok, Err, Some, None, Option, List, [], ◌∷◌, ◌++◌, ◌⊎◌, inl, inr, refl, sym, ◌∙◌, ap, subst, length, map, get_or, set, zero, suc, arith}
 use Rattle.std.specs.Prelude.{slice_get, position, nat_lt}
 use Rattle.std.specs.List.{All, find, list_all}
 use Rattle.std.proofs.lemmas.Bool.{cases_Bool, not-false, eqb-true, ltb-false, or_parts}
 use Rattle.std.proofs.lemmas.List.Elements.{All-set, All-weaker, All-get_or}
-use Rattle.std.proofs.lemmas.Option.{get_or_from_slice_get}
+use Rattle.std.proofs.lemmas.Option.{get_or_from_slice_get, slice_get_read}
 use Rattle.mrp_qty.specs.declared.quantity.TheConstants.{MOST}
 use Rattle.mrp_rows.specs.declared.numbers.ItemNo.{ItemNo}
 use Rattle.mrp_book.specs.declared.fault.BookFault.{BookFault}
@@ -104,6 +104,32 @@ reset_kept next names items k g h number closed kept inside at now is free =
 pub items_after : (items : List ItemFigure) (item k : ℕ) (g h : ItemFigure) (change : ItemFigure → ItemFigure) → position (λ i. i.item.0 == item) items ≡ Some k → slice_get items k ≡ Some g → h ≡ change g
     → set items k h ≡ at_item item change items
 items_after items item k g h change e at is = ap (set items k) is ∙ changed_at item change items k g e at
+
+-- ---- the figures of the item in turn
+
+-- as they stand in the book and in what it shows
+pub record Found (mine yours : List ItemFigure) (k : ℕ) (g : ItemFigure) : Type 0 where
+  pub inside : k < length mine
+  pub here : slice_get mine k ≡ Some g
+  pub at : slice_get yours k ≡ Some g
+
+pub found : (mine yours : List ItemFigure) (k : ℕ) (g : ItemFigure) → mine ≡ yours → k < length yours → g ≡ get_or mine k g → Found mine yours k g
+found mine yours k g same within read =
+    let inside : k < length mine = omega (arith, ap length same, within) in
+    let here : slice_get mine k ≡ Some g = slice_get_read mine (length mine) k g refl inside read in
+    record { inside = inside; here = here; at = subst (λ (z : List ItemFigure). slice_get z k ≡ Some g) same here }
+
+-- read again they are the same
+pub same_again : (items : List ItemFigure) (k : ℕ) (g h : ItemFigure) → slice_get items k ≡ Some g → k < length items → h ≡ get_or items k h → h ≡ g
+same_again items k g h here inside read =
+    let again : slice_get items k ≡ Some h = slice_get_read items (length items) k h refl inside read in
+    cc (here, again)
+
+-- and with them changed the items are those after booking
+pub items_changed : (mine yours : List ItemFigure) (item k : ℕ) (g h : ItemFigure) (change : ItemFigure → ItemFigure) → mine ≡ yours → position (λ i. i.item.0 == item) yours ≡ Some k
+    → slice_get yours k ≡ Some g → h ≡ change g → set mine k h ≡ at_item item change yours
+items_changed mine yours item k g h change same e at is =
+    ap (λ (z : List ItemFigure). set z k h) same ∙ items_after yours item k g h change e at is
 
 -- the figures after a record of an item
 abbrev pub advanced : Figures → Option ℕ → List ItemFigure → Figures

@@ -1,7 +1,7 @@
 -- Where a cursor gives no record none can be sent.
-use Rattle.std.proofs.Common.{◌≡◌, ℕ, ◌+◌, ◌<◌, ◌≤◌, cond, Bool, true, false, Some, None, Option, List, [], ◌∷◌, ◌++◌, ◌⊎◌, inl, inr, refl, sym, ◌∙◌, ap, subst, length, map, take, drop, suc, length-append, arith}
+use Rattle.std.proofs.Common.{◌≡◌, ℕ, ◌<◌, ◌≤◌, cond, Bool, true, false, Some, None, List, [], ◌∷◌, ◌++◌, ◌⊎◌, inl, inr, refl, sym, ◌∙◌, ap, subst, length, take, drop, suc, length-append, arith}
 use Rattle.std.specs.Prelude.{slice_get, nat_lt, ◌||◌}
-use Rattle.std.specs.List.{Contains, flat_map, list_any, filter}
+use Rattle.std.specs.List.{Contains, list_any, filter}
 use Rattle.std.proofs.lemmas.Bool.{cases_Bool, or_cases, ltb-true, eq-eqb}
 use Rattle.std.proofs.lemmas.List.{append-nil, length-map, take_all}
 use Rattle.std.proofs.lemmas.List.Elements.{filter-append}
@@ -10,14 +10,12 @@ use Rattle.mrp_record.specs.declared.record.Record.{Record}
 use Rattle.mrp_record.specs.declared.record.Record.TheVariants.{Close}
 use Rattle.mrp_record.specs.Entries.{Entry, LineOf, EndOf, ResetOf, Closing, content, contents, is_of, is_end, entries_of, is_ended}
 use Rattle.mrp_record.specs.Laws.{AreLoads}
-use Rattle.mrp_record.specs.Text.{Load, block, block_length, body, last_figure, length_of_text, IsBeginning}
+use Rattle.mrp_record.specs.Text.{Load, block, body, last_figure, IsBeginning}
 use Rattle.mrp_record.proofs.Beginnings.{closed_is_whole, texts_have_one_length, beginnings_are_no_longer, ended_items_are_done}
 use Rattle.mrp_record.proofs.Own.{AllOf-block, own_kept}
 use Rattle.mrp_record.proofs.Running.{length-block}
-use Rattle.mrp_cursor.specs.declared.remainder.Remainder.{Remainder}
 use Rattle.mrp_cursor.specs.Cursor.{OutFigures, Goods, load_of, blocks}
 use Rattle.mrp_cursor.specs.Laws.{Agrees, IsQueued, MaySend, NoneIsLeft}
-use Rattle.mrp_cursor.specs.Next.{next_record}
 use Rattle.mrp_cursor.specs.Shows.{ShowsSent}
 use Rattle.mrp_cursor.proofs.Lists.{none_there, contains_there, any_left, any_right}
 use Rattle.mrp_cursor.proofs.Texts.{sizes_are, blocks_there, load_at, later_blocks, whole_text, open_text}

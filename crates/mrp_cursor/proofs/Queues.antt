@@ -1,22 +1,23 @@
 -- Places that come to the queue, and the goods that a cursor looks at.
-use Rattle.std.proofs.Common.{◌≡◌, ℕ, ◌+◌, ◌<◌, ◌≤◌, cond, Bool, true, false, Some, None, List, [], ◌∷◌, ◌++◌, inl, inr, refl, sym, ◌∙◌, ap, subst, length, take, drop, length-append, arith}
-use Rattle.std.specs.Prelude.{slice_get, nat_lt, remove}
-use Rattle.std.specs.List.{Contains, flat_map, range_with_len}
+use Rattle.std.proofs.Common.{◌≡◌, ℕ, ◌<◌, true, List, [], ◌∷◌, ◌++◌, inl, inr, refl, sym, ◌∙◌, ap, subst, length, take, drop, length-append, arith}
+use Rattle.std.specs.Prelude.{nat_lt, slice_index, ◌&&◌, remove}
+use Rattle.std.specs.List.{Contains, range_with_len}
 use Rattle.std.specs.List.Sorted.{IsPermutation}
-use Rattle.std.proofs.lemmas.Bool.{both_ways, lt-ltb, cond-true, cases_lt}
-use Rattle.std.proofs.lemmas.List.{take-append-le, take-append-drop}
+use Rattle.std.proofs.lemmas.Bool.{false≢true, and_from, lt-ltb, cond-true, cases_lt}
+use Rattle.std.proofs.lemmas.List.{append-nil, take-append-le, take-append-drop}
+use Rattle.std.proofs.Math.Seq.{take-length}
+use Rattle.std.proofs.lemmas.List.FromFn.{length-range_with_len, get_or-range_with_len}
 use Rattle.std.proofs.lemmas.List.Elements.{Contains-append_left, Contains-append_cases}
-use Rattle.std.proofs.lemmas.Option.{slice_get_within}
 use Rattle.std.proofs.lemmas.List.Sorted.{Contains-permutation, IsPermutation-more, IsPermutation-refl}
 use Rattle.mrp_record.specs.declared.record.Record.{Record}
 use Rattle.mrp_record.specs.Entries.{Entry}
 use Rattle.mrp_record.specs.Text.{block}
-use Rattle.mrp_cursor.specs.Cursor.{OutFigures, Goods, load_of, blocks}
+use Rattle.mrp_cursor.specs.Cursor.{OutFigures, IsQueue, Goods, load_of, blocks, unsent}
 use Rattle.mrp_cursor.specs.Laws.{QueuesShow, LooksAtQueued}
 use Rattle.mrp_cursor.specs.Next.{queued}
 use Rattle.mrp_cursor.specs.Shows.{ShowsSent, IsPart}
 use Rattle.mrp_cursor.proofs.Lists.{still_there, contains_there, range_has, Contains-first, Contains-rest}
-use Rattle.mrp_cursor.proofs.Parts.{part_fresh_at}
+use Rattle.mrp_cursor.proofs.Parts.{part_fresh, part_fresh_at}
 use Rattle.mrp_cursor.proofs.Texts.{sizes_are}
 
 -- ---- one place more
@@ -61,7 +62,8 @@ queues_show goods o sent place h inside absent =
     let later = is_later o.size o.queue h.later place h.places inside absent in
     let room : length o.queue < o.size = omega (arith, sizes_are o.size o.queue h.later h.places, later.1) in
     let longer : OutFigures = record o { queue = o.queue ++ place ∷ [] } in
-    let is : queued o place ≡ longer = cond-true {A = OutFigures} (nat_lt (length o.queue) o.size) longer o (lt-ltb (length o.queue) o.size room) in
+    let is : queued o place ≡ longer = cond-true {A = OutFigures} (nat_lt place o.size && nat_lt (length o.queue) o.size) longer o
+    (and_from (nat_lt place o.size) (nat_lt (length o.queue) o.size) (lt-ltb place o.size inside) (lt-ltb (length o.queue) o.size room)) in
     (ap (λ (z : OutFigures). z.queue) is, subst (λ (z : OutFigures). ShowsSent goods z sent) (sym is) (push_shows goods o sent place h later room))
 
 -- ---- goods of queued places
@@ -97,18 +99,48 @@ looks_at_queued goods others o sent same h =
 
 -- ---- before the first record
 
-pub nothing_sent : (goods : ℕ → Goods) (o : OutFigures) → o.next ≡ 1 → o.closed ≡ false → o.queue ≡ [] → o.head ≡ 0 → o.mark ≡ 0 → o.lines ≡ 0 → o.moved ≡ 0 → o.anew ≡ false → ShowsSent goods o []
-nothing_sent goods o next is_open queue head mark lines moved anew =
+nothing_sent : (goods : ℕ → Goods) (size : ℕ) (queue later : List ℕ) → IsPermutation (range_with_len 0 size) (queue ++ later) → ShowsSent goods (unsent size queue) []
+nothing_sent goods size queue later places =
     record {
       numbers = tt;
-      next = omega arith;
-      later = range_with_len 0 o.size;
-      places =
-          subst (λ (z : List ℕ). IsPermutation (range_with_len 0 o.size) (z ++ range_with_len 0 o.size)) (sym queue) (IsPermutation-refl (range_with_len 0 o.size));
+      next = refl;
+      later = later;
+      places = places;
       head = omega arith;
       part = [];
-      text = ap (λ (n : ℕ). blocks goods (take n o.queue) ++ []) (sym head);
-      within = λ _ place there. absurd (omega (arith, slice_get_within o.queue o.head place there, ap length queue));
-      between = λ _ _. (refl, record { mark = mark; lines = lines; moved = moved; anew = anew });
-      after = λ closed. absurd (both_ways o.closed is_open closed);
+      text = refl;
+      within = λ _ place _. part_fresh (goods place);
+      between = λ _ _. (refl, record { mark = refl; lines = refl; moved = refl; anew = refl });
+      after = λ closed. absurd (false≢true closed);
+    }
+
+-- with no place queued, and with all
+pub none_shows : (goods : ℕ → Goods) (size : ℕ) (o : OutFigures) → o ≡ unsent size [] → ShowsSent goods o []
+none_shows goods size o is =
+    subst (λ (z : OutFigures). ShowsSent goods z []) (sym is)
+    (nothing_sent goods size [] (range_with_len 0 size) (IsPermutation-refl (range_with_len 0 size)))
+
+pub all_show : (goods : ℕ → Goods) (size : ℕ) (o : OutFigures) → o ≡ unsent size (range_with_len 0 size) → ShowsSent goods o []
+all_show goods size o is =
+    let all = range_with_len 0 size in
+    let places : IsPermutation all (all ++ []) = subst (IsPermutation all) (sym (append-nil all)) (IsPermutation-refl all) in
+    subst (λ (z : OutFigures). ShowsSent goods z []) (sym is) (nothing_sent goods size all [] places)
+
+-- a list of all places, with all of them queued
+pub all_queued : (size : ℕ) (slots : List ℕ) (queued : ℕ) (o : OutFigures) → slots ≡ range_with_len 0 size → queued ≡ length slots → o ≡ unsent (length slots) (take queued slots) → o ≡ unsent size (range_with_len 0 size)
+all_queued size slots queued o is count e =
+    let length_is : length slots ≡ size = ap length is ∙ length-range_with_len 0 size in
+    e
+    ∙ ap (λ (n : ℕ). unsent n (take queued slots)) length_is
+    ∙ ap (λ (n : ℕ). unsent size (take n slots)) count
+    ∙ ap (unsent size) (take-length slots ∙ is)
+
+pub all_fit : (size : ℕ) (slots : List ℕ) (queued : ℕ) → slots ≡ range_with_len 0 size → queued ≡ length slots → IsQueue 0 queued slots
+all_fit size slots queued is count =
+    let length_is : length slots ≡ size = ap length is ∙ length-range_with_len 0 size in
+    record {
+      within = omega arith;
+      room = omega arith;
+      places = λ i h.
+          omega (arith, ap (λ (z : List ℕ). slice_index z i) is, get_or-range_with_len 0 size i 0 (omega (arith, length_is, count, h)), length_is, count, h);
     }

@@ -1,14 +1,13 @@
 -- After each step a cursor shows the list with the record that it gave.
-use Rattle.std.proofs.Common.{◌≡◌, ℕ, ◌+◌, ◌-◌, ◌^◌, ◌<◌, ◌≤◌, min, cond, suc, Bool, true, false, Some, None, Option, List, [], ◌∷◌, ◌++◌, inl, inr, refl, sym, ◌∙◌, ap, subst, length, take, append_assoc, length-append, arith}
-use Rattle.std.specs.Prelude.{slice_get, nat_lt, if◌then◌else◌, ◌||◌}
+use Rattle.std.proofs.Common.{◌≡◌, ℕ, ◌+◌, ◌^◌, ◌<◌, ◌≤◌, min, cond, suc, Bool, true, false, Some, None, Option, List, [], ◌∷◌, ◌++◌, inl, inr, refl, sym, ◌∙◌, ap, subst, length, take, append_assoc, length-append, arith}
+use Rattle.std.specs.Prelude.{slice_get, nat_lt, ◌||◌}
 use Rattle.std.specs.List.{Contains, flat_map}
-use Rattle.std.proofs.lemmas.Bool.{cases_Bool, both_ways, false≢true, or_parts, or_left, or_right, ltb-false, ltb-true, le-ltb}
+use Rattle.std.proofs.lemmas.Bool.{cases_Bool, both_ways, false≢true, or_parts, ltb-false}
 use Rattle.std.proofs.lemmas.Grind.{flat_map-append}
-use Rattle.std.proofs.lemmas.List.{append-nil, map-append, take_all}
-use Rattle.std.proofs.lemmas.List.Sums.{sum_by-cons}
-use Rattle.std.proofs.lemmas.Option.{slice_get_within, slice_get_past}
+use Rattle.std.proofs.lemmas.List.{append-nil, map-append}
+use Rattle.std.proofs.lemmas.Option.{slice_get_within}
 use Rattle.mrp_record.specs.declared.record.Record.{Record}
-use Rattle.mrp_record.specs.declared.record.Record.TheVariants.{Line, ItemEnd, Reset, Close}
+use Rattle.mrp_record.specs.declared.record.Record.TheVariants.{Close}
 use Rattle.mrp_record.specs.Entries.{Entry, LineOf, EndOf, ResetOf, Closing, Delivery, number_of, content, contents}
 use Rattle.mrp_record.specs.Form.{is_anew}
 use Rattle.mrp_record.specs.Text.{Load, block, total, NumberedFrom}
@@ -17,12 +16,12 @@ use Rattle.mrp_cursor.specs.declared.remainder.Due.TheVariants.{Moving, Restarti
 use Rattle.mrp_cursor.specs.declared.remainder.NextLine.{NextLine}
 use Rattle.mrp_cursor.specs.declared.remainder.Remainder.{Remainder}
 use Rattle.mrp_cursor.specs.Cursor.{OutFigures, Goods, load_of, blocks}
-use Rattle.mrp_cursor.specs.Laws.{Agrees, IsSmall, IsBounded, IsQueued, MaySend, GivenContinues, StepsShow}
-use Rattle.mrp_cursor.specs.Next.{IsNext, IsRemainder, IsLeft, is_reset_due, due, added, figure_said, record_due, next_record, stepped_by, stepped}
+use Rattle.mrp_cursor.specs.Laws.{Agrees, IsBounded, IsQueued, MaySend, GivenContinues, StepsShow}
+use Rattle.mrp_cursor.specs.Next.{IsNext, IsRemainder, IsLeft, due, added, figure_said, record_due, next_record, stepped_by, stepped}
 use Rattle.mrp_cursor.specs.Shows.{ShowsSent, IsPart, figure_at, reset_at}
 use Rattle.mrp_cursor.proofs.Dues.{line_is_due, reset_is_due, end_is_due, reset_is_next}
 use Rattle.mrp_cursor.proofs.Lists.{take_there, none_there, contains_there, same_there}
-use Rattle.mrp_cursor.proofs.Parts.{IsResetNext, part_fresh, part_line, part_reset, part_end, total-cons}
+use Rattle.mrp_cursor.proofs.Parts.{part_fresh, part_line, part_reset, part_end, total-cons}
 use Rattle.mrp_cursor.proofs.Texts.{sizes_are, shown_begin}
 
 -- ---- one record more

@@ -1,25 +1,25 @@
 -- A shown list is a legal beginning, a closed one a whole text, and none is long.
-use Rattle.std.proofs.Common.{◌≡◌, ℕ, ◌+◌, ◌*◌, ◌<◌, ◌≤◌, suc, Bool, true, false, Some, None, Option, List, [], ◌∷◌, ◌++◌, ◌⊎◌, inl, inr, refl, sym, ◌∙◌, ap, subst, length, get_or, map, take, drop, append_assoc, length-append, arith}
+use Rattle.std.proofs.Common.{◌≡◌, ℕ, ◌+◌, ◌*◌, ◌≤◌, suc, true, false, Some, None, Option, List, [], ◌∷◌, ◌++◌, ◌⊎◌, inl, inr, refl, sym, ◌∙◌, ap, subst, length, get_or, map, take, drop, append_assoc, length-append, arith}
 use Rattle.std.specs.Prelude.{slice_get}
 use Rattle.std.specs.List.{Contains, flat_map, list_any, range_with_len}
 use Rattle.std.specs.List.Sorted.{IsPermutation}
 use Rattle.std.proofs.Math.Nat.{mul-le-mul_left, mul-suc}
-use Rattle.std.proofs.lemmas.Bool.{cases_Bool, both_ways}
+use Rattle.std.proofs.lemmas.Bool.{cases_Bool}
 use Rattle.std.proofs.lemmas.Grind.{flat_map-append}
 use Rattle.std.proofs.lemmas.List.{append-nil, length-map, map-append, take_all, take-append-drop, nil_from_length}
 use Rattle.std.proofs.lemmas.List.FromFn.{length-range_with_len}
 use Rattle.std.proofs.lemmas.List.Sorted.{IsPermutation-map, IsPermutation-sym, Contains-permutation, length_permutation}
 use Rattle.std.proofs.lemmas.List.Elements.{Contains-append_left}
-use Rattle.std.proofs.lemmas.Option.{get_or_from_slice_get, slice_get_within, slice_get_past}
+use Rattle.std.proofs.lemmas.Option.{get_or_from_slice_get}
 use Rattle.mrp_record.specs.declared.record.Record.{Record}
 use Rattle.mrp_record.specs.Entries.{Entry, Closing, content, contents, is_closing, is_closed}
-use Rattle.mrp_record.specs.Text.{Load, block, block_length, text_of, IsText, IsWhole, IsBeginning}
+use Rattle.mrp_record.specs.Text.{Load, block, block_length, IsText}
 use Rattle.mrp_record.proofs.Own.{AllOf-block, none_closing, list_any-append, list_any-front}
 use Rattle.mrp_record.proofs.Running.{length-block}
 use Rattle.mrp_cursor.specs.Cursor.{OutFigures, Goods, load_of, blocks}
-use Rattle.mrp_cursor.specs.Laws.{Agrees, ShownBegin, ClosedIsShown, ClosedShowsWhole, ShownAreShort, QueuedArePlaces}
-use Rattle.mrp_cursor.specs.Shows.{ShowsSent, IsPart, left_from, figure_at, reset_at}
-use Rattle.mrp_cursor.proofs.Lists.{drop_there, none_there, contains_there, Contains-first, Contains-rest, elements_are, range_below, any_right}
+use Rattle.mrp_cursor.specs.Laws.{Agrees, ShownBegin, ClosedIsShown, ClosedShowsWhole, ShownAreShort, SmallAreBounded, QueuedArePlaces}
+use Rattle.mrp_cursor.specs.Shows.{ShowsSent, left_from, figure_at, reset_at}
+use Rattle.mrp_cursor.proofs.Lists.{contains_there, drop_there, none_there, Contains-first, Contains-rest, elements_are, range_below, any_right}
 
 -- ---- places
 
@@ -218,3 +218,10 @@ shown_are_short goods o sent most h small =
           let left = queue_is_left goods o sent h is_open in
           omega (arith, few, within, sent_size, ap length left.1, length-append (contents sent) left.0)
     ]
+
+pub small_are_bounded : SmallAreBounded
+small_are_bounded goods o sent most h small room =
+    record {
+      number = omega (arith, h.next, shown_are_short goods o sent most h (λ place there. (small place there).1));
+      head = λ place at. (small place (contains_there o.queue o.head place at)).0;
+    }

@@ -1,5 +1,5 @@
 -- What a sender keeps of an outgoing lane, and what it has to send there.
-use Rattle.std.specs.Prelude.{ℕ, Bool, List, Option}
+use Rattle.std.specs.Prelude.{ℕ, ◌≤◌, ◌<◌, Bool, false, List, length, slice_index, Option}
 use Rattle.std.specs.List.{flat_map}
 use Rattle.mrp_record.specs.Entries.{Entry, Delivery}
 use Rattle.mrp_record.specs.Text.{Load, block}
@@ -18,6 +18,17 @@ pub record OutFigures : Type 0 where
   pub lines : ℕ
   pub moved : ℕ
   pub anew : Bool
+
+-- the queue stands at the front of the room for all places, and has places of the lane alone
+pub record IsQueue (head queued : ℕ) (slots : List ℕ) : Type 0 where
+  pub within : head ≤ queued
+  pub room : queued ≤ length slots
+  pub places : (i : ℕ) → i < queued → slice_index slots i < length slots
+
+-- the figures before the first record
+abbrev pub unsent : ℕ → List ℕ → OutFigures
+unsent size queue =
+    record { next = 1; closed = false; size = size; queue = queue; head = 0; mark = 0; lines = 0; moved = 0; anew = false }
 
 -- What a lane has to carry of the item at a place: the figure that it opens with, the period from which its
 -- figures start anew, if they do, and its deliveries from a mark on. All are from mark 0 on.

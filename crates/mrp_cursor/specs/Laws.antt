@@ -1,5 +1,5 @@
 -- Laws of cursors and the lists that they show.
-use Rattle.std.specs.Prelude.{◌≡◌, ℕ, ◌+◌, ◌*◌, ◌^◌, ◌≤◌, ◌<◌, Bool, true, false, List, [], ◌∷◌, ◌++◌, length, slice_get, Option, Some, None, Contains}
+use Rattle.std.specs.Prelude.{◌≡◌, ℕ, ◌+◌, ◌*◌, ◌^◌, ◌≤◌, ◌<◌, true, List, [], ◌∷◌, ◌++◌, length, slice_get, Option, Some, None, Contains}
 use Rattle.mrp_record.specs.declared.record.Record.{Record}
 use Rattle.mrp_record.specs.Entries.{Entry, LineOf, EndOf, ResetOf, Closing, content, contents, is_closed}
 use Rattle.mrp_record.specs.Laws.{AreLoads}
@@ -110,3 +110,11 @@ ShownAreShort =
     (goods : ℕ → Goods) (o : OutFigures) (sent : List Record) (most : ℕ)
     → ShowsSent goods o sent → ((place : ℕ) → Contains o.queue place → block_length (load_of (goods place)) ≤ most)
     → length sent ≤ most * o.size + 1
+
+-- so small goods at all queued places, in blocks of so many records at most, keep a cursor within bounds
+abbrev pub SmallAreBounded : Type 0
+SmallAreBounded =
+    (goods : ℕ → Goods) (o : OutFigures) (sent : List Record) (most : ℕ)
+    → ShowsSent goods o sent
+    → ((place : ℕ) → Contains o.queue place → IsSmall (goods place) × (block_length (load_of (goods place)) ≤ most))
+    → most * o.size + 3 < 2 ^ 64 → IsBounded goods o

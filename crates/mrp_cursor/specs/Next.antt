@@ -77,6 +77,6 @@ abbrev pub stepped : OutFigures → Option Remainder → OutFigures
 stepped o None = record o { next = added o.next 1; closed = true }
 stepped o (Some left) = stepped_by o (due o.anew left)
 
--- with one more place in the queue, if there is room
+-- with one more place of the lane in the queue, if there is room
 abbrev pub queued : OutFigures → ℕ → OutFigures
-queued o place = if nat_lt (length o.queue) o.size then record o { queue = o.queue ++ place ∷ [] } else o
+queued o place = if nat_lt place o.size && nat_lt (length o.queue) o.size then record o { queue = o.queue ++ place ∷ [] } else o

@@ -1,4 +1,5 @@
-ghost use Rattle.std.specs.Prelude.{◌≡◌, ℕ};
+ghost use Rattle.std.specs.Prelude.{◌≡◌, ℕ, IfOk};
+ghost use Rattle.std.specs.List.{range_with_len};
 
 use crate::remainder::Due;
 use crate::{NextLine, Record, Remainder};
@@ -27,8 +28,8 @@ pub struct OutCursor {
 }
 
 impl Model for OutCursor {
-    ghost use Rattle.std.specs.Prelude.{◌≤◌, take, length};
-    ghost use Rattle.mrp_cursor.specs.Cursor.{OutFigures};
+    ghost use Rattle.std.specs.Prelude.{take, length};
+    ghost use Rattle.mrp_cursor.specs.Cursor.{OutFigures, IsQueue};
 
     ghost Value = { OutFigures };
 
@@ -44,12 +45,12 @@ impl Model for OutCursor {
       anew = o.anew;
     } };
 
-    ghost invariant = { λ o. (o.head ≤ o.queued) × (o.queued ≤ length o.slots.items) };
+    ghost invariant = { λ o. IsQueue o.head o.queued o.slots.items };
 }
 
 impl OutCursor {
-    ghost use Rattle.std.specs.Prelude.{[], IfOk, slice_get, None};
-    ghost use Rattle.mrp_cursor.specs.Cursor.{Goods};
+    ghost use Rattle.std.specs.Prelude.{◌<◌, [], slice_get, IfSome, None, take, length};
+    ghost use Rattle.mrp_cursor.specs.Cursor.{Goods, IsQueue, unsent};
     ghost use Rattle.mrp_cursor.specs.declared.remainder.Due.TheVariants.{Moving, Restarting, Ending};
     ghost use Rattle.mrp_cursor.specs.Next.{due, figure_said, record_due, next_record, stepped, stepped_by, queued};
     ghost use Rattle.mrp_cursor.specs.Shows.{ShowsSent};
@@ -65,25 +66,32 @@ impl OutCursor {
         ensures queue { IfOk result (λ cursor. cursor.queue ≡ []) }
     {
         let slots = vec![in alloc; 0; size]?;
-        Ok(OutCursor {
-            next: 1,
-            closed: false,
-            slots,
-            queued: 0,
-            head: 0,
-            mark: 0,
-            lines: 0,
-            moved: 0,
-            anew: false,
-        })
+        Ok(OutCursor::unsent(slots, 0))
+    }
+
+    /// The cursor of a lane with that many items, before the first record, where all may be sent: their
+    /// blocks go out in the order of their places.
+    ///
+    /// # Errors
+    ///
+    /// [`AllocError`] where the room for the places is refused.
+    pub fn with_all(alloc: Global, size: usize) -> Result<OutCursor, AllocError>
+        ensures shows { IfOk result (λ cursor. (goods : ℕ → Goods) → ShowsSent goods cursor []) }
+        ensures size { IfOk result (λ cursor. cursor.size ≡ size) }
+        ensures queue { IfOk result (λ cursor. cursor.queue ≡ range_with_len 0 size) }
+    {
+        let slots = places(alloc, size)?;
+        let queued = slots.len();
+        Ok(OutCursor::unsent(slots, queued))
     }
 
     /// The item at a place of the lane may now be sent: its block comes after those of the places queued
-    /// before. Nothing changes where as many places are queued as the lane has.
+    /// before. Nothing changes where the lane has no such place, or as many are queued as it has.
     pub fn push(&mut self, place: usize)
         ensures { self.new ≡ queued self.old place }
     {
-        if self.queued < self.slots.len() {
+        let size = self.slots.len();
+        if place < size && self.queued < size {
             self.slots[self.queued] = place;
             self.queued += 1;
         }
@@ -92,7 +100,8 @@ impl OutCursor {
     /// The place of the item whose block is to be sent, begun or not; `None` where all queued ones are
     /// sent.
     pub fn head(&self) -> Option<usize>
-        ensures { result ≡ slice_get self.now.queue self.now.head }
+        ensures value { result ≡ slice_get self.now.queue self.now.head }
+        ensures place { IfSome result (λ place. place < self.now.size) }
     {
         if self.head < self.queued {
             Some(self.slots[self.head])
@@ -133,6 +142,24 @@ impl OutCursor {
         match left {
             Some(left) => self.step_due(left.due(self.anew)),
             None => self.step_close(),
+        }
+    }
+
+    /// The cursor before the first record, with the first places queued.
+    fn unsent(slots: Vec<usize>, queued: usize) -> OutCursor
+        requires { IsQueue 0 queued slots.items }
+        ensures { result ≡ unsent (length slots.items) (take queued slots.items) }
+    {
+        OutCursor {
+            next: 1,
+            closed: false,
+            slots,
+            queued,
+            head: 0,
+            mark: 0,
+            lines: 0,
+            moved: 0,
+            anew: false,
         }
     }
 
@@ -237,4 +264,11 @@ impl OutCursor {
         self.closed = true;
         self.next = self.next.saturating_add(1);
     }
+}
+
+/// All places of a lane with that many items, in order.
+fn places(alloc: Global, size: usize) -> Result<Vec<usize>, AllocError>
+    ensures { IfOk result (λ slots. slots.items ≡ range_with_len 0 size) }
+{
+    (0..size).collect(alloc)
 }

@@ -1,7 +1,7 @@
 //! Laws of cursors. Each is the contract of a function that does nothing.
 
 ghost use Rattle.mrp_cursor.specs.Laws.{GivenContinues, StepsShow, NoneIsLeft, QueuesShow, QueuedArePlaces, LooksAtQueued};
-ghost use Rattle.mrp_cursor.specs.Laws.{ShownBegin, ClosedIsShown, ClosedShowsWhole, ShownAreShort};
+ghost use Rattle.mrp_cursor.specs.Laws.{ShownBegin, ClosedIsShown, ClosedShowsWhole, ShownAreShort, SmallAreBounded};
 
 /// The record that a cursor gives may be sent: it continues the shown list to a legal beginning.
 pub fn given_continues()
@@ -30,10 +30,16 @@ pub fn looks_at_queued()
     ensures { LooksAtQueued }
 {}
 
-/// A shown list is a legal beginning, and it is no longer than the blocks that may be sent.
+/// A shown list is a legal beginning.
 pub fn shown_begin()
-    ensures begins { ShownBegin }
+    ensures { ShownBegin }
+{}
+
+/// A shown list is no longer than the blocks that may be sent, and so a cursor's numbers and figures
+/// stay within 64 bits where the goods do.
+pub fn shown_are_short()
     ensures short { ShownAreShort }
+    ensures bounded { SmallAreBounded }
 {}
 
 /// A cursor is closed exactly where the shown list is, and that is then the whole text.

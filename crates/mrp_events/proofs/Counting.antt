@@ -1,17 +1,13 @@
 -- How many steps are left: each event that is enabled is one, and none is left where the run is finished.
-use Rattle.std.proofs.Common.{◌≡◌, ℕ, zero, suc, ◌+◌, ◌*◌, ◌-◌, ◌<◌, ◌≤◌, ◌==◌, not, Bool, true, false, cond, List, [], ◌∷◌, ◌++◌, ◌⊎◌, inl, inr, length, map, sum_by, refl, sym, ap, subst, ◌∙◌, arith, length-append}
+use Rattle.std.proofs.Common.{◌≡◌, ℕ, zero, suc, ◌+◌, ◌*◌, ◌-◌, ◌<◌, ◌≤◌, ◌==◌, not, Bool, true, false, cond, List, [], ◌∷◌, ◌++◌, length, sum_by, refl, sym, ap, subst, ◌∙◌, arith, length-append}
 use Rattle.std.specs.List.{flat_map, range_with_len}
 use Rattle.std.proofs.lemmas.Bool.{cond-true, eq-eqb}
 use Rattle.std.proofs.lemmas.List.{append-nil, length-map}
-use Rattle.std.proofs.lemmas.List.FromFn.{fill_by_all}
 use Rattle.std.proofs.lemmas.List.Sums.{sum_by-cons}
 use Rattle.mrp_lot.specs.RangeLaws.{sum_by-none}
 use Rattle.mrp_rows.specs.Table.{Table}
-use Rattle.mrp_net.specs.declared.lane.Lane.{Lane}
-use Rattle.mrp_net.specs.declared.lane.LaneKind.TheVariants.{Despatch}
 use Rattle.mrp_net.specs.Lanes.{lanes, lane_at}
 use Rattle.mrp_net.proofs.Periods.{period-le}
-use Rattle.mrp_net.proofs.Sharing.{sum_map}
 use Rattle.mrp_record.specs.declared.record.Record.{Record}
 use Rattle.mrp_record.specs.Entries.{Entry, Closing, content, contents, is_closing, is_closed}
 use Rattle.mrp_record.specs.Text.{Load, block, text_of, IsBeginning, length_of_text}
@@ -23,38 +19,8 @@ use Rattle.mrp_events.specs.Progress.{unplanned, text_length, left_on, steps_lef
 use Rattle.mrp_events.specs.State.{State, CanSend, CanTake, CanPlan, changed, after_send, after_take, after_plan, Step, IsFinished, IsReached}
 use Rattle.mrp_events.proofs.Going.{any_right}
 use Rattle.mrp_events.proofs.Keeping.{LaneKeeps, Keeps, keeps, changed_by}
+use Rattle.mrp_events.proofs.Summing.{sum_same, sum_falls, by_number}
 use Rattle.mrp_events.proofs.Ordering.{closed_lanes_are_whole, front_is_legal}
-
--- ---- sums over a range
-
-sum_same : (f g : ℕ → ℕ) (a n : ℕ) → ((k : ℕ) → a ≤ k → k < a + n → f k ≡ g k) → sum_by f (range_with_len a n) ≡ sum_by g (range_with_len a n)
-sum_same f g a zero same = refl
-sum_same f g a (suc n) same =
-    omega (
-      arith,
-      sum_by-cons f a (range_with_len (a + 1) n),
-      sum_by-cons g a (range_with_len (a + 1) n),
-      same a (omega arith) (omega arith),
-      sum_same f g (a + 1) n (λ k low high. same k (omega arith) (omega arith)),
-    )
-
--- one term falls by one
-sum_falls : (f g : ℕ → ℕ) (a n at : ℕ) → a ≤ at → at < a + n → f at + 1 ≡ g at → ((k : ℕ) → (k ≡ at → ⊥) → f k ≡ g k)
-    → sum_by f (range_with_len a n) + 1 ≡ sum_by g (range_with_len a n)
-sum_falls f g a zero at low high falls same = absurd (omega arith)
-sum_falls f g a (suc n) at low high falls same =
-    let of_f = sum_by-cons f a (range_with_len (a + 1) n) in
-    let of_g = sum_by-cons g a (range_with_len (a + 1) n) in
-    elim (here_or_later a at low) [
-      | inl here ↦
-          let first : f a + 1 ≡ g a = subst (λ (z : ℕ). f z + 1 ≡ g z) (sym here) falls in
-          omega (arith, of_f, of_g, first, sum_same f g (a + 1) n (λ k more less. same k (λ e. omega arith)))
-      | inr later ↦
-          omega (arith, of_f, of_g, same a (λ e. omega arith), sum_falls f g (a + 1) n at (omega arith) (omega arith) falls same)
-    ]
-  where
-    here_or_later : (a at : ℕ) → a ≤ at → (a ≡ at) ⊎ (a < at)
-    here_or_later a at low = grind arith
 
 -- ---- one value changed
 
@@ -77,15 +43,8 @@ sum_twice : (f : ℕ → ℕ) (ks : List ℕ) → sum_by (λ k. (f k - 0) + (f k
 sum_twice f [] = refl
 sum_twice f (k ∷ ks) = omega (arith, sum_by-cons f k ks, sum_by-cons (λ k. (f k - 0) + (f k - 0)) k ks, sum_twice f ks)
 
-abbrev no_lane : Lane
-no_lane = record { kind = Despatch; sender = record { 0 = 0 }; receiver = record { 0 = 0 } }
-
 all_lengths : (N : Table) → sum_by (λ lane. length_of_text (loads N lane)) (lanes N) ≡ sum_by (text_length N) (range_with_len 0 (length (lanes N)))
-all_lengths N =
-    let n = length (lanes N) in
-    let of_lane : Lane → ℕ = λ lane. length_of_text (loads N lane) in
-    let places : lanes N ≡ map (lane_at N) (range_with_len 0 n) = fill_by_all (lane_at N) (lanes N) n no_lane refl (λ k h. refl) in
-    ap (sum_by of_lane) places ∙ sum_map of_lane (lane_at N) (range_with_len 0 n)
+all_lengths N = sym (by_number N (λ lane. length_of_text (loads N lane)))
 
 pub runs_begin_with_steps : RunsBeginWithSteps
 runs_begin_with_steps N =

@@ -1,23 +1,11 @@
 -- No schedule sticks: a run that isn't finished can go on, and a longest run takes all steps.
-use Rattle.std.proofs.Common.{◌≡◌, ℕ, zero, suc, ◌+◌, ◌<◌, ◌≤◌, not, Bool, true, false, List, [], ◌∷◌, ◌++◌, ◌⊎◌, inl, inr, length, map, refl, sym, ap, subst, ◌∙◌, arith, Contains}
+use Rattle.std.proofs.Common.{◌≡◌, ℕ, zero, suc, ◌+◌, ◌<◌, ◌≤◌, not, Bool, true, false, List, [], ◌∷◌, ◌++◌, ◌⊎◌, inl, inr, length, refl, sym, ap, subst, ◌∙◌, arith}
 use Rattle.std.proofs.lemmas.Bool.{cases_Bool}
-use Rattle.mrp_rows.specs.declared.numbers.ItemNo.{ItemNo}
-use Rattle.mrp_rows.specs.declared.numbers.PlantNo.{PlantNo}
-use Rattle.mrp_rows.specs.declared.rows.SourceRow.{SourceRow}
-use Rattle.mrp_rows.specs.Table.{Table, IsTable, IsPair, pair_no, source_pair}
-use Rattle.mrp_net.specs.declared.lane.Lane.{Lane}
-use Rattle.mrp_net.specs.declared.lane.LaneKind.{LaneKind}
-use Rattle.mrp_net.specs.declared.lane.LaneKind.TheVariants.{Despatch, Schedule}
-use Rattle.mrp_net.specs.Edges.{bill_edge, source_edge}
-use Rattle.mrp_net.specs.Lanes.{lanes, lane_at, lane_items, item_of, pair_on, supplier_of}
-use Rattle.mrp_net.specs.Sources.{source_on}
+use Rattle.mrp_rows.specs.Table.{Table, IsTable, IsPair}
+use Rattle.mrp_net.specs.Lanes.{lanes, lane_at, pair_on}
 use Rattle.mrp_net.specs.Sums.{pair_at}
 use Rattle.mrp_net.proofs.Behind.{items_have_sources}
-use Rattle.mrp_net.proofs.Local.{source_pairs_are_there}
-use Rattle.mrp_net.proofs.Members.{In-from_contains, In-map, In-append_right, All-in}
-use Rattle.mrp_net.proofs.Sharing.{pairs_are_found}
 use Rattle.mrp_loops.specs.Loop.{HasEdge, IsLoopFree}
-use Rattle.mrp_loops.proofs.Edges.{HasEdge-from_in}
 use Rattle.mrp_loops.proofs.Upstream.{sets_have_a_first}
 use Rattle.mrp_record.specs.Entries.{contents, is_closed, is_ended}
 use Rattle.mrp_record.specs.declared.record.Record.{Record}
@@ -25,6 +13,7 @@ use Rattle.mrp_events.specs.declared.event.Event.{Event}
 use Rattle.mrp_events.specs.declared.event.Event.TheVariants.{Plan}
 use Rattle.mrp_events.specs.Progress.{steps_left, Goes, NoScheduleSticks, EventsAndStepsLeft, LongestRunsFinish}
 use Rattle.mrp_events.specs.State.{State, opening_state, CanPlan, Step, Run, IsReached, IsFinished, after_plan}
+use Rattle.mrp_events.proofs.Calling.{calls_pair}
 use Rattle.mrp_events.proofs.Counting.{runs_begin_with_steps, events_are_steps, none_is_left_at_the_end}
 use Rattle.mrp_events.proofs.Going.{GoesOn, Rests, MayTell, goes_or_rests}
 use Rattle.mrp_events.proofs.Keeping.{Keeps, keeps}
@@ -71,31 +60,6 @@ finished_at_rest N table s rest all = record {
   planned = all;
 }
 
--- ---- a schedule lane's item joins its customer to the pair at the other end
-
-supplier_by_kind : (lane : Lane) → lane.kind ≡ Schedule → supplier_of lane ≡ lane.receiver.0
-supplier_by_kind lane e = ap (λ (k : LaneKind). elim k as (λ _. ℕ) [ Despatch ↦ lane.sender.0 | Schedule ↦ lane.receiver.0 ]) e
-
-calls_pair : (N : Table) → IsTable N → (lane : Lane) (x : ℕ) → IsPair N x → lane.kind ≡ Schedule → lane.receiver.0 ≡ (pair_at N x).plant.0 → Contains (lane_items N lane) (pair_at N x).item
-    → HasEdge N (pair_on N lane (pair_at N x).item) x
-calls_pair N table lane x pair kind here there =
-    let item : ItemNo = (pair_at N x).item in
-    let s : SourceRow = source_on N lane item in
-    let has = items_have_sources N table lane item there in
-    let behind = All-in (λ (r : SourceRow). IsPair N (source_pair N r) × ((pair_at N (source_pair N r)).plant ≡ r.plant) × ((pair_at N (source_pair N r)).item ≡ item_of N r)) N.sources s
-    (source_pairs_are_there N table) (In-from_contains N.sources s has.source) in
-    let y : ℕ = source_pair N s in
-    let plant : (pair_at N y).plant.0 ≡ (pair_at N x).plant.0 =
-    ap (λ (p : PlantNo). p.0) behind.1 ∙ has.plant ∙ supplier_by_kind lane kind ∙ here in
-    let its_item : (pair_at N y).item.0 ≡ item.0 =
-    ap (λ (i : ItemNo). i.0) (behind.2 ∙ ap (λ (z : ℕ). (pair_at N z).item) has.taker ∙ has.customer.of_item) in
-    let same : y ≡ x =
-    sym (pairs_are_found N table y behind.0) ∙ ap (λ (p : ℕ). pair_no N p (pair_at N y).item.0) plant
-    ∙ ap (λ (i : ℕ). pair_no N (pair_at N x).plant.0 i) its_item ∙ pairs_are_found N table x pair in
-    HasEdge-from_in N (source_edge N s) (pair_on N lane item) x
-    (In-append_right (map bill_edge N.bills) (map (source_edge N) N.sources) (source_edge N s) (In-map (source_edge N) N.sources s (In-from_contains N.sources s has.source)))
-    has.taker same
-
 -- ---- lanes that rest and a pair that isn't planned: a first one can be
 
 plans_at_rest : (N : Table) → IsTable N → IsLoopFree N → (capacity : ℕ) (s : State) → ((l : ℕ) → l < length (lanes N) → Rests N s l) → (x : ℕ) → IsPair N x → s.planned x ≡ false → GoesOn N capacity s
@@ -106,11 +70,13 @@ plans_at_rest N table free capacity s rest x pair open_pair =
     let can : CanPlan N s y = record {
       pair = first.1;
       unplanned = not_true (s.planned y) first.2;
-      demanders = λ z edge local. decided z edge;
-      brought = λ l within here there.
-          let r = rest l within in
-          let told : MayTell N s.planned (lane_at N l) (pair_at N y).item = λ kind. decided (pair_on N (lane_at N l) (pair_at N y).item) (calls_pair N table (lane_at N l) y first.1 kind here there) in
-          subst (λ (z : List Record). is_ended (pair_at N y).item.0 (contents z) ≡ true) r.same (r.ended (pair_at N y).item there told);
+      ready = record {
+        demanders = λ z edge local. decided z edge;
+        brought = λ l within here there.
+            let r = rest l within in
+            let told : MayTell N s.planned (lane_at N l) (pair_at N y).item = λ kind. decided (pair_on N (lane_at N l) (pair_at N y).item) (calls_pair N table (lane_at N l) y first.1 kind here there) in
+            subst (λ (z : List Record). is_ended (pair_at N y).item.0 (contents z) ≡ true) r.same (r.ended (pair_at N y).item there told);
+      };
     } in
     (Plan (record { 0 = y }), (after_plan s y, (can, refl)))
   where

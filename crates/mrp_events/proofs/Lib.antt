@@ -1,7 +1,12 @@
 pub mod Delivered
+pub mod Calling
 pub mod Small
 pub mod Keeping
 pub mod Ordering
 pub mod Going
+pub mod Summing
 pub mod Counting
 pub mod Finishing
+pub mod Bringing
+pub mod Planned
+pub mod Sending

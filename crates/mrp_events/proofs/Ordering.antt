@@ -1,15 +1,13 @@
 -- Laws of every reached state: order, decided records, figures, and whole lanes.
-use Rattle.std.proofs.Common.{◌≡◌, ℕ, ◌+◌, Bool, true, false, ◌||◌, List, [], ◌∷◌, ◌++◌, inl, inr, refl, sym, ap, subst, ◌∙◌, arith, append_assoc, Contains}
+use Rattle.std.proofs.Common.{◌≡◌, ℕ, ◌+◌, Bool, true, false, ◌||◌, List, [], ◌∷◌, ◌++◌, inl, inr, refl, sym, ap, subst, ◌∙◌, arith, append_assoc}
 use Rattle.std.specs.List.{list_any, sum_by}
 use Rattle.std.proofs.lemmas.Bool.{cases_Bool, false≢true}
 use Rattle.std.proofs.lemmas.List.{map-append}
 use Rattle.std.proofs.lemmas.List.Elements.{filter-append}
 use Rattle.std.proofs.lemmas.List.Sums.{sum_by-append}
-use Rattle.mrp_rows.specs.declared.numbers.ItemNo.{ItemNo}
 use Rattle.mrp_rows.specs.Table.{Table}
 use Rattle.mrp_net.specs.declared.lane.Lane.{Lane}
-use Rattle.mrp_net.specs.Lanes.{lane_at, lane_items}
-use Rattle.mrp_net.proofs.Members.{In-from_contains, Contains-from_in, In-map}
+use Rattle.mrp_net.specs.Lanes.{lane_at}
 use Rattle.mrp_record.specs.declared.record.Record.{Record}
 use Rattle.mrp_record.specs.Entries.{Entry, LineOf, EndOf, ResetOf, Closing, content, contents, is_closing, is_closed, is_of, entries_of, quantity_of, moved}
 use Rattle.mrp_record.specs.Text.{Load, IsBeginning, IsWhole}
@@ -19,7 +17,7 @@ use Rattle.mrp_events.specs.Laws.{LanesKeepOrder, SentIsDecided, NothingIsLost, 
 use Rattle.mrp_events.specs.Loads.{loads, load_of}
 use Rattle.mrp_events.specs.State.{State}
 use Rattle.mrp_events.proofs.Keeping.{LaneKeeps, keeps}
-use Rattle.mrp_events.proofs.Small.{loads_stand_once}
+use Rattle.mrp_events.proofs.Small.{loads_stand_once, load_is_there}
 
 -- ---- order
 
@@ -36,7 +34,7 @@ lanes_keep_order N capacity s reached l within =
       room = h.room;
       sent = h.legal;
       taken = front_is_legal N capacity l s h;
-      last = λ before after r is closing.
+      last = λ before after r closing is.
           nothing_follows_closing (loads N (lane_at N l)) before after r closing (subst (IsBeginning (loads N (lane_at N l))) is h.legal);
     }
 
@@ -50,9 +48,6 @@ moved_parts item xs ys =
     ap (moved item) (map-append content xs ys)
     ∙ ap (sum_by quantity_of) (filter-append (is_of item) (contents xs) (contents ys))
     ∙ sum_by-append quantity_of (entries_of item (contents xs)) (entries_of item (contents ys))
-
-pub load_is_there : (N : Table) (lane : Lane) (item : ItemNo) → Contains (lane_items N lane) item → Contains (loads N lane) (load_of N lane item)
-load_is_there N lane item h = Contains-from_in (loads N lane) (load_of N lane item) (In-map (load_of N lane) (lane_items N lane) item (In-from_contains (lane_items N lane) item h))
 
 pub nothing_is_lost : NothingIsLost
 nothing_is_lost N is capacity s reached l within item there mailbox parts =

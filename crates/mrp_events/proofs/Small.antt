@@ -3,7 +3,7 @@ use Rattle.std.proofs.Common.{◌≡◌, ℕ, ◌+◌, ◌<◌, ◌≤◌, ◌==
 use Rattle.std.specs.Prelude.{is_some, option_map}
 use Rattle.std.specs.List.{AllByRecursion, IsDistinct, find}
 use Rattle.std.specs.List.Sorted.{IsNonDecreasingBy}
-use Rattle.std.proofs.lemmas.Bool.{cases_Bool, and_from, and_parts, eqb-true, eq-eqb, false≢true}
+use Rattle.std.proofs.lemmas.Bool.{cases_Bool, and_parts, eqb-true, false≢true}
 use Rattle.std.proofs.lemmas.List.{get_or-map, length-map}
 use Rattle.std.proofs.lemmas.List.Elements.{All-filter, All-map, filter_agree, Contains-get_or}
 use Rattle.std.proofs.lemmas.List.Sums.{sum_by-le, sum_by-le-sum_by}
@@ -17,16 +17,15 @@ use Rattle.mrp_net.specs.declared.lane.Lane.{Lane}
 use Rattle.mrp_net.specs.declared.lane.LaneKind.{LaneKind}
 use Rattle.mrp_net.specs.declared.lane.LaneKind.TheVariants.{Despatch, Schedule}
 use Rattle.mrp_net.specs.declared.lane.Shipment.{Shipment}
-use Rattle.mrp_net.specs.Lanes.{taken_over, lane_items, item_of, customer_of, supplier_of, figure, shipped_from, ships_from, shipment_of, shipments, opening, reset, pair_on, is_reset_of}
+use Rattle.mrp_net.specs.Lanes.{lane_items, supplier_of, figure, shipped_from, ships_from, shipment_of, shipments, opening, reset, pair_on, is_reset_of}
 use Rattle.mrp_net.specs.Laws.{HasSource}
 use Rattle.mrp_net.specs.Plan.{plan_of}
 use Rattle.mrp_net.specs.Sources.{source_on}
-use Rattle.mrp_net.specs.Sums.{pair_at}
 use Rattle.mrp_net.specs.Texts.{longest_block}
 use Rattle.mrp_net.proofs.Behind.{items_have_sources}
 use Rattle.mrp_net.proofs.Covering.{lane_items_stand_once}
 use Rattle.mrp_net.proofs.Lengths.{block_is_short, lane_items_are_few}
-use Rattle.mrp_net.proofs.Members.{In, In-filter, In-from_contains, Contains-from_in, All-in}
+use Rattle.mrp_net.proofs.Members.{In, In-from_contains, Contains-from_in, In-map, All-in}
 use Rattle.mrp_net.proofs.Routing.{opening_despatch, map-map}
 use Rattle.mrp_net.proofs.Sharing.{sum_map}
 use Rattle.mrp_group.proofs.Kept.{sum_filter}
@@ -40,7 +39,8 @@ use Rattle.mrp_record.specs.Laws.{AreLoads, IsSmall, AreSmall}
 use Rattle.mrp_record.specs.Text.{Load, total, block_length, length_of_text}
 use Rattle.mrp_record.proofs.Forming as forming
 use Rattle.mrp_events.specs.Loads.{delivery_of, despatched, called_in, called, lines_by, load_of, loads, is_rising}
-use Rattle.mrp_events.specs.LoadLaws.{LoadsStandOnce, LoadsAreSmall, OpeningsAreSmall, LegalIsInForm, LegalFiguresAreSmall, TextsAreNoLonger}
+use Rattle.mrp_events.specs.LoadLaws.{LoadsStandOnce, LoadsAreSmall, OpeningsAreSmall, LegalIsInForm, LegalFiguresAreSmall, LegalCumsAreSmall, TextsAreNoLonger}
+use Rattle.mrp_events.proofs.Calling.{source_over, source_item}
 use Rattle.mrp_events.proofs.Delivered.{by_period_total, by_period_some, by_period_inside, by_period_rises, by_period_length, in_order, rises_in_order}
 
 -- ---- each item has one load
@@ -57,6 +57,9 @@ loads_distinct N lane (item ∷ items) h = (none_alike N lane item items h.0, lo
 
 pub loads_stand_once : LoadsStandOnce
 loads_stand_once N is lane = loads_distinct N lane (lane_items N lane) (lane_items_stand_once N is lane)
+
+pub load_is_there : (N : Table) (lane : Lane) (item : ItemNo) → Contains (lane_items N lane) item → Contains (loads N lane) (load_of N lane item)
+load_is_there N lane item h = Contains-from_in (loads N lane) (load_of N lane item) (In-map (load_of N lane) (lane_items N lane) item (In-from_contains (lane_items N lane) item h))
 
 -- ---- lengths
 
@@ -99,6 +102,15 @@ in_order_by key xs rises i j d le h =
     let second = get_or-map key xs j d 0 h in
     omega (arith, first, second, rises_in_order 0 (map key xs) rises i j 0 le (omega (arith, length-map xs key)))
 
+-- the pieces of a despatch lane's shipments of an item
+pub shipped_total : (N : Table) (lane : Lane) (item : ItemNo) → total (despatched N lane item) ≡ shipped_from N (pair_on N lane item) (supplier_of lane)
+shipped_total N lane item =
+    let x : ℕ = pair_on N lane item in
+    let p : ℕ = supplier_of lane in
+    sum_map (λ (l : Delivery). l.quantity) delivery_of (shipments N lane item)
+    ∙ sum_map (λ (s : Shipment). s.quantity) shipment_of (ships_from N x p)
+    ∙ sum_filter (λ (s : ShipRow). s.quantity) (λ (s : ShipRow). (s.pair.0 == x) && (s.from.0 == p)) N.ships
+
 module _ (N : Table) (sized : IsSized N) (lane : Lane) (item : ItemNo) (has : HasSource N lane item) where
   abbrev x : ℕ
   x = pair_on N lane item
@@ -121,12 +133,6 @@ module _ (N : Table) (sized : IsSized N) (lane : Lane) (item : ItemNo) (has : Ha
       (All-map (λ (s : Shipment). s.period < horizon N) shipment_of (ships_from N x p)
       (All-filter is_sent (λ (s : ShipRow). s.period < horizon N) N.ships (λ k d h. (sized.table.read.ships k d h).period)))
 
-  shipped_total : total (despatched N lane item) ≡ shipped_from N x p
-  shipped_total =
-      sum_map (λ (l : Delivery). l.quantity) delivery_of (shipments N lane item)
-      ∙ sum_map (λ (s : Shipment). s.quantity) shipment_of (ships_from N x p)
-      ∙ sum_filter (λ (s : ShipRow). s.quantity) is_sent N.ships
-
   within : figure N x p + shipped_from N x p ≤ MOST
   within =
       let fits = (one_plan N sized.table sized.loop_free).fits in
@@ -134,24 +140,13 @@ module _ (N : Table) (sized : IsSized N) (lane : Lane) (item : ItemNo) (has : Ha
 
   -- ---- parts of releases
 
-  over_lane : Contains (taken_over N (customer_of lane) p) (source_on N lane item)
-  over_lane =
-      let s : SourceRow = source_on N lane item in
-      let there = ap (λ (z : ℕ). (pair_at N z).plant.0) has.taker ∙ has.customer.at_plant in
-      let passes = and_from ((pair_at N s.pair.0).plant.0 == customer_of lane) (s.plant.0 == p) (eq-eqb _ _ there) (eq-eqb _ _ has.plant) in
-      Contains-from_in (taken_over N (customer_of lane) p) s
-      (In-filter (λ (r : SourceRow). ((pair_at N r.pair.0).plant.0 == customer_of lane) && (r.plant.0 == p)) N.sources s (In-from_contains N.sources s has.source) passes)
-
-  its_item : item_of N (source_on N lane item) ≡ item
-  its_item = ap (λ (z : ℕ). (pair_at N z).item) has.taker ∙ has.customer.of_item
-
   called_within : opening N lane item + total (called N lane item) ≤ MOST
   called_within =
       let s : SourceRow = source_on N lane item in
       omega (
         arith,
-        lane_figures_within N sized lane s over_lane,
-        ap (opening N lane) its_item,
+        lane_figures_within N sized lane s (source_over N lane item has),
+        ap (opening N lane) (source_item N lane item has),
         by_period_total (called_in N s) (horizon N),
       )
 
@@ -182,7 +177,7 @@ module _ (N : Table) (sized : IsSized N) (lane : Lane) (item : ItemNo) (has : Ha
     inside = shipped_inside;
     rises = λ t. absurd (false≢true t);
     order = shipped_order;
-    figures = omega (arith, opening_despatch N lane item e, shipped_total, within);
+    figures = omega (arith, opening_despatch N lane item e, shipped_total N lane item, within);
   }
   small_by Schedule e =
       let amount = called_in N (source_on N lane item) in
@@ -216,3 +211,8 @@ legal_is_in_form N sized lane records h =
 pub legal_figures_are_small : LegalFiguresAreSmall
 legal_figures_are_small N sized lane records h =
     forming.figures_are_small (is_rising lane.kind) (horizon N) (loads N lane) (loads_stand_once N sized.table lane) (loads_are_small N sized lane) records h
+
+pub legal_cums_are_small : LegalCumsAreSmall
+legal_cums_are_small N sized lane records h item there =
+    forming.cums_are_small (is_rising lane.kind) (horizon N) (loads N lane) (loads_stand_once N sized.table lane) (loads_are_small N sized lane) records h
+    (load_of N lane item) (load_is_there N lane item there)

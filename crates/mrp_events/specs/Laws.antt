@@ -20,11 +20,12 @@ pub record KeepsOrder (N : Table) (capacity : ℕ) (s : State) (l : ℕ) : Type 
   pub room : length mailbox ≤ capacity
   pub sent : IsBeginning (loads N (lane_at N l)) (s.sent l)
   pub taken : IsBeginning (loads N (lane_at N l)) (s.taken l)
-  pub last : (before after : List Record) (r : Record) → s.sent l ≡ before ++ r ∷ after → content r ≡ Closing → after ≡ []
+  pub last : (before after : List Record) (r : Record) → content r ≡ Closing → s.sent l ≡ before ++ r ∷ after → after ≡ []
 
 abbrev pub LanesKeepOrder : Type 0
 LanesKeepOrder =
-    (N : Table) (capacity : ℕ) (s : State) → IsReached N capacity s → (l : ℕ) → l < length (lanes N) → KeepsOrder N capacity s l
+    (N : Table) (capacity : ℕ) (s : State) → IsReached N capacity s → (l : ℕ) → l < length (lanes N)
+    → KeepsOrder N capacity s l
 
 -- on a schedule lane each record that has been sent is of an item whose customer's pair is planned
 abbrev pub SentIsDecided : Type 0

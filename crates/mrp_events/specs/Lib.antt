@@ -3,3 +3,5 @@ pub mod LoadLaws
 pub mod State
 pub mod Laws
 pub mod Progress
+pub mod Local
+pub mod Seen

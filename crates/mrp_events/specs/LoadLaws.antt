@@ -8,7 +8,7 @@ use Rattle.mrp_net.specs.Lanes.{lane_items, opening}
 use Rattle.mrp_net.specs.Texts.{longest_text}
 use Rattle.mrp_loops.specs.Sized.{IsSized}
 use Rattle.mrp_record.specs.declared.record.Record.{Record}
-use Rattle.mrp_record.specs.Entries.{number_of, content}
+use Rattle.mrp_record.specs.Entries.{number_of, content, contents, cum}
 use Rattle.mrp_record.specs.Form.{LaneForm, IsInForm}
 use Rattle.mrp_record.specs.Laws.{AreLoads, AreSmall, HasSmallFigures, form_of}
 use Rattle.mrp_record.specs.Text.{IsBeginning, length_of_text}
@@ -26,7 +26,8 @@ LoadsAreSmall = (N : Table) → IsSized N → (lane : Lane) → AreSmall (is_ris
 -- no item's figures begin above 10^15
 abbrev pub OpeningsAreSmall : Type 0
 OpeningsAreSmall =
-    (N : Table) → IsSized N → (lane : Lane) (item : ItemNo) → Contains (lane_items N lane) item → opening N lane item ≤ MOST
+    (N : Table) → IsSized N → (lane : Lane) (item : ItemNo) → Contains (lane_items N lane) item
+    → opening N lane item ≤ MOST
 
 -- what a receiver knows of a lane
 abbrev pub lane_form : Table → Lane → LaneForm
@@ -35,12 +36,19 @@ lane_form N lane = form_of (is_rising lane.kind) (horizon N) (loads N lane)
 -- each legal beginning is in form, and its numbers and figures are at most 10^15
 abbrev pub LegalIsInForm : Type 0
 LegalIsInForm =
-    (N : Table) → IsSized N → (lane : Lane) (records : List Record) → IsBeginning (loads N lane) records → IsInForm (lane_form N lane) records
+    (N : Table) → IsSized N → (lane : Lane) (records : List Record) → IsBeginning (loads N lane) records
+    → IsInForm (lane_form N lane) records
 
 abbrev pub LegalFiguresAreSmall : Type 0
 LegalFiguresAreSmall =
     (N : Table) → IsSized N → (lane : Lane) (records : List Record) → IsBeginning (loads N lane) records
     → All (λ r. (number_of r ≤ MOST) × HasSmallFigures (content r)) records
+
+-- so are cumulative figures, closed years added
+abbrev pub LegalCumsAreSmall : Type 0
+LegalCumsAreSmall =
+    (N : Table) → IsSized N → (lane : Lane) (records : List Record) → IsBeginning (loads N lane) records
+    → (item : ItemNo) → Contains (lane_items N lane) item → cum (opening N lane item) item.0 (contents records) ≤ MOST
 
 -- the texts of a lane are within the length that is read off the table alone
 abbrev pub TextsAreNoLonger : Type 0

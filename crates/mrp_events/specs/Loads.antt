@@ -46,8 +46,12 @@ lines_by N Schedule lane item = called N lane item
 
 -- what a lane carries of one item, and of all
 abbrev pub load_of : Table → Lane → ItemNo → Load
-load_of N lane item =
-    record { item = item.0; opening = opening N lane item; reset = reset N lane item; lines = lines_by N lane.kind lane item }
+load_of N lane item = record {
+  item = item.0;
+  opening = opening N lane item;
+  reset = reset N lane item;
+  lines = lines_by N lane.kind lane item;
+}
 
 abbrev pub loads : Table → Lane → List Load
 loads N lane = map (load_of N lane) (lane_items N lane)

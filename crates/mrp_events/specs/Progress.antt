@@ -34,7 +34,8 @@ EventsAreSteps =
 
 -- no step is left exactly where the run is finished
 abbrev pub NoneIsLeftAtTheEnd : Type 0
-NoneIsLeftAtTheEnd = (N : Table) (capacity : ℕ) (s : State) → IsReached N capacity s → (steps_left N s ≡ 0) ↔ IsFinished N s
+NoneIsLeftAtTheEnd =
+    (N : Table) (capacity : ℕ) (s : State) → IsReached N capacity s → (steps_left N s ≡ 0) ↔ IsFinished N s
 
 -- no schedule sticks: without loops, where a mailbox holds at least one record, a run is finished or
 -- some event is enabled

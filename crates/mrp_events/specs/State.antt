@@ -52,15 +52,20 @@ pub record CanTake (N : Table) (s : State) (l : ℕ) (r : Record) : Type 0 where
 -- a lane that arrives at the plant with the item has brought the item's whole block
 abbrev pub HasBrought : Table → (ℕ → List Record) → ℕ → ItemNo → ℕ → Type 0
 HasBrought N taken plant item l =
-    (lane_at N l).receiver.0 ≡ plant → Contains (lane_items N (lane_at N l)) item → is_ended item.0 (contents (taken l)) ≡ true
+    (lane_at N l).receiver.0 ≡ plant → Contains (lane_items N (lane_at N l)) item
+    → is_ended item.0 (contents (taken l)) ≡ true
 
--- a pair that isn't planned, whose demanders at its own plant are, and to which each lane has brought
--- what it has of the item: the schedule lanes of its customers and the despatch lanes of its sources
+-- the pair's demanders at its own plant are planned, and each lane to the plant has brought what it has of
+-- the item: the schedule lanes of its customers and the despatch lanes of its sources
+pub record IsReady (N : Table) (planned : ℕ → Bool) (taken : ℕ → List Record) (x : ℕ) : Type 0 where
+  pub demanders : (y : ℕ) → HasEdge N y x → (pair_at N y).plant.0 ≡ (pair_at N x).plant.0 → planned y ≡ true
+  pub brought : (l : ℕ) → l < length (lanes N) → HasBrought N taken (pair_at N x).plant.0 (pair_at N x).item l
+
+-- a pair that is ready and isn't planned yet
 pub record CanPlan (N : Table) (s : State) (x : ℕ) : Type 0 where
   pub pair : IsPair N x
   pub unplanned : s.planned x ≡ false
-  pub demanders : (y : ℕ) → HasEdge N y x → (pair_at N y).plant.0 ≡ (pair_at N x).plant.0 → s.planned y ≡ true
-  pub brought : (l : ℕ) → l < length (lanes N) → HasBrought N s.taken (pair_at N x).plant.0 (pair_at N x).item l
+  pub ready : IsReady N s.planned s.taken x
 
 -- ---- events
 

@@ -1,8 +1,14 @@
 //! Laws of what lanes carry, and of every run. Each is the contract of a function that does nothing.
 
-ghost use Rattle.mrp_events.specs.LoadLaws.{LoadsStandOnce, LoadsAreSmall, OpeningsAreSmall, LegalIsInForm, LegalFiguresAreSmall, TextsAreNoLonger};
+ghost use Rattle.mrp_events.specs.LoadLaws.{LoadsStandOnce, LoadsAreSmall, OpeningsAreSmall, TextsAreNoLonger};
+ghost use Rattle.mrp_events.specs.LoadLaws.{LegalIsInForm, LegalFiguresAreSmall, LegalCumsAreSmall};
 ghost use Rattle.mrp_events.specs.Laws.{LanesKeepOrder, SentIsDecided, NothingIsLost, ClosedLanesAreWhole};
-ghost use Rattle.mrp_events.specs.Progress.{RunsBeginWithSteps, EventsAreSteps, NoneIsLeftAtTheEnd, NoScheduleSticks, EventsAndStepsLeft, LongestRunsFinish};
+ghost use Rattle.mrp_events.specs.Local.{PlannedAreReady, LocalPlansAreThePlan, DespatchesBringIncoming};
+ghost use Rattle.mrp_events.specs.Local.{SchedulesBringGross};
+ghost use Rattle.mrp_events.specs.Seen.{DespatchesAreSeen, SchedulesAreSeen, SchedulesOpenAfterShipments};
+ghost use Rattle.mrp_events.specs.Seen.{FormsAreSeen, BroughtIsSeen};
+ghost use Rattle.mrp_events.specs.Progress.{RunsBeginWithSteps, EventsAreSteps, NoneIsLeftAtTheEnd};
+ghost use Rattle.mrp_events.specs.Progress.{NoScheduleSticks, EventsAndStepsLeft, LongestRunsFinish};
 
 /// A lane has one load of each of its items. Those of a sized network are small: each delivery is of
 /// one piece at least and in the horizon, on a schedule lane their periods rise, and opening figure and
@@ -13,10 +19,11 @@ pub fn loads_are_small()
 {}
 
 /// Over a sized network each legal beginning is in form, so its receiver can book it record by record,
-/// and its numbers and figures are at most 10^15.
+/// and its numbers and figures are at most 10^15, cumulative figures with the closed years added.
 pub fn beginnings_are_in_form()
     ensures form { LegalIsInForm }
     ensures figures { LegalFiguresAreSmall }
+    ensures cums { LegalCumsAreSmall }
 {}
 
 /// In a sized network no item's figures begin above 10^15 pieces, on either lane.
@@ -67,4 +74,40 @@ pub fn no_schedule_sticks()
     ensures sticks { NoScheduleSticks }
     ensures left { EventsAndStepsLeft }
     ensures longest { LongestRunsFinish }
+{}
+
+/// A pair that is planned was ready and stays so: its demanders at its own plant are planned, and each
+/// lane to the plant has brought its whole block of the item.
+pub fn planned_are_ready()
+    ensures { PlannedAreReady }
+{}
+
+/// What taken lanes have brought to a ready pair is what the network's plan says: with the receipt rows
+/// all that comes in, and with the demand rows and what the parents at its plant ask the gross
+/// requirements.
+pub fn taken_blocks_bring_the_plan()
+    ensures incoming { DespatchesBringIncoming }
+    ensures gross { SchedulesBringGross }
+{}
+
+/// Local plans are the plan: where the plan of each ready pair is made from its own rows, its parents'
+/// plans and what has been taken, it is that of the one plan of the whole network.
+pub fn local_plans_are_the_plan()
+    ensures { LocalPlansAreThePlan }
+{}
+
+/// What a plant sees of the lanes that it sends says their loads: despatches by the shipments on their
+/// way, schedules by the source's share of what the plan releases for the customer's pair. A schedule
+/// begins at the figure that the despatch lane of the same two plants has reached with the item's block.
+pub fn loads_are_seen()
+    ensures despatches { DespatchesAreSeen }
+    ensures schedules { SchedulesAreSeen }
+    ensures opening { SchedulesOpenAfterShipments }
+{}
+
+/// What a plant sees of the lanes that it receives says what form their records have, and what they
+/// have brought to each of its pairs.
+pub fn incoming_lanes_are_seen()
+    ensures forms { FormsAreSeen }
+    ensures brought { BroughtIsSeen }
 {}

@@ -1,6 +1,7 @@
-//! Laws of local plans. Each is the contract of a function that does nothing.
+//! Laws of local plans and of what is sent by them. Each is the contract of a function that does nothing.
 
 ghost use Rattle.mrp_local.specs.Laws.{LocalPlansAreThePlan, DraftsAreThePlan, DraftsAreWithin, PlannableIsLocal};
+ghost use Rattle.mrp_local.specs.Laws.{LocalGoodsAreTheLoads, LocalGoodsAgree, LocalGoodsAreSmall, LocalGoodsAreBounded};
 
 /// Whatever has come to a plant so far, the pairs that it has planned have the plan of the network, and
 /// so will each pair for which nothing is missing.
@@ -19,4 +20,18 @@ pub fn drafts_are_within()
 /// and which it has not planned.
 pub fn plannable_is_local()
     ensures { PlannableIsLocal }
+{}
+
+/// What a plant has to send of an item that may be sent is what the lane carries of it in the network:
+/// its shipments on a despatch lane, and on a schedule lane the parts of the releases of the pair that
+/// takes it. So a cursor over its own goods sends the network's text.
+pub fn local_goods_are_the_loads()
+    ensures goods { LocalGoodsAreTheLoads }
+    ensures agree { LocalGoodsAgree }
+{}
+
+/// In a sized network they are small enough for a cursor's 64 bits.
+pub fn local_goods_are_small()
+    ensures small { LocalGoodsAreSmall }
+    ensures bounded { LocalGoodsAreBounded }
 {}

@@ -1,0 +1,231 @@
+-- A row that is read as a record is the row of that record.
+use Rattle.std.proofs.Common.{◌≡◌, ◌<◌, ◌==◌, ℕ, Bool, true, false, if◌then◌else◌, List, [], ◌∷◌, length, codes, Option, Some, None, Result, Ok, Err, ok_or, refl, ap, subst, ◌∙◌, arith}
+use Rattle.std.specs.List.{All, list_all}
+use Rattle.std.specs.Str.{bytes_eq, is_utf8}
+use Rattle.std.proofs.lemmas.List.Elements.{All-cons, All-nil}
+use Rattle.std.proofs.lemmas.Bool.{eqb-true}
+use Rattle.std.proofs.lemmas.Option.{same_Some}
+use Rattle.std.proofs.lemmas.Slice.Eq.{bytes_eq-Decides}
+use Rattle.std.proofs.lemmas.Str.{is_utf8-from_IsUtf8}
+use Rattle.csv.specs.Records.{AllText, field_at}
+use Rattle.mrp_spell.specs.Spelling.{IsShort, number_of, number_text}
+use Rattle.mrp_spell.proofs.Decimals.{number-spelled}
+use Rattle.mrp_rows.specs.declared.numbers.ItemNo.{ItemNo}
+use Rattle.mrp_rows.specs.Table.{Table}
+use Rattle.mrp_record.specs.declared.record.Record.{Record}
+use Rattle.mrp_record.specs.declared.record.Record.TheVariants.{Line, ItemEnd, Reset, Close}
+use Rattle.mrp_tables.specs.Grammar.{field, is_empty}
+use Rattle.mrp_stream.specs.declared.fault.RecordFaultKind.{RecordFaultKind}
+use Rattle.mrp_stream.specs.declared.fault.RecordFaultKind.TheVariants as fault
+use Rattle.mrp_stream.specs.declared.kind.Kind.{Kind}
+use Rattle.mrp_stream.specs.declared.kind.Kind.TheVariants as kind
+use Rattle.mrp_stream.specs.Rows.{HasRow, item_name, record_fields}
+use Rattle.mrp_stream.specs.Grammar.{◌>>=◌, check, close_of, end_of, is_empty_from, item_at, item_named, kind_of, line_of, number_at, of_kind, record_of, reset_of, row_kind, spelled_record, used, with_fields}
+use Rattle.mrp_stream.proofs.Bytes.{both_true}
+use Rattle.mrp_stream.proofs.Names.{name_of_item}
+
+-- ---- a good answer's steps were good
+
+bind_ok : {A B : Type 0} (x : Result A RecordFaultKind) (f : A → Result B RecordFaultKind) (b : B) → (x >>= f) ≡ Ok b → (a : A) × (x ≡ Ok a) × (f a ≡ Ok b)
+bind_ok (Ok a) f b e = (a, refl, e)
+bind_ok (Err k) f b e = absurd (cc)
+
+ok_some : {A : Type 0} (o : Option A) (k : RecordFaultKind) (a : A) → ok_or o k ≡ Ok a → o ≡ Some a
+ok_some None k a e = absurd (cc)
+ok_some (Some x) k a e = cc
+
+check_ok : (b : Bool) (k : RecordFaultKind) (u : Unit {0}) → check b k ≡ Ok u → b ≡ true
+check_ok true k u e = refl
+check_ok false k u e = absurd (cc)
+
+-- ---- the kind of a row
+
+abbrev pub word_of : Kind → List ℕ
+word_of kind.Line = codes "line"
+word_of kind.ItemEnd = codes "end"
+word_of kind.Reset = codes "reset"
+word_of kind.Close = codes "close"
+
+found_word : (word : List ℕ) (k l : Kind) → bytes_eq word (word_of l) ≡ true → Some l ≡ Some k → word ≡ word_of k
+found_word word k l test e = (bytes_eq-Decides word (word_of l)).0 test ∙ ap word_of (same_Some l k e)
+
+kind_word : (word : List ℕ) (k : Kind) → kind_of word ≡ Some k → word ≡ word_of k
+kind_word word k e = by (bytes_eq word (codes "line")) (bytes_eq word (codes "end")) (bytes_eq word (codes "reset")) (bytes_eq word (codes "close")) refl refl refl refl e
+  where
+    by : (a b c d : Bool) → bytes_eq word (codes "line") ≡ a → bytes_eq word (codes "end") ≡ b → bytes_eq word (codes "reset") ≡ c → bytes_eq word (codes "close") ≡ d
+        → (if a then Some kind.Line else if b then Some kind.ItemEnd else if c then Some kind.Reset else if d then Some kind.Close else None) ≡ Some k → word ≡ word_of k
+    by true b c d ea eb ec ed e = found_word word k kind.Line ea e
+    by false true c d ea eb ec ed e = found_word word k kind.ItemEnd eb e
+    by false false true d ea eb ec ed e = found_word word k kind.Reset ec e
+    by false false false true ea eb ec ed e = found_word word k kind.Close ed e
+    by false false false false ea eb ec ed e = absurd (cc)
+
+-- six fields, of which those that the kind doesn't use are empty
+pub record IsOfKind (row : List (List ℕ)) (k : Kind) : Type 0 where
+  pub six : (length row == 6) ≡ true
+  pub word : field row 0 ≡ word_of k
+  pub free : is_empty_from row (used k) ≡ true
+
+free_kind : (row : List (List ℕ)) (k l : Kind) → with_fields row l ≡ Ok k → (is_empty_from row (used k) ≡ true) × (l ≡ k)
+free_kind row k l e = by (is_empty_from row (used l)) refl e
+  where
+    by : (b : Bool) → is_empty_from row (used l) ≡ b → (if b then Ok l else Err fault.FieldCount) ≡ Ok k → (is_empty_from row (used k) ≡ true) × (l ≡ k)
+    by true free e = let same : l ≡ k = cc in (subst (λ m. is_empty_from row (used m) ≡ true) same free, same)
+    by false free e = absurd (cc)
+
+kind_is : (row : List (List ℕ)) (k : Kind) → row_kind row ≡ Ok k → IsOfKind row k
+unfolding row_kind
+kind_is row k e =
+    let counted = bind_ok (check (length row == 6) fault.FieldCount) _ k e in
+    let named = bind_ok (ok_or (kind_of (field row 0)) fault.UnknownKind) _ k counted.2 in
+    let free = free_kind row k named.0 named.2 in
+    record {
+      six = check_ok (length row == 6) fault.FieldCount counted.0 counted.1;
+      word = kind_word (field row 0) k (ok_some (kind_of (field row 0)) fault.UnknownKind k (named.1 ∙ ap Ok free.1));
+      free = free.0;
+    }
+
+-- ---- the fields of a row
+
+six_fields : (row : List (List ℕ)) → (length row == 6) ≡ true → row ≡ field row 0 ∷ field row 1 ∷ field row 2 ∷ field row 3 ∷ field row 4 ∷ field row 5 ∷ []
+unfolding field_at
+six_fields [] e = absurd (cc)
+six_fields (a ∷ []) e = absurd (cc)
+six_fields (a ∷ b ∷ []) e = absurd (cc)
+six_fields (a ∷ b ∷ c ∷ []) e = absurd (cc)
+six_fields (a ∷ b ∷ c ∷ d ∷ []) e = absurd (cc)
+six_fields (a ∷ b ∷ c ∷ d ∷ x ∷ []) e = absurd (cc)
+six_fields (a ∷ b ∷ c ∷ d ∷ x ∷ y ∷ []) e = refl
+six_fields (a ∷ b ∷ c ∷ d ∷ x ∷ y ∷ z ∷ rest) e = let same = eqb-true (length (a ∷ b ∷ c ∷ d ∷ x ∷ y ∷ z ∷ rest)) 6 e in absurd (omega (arith, same))
+
+row_is : (row : List (List ℕ)) (a b c d x y : List ℕ) → (length row == 6) ≡ true → field row 0 ≡ a → field row 1 ≡ b → field row 2 ≡ c → field row 3 ≡ d → field row 4 ≡ x → field row 5 ≡ y
+    → row ≡ a ∷ b ∷ c ∷ d ∷ x ∷ y ∷ []
+row_is row a b c d x y six ea eb ec ed ex ey = six_fields row six ∙ rw (ea, eb, ec, ed, ex, ey) refl
+
+empty_is : (text : List ℕ) → is_empty text ≡ true → text ≡ []
+empty_is [] e = refl
+empty_is (b ∷ bs) e = let same = eqb-true (length (b ∷ bs)) 0 e in absurd (omega (arith, same))
+
+-- a number field and its number
+number_field : (row : List (List ℕ)) (i n : ℕ) → number_at row i ≡ Ok n → (field row i ≡ number_text n) × IsShort n
+number_field row i n e = number-spelled (field row i) n (ok_some (number_of (field row i)) fault.BadNumber n e)
+
+item_field : (N : Table) (row : List (List ℕ)) (item : ItemNo) → item_at N row ≡ Ok item → (item.0 < length N.items) × (field row 2 ≡ item_name N item)
+item_field N row item e = name_of_item N (field row 2) item (ok_some (item_named N (field row 2)) fault.UnknownItem item e)
+
+-- short numbers
+short_one : (a : ℕ) → IsShort a → All IsShort (a ∷ [])
+short_one a sa = All-cons IsShort a [] sa (All-nil IsShort)
+
+short_two : (a b : ℕ) → IsShort a → IsShort b → All IsShort (a ∷ b ∷ [])
+short_two a b sa sb = All-cons IsShort a (b ∷ []) sa (short_one b sb)
+
+short_three : (a b c : ℕ) → IsShort a → IsShort b → IsShort c → All IsShort (a ∷ b ∷ c ∷ [])
+short_three a b c sa sb sc = All-cons IsShort a (b ∷ c ∷ []) sa (short_two b c sb sc)
+
+short_four : (a b c d : ℕ) → IsShort a → IsShort b → IsShort c → IsShort d → All IsShort (a ∷ b ∷ c ∷ d ∷ [])
+short_four a b c d sa sb sc sd = All-cons IsShort a (b ∷ c ∷ d ∷ []) sa (short_three b c d sb sc sd)
+
+-- ---- each kind of record
+
+abbrev Spells : Table → List (List ℕ) → Record → Type 0
+Spells N row r = HasRow N r × (row ≡ record_fields N r)
+
+spells_as : (N : Table) (row : List (List ℕ)) (r s : Record) → ◌≡◌ {A = Result Record RecordFaultKind} (Ok s) (Ok r) → Spells N row s → Spells N row r
+spells_as N row r s e is = let same : s ≡ r = cc in subst (Spells N row) same is
+
+line_is : (N : Table) (row : List (List ℕ)) (r : Record) → IsOfKind row kind.Line → line_of N row ≡ Ok r → Spells N row r
+unfolding line_of
+line_is N row r k e =
+    let number = bind_ok (number_at row 1) _ r e in
+    let period = bind_ok (number_at row 3) _ r number.2 in
+    let quantity = bind_ok (number_at row 4) _ r period.2 in
+    let cumulative = bind_ok (number_at row 5) _ r quantity.2 in
+    let item = bind_ok (item_at N row) _ r cumulative.2 in
+    let n = number_field row 1 number.0 number.1 in
+    let p = number_field row 3 period.0 period.1 in
+    let q = number_field row 4 quantity.0 quantity.1 in
+    let c = number_field row 5 cumulative.0 cumulative.1 in
+    let i = item_field N row item.0 item.1 in
+    spells_as N row r (Line number.0 item.0 period.0 quantity.0 cumulative.0) item.2 (
+      record {
+        numbers = short_four number.0 period.0 quantity.0 cumulative.0 n.1 p.1 q.1 c.1;
+        item = i.0;
+      },
+      row_is row _ _ _ _ _ _ k.six k.word n.0 i.1 p.0 q.0 c.0,
+    )
+
+end_is : (N : Table) (row : List (List ℕ)) (r : Record) → IsOfKind row kind.ItemEnd → end_of N row ≡ Ok r → Spells N row r
+unfolding end_of
+end_is N row r k e =
+    let number = bind_ok (number_at row 1) _ r e in
+    let lines = bind_ok (number_at row 3) _ r number.2 in
+    let cumulative = bind_ok (number_at row 4) _ r lines.2 in
+    let item = bind_ok (item_at N row) _ r cumulative.2 in
+    let n = number_field row 1 number.0 number.1 in
+    let l = number_field row 3 lines.0 lines.1 in
+    let c = number_field row 4 cumulative.0 cumulative.1 in
+    let i = item_field N row item.0 item.1 in
+    spells_as N row r (ItemEnd number.0 item.0 lines.0 cumulative.0) item.2 (
+      record {
+        numbers = short_three number.0 lines.0 cumulative.0 n.1 l.1 c.1;
+        item = i.0;
+      },
+      row_is row _ _ _ _ _ _ k.six k.word n.0 i.1 l.0 c.0 (empty_is (field row 5) k.free),
+    )
+
+reset_is : (N : Table) (row : List (List ℕ)) (r : Record) → IsOfKind row kind.Reset → reset_of N row ≡ Ok r → Spells N row r
+unfolding reset_of
+reset_is N row r k e =
+    let number = bind_ok (number_at row 1) _ r e in
+    let closed = bind_ok (number_at row 3) _ r number.2 in
+    let item = bind_ok (item_at N row) _ r closed.2 in
+    let n = number_field row 1 number.0 number.1 in
+    let c = number_field row 3 closed.0 closed.1 in
+    let i = item_field N row item.0 item.1 in
+    let free = both_true (is_empty (field row 4)) (is_empty (field row 5)) k.free in
+    spells_as N row r (Reset number.0 item.0 closed.0) item.2 (
+      record {
+        numbers = short_two number.0 closed.0 n.1 c.1;
+        item = i.0;
+      },
+      row_is row _ _ _ _ _ _ k.six k.word n.0 i.1 c.0 (empty_is (field row 4) free.0) (empty_is (field row 5) free.1),
+    )
+
+close_is : (N : Table) (row : List (List ℕ)) (r : Record) → IsOfKind row kind.Close → close_of row ≡ Ok r → Spells N row r
+unfolding close_of
+close_is N row r k e =
+    let number = bind_ok (number_at row 1) _ r e in
+    let n = number_field row 1 number.0 number.1 in
+    let five = both_true _ (is_empty (field row 5)) k.free in
+    let four = both_true _ (is_empty (field row 4)) five.0 in
+    let three = both_true (is_empty (field row 2)) (is_empty (field row 3)) four.0 in
+    spells_as N row r (Close number.0) number.2 (
+      record { numbers = short_one number.0 n.1; item = tt },
+      row_is row _ _ _ _ _ _ k.six k.word n.0 (empty_is (field row 2) three.0) (empty_is (field row 3) three.1) (empty_is (field row 4) four.1) (empty_is (field row 5) five.1),
+    )
+
+of_kind_is : (N : Table) (row : List (List ℕ)) (r : Record) (k : Kind) → IsOfKind row k → of_kind N row k ≡ Ok r → Spells N row r
+of_kind_is N row r kind.Line k e = line_is N row r k e
+of_kind_is N row r kind.ItemEnd k e = end_is N row r k e
+of_kind_is N row r kind.Reset k e = reset_is N row r k e
+of_kind_is N row r kind.Close k e = close_is N row r k e
+
+-- what is read as a record is its row
+pub spelled_is : (N : Table) (row : List (List ℕ)) (r : Record) → spelled_record N row ≡ Ok r → HasRow N r × (row ≡ record_fields N r)
+unfolding spelled_record
+spelled_is N row r e = let k = bind_ok (row_kind row) (of_kind N row) r e in of_kind_is N row r k.0 (kind_is row k.0 k.1) k.2
+
+pub record_is : (N : Table) (row : List (List ℕ)) (r : Record) → record_of N row ≡ Ok r → HasRow N r × (row ≡ record_fields N r)
+unfolding record_of
+record_is N row r e = spelled_is N row r (bind_ok (check (list_all is_utf8 row) fault.NotUtf8) _ r e).2
+
+-- a row whose fields are text
+all_utf8 : (row : List (List ℕ)) → AllText row → list_all is_utf8 row ≡ true
+unfolding AllText
+all_utf8 [] text = refl
+all_utf8 (f ∷ fs) text = rw (is_utf8-from_IsUtf8 f text.0) (all_utf8 fs text.1)
+
+pub text_record : (N : Table) (row : List (List ℕ)) → AllText row → record_of N row ≡ spelled_record N row
+unfolding record_of
+text_record N row text = rw (all_utf8 row text) refl

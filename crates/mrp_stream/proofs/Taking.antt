@@ -1,0 +1,47 @@
+-- What taking a row answers.
+use Rattle.std.proofs.Common.{◌≡◌, ℕ, Bool, true, false, List, Option, Ok, Err, refl}
+use Rattle.std.specs.List.{list_all}
+use Rattle.std.specs.Str.{is_utf8}
+use Rattle.csv.specs.Reading.{ExplainsRead, ReadRecord}
+use Rattle.csv.specs.declared.error.ErrorKind.{ErrorKind}
+use Rattle.csv.specs.declared.error.ErrorKind.TheVariants as error
+use Rattle.csv.specs.declared.reader.Reader.{Reader}
+use Rattle.mrp_rows.specs.Table.{Table}
+use Rattle.mrp_tables.specs.declared.fault.TableFaultKind.TheVariants as table_fault
+use Rattle.mrp_tables.specs.Left.{GivesAll, left_of, StartsBadly}
+use Rattle.mrp_tables.proofs.Taken.{ends_rows, explains_as, takes_row}
+use Rattle.mrp_tables.proofs.Loop.{of_left_from}
+use Rattle.mrp_stream.specs.declared.fault.RecordFaultKind.{RecordFaultKind}
+use Rattle.mrp_stream.specs.declared.fault.RecordFaultKind.TheVariants as fault
+use Rattle.mrp_stream.specs.Grammar.{record_of}
+use Rattle.mrp_stream.specs.Reading.{StartsWithFault}
+use Rattle.mrp_stream.specs.Left.{fault_of, TellsBad, TellsTaken}
+
+-- a read that found a row or none
+pub found_or_not : {R : Type 0} (rem : R → Option (List ℕ)) (old new : Reader R) (row : List (List ℕ)) (found : Bool) → GivesAll old → ReadRecord rem old new found row
+    → (N : Table) → TellsTaken N (left_of rem old) (left_of rem new) row (Ok found)
+found_or_not rem old new row true gives r N = takes_row rem old new row gives r
+found_or_not rem old new row false gives r N = ends_rows rem old new row gives r
+
+-- a row that isn't text
+no_text_first : (N : Table) (row : List (List ℕ)) → list_all is_utf8 row ≡ false → record_of N row ≡ Err fault.NotUtf8
+unfolding record_of
+no_text_first N row bad = rw bad refl
+
+bad_row : (N : Table) (rows : List (List (List ℕ))) → StartsBadly 1 rows (record { row = 1; kind = table_fault.NotUtf8 }) → StartsWithFault N rows fault.NotUtf8
+bad_row N rows bad = (bad.row, bad.rest, bad.rows_are, no_text_first N bad.row bad.no_text)
+
+-- why a read failed
+pub explains : {R : Type 0} (rem : R → Option (List ℕ)) (old new : Reader R) (why : ErrorKind) → GivesAll old → ExplainsRead rem old new true why
+    → (N : Table) → TellsBad N (left_of rem old) (fault_of why)
+explains rem old new (error.Io e) gives r N = tt
+explains rem old new (error.Utf8 pos e) gives r N =
+    of_left_from (left_of rem old) _ _ (bad_row N) (explains_as rem old new 1 (error.Utf8 pos e) table_fault.NotUtf8 refl gives r)
+explains rem old new (error.UnequalLengths pos expected len) gives r N = tt
+explains rem old new (error.Serialize text) gives r N = tt
+explains rem old new (error.Deserialize pos e) gives r N = tt
+explains rem old new error.OutOfMemory gives r N = tt
+
+pub explains_as_kind : {R : Type 0} (rem : R → Option (List ℕ)) (old new : Reader R) (why : ErrorKind) (k : RecordFaultKind) → k ≡ fault_of why → GivesAll old
+    → ExplainsRead rem old new true why → (N : Table) → TellsBad N (left_of rem old) k
+explains_as_kind rem old new why k same gives r N = rw same (explains rem old new why gives r N)

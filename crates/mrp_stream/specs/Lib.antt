@@ -1,0 +1,5 @@
+pub mod Grammar
+pub mod Laws
+pub mod Left
+pub mod Reading
+pub mod Rows

@@ -1,0 +1,71 @@
+-- The row of a record: its fields, and its bytes.
+use Rattle.std.specs.Prelude.{◌≡◌, ℕ, ◌<◌, List, [], ◌∷◌, ◌++◌, length, slice_index_or, codes, All, Option, Some, None, IfSome}
+use Rattle.std.specs.List.{flat_map, join_with_byte}
+use Rattle.csv.specs.Machine.{line_feed}
+use Rattle.csv.specs.Writing.{comma}
+use Rattle.mrp_spell.specs.Spelling.{IsShort, number_text}
+use Rattle.mrp_rows.specs.declared.numbers.ItemNo.{ItemNo}
+use Rattle.mrp_rows.specs.Table.{Table}
+use Rattle.mrp_record.specs.declared.record.Record.{Record}
+use Rattle.mrp_record.specs.declared.record.Record.TheVariants.{Line, ItemEnd, Reset, Close}
+
+-- the name of an item
+abbrev pub item_name : Table → ItemNo → List ℕ
+item_name N item = slice_index_or N.items item.0 []
+
+-- the six fields of each kind of record; those that it doesn't use are empty
+abbrev pub line_fields : ℕ → List ℕ → ℕ → ℕ → ℕ → List (List ℕ)
+line_fields number name period quantity cumulative =
+    codes "line" ∷ number_text number ∷ name ∷ number_text period ∷ number_text quantity ∷ number_text cumulative ∷ []
+
+abbrev pub end_fields : ℕ → List ℕ → ℕ → ℕ → List (List ℕ)
+end_fields number name lines cumulative =
+    codes "end" ∷ number_text number ∷ name ∷ number_text lines ∷ number_text cumulative ∷ [] ∷ []
+
+abbrev pub reset_fields : ℕ → List ℕ → ℕ → List (List ℕ)
+reset_fields number name closed = codes "reset" ∷ number_text number ∷ name ∷ number_text closed ∷ [] ∷ [] ∷ []
+
+abbrev pub close_fields : ℕ → List (List ℕ)
+close_fields number = codes "close" ∷ number_text number ∷ [] ∷ [] ∷ [] ∷ [] ∷ []
+
+-- the fields of a record
+abbrev pub record_fields : Table → Record → List (List ℕ)
+record_fields N (Line number item period quantity cumulative) = line_fields number (item_name N item) period quantity cumulative
+record_fields N (ItemEnd number item lines cumulative) = end_fields number (item_name N item) lines cumulative
+record_fields N (Reset number item closed) = reset_fields number (item_name N item) closed
+record_fields N (Close number) = close_fields number
+
+-- a row: fields with commas between them, and a line feed at the end
+unfoldable pub row : List (List ℕ) → List ℕ
+row fields = join_with_byte comma fields ++ line_feed ∷ []
+
+-- the row of a record
+abbrev pub record_text : Table → Record → List ℕ
+record_text N r = row (record_fields N r)
+
+-- the text of records, a row each
+abbrev pub records_text : Table → List Record → List ℕ
+records_text N records = flat_map (record_text N) records
+
+-- the numbers of a record
+abbrev pub numbers_of : Record → List ℕ
+numbers_of (Line number item period quantity cumulative) = number ∷ period ∷ quantity ∷ cumulative ∷ []
+numbers_of (ItemEnd number item lines cumulative) = number ∷ lines ∷ cumulative ∷ []
+numbers_of (Reset number item closed) = number ∷ closed ∷ []
+numbers_of (Close number) = number ∷ []
+
+-- its item; a closing record has none
+abbrev pub item_of : Record → Option ItemNo
+item_of (Line number item period quantity cumulative) = Some item
+item_of (ItemEnd number item lines cumulative) = Some item
+item_of (Reset number item closed) = Some item
+item_of (Close number) = None
+
+-- a record that has a row: each number is below 10^16, and its item is one of the network
+pub record HasRow (N : Table) (r : Record) : Type 0 where
+  pub numbers : All IsShort (numbers_of r)
+  pub item : IfSome (item_of r) (λ item. item.0 < length N.items)
+
+-- bytes were added at the end
+abbrev pub Grows : List ℕ → List ℕ → Type 0
+Grows old new = (more : List ℕ) × (new ≡ old ++ more)

@@ -1,0 +1,16 @@
+//! Laws of the text of records. Each is the contract of a function that does nothing.
+
+ghost use Rattle.mrp_stream.specs.Laws.{RecordsHaveOneRow, WrittenHasNoFault, WrittenReadsBack, WrittenRowsAreRead};
+
+/// Each record has one row, and only that row is read as it.
+pub fn records_have_one_row()
+    ensures { RecordsHaveOneRow }
+{}
+
+/// What was written reads back: its rows are those of the records, no other records are read of it, and
+/// none of its rows has a fault.
+pub fn written_reads_back()
+    ensures rows { WrittenRowsAreRead }
+    ensures records { WrittenReadsBack }
+    ensures faults { WrittenHasNoFault }
+{}

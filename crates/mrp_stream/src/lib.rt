@@ -1,0 +1,16 @@
+//! The text of records: comma-separated rows, one a record.
+//!
+//! Each record of a network has one row, and a row that is read is the row of one record.
+#![tactic(auto)]
+
+mod fault;
+mod kind;
+pub mod laws;
+mod reading;
+mod spelled;
+mod writing;
+
+pub use fault::{RecordFault, RecordFaultKind};
+pub use mrp_record::Record;
+pub use reading::{MOST_RECORDS, read_records};
+pub use writing::write_record;

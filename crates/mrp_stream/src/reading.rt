@@ -1,0 +1,139 @@
+ghost use Rattle.std.specs.Prelude.{true, false, ◌≡◌, ◌+◌, ◌≤◌, length, IfOk, IfErr, OnOk, option_map};
+ghost use Rattle.csv.specs.Reading.{strip_bom};
+ghost use Rattle.csv.specs.Records.{AllText, fields_of};
+ghost use Rattle.mrp_tables.specs.Left.{GivesAll, OfLeft, left_of};
+ghost use Rattle.mrp_tables.specs.Reading.{OfRecords};
+ghost use Rattle.mrp_stream.specs.Left.{fault_of, is_of_row, TellsNext, TellsTaken};
+ghost use Rattle.mrp_rows.specs.Table.{Table};
+ghost use Rattle.mrp_stream.specs.Reading.{AreRowsOf, HasFault};
+
+use crate::spelled::spelled_record;
+use crate::{RecordFault, RecordFaultKind};
+use csv::{ErrorKind, Reader, ReaderBuilder, StringRecord};
+use mrp_net::Network;
+use mrp_record::Record;
+use std::alloc::Global;
+use std::io::Read;
+
+/// The most records of one text.
+pub const MOST_RECORDS: u64 = 4_000_000;
+
+/// Reads the records of a text, a row each, at most [`MOST_RECORDS`]. A text without rows has none.
+///
+/// Whether numbers are in their ranges, and whether one record follows from those before it, is for a
+/// book to say.
+///
+/// # Errors
+///
+/// The first fault of the first row that has one, as [`RecordFaultKind`] says.
+pub fn read_records<R: Read + Drop>(
+    alloc: Global,
+    network: &Network,
+    reader: R,
+) -> Result<Vec<Record>, RecordFault>
+    ensures records { IfOk result (λ records. OfRecords (option_map strip_bom (R.remaining reader)) (λ rows. AreRowsOf network.now rows records.items)) }
+    ensures fault { IfErr result (λ fault. OfRecords (option_map strip_bom (R.remaining reader)) (λ rows. HasFault network.now rows fault)) }
+    ensures few { IfOk result (λ records. length records.items ≤ MOST_RECORDS) }
+{
+    let mut rows = ReaderBuilder::new()
+        .has_headers(false)
+        .flexible(true)
+        .from_reader(alloc, reader);
+    read_rows(alloc, network, &mut rows)
+}
+
+/// Reads all rows.
+fn read_rows<R: Read>(
+    alloc: Global,
+    network: &Network,
+    rows: &mut Reader<R>,
+) -> Result<Vec<Record>, RecordFault>
+    requires gives { GivesAll rows.old }
+    ensures records { IfOk result (λ records. OfLeft (left_of R.remaining rows.old) (λ rows. AreRowsOf network.now rows records.items)) }
+    ensures fault { IfErr result (λ fault. OfLeft (left_of R.remaining rows.old) (λ rows. HasFault network.now rows fault)) }
+    ensures few { IfOk result (λ records. length records.items ≤ MOST_RECORDS) }
+{
+    let mut row = StringRecord::new(alloc);
+    let mut records = Vec::new(alloc);
+    for number in 1..MOST_RECORDS + 2 {
+        match read_next(network, rows, &mut row, &mut records) {
+            Ok(true) => {}
+            Ok(false) => return Ok(records),
+            Err(kind) => return Err(RecordFault { row: number, kind }),
+        }
+    }
+    unreachable!()
+}
+
+/// Reads the record of the next row, if there is one, and puts it behind the others.
+fn read_next<R: Read>(
+    network: &Network,
+    rows: &mut Reader<R>,
+    row: &mut StringRecord,
+    records: &mut Vec<Record>,
+) -> Result<bool, RecordFaultKind>
+    requires gives { GivesAll rows.old }
+    ensures gives { OnOk result (GivesAll rows.new) }
+    ensures exact { TellsNext network.now (left_of R.remaining rows.old) (left_of R.remaining rows.new) records.old.items records.new.items result }
+{
+    let full = MOST_RECORDS <= records.len() as u64;
+    if !next_row(rows, row, full)? {
+        return Ok(false);
+    }
+    records.push(spelled_record(network, row)?)?;
+    Ok(true)
+}
+
+/// Takes the next row, if there is one. After the last that may be read there is to be none.
+fn next_row<R: Read>(
+    rows: &mut Reader<R>,
+    row: &mut StringRecord,
+    full: bool,
+) -> Result<bool, RecordFaultKind>
+    requires gives { GivesAll rows.old }
+    ensures gives { OnOk result (GivesAll rows.new) }
+    ensures text { OnOk result (AllText (fields_of row.new)) }
+    ensures exact { (N : Table) → TellsTaken N (left_of R.remaining rows.old) (left_of R.remaining rows.new) (fields_of row.new) result }
+    ensures room { full ≡ true → is_of_row result ≡ false }
+{
+    let answer = take_row(rows, row);
+    if full && is_of_row(&answer) {
+        return Err(RecordFaultKind::ReadFault);
+    }
+    answer
+}
+
+/// Whether an answer is of a row, good or bad.
+fn is_of_row(answer: &Result<bool, RecordFaultKind>) -> bool
+    ensures { result ≡ is_of_row answer.now }
+{
+    match answer {
+        Ok(found) => *found,
+        Err(RecordFaultKind::ReadFault | RecordFaultKind::Memory) => false,
+        Err(_) => true,
+    }
+}
+
+/// Takes the next row, if there is one.
+fn take_row<R: Read>(rows: &mut Reader<R>, row: &mut StringRecord) -> Result<bool, RecordFaultKind>
+    requires gives { GivesAll rows.old }
+    ensures gives { OnOk result (GivesAll rows.new) }
+    ensures text { OnOk result (AllText (fields_of row.new)) }
+    ensures exact { (N : Table) → TellsTaken N (left_of R.remaining rows.old) (left_of R.remaining rows.new) (fields_of row.new) result }
+{
+    match rows.read_record(row) {
+        Ok(found) => Ok(found),
+        Err(error) => Err(read_fault(error.kind())),
+    }
+}
+
+/// What an error of the reading is called.
+fn read_fault(error: &ErrorKind) -> RecordFaultKind
+    ensures value { result ≡ fault_of error.now }
+{
+    match error {
+        ErrorKind::Utf8 { .. } => RecordFaultKind::NotUtf8,
+        ErrorKind::OutOfMemory => RecordFaultKind::Memory,
+        _ => RecordFaultKind::ReadFault,
+    }
+}

@@ -1,0 +1,149 @@
+ghost use Rattle.std.specs.Prelude.{◌≡◌, IfOk};
+ghost use Rattle.csv.specs.Records.{fields_of};
+ghost use Rattle.mrp_tables.specs.Grammar.{field, is_free};
+ghost use Rattle.mrp_stream.specs.Grammar.{close_of, end_of, is_empty_from, item_at, item_named, line_of, number_at, reset_of, row_kind, spelled_record};
+
+use crate::RecordFaultKind;
+use crate::kind::Kind;
+use csv::StringRecord;
+use mrp_net::{ItemNo, Network};
+use mrp_record::Record;
+use mrp_spell::number;
+
+/// How many fields a row has.
+const FIELDS: usize = 6;
+
+/// A field of a row, counted from 0; one that isn't there is empty.
+fn field(row: &StringRecord, i: usize) -> &str
+    ensures { result.now ≡ field (fields_of row.now) i }
+{
+    row.get(i).unwrap_or("")
+}
+
+/// Whether a field is among the used ones, or empty.
+fn is_free(row: &StringRecord, used: usize, i: usize) -> bool
+    ensures { result ≡ is_free (fields_of row.now) used i }
+{
+    i < used || field(row, i).is_empty()
+}
+
+/// Whether the fields from `used` on are empty; two and more are used.
+fn is_empty_from(row: &StringRecord, used: usize) -> bool
+    ensures { result ≡ is_empty_from (fields_of row.now) used }
+{
+    is_free(row, used, 2) && is_free(row, used, 3) && is_free(row, used, 4) && is_free(row, used, 5)
+}
+
+/// The kind of a row that has the fields of its kind.
+#[tactic(auto, unfolding(crate::specs::Grammar::row_kind))]
+fn row_kind(row: &StringRecord) -> Result<Kind, RecordFaultKind>
+    ensures { result ≡ row_kind (fields_of row.now) }
+{
+    if row.len() != FIELDS {
+        return Err(RecordFaultKind::FieldCount);
+    }
+    let kind = Kind::of(field(row, 0)).ok_or(RecordFaultKind::UnknownKind)?;
+    if is_empty_from(row, kind.used()) {
+        Ok(kind)
+    } else {
+        Err(RecordFaultKind::FieldCount)
+    }
+}
+
+/// The number in a field.
+fn number_at(row: &StringRecord, i: usize) -> Result<u64, RecordFaultKind>
+    ensures { result ≡ number_at (fields_of row.now) i }
+{
+    number(field(row, i)).ok_or(RecordFaultKind::BadNumber)
+}
+
+/// The item of a name.
+fn item_named(network: &Network, name: &str) -> Option<ItemNo>
+    ensures { result ≡ item_named network.now name.now }
+{
+    let _pairs = network.pairs();
+    network.find_item(name)
+}
+
+/// The item of a row.
+fn item_at(network: &Network, row: &StringRecord) -> Result<ItemNo, RecordFaultKind>
+    ensures { result ≡ item_at network.now (fields_of row.now) }
+{
+    item_named(network, field(row, 2)).ok_or(RecordFaultKind::UnknownItem)
+}
+
+/// The line of a row.
+#[tactic(auto, unfolding(crate::specs::Grammar::line_of))]
+fn line_of(network: &Network, row: &StringRecord) -> Result<Record, RecordFaultKind>
+    ensures { result ≡ line_of network.now (fields_of row.now) }
+{
+    let number = number_at(row, 1)?;
+    let period = number_at(row, 3)?;
+    let quantity = number_at(row, 4)?;
+    let cumulative = number_at(row, 5)?;
+    let item = item_at(network, row)?;
+    Ok(Record::Line {
+        number,
+        item,
+        period,
+        quantity,
+        cumulative,
+    })
+}
+
+/// The item end of a row.
+#[tactic(auto, unfolding(crate::specs::Grammar::end_of))]
+fn end_of(network: &Network, row: &StringRecord) -> Result<Record, RecordFaultKind>
+    ensures { result ≡ end_of network.now (fields_of row.now) }
+{
+    let number = number_at(row, 1)?;
+    let lines = number_at(row, 3)?;
+    let cumulative = number_at(row, 4)?;
+    let item = item_at(network, row)?;
+    Ok(Record::ItemEnd {
+        number,
+        item,
+        lines,
+        cumulative,
+    })
+}
+
+/// The reset of a row.
+#[tactic(auto, unfolding(crate::specs::Grammar::reset_of))]
+fn reset_of(network: &Network, row: &StringRecord) -> Result<Record, RecordFaultKind>
+    ensures { result ≡ reset_of network.now (fields_of row.now) }
+{
+    let number = number_at(row, 1)?;
+    let closed = number_at(row, 3)?;
+    let item = item_at(network, row)?;
+    Ok(Record::Reset {
+        number,
+        item,
+        closed,
+    })
+}
+
+/// The closing record of a row.
+#[tactic(auto, unfolding(crate::specs::Grammar::close_of))]
+fn close_of(row: &StringRecord) -> Result<Record, RecordFaultKind>
+    ensures { result ≡ close_of (fields_of row.now) }
+{
+    let number = number_at(row, 1)?;
+    Ok(Record::Close { number })
+}
+
+/// The record of a row whose fields are text, or the first fault of the row.
+#[tactic(auto, unfolding(crate::specs::Grammar::spelled_record))]
+pub(crate) fn spelled_record(
+    network: &Network,
+    row: &StringRecord,
+) -> Result<Record, RecordFaultKind>
+    ensures { result ≡ spelled_record network.now (fields_of row.now) }
+{
+    match row_kind(row)? {
+        Kind::Line => line_of(network, row),
+        Kind::ItemEnd => end_of(network, row),
+        Kind::Reset => reset_of(network, row),
+        Kind::Close => close_of(row),
+    }
+}
