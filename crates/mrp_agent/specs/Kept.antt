@@ -35,8 +35,9 @@ pub record AreIndexes (V : PlantRows) (I : Indexes) : Type 0 where
   pub out_items : I.out_items ≡ map (λ lane. map (λ i. i.item) lane.items) V.outgoing
 
 -- a plan has a row's amount for each period
-abbrev pub HasPeriods : PlantRows → PlanRows → Type 0
-HasPeriods V plan = length plan.gross ≡ V.horizon
+pub record HasPeriods (V : PlantRows) (plan : PlanRows) : Type 0 where
+  pub gross : length plan.gross ≡ V.horizon
+  pub release : length plan.release ≡ V.horizon
 
 -- it has what it keeps of each lane and pair
 pub record HasRooms (A : AgentState) : Type 0 where
@@ -49,7 +50,7 @@ pub record HasRooms (A : AgentState) : Type 0 where
   pub waits : length A.progress.waits ≡ length A.view.pairs
   pub planned : length A.progress.planned ≡ length A.view.pairs
   pub outs : length A.outs ≡ length A.view.outgoing
-  pub places : (k : ℕ) → k < length A.view.outgoing → All (λ j. j < length (outgoing_at A.view k).items) (out_at A k).queue
+  pub sizes : (k : ℕ) → k < length A.view.outgoing → (out_at A k).size ≡ length (outgoing_at A.view k).items
 
 -- its books show some lists, and it waits for what has not come
 pub record HasTaken (A : AgentState) : Type 0 where

@@ -1,23 +1,28 @@
 -- What an agent sends next on a lane, by the lane's place.
-use Rattle.std.specs.Prelude.{ℕ, ◌-◌, ◌+◌, ◌≤◌, List, length, map, find, slice_index, slice_get, Option, None, Some, option_map}
+use Rattle.std.specs.Prelude.{ℕ, ◌-◌, ◌+◌, ◌≤◌, List, [], ◌∷◌, ◌++◌, length, map, find, slice_index, slice_get, Option, None, Some, option_map}
 use Rattle.std.specs.List.{range_with_len}
 use Rattle.mrp_net.specs.declared.lane.LaneKind.{LaneKind}
 use Rattle.mrp_net.specs.declared.lane.LaneKind.TheVariants.{Despatch, Schedule}
 use Rattle.mrp_net.specs.declared.lane.Shipment.{Shipment}
 use Rattle.mrp_view.specs.declared.view.OutgoingLane.{OutgoingLane}
 use Rattle.mrp_view.specs.declared.view.OutgoingItem.{OutgoingItem}
-use Rattle.mrp_view.specs.Loads.{Load, bare, load_at}
+use Rattle.mrp_view.specs.Loads.{Load, bare, load, load_at}
 use Rattle.mrp_record.specs.declared.record.Record.{Record}
-use Rattle.mrp_record.specs.Entries.{Delivery}
+use Rattle.mrp_record.specs.Entries.{Delivery, content}
+use Rattle.mrp_record.specs.Laws.{AreLoads}
+use Rattle.mrp_record.specs.Text as lane
+use Rattle.mrp_record.specs.Text.{IsBeginning}
 use Rattle.mrp_events.specs.Loads.{delivery_in, has_pieces}
 use Rattle.mrp_book.specs.declared.item.ItemFigure.{ItemFigure}
 use Rattle.mrp_book.specs.Faults.{find_item}
 use Rattle.mrp_book.specs.Figures.{Figures}
 use Rattle.mrp_cursor.specs.declared.remainder.NextLine.{NextLine}
 use Rattle.mrp_cursor.specs.declared.remainder.Remainder.{Remainder}
+use Rattle.mrp_cursor.specs.Cursor.{Goods}
+use Rattle.mrp_cursor.specs.Laws.{Agrees, IsBounded, MaySend}
 use Rattle.mrp_cursor.specs.Next.{next_record}
+use Rattle.mrp_local.specs.Goods.{goods_of, share}
 use Rattle.mrp_agent.specs.State.{AgentState, book_at, out_at, incoming_place, outgoing_at, plans_of}
-use Rattle.mrp_agent.specs.Goods.{share}
 
 -- the cumulative figure of an item in a book
 abbrev pub figure_of : Option ItemFigure → ℕ
@@ -38,9 +43,13 @@ next_shipment shipments mark = option_map (shipment_line mark) (slice_get shipme
 abbrev pub call_line : Delivery → NextLine
 call_line line = record { period = line.period; quantity = line.quantity; after = line.period + 1 }
 
+-- the supplier's share of a release of the customer's
+abbrev pub called_by : List ℕ → OutgoingItem → ℕ → ℕ
+called_by release item period = share (load item []) (slice_index release period)
+
 abbrev pub next_called : List ℕ → OutgoingItem → ℕ → Option NextLine
 next_called release item mark =
-    option_map call_line (find has_pieces (map (delivery_in (λ period. share item (slice_index release period))) (range_with_len mark (length release - mark))))
+    option_map call_line (find has_pieces (map (delivery_in (called_by release item)) (range_with_len mark (length release - mark))))
 
 -- a share of thousandths
 pub record AreShares (item : OutgoingItem) : Type 0 where
@@ -70,3 +79,25 @@ left_at A k = option_map (remainder A (outgoing_at A.view k) (out_at A k).mark) 
 -- the record that is sent next
 abbrev pub next_out : AgentState → ℕ → Option Record
 next_out A k = next_record (out_at A k) (left_at A k)
+
+-- ---- what is given to send
+
+-- the goods of the lane at a place
+abbrev pub goods_at : AgentState → (ℕ → List Record) → ℕ → ℕ → Goods
+goods_at A taken k = goods_of A.view taken (plans_of A) (outgoing_at A.view k)
+
+-- the records and figures of the lane stay below 2^64, as those of a sized network do
+abbrev pub IsWithin64 : AgentState → (ℕ → List Record) → ℕ → Type 0
+IsWithin64 A taken k = IsBounded (goods_at A taken k) (out_at A k)
+
+-- the record may be sent, and it continues what was sent to a legal beginning, whatever lane has these goods
+abbrev pub Continues : AgentState → (ℕ → List Record) → (ℕ → List Record) → ℕ → Record → Type 0
+Continues A sent taken k r =
+    (loads : List lane.Load) → Agrees (goods_at A taken k) (out_at A k) loads
+    → IsBeginning loads (sent (outgoing_at A.view k).number.0 ++ r ∷ []) × MaySend (goods_at A taken k) (out_at A k) (content r)
+
+-- no record that may be sent does so
+abbrev pub NothingContinues : AgentState → (ℕ → List Record) → (ℕ → List Record) → ℕ → Type 0
+NothingContinues A sent taken k =
+    (loads : List lane.Load) → AreLoads loads → Agrees (goods_at A taken k) (out_at A k) loads
+    → (r : Record) → MaySend (goods_at A taken k) (out_at A k) (content r) → IsBeginning loads (sent (outgoing_at A.view k).number.0 ++ r ∷ []) → ⊥

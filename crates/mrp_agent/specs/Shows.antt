@@ -21,7 +21,7 @@ use Rattle.mrp_ready.specs.Counts.{Awaited, AreCounts, open_blocks}
 use Rattle.mrp_ready.specs.Progress.{is_planned}
 use Rattle.mrp_local.specs.Local.{amount_at, booked_on, local_incoming, IsLocal}
 use Rattle.mrp_agent.specs.State.{AgentState, incoming_at, outgoing_at, book_at, out_at, pair_place, plans_of}
-use Rattle.mrp_agent.specs.Goods.{goods_of, IsSendable}
+use Rattle.mrp_local.specs.Goods.{goods_of, IsSendable}
 
 -- ---- books
 

@@ -49,15 +49,12 @@ impl Agent {
 }
 
 /// The place of a lane among those that come in, or how many these are.
+#[tactic(auto, using(crate::proofs::Places::place_or_len))]
 pub(crate) fn incoming_place(lanes: &[IncomingLane], lane: LaneNo) -> usize
     ensures { result ≡ position_or_len (λ l. l.number.0 == lane.0) lanes.now }
 {
-    for (k, incoming) in lanes.iter().enumerate() {
-        if incoming.number.0 == lane.0 {
-            return k;
-        }
-    }
-    lanes.len()
+    let place = lanes.iter().position(|known| known.number.0 == lane.0);
+    place.unwrap_or(lanes.len())
 }
 
 /// Adds the pieces of a line at its pair and period; another record adds nothing.

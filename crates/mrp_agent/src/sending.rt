@@ -1,7 +1,7 @@
-ghost use Rattle.std.specs.Prelude.{◌≡◌, ◌==◌, ◌<◌, length};
+ghost use Rattle.std.specs.Prelude.{◌≡◌, ◌==◌, ◌<◌, [], length};
 ghost use Rattle.std.specs.List.{position_or_len};
-ghost use Rattle.mrp_view.specs.Loads.{load_at};
-ghost use Rattle.mrp_agent.specs.Goods.{share};
+ghost use Rattle.mrp_view.specs.Loads.{load, load_at};
+ghost use Rattle.mrp_local.specs.Goods.{share};
 ghost use Rattle.mrp_agent.specs.Sending.{next_shipment, next_called, left_to_ship, AreShares};
 
 use crate::Agent;
@@ -88,15 +88,12 @@ impl Agent {
 }
 
 /// The place of a lane among those that go out, or how many these are.
+#[tactic(auto, using(crate::proofs::Places::place_or_len))]
 fn outgoing_place(lanes: &[OutgoingLane], lane: LaneNo) -> usize
     ensures { result ≡ position_or_len (λ l. l.number.0 == lane.0) lanes.now }
 {
-    for (k, outgoing) in lanes.iter().enumerate() {
-        if outgoing.number.0 == lane.0 {
-            return k;
-        }
-    }
-    lanes.len()
+    let place = lanes.iter().position(|known| known.number.0 == lane.0);
+    place.unwrap_or(lanes.len())
 }
 
 /// What a despatch lane has left to ship of an item.
@@ -150,7 +147,7 @@ fn next_call(release: &Row, item: &OutgoingItem, mark: usize) -> Option<NextLine
 /// The share of a release that a lane's supplier is called for.
 fn share(item: &OutgoingItem, release: Qty) -> u64
     requires { AreShares item.now }
-    ensures { result ≡ share item.now release }
+    ensures { result ≡ share (load item.now []) release }
 {
     let pieces = release.get();
     pieces * item.high / 1000 - pieces * item.low / 1000
