@@ -86,6 +86,26 @@ reset_said moved said opening item place e f h =
 
 -- ---- the steps of a block
 
+-- the part of the block at the head grows by a record
+further_in_block : (goods : ℕ → Goods) (o : OutFigures) (sent : List Record) (place : ℕ) (r : Record) (entry : Entry) (mark lines moved : ℕ) (anew : Bool)
+    → (h : ShowsSent goods o sent) → IsBounded goods o → slice_get o.queue o.head ≡ Some place → number_of r ≡ o.next → content r ≡ entry
+    → IsPart (goods place) mark lines moved anew (h.part ++ entry ∷ [])
+    → ShowsSent goods (record o { next = added o.next 1; mark = mark; lines = lines; moved = moved; anew = anew }) (sent ++ r ∷ [])
+further_in_block goods o sent place r entry mark lines moved anew h small at number said grown =
+    record {
+      numbers = numbers_more 1 sent r h.numbers (omega (arith, number, h.next));
+      next = next_more o.next sent r h.next small.number;
+      later = h.later;
+      places = h.places;
+      head = h.head;
+      part = h.part ++ entry ∷ [];
+      text = contents_more sent r (blocks goods (take o.head o.queue)) h.part entry h.text said;
+      within = λ _ other there.
+          subst (λ (k : ℕ). IsPart (goods k) mark lines moved anew (h.part ++ entry ∷ [])) (same_there o.queue o.head place other at there) grown;
+      between = λ _ all. absurd (omega (arith, all, slice_get_within o.queue o.head place at));
+      after = λ closed. absurd (both_ways o.closed (open_there goods o sent place h at) closed);
+    }
+
 after_line : (goods : ℕ → Goods) (o : OutFigures) (sent : List Record) (place : ℕ) (left : Remainder) (line : NextLine)
     → ShowsSent goods o sent → IsBounded goods o → slice_get o.queue o.head ≡ Some place → IsRemainder (goods place) o.mark left → due o.anew left ≡ Moving line
     → ShowsSent goods (stepped_by o (Moving line)) (sent ++ record_due o left (Moving line) ∷ [])
@@ -110,19 +130,7 @@ after_line goods o sent place left line h small at rest what =
     let grown_there : IsPart g line.after (added o.lines 1) (added o.moved line.quantity) o.anew (h.part ++ entry ∷ []) =
     subst (λ (m : ℕ). IsPart g line.after m (added o.moved line.quantity) o.anew (h.part ++ entry ∷ [])) (sym lines)
     (subst (λ (m : ℕ). IsPart g line.after (o.lines + 1) m o.anew (h.part ++ entry ∷ [])) (sym moved) grown) in
-    record {
-      numbers = numbers_more 1 sent r h.numbers (omega (arith, h.next));
-      next = next_more o.next sent r h.next small.number;
-      later = h.later;
-      places = h.places;
-      head = h.head;
-      part = h.part ++ entry ∷ [];
-      text = contents_more sent r (blocks goods (take o.head o.queue)) h.part entry h.text said;
-      within = λ _ other there.
-          subst (λ (k : ℕ). IsPart (goods k) line.after (added o.lines 1) (added o.moved line.quantity) o.anew (h.part ++ entry ∷ [])) (same_there o.queue o.head place other at there) grown_there;
-      between = λ _ all. absurd (omega (arith, all, slice_get_within o.queue o.head place at));
-      after = λ closed. absurd (both_ways o.closed is_open closed);
-    }
+    further_in_block goods o sent place r entry line.after (added o.lines 1) (added o.moved line.quantity) o.anew h small at refl said grown_there
 
 after_reset : (goods : ℕ → Goods) (o : OutFigures) (sent : List Record) (place : ℕ) (left : Remainder)
     → ShowsSent goods o sent → IsBounded goods o → slice_get o.queue o.head ≡ Some place → IsRemainder (goods place) o.mark left → due o.anew left ≡ Restarting
@@ -139,18 +147,7 @@ after_reset goods o sent place left h small at rest what =
     let old : content r ≡ ResetOf left.item.0 (figure_said false o.moved left.opening) = ap (λ (b : Bool). ResetOf left.item.0 (figure_said b o.moved left.opening)) facts.0 in
     let said : content r ≡ entry = old ∙ reset_said o.moved left.opening g.opening g.item left.item.0 rest.item rest.opening (omega (arith, bounds.figures, part.pieces)) in
     let grown = part_reset g o.mark o.lines o.moved next.0 h.part part (sym rest.reset ∙ next.1) next.2 in
-    record {
-      numbers = numbers_more 1 sent r h.numbers (omega (arith, h.next));
-      next = next_more o.next sent r h.next small.number;
-      later = h.later;
-      places = h.places;
-      head = h.head;
-      part = h.part ++ entry ∷ [];
-      text = contents_more sent r (blocks goods (take o.head o.queue)) h.part entry h.text said;
-      within = λ _ other there. subst (λ (k : ℕ). IsPart (goods k) o.mark o.lines 0 true (h.part ++ entry ∷ [])) (same_there o.queue o.head place other at there) grown;
-      between = λ _ all. absurd (omega (arith, all, slice_get_within o.queue o.head place at));
-      after = λ closed. absurd (both_ways o.closed is_open closed);
-    }
+    further_in_block goods o sent place r entry o.mark o.lines 0 true h small at refl said grown
 
 -- a whole block is one more
 block_more : (goods : ℕ → Goods) (queue : List ℕ) (head place : ℕ) (part : List Entry) (e : Entry) → slice_get queue head ≡ Some place → block (load_of (goods place)) ≡ part ++ e ∷ []

@@ -28,7 +28,17 @@ pub record IsQueue (head queued : ℕ) (slots : List ℕ) : Type 0 where
 -- the figures before the first record
 abbrev pub unsent : ℕ → List ℕ → OutFigures
 unsent size queue =
-    record { next = 1; closed = false; size = size; queue = queue; head = 0; mark = 0; lines = 0; moved = 0; anew = false }
+    record {
+      next = 1;
+      closed = false;
+      size = size;
+      queue = queue;
+      head = 0;
+      mark = 0;
+      lines = 0;
+      moved = 0;
+      anew = false;
+    }
 
 -- What a lane has to carry of the item at a place: the figure that it opens with, the period from which its
 -- figures start anew, if they do, and its deliveries from a mark on. All are from mark 0 on.

@@ -22,7 +22,7 @@ pub record IsQueued (goods : ℕ → Goods) (o : OutFigures) (item : ℕ) : Type
   pub there : Contains o.queue place
   pub is : (goods place).item ≡ item
 
--- a record may be sent where its item may, and the closing record ever
+-- a record may be sent where its item may, the closing record always
 abbrev pub MaySend : (ℕ → Goods) → OutFigures → Entry → Type 0
 MaySend goods o (LineOf item period quantity cumulative) = IsQueued goods o item
 MaySend goods o (EndOf item lines cumulative) = IsQueued goods o item
@@ -96,7 +96,9 @@ ShownBegin =
 
 -- the cursor is closed exactly where the shown list is
 abbrev pub ClosedIsShown : Type 0
-ClosedIsShown = (goods : ℕ → Goods) (o : OutFigures) (sent : List Record) → ShowsSent goods o sent → o.closed ≡ is_closed (contents sent)
+ClosedIsShown =
+    (goods : ℕ → Goods) (o : OutFigures) (sent : List Record)
+    → ShowsSent goods o sent → o.closed ≡ is_closed (contents sent)
 
 -- a cursor that is closed shows the whole text
 abbrev pub ClosedShowsWhole : Type 0

@@ -28,7 +28,8 @@ pub record IsRemainder (g : Goods) (mark : ℕ) (left : Remainder) : Type 0 wher
 -- what is left of the goods at the head, or nothing where all queued blocks are sent
 abbrev pub IsLeft : (ℕ → Goods) → OutFigures → Option Remainder → Type 0
 IsLeft goods o None = slice_get o.queue o.head ≡ None
-IsLeft goods o (Some left) = (place : ℕ) × (slice_get o.queue o.head ≡ Some place) × IsRemainder (goods place) o.mark left
+IsLeft goods o (Some left) =
+    (place : ℕ) × (slice_get o.queue o.head ≡ Some place) × IsRemainder (goods place) o.mark left
 
 -- ---- the next record
 
@@ -53,7 +54,8 @@ abbrev pub figure_said : Bool → ℕ → ℕ → ℕ
 figure_said anew moved opening = if anew then moved else added opening moved
 
 abbrev pub record_due : OutFigures → Remainder → Due → Record
-record_due o left (Moving line) = Line o.next left.item line.period line.quantity (added (figure_said o.anew o.moved left.opening) line.quantity)
+record_due o left (Moving line) =
+    Line o.next left.item line.period line.quantity (added (figure_said o.anew o.moved left.opening) line.quantity)
 record_due o left Restarting = Reset o.next left.item (figure_said o.anew o.moved left.opening)
 record_due o left Ending = ItemEnd o.next left.item o.lines (figure_said o.anew o.moved left.opening)
 
@@ -70,7 +72,14 @@ stepped_by o (Moving line) =
     record o { next = added o.next 1; mark = line.after; lines = added o.lines 1; moved = added o.moved line.quantity }
 stepped_by o Restarting = record o { next = added o.next 1; moved = 0; anew = true }
 stepped_by o Ending =
-    record o { next = added o.next 1; head = min (o.head + 1) (length o.queue); mark = 0; lines = 0; moved = 0; anew = false }
+    record o {
+      next = added o.next 1;
+      head = min (o.head + 1) (length o.queue);
+      mark = 0;
+      lines = 0;
+      moved = 0;
+      anew = false;
+    }
 
 -- after the next record
 abbrev pub stepped : OutFigures → Option Remainder → OutFigures
@@ -79,4 +88,5 @@ stepped o (Some left) = stepped_by o (due o.anew left)
 
 -- with one more place of the lane in the queue, if there is room
 abbrev pub queued : OutFigures → ℕ → OutFigures
-queued o place = if nat_lt place o.size && nat_lt (length o.queue) o.size then record o { queue = o.queue ++ place ∷ [] } else o
+queued o place =
+    if nat_lt place o.size && nat_lt (length o.queue) o.size then record o { queue = o.queue ++ place ∷ [] } else o

@@ -9,7 +9,8 @@ use Rattle.mrp_cursor.specs.Cursor.{OutFigures, Goods, load_of, blocks}
 
 -- what is left of a block after so many lines, at a figure: a block again
 abbrev pub left_from : ℕ → ℕ → ℕ → Option ℕ → List Delivery → List Entry
-left_from item count figure reset lines = body item figure reset lines ++ EndOf item (count + length lines) (last_figure figure reset lines) ∷ []
+left_from item count figure reset lines =
+    body item figure reset lines ++ EndOf item (count + length lines) (last_figure figure reset lines) ∷ []
 
 -- the figure in force and the awaited reset, after so many pieces
 abbrev pub figure_at : Bool → ℕ → ℕ → ℕ
@@ -18,9 +19,12 @@ figure_at anew moved opening = if anew then moved else opening + moved
 abbrev pub reset_at : Bool → Option ℕ → Option ℕ
 reset_at anew reset = if anew then None else reset
 
--- a part of the block of some goods was sent, and the rest is what is left from the mark on
+-- A part of the block of some goods was sent, and the rest is what is left from the mark on. The lines and
+-- pieces so far are those of the deliveries that aren't left; after a reset the pieces are fewer.
 pub record IsPart (g : Goods) (mark count moved : ℕ) (anew : Bool) (part : List Entry) : Type 0 where
-  pub whole : block (load_of g) ≡ part ++ left_from g.item count (figure_at anew moved g.opening) (reset_at anew g.reset) (g.from mark)
+  pub whole :
+      block (load_of g)
+      ≡ part ++ left_from g.item count (figure_at anew moved g.opening) (reset_at anew g.reset) (g.from mark)
   pub lines : count + length (g.from mark) ≡ length (g.from 0)
   pub pieces : moved + total (g.from mark) ≤ total (g.from 0)
 
@@ -32,7 +36,8 @@ pub record IsFresh (o : OutFigures) : Type 0 where
   pub anew : o.anew ≡ false
 
 -- A cursor shows the list of the whole blocks before its head and a part of the next one: of the block at
--- the head, of none where that isn't queued, and of the closing record where the lane is closed.
+-- the head, none where no block is there, and the closing record where the lane is closed. The places that
+-- aren't queued come later, each once.
 pub record ShowsSent (goods : ℕ → Goods) (o : OutFigures) (sent : List Record) : Type 0 where
   pub numbers : NumberedFrom 1 sent
   pub next : o.next ≡ length sent + 1
@@ -41,6 +46,8 @@ pub record ShowsSent (goods : ℕ → Goods) (o : OutFigures) (sent : List Recor
   pub head : o.head ≤ length o.queue
   pub part : List Entry
   pub text : contents sent ≡ blocks goods (take o.head o.queue) ++ part
-  pub within : o.closed ≡ false → (place : ℕ) → slice_get o.queue o.head ≡ Some place → IsPart (goods place) o.mark o.lines o.moved o.anew part
+  pub within :
+      o.closed ≡ false → (place : ℕ) → slice_get o.queue o.head ≡ Some place
+      → IsPart (goods place) o.mark o.lines o.moved o.anew part
   pub between : o.closed ≡ false → o.head ≡ length o.queue → (part ≡ []) × IsFresh o
   pub after : o.closed ≡ true → (o.head ≡ length o.queue) × (length o.queue ≡ o.size) × (part ≡ Closing ∷ [])

@@ -11,7 +11,8 @@ use std::marker::Model;
 /// The items of the lane have places, from 0 on. A place is queued once its item's block may be sent; the
 /// blocks go out whole, in the order of the queue, and after those of all places the closing record. The
 /// cursor stands at the head of the queue, within or before that block. It stores none of the records:
-/// no call but [`OutCursor::new`] takes memory, and each is done in constant time.
+/// only [`OutCursor::new`] and [`OutCursor::with_all`] take memory, and every other call is done in
+/// constant time.
 ///
 /// Numbers and figures are added up to 2^64 - 1. The laws say that within 64 bits nothing is lost.
 #[derive(Drop)]
@@ -125,7 +126,8 @@ impl OutCursor {
     }
 
     /// The record to be sent next, where one can be. `left` is what is left of the item at
-    /// [`OutCursor::head`] from [`OutCursor::mark`] on, and `None` where that is.
+    /// [`OutCursor::head`] from [`OutCursor::mark`] on, and `None` where that is. The record then continues
+    /// what was sent to a legal beginning; where there is none, no record does that may be sent.
     pub fn next_record(&self, left: Option<Remainder>) -> Option<Record>
         ensures { result ≡ next_record self.now left }
     {
@@ -135,7 +137,8 @@ impl OutCursor {
         }
     }
 
-    /// Goes on after the record that [`OutCursor::next_record`] gives for what is left.
+    /// Goes on after the record that [`OutCursor::next_record`] gives for what is left: the cursor then
+    /// shows the list with that record.
     pub fn step(&mut self, left: Option<Remainder>)
         ensures { self.new ≡ stepped self.old left }
     {

@@ -39,10 +39,10 @@ use Rattle.mrp_events.proofs.Summing.{sum_same, by_number}
 
 -- ---- whether a lane has an item
 
-abbrev has_item : Table → Lane → ItemNo → Bool
+abbrev pub has_item : Table → Lane → ItemNo → Bool
 has_item N lane item = list_any (λ (i : ItemNo). i.0 == item.0) (lane_items N lane)
 
-item_there : (N : Table) (lane : Lane) (item : ItemNo) → has_item N lane item ≡ true → Contains (lane_items N lane) item
+pub item_there : (N : Table) (lane : Lane) (item : ItemNo) → has_item N lane item ≡ true → Contains (lane_items N lane) item
 item_there N lane item has =
     let found = any_some (λ (i : ItemNo). i.0 == item.0) (lane_items N lane) has in
     let same : found.0 ≡ item = ap (λ (z : ℕ). let i : ItemNo = record { 0 = z } in i) (eqb-true found.0.0 item.0 found.2) in
@@ -58,7 +58,7 @@ there_is_item (i ∷ items) item h = elim (cases_Bool (i.0 == item.0)) [
   ]
 ]
 
-not_there : (N : Table) (lane : Lane) (item : ItemNo) → has_item N lane item ≡ false → ¬ Contains (lane_items N lane) item
+pub not_there : (N : Table) (lane : Lane) (item : ItemNo) → has_item N lane item ≡ false → ¬ Contains (lane_items N lane) item
 not_there N lane item none there = both_ways (has_item N lane item) none (there_is_item (lane_items N lane) item (In-from_contains (lane_items N lane) item there))
 
 no_load : (N : Table) (lane : Lane) (item : ItemNo) (items : List ItemNo) → list_any (λ (i : ItemNo). i.0 == item.0) items ≡ false → load_count item.0 (map (load_of N lane) items) ≡ 0
@@ -189,7 +189,7 @@ pub same_where : (b : Bool) (m n : ℕ) → (b ≡ true → m ≡ n) → cond b 
 same_where true m n h = h refl
 same_where false m n h = refl
 
-module _ (N : Table) (table : IsTable N) (taken : ℕ → List Record) (legal : AreLegal N taken) (planned : ℕ → Bool) (x : ℕ) (pair : IsPair N x) (ready : IsReady N planned taken x) (period : ℕ) where
+module _ (N : Table) (table : IsTable N) (planned : ℕ → Bool) (taken : ℕ → List Record) (x : ℕ) (pair : IsPair N x) (legal : AreLegal N (pair_at N x).plant.0 taken) (ready : IsReady N planned taken x) (period : ℕ) where
   abbrev plant : ℕ
   plant = (pair_at N x).plant.0
 
@@ -200,11 +200,11 @@ module _ (N : Table) (table : IsTable N) (taken : ℕ → List Record) (legal : 
   lane_brought : (l : ℕ) → l < length (lanes N) → (lane_at N l).receiver.0 ≡ plant → (there : Contains (lane_items N (lane_at N l)) item)
       → brought_by N taken x period l ≡ quantity_in period (lines_by N (lane_at N l).kind (lane_at N l) item)
   lane_brought l within here there =
-      block_brought N table (lane_at N l) (taken l) item period (legal l within) there (ready.brought l within here there)
+      block_brought N table (lane_at N l) (taken l) item period (legal l within here) there (ready.brought l within here there)
 
-  lane_without : (l : ℕ) → l < length (lanes N) → has_item N (lane_at N l) item ≡ false → brought_by N taken x period l ≡ 0
-  lane_without l within none =
-      nothing_brought (loads N (lane_at N l)) (taken l) item.0 period (legal l within) (no_load N (lane_at N l) item (lane_items N (lane_at N l)) none)
+  lane_without : (l : ℕ) → l < length (lanes N) → (lane_at N l).receiver.0 ≡ plant → has_item N (lane_at N l) item ≡ false → brought_by N taken x period l ≡ 0
+  lane_without l within here none =
+      nothing_brought (loads N (lane_at N l)) (taken l) item.0 period (legal l within here) (no_load N (lane_at N l) item (lane_items N (lane_at N l)) none)
 
   despatch_brought : (l : ℕ) → l < length (lanes N) → (lane_at N l).kind ≡ Despatch → (lane_at N l).receiver.0 ≡ plant
       → brought_by N taken x period l ≡ arriving period (shipments N (lane_at N l) item)
@@ -216,7 +216,7 @@ module _ (N : Table) (table : IsTable N) (taken : ℕ → List Record) (legal : 
             ∙ ap (λ (k : LaneKind). quantity_in period (lines_by N k lane item)) kind
             ∙ sum_map (λ (line : Delivery). cond (line.period == period) line.quantity 0) delivery_of (shipments N lane item)
         | inr none ↦
-            lane_without l within none
+            lane_without l within here none
             ∙ sym (ap (arriving period) (shipments_are_of_items N table lane item (not_there N lane item none)))
       ]
 
@@ -270,7 +270,7 @@ module _ (N : Table) (table : IsTable N) (taken : ℕ → List Record) (legal : 
             ∙ in_period (called_in N s) (horizon N) period inside
             ∙ sym (one_asks (item_of N) asks_of (λ r. called_in N r period) item.0 over (one_source_brings_an_item N table (customer_of lane) (supplier_of lane)) own s among asked)
         | inr none ↦
-            lane_without l within none
+            lane_without l within here none
             ∙ sym (none_asks asks_of (λ r. called_in N r period) over (λ r h t.
             let is = takes_item r (over_in_sources (customer_of lane) (supplier_of lane) r h) t in
             not_there N lane item none (Contains-from_in (lane_items N lane) item (subst (In (lane_items N lane)) is (In-map (item_of N) over r h)))))
@@ -340,9 +340,9 @@ module _ (N : Table) (table : IsTable N) (taken : ℕ → List Record) (legal : 
       ∙ sum_by-ext (λ customer. sum_by called_over (lanes_of N customer)) (λ customer. over_route N asks customer plant) (range_with_len 0 n) of_customer
 
 pub despatches_bring_incoming : DespatchesBringIncoming
-despatches_bring_incoming N table taken legal planned x pair ready period =
-    omega (arith, despatches_brought N table taken legal planned x pair ready period, incoming_comes_over_lanes N table x period pair)
+despatches_bring_incoming N table planned taken x pair legal ready period =
+    omega (arith, despatches_brought N table planned taken x pair legal ready period, incoming_comes_over_lanes N table x period pair)
 
 pub schedules_bring_gross : SchedulesBringGross
-schedules_bring_gross N table taken legal planned x pair ready period inside =
-    omega (arith, schedules_brought N table taken legal planned x pair ready period inside, gross_is_local_and_called N table (plan_of N) x period pair)
+schedules_bring_gross N table planned taken x pair legal ready period inside =
+    omega (arith, schedules_brought N table planned taken x pair legal ready period inside, gross_is_local_and_called N table (plan_of N) x period pair)

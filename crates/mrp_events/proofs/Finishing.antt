@@ -1,5 +1,5 @@
 -- No schedule sticks: a run that isn't finished can go on, and a longest run takes all steps.
-use Rattle.std.proofs.Common.{◌≡◌, ℕ, zero, suc, ◌+◌, ◌<◌, ◌≤◌, not, Bool, true, false, List, [], ◌∷◌, ◌++◌, ◌⊎◌, inl, inr, length, refl, sym, ap, subst, ◌∙◌, arith}
+use Rattle.std.proofs.Common.{◌≡◌, ℕ, zero, suc, ◌+◌, ◌<◌, ◌≤◌, not, Bool, true, false, List, [], ◌∷◌, ◌⊎◌, inl, inr, length, refl, sym, ap, subst, ◌∙◌, arith}
 use Rattle.std.proofs.lemmas.Bool.{cases_Bool}
 use Rattle.mrp_rows.specs.Table.{Table, IsTable, IsPair}
 use Rattle.mrp_net.specs.Lanes.{lanes, lane_at, pair_on}
@@ -12,11 +12,11 @@ use Rattle.mrp_record.specs.declared.record.Record.{Record}
 use Rattle.mrp_events.specs.declared.event.Event.{Event}
 use Rattle.mrp_events.specs.declared.event.Event.TheVariants.{Plan}
 use Rattle.mrp_events.specs.Progress.{steps_left, Goes, NoScheduleSticks, EventsAndStepsLeft, LongestRunsFinish}
-use Rattle.mrp_events.specs.State.{State, opening_state, CanPlan, Step, Run, IsReached, IsFinished, after_plan}
+use Rattle.mrp_events.specs.State.{State, opening_state, CanPlan, Run, IsReached, IsFinished, after_plan}
 use Rattle.mrp_events.proofs.Calling.{calls_pair}
 use Rattle.mrp_events.proofs.Counting.{runs_begin_with_steps, events_are_steps, none_is_left_at_the_end}
 use Rattle.mrp_events.proofs.Going.{GoesOn, Rests, MayTell, goes_or_rests}
-use Rattle.mrp_events.proofs.Keeping.{Keeps, keeps}
+use Rattle.mrp_events.proofs.Keeping.{Keeps, keeps, opening_is_reached, reached_goes_on}
 
 up_to : (l n : ℕ) → l < suc n → (l ≡ n) ⊎ (l < n)
 up_to l n h = grind arith
@@ -56,7 +56,7 @@ finished_at_rest N table s rest all = record {
   closed = λ l within.
       let r = rest l within in
       subst (λ (z : List Record). is_closed (contents z) ≡ true) r.same
-      (r.closed (λ item there kind. all (pair_on N (lane_at N l) item) (items_have_sources N table (lane_at N l) item there).customer.pair));
+      (r.told.closed (λ item there kind. all (pair_on N (lane_at N l) item) (items_have_sources N table (lane_at N l) item there).customer.pair));
   planned = all;
 }
 
@@ -75,7 +75,7 @@ plans_at_rest N table free capacity s rest x pair open_pair =
         brought = λ l within here there.
             let r = rest l within in
             let told : MayTell N s.planned (lane_at N l) (pair_at N y).item = λ kind. decided (pair_on N (lane_at N l) (pair_at N y).item) (calls_pair N table (lane_at N l) y first.1 kind here there) in
-            subst (λ (z : List Record). is_ended (pair_at N y).item.0 (contents z) ≡ true) r.same (r.ended (pair_at N y).item there told);
+            subst (λ (z : List Record). is_ended (pair_at N y).item.0 (contents z) ≡ true) r.same (r.told.ended (pair_at N y).item there told);
       };
     } in
     (Plan (record { 0 = y }), (after_plan s y, (can, refl)))
@@ -101,21 +101,15 @@ runs : (N : Table) (capacity : ℕ) (s t : State) (events : List Event) → Goes
 runs N capacity s t [] goes = goes
 runs N capacity s t (event ∷ events) goes = (goes.0, (inl goes.1), runs N capacity goes.0 t events goes.2)
 
-steps_taken : (N : Table) (capacity : ℕ) (s t : State) (before events : List Event) → Run N capacity opening_state before s → Goes N capacity s events t
-    → length events + steps_left N t ≡ steps_left N s
-steps_taken N capacity s t before [] run goes = omega (arith, ap (steps_left N) goes)
-steps_taken N capacity s t before (event ∷ events) run goes =
-    let one = events_are_steps N capacity s goes.0 event (before, run) goes.1 in
-    let more = run_more N capacity opening_state s goes.0 before event run goes.1 in
-    omega (arith, one, steps_taken N capacity goes.0 t (before ++ event ∷ []) events more goes.2)
-  where
-    run_more : (N : Table) (capacity : ℕ) (o s t : State) (before : List Event) (event : Event) → Run N capacity o before s → Step N capacity s event t → Run N capacity o (before ++ event ∷ []) t
-    run_more N capacity o s t [] event run step = (t, (inl (subst (λ (z : State). Step N capacity z event t) run step)), refl)
-    run_more N capacity o s t (first ∷ before) event run step = (run.0, run.1, run_more N capacity run.0 s t before event run.2 step)
+steps_taken : (N : Table) (capacity : ℕ) (s t : State) (events : List Event) → IsReached N capacity s → Goes N capacity s events t → length events + steps_left N t ≡ steps_left N s
+steps_taken N capacity s t [] reached goes = omega (arith, ap (steps_left N) goes)
+steps_taken N capacity s t (event ∷ events) reached goes =
+    let next = reached_goes_on N capacity s goes.0 event reached (inl goes.1) in
+    omega (arith, events_are_steps N capacity s goes.0 event reached goes.1, steps_taken N capacity goes.0 t events next goes.2)
 
 pub events_and_steps_left : EventsAndStepsLeft
 events_and_steps_left N capacity events s goes =
-    steps_taken N capacity opening_state s [] events refl goes ∙ runs_begin_with_steps N
+    steps_taken N capacity opening_state s events (opening_is_reached N capacity) goes ∙ runs_begin_with_steps N
 
 pub longest_runs_finish : LongestRunsFinish
 longest_runs_finish N table free capacity holds events s goes still =

@@ -93,7 +93,7 @@ decided_of N planned lane load e told of item is kind =
     let same : load.item ≡ item.0 = eqb-true load.item item.0 (sym (of item.0) ∙ is) in
     subst (λ (z : ℕ). planned (pair_no N (customer_of lane) z) ≡ true) same (planned_by_kind lane.kind planned (taker N lane load) told kind)
 
-AllOf_at : (item : ℕ) (xs ys : List Entry) (e : Entry) → AllOf item (xs ++ e ∷ ys) → (other : ℕ) → is_of other e ≡ (item == other)
+pub AllOf_at : (item : ℕ) (xs ys : List Entry) (e : Entry) → AllOf item (xs ++ e ∷ ys) → (other : ℕ) → is_of other e ≡ (item == other)
 AllOf_at item [] ys e h = h.0
 AllOf_at item (x ∷ xs) ys e h = AllOf_at item xs ys e h.1
 
@@ -179,17 +179,44 @@ from_record (x ∷ xs) load h = elim h [ inl e ↦ inl e | inr g ↦ inr (from_r
 
 -- ---- a lane that rests
 
-pub record Rests (N : Table) (s : State) (l : ℕ) : Type 0 where
-  pub same : s.sent l ≡ s.taken l
+-- each item that may be told has been told whole, and where all may be told the lane is closed
+pub record HasTold (N : Table) (s : State) (l : ℕ) : Type 0 where
   pub ended : (item : ItemNo) → Contains (lane_items N (lane_at N l)) item → MayTell N s.planned (lane_at N l) item → is_ended item.0 (contents (s.sent l)) ≡ true
   pub closed : ((item : ItemNo) → Contains (lane_items N (lane_at N l)) item → MayTell N s.planned (lane_at N l) item) → is_closed (contents (s.sent l)) ≡ true
+
+-- and all of it has been taken
+pub record Rests (N : Table) (s : State) (l : ℕ) : Type 0 where
+  pub same : s.sent l ≡ s.taken l
+  pub told : HasTold N s l
+
+-- some record may be sent
+abbrev pub SendsOn : Table → ℕ → State → ℕ → Type 0
+SendsOn N capacity s l = (r : Record) × CanSend N capacity s l r
 
 abbrev pub GoesOn : Table → ℕ → State → Type 0
 GoesOn N capacity s = (event : Event) × IsEnabled N capacity s event
 
--- ---- a lane with an empty mailbox
+-- ---- the loads of a lane and its items, in any order of the blocks
 
-module _ (N : Table) (capacity l : ℕ) (s : State) (keeps : LaneKeeps N capacity l (s.sent l) (s.taken l) s.planned) (within : l < length (lanes N)) (holds : 1 ≤ capacity) (empty : s.sent l ≡ s.taken l) where
+-- a load among those of the lane is of one of its items
+pub item_of_load : (N : Table) (lane : Lane) (load : Load) → In (loads N lane) load → (item : ItemNo) × Contains (lane_items N lane) item × (load_of N lane item ≡ load)
+item_of_load N lane load h =
+    let at = map_only (load_of N lane) (lane_items N lane) load h in
+    (at.0, Contains-from_in (lane_items N lane) at.0 at.1, at.2)
+
+pub in_order : (N : Table) (lane : Lane) (order : List Load) → IsPermutation (loads N lane) order → (item : ItemNo) → Contains (lane_items N lane) item → In order (load_of N lane item)
+in_order N lane order once item there =
+    from_record order (load_of N lane item)
+    (record_loads.In-permutation (load_of N lane item) (loads N lane) order once
+    (to_record (loads N lane) (load_of N lane item) (In-map (load_of N lane) (lane_items N lane) item (In-from_contains (lane_items N lane) item there))))
+
+pub from_order : (N : Table) (lane : Lane) (order : List Load) → IsPermutation (loads N lane) order → (load : Load) → In order load → In (loads N lane) load
+from_order N lane order once load h =
+    from_record (loads N lane) load (record_loads.In-permutation load order (loads N lane) (IsPermutation-sym (loads N lane) order once) (to_record order load h))
+
+-- ---- a lane whose mailbox has room
+
+module _ (N : Table) (capacity l : ℕ) (s : State) (keeps : LaneKeeps N capacity l (s.sent l) (s.taken l) s.planned) (within : l < length (lanes N)) (room : length (s.sent l) < length (s.taken l) + capacity) where
   abbrev lane : Lane
   lane = lane_at N l
 
@@ -203,40 +230,25 @@ module _ (N : Table) (capacity l : ℕ) (s : State) (keeps : LaneKeeps N capacit
   told load = may N s.planned lane load
 
   -- the next record is sent
-  send : (e : Entry) (rest : List Entry) → IsText all (entries ++ e ∷ rest) → IsDecided N s.planned lane e → GoesOn N capacity s
+  send : (e : Entry) (rest : List Entry) → IsText all (entries ++ e ∷ rest) → IsDecided N s.planned lane e → SendsOn N capacity s l
   send e rest text decided =
       let r : Record = numbered (1 + length (s.sent l)) e in
-      let is : content r ≡ e = content_numbered (1 + length (s.sent l)) e in
-      let can : CanSend N capacity s l r = record {
-        lane = within;
-        legal = legal_with all (s.sent l) e rest keeps.legal.numbered text;
-        decided = subst (IsDecided N s.planned lane) (sym is) decided;
-        room = omega (arith, ap length empty);
-      } in
-      (Send (record { 0 = l }), (after_send s l r, (r, can, refl)))
-
-  -- a load among those of the lane is of one of its items
-  item_of_load : (load : Load) → In all load → (item : ItemNo) × Contains (lane_items N lane) item × (load_of N lane item ≡ load)
-  item_of_load load h =
-      let at = map_only (load_of N lane) (lane_items N lane) load h in
-      (at.0, Contains-from_in (lane_items N lane) at.0 at.1, at.2)
-
-  in_order : (order : List Load) → IsPermutation all order → (item : ItemNo) → Contains (lane_items N lane) item → In order (load_of N lane item)
-  in_order order once item there =
-      from_record order (load_of N lane item)
-      (record_loads.In-permutation (load_of N lane item) all order once
-      (to_record all (load_of N lane item) (In-map (load_of N lane) (lane_items N lane) item (In-from_contains (lane_items N lane) item there))))
-
-  from_order : (order : List Load) → IsPermutation all order → (load : Load) → In order load → In all load
-  from_order order once load h =
-      from_record all load (record_loads.In-permutation load order all (IsPermutation-sym all order once) (to_record order load h))
+      let is : content r ≡ e = content_numbered (1 + length (s.sent l)) e in (
+        r,
+        record {
+          lane = within;
+          legal = legal_with all (s.sent l) e rest keeps.legal.numbered text;
+          decided = subst (IsDecided N s.planned lane) (sym is) decided;
+          room = room;
+        },
+      )
 
   told_item : (item : ItemNo) → MayTell N s.planned lane item → told (load_of N lane item) ≡ true
   told_item item h = told_by_kind lane.kind s.planned (pair_on N lane item) h
 
   -- with another order of the blocks that are still to come the next block is one that may be told
   next_block : (order done before after : List Load) (load : Load) → IsPermutation all order → order ≡ done ++ (before ++ load ∷ after)
-      → entries ≡ flat_map block done → told load ≡ true → GoesOn N capacity s
+      → entries ≡ flat_map block done → told load ≡ true → SendsOn N capacity s l
   next_block order done before after load once is sofar tells =
       let turned : List Load = done ++ load ∷ (before ++ after) in
       let permuted : IsPermutation all turned =
@@ -254,7 +266,7 @@ module _ (N : Table) (capacity l : ℕ) (s : State) (keeps : LaneKeeps N capacit
       send e rest (record { order = turned; once = permuted; is = text })
       (decided_of N s.planned lane load e tells (AllOf_at load.item [] first.1 e of))
 
-  within_block : (order : List Load) → IsPermutation all order → (rest : List Entry) → entries ++ rest ≡ text_of order → (w : IsWithin order entries rest) → GoesOn N capacity s ⊎ Rests N s l
+  within_block : (order : List Load) → IsPermutation all order → (rest : List Entry) → entries ++ rest ≡ text_of order → (w : IsWithin order entries rest) → SendsOn N capacity s l ⊎ HasTold N s l
   within_block order once rest text w = elim (cases_Bool (told w.load)) [
     | inl tells ↦
         let more : List Entry = w.more ++ text_of w.todo in
@@ -269,11 +281,10 @@ module _ (N : Table) (capacity l : ℕ) (s : State) (keeps : LaneKeeps N capacit
               inl (next_block order w.done split.before split.after split.load once (w.order_is ∙ ap (λ (z : List Load). w.done ++ z) split.is) sofar split.passes)
           | inr silent ↦
               inr (record {
-                same = empty;
                 ended = λ item there tells.
                     let load : Load = load_of N lane item in
                     let tells_it : told load ≡ true = told_item item tells in
-                    let among = subst (λ (z : List Load). In z load) w.order_is (in_order order once item there) in
+                    let among = subst (λ (z : List Load). In z load) w.order_is (in_order N lane order once item there) in
                     elim (In-append_cases w.done (w.load ∷ w.todo) load among) [
                       | inl before ↦
                           let ends : is_ended item.0 (flat_map block w.done ++ []) ≡ true = blocks_end load w.done [] before in
@@ -282,7 +293,7 @@ module _ (N : Table) (capacity l : ℕ) (s : State) (keeps : LaneKeeps N capacit
                     ];
                 closed = λ every.
                     let there = subst (λ (z : List Load). In z w.load) (sym w.order_is) (In-append_right w.done (w.load ∷ w.todo) w.load (inl refl)) in
-                    let at = item_of_load w.load (from_order order once w.load there) in
+                    let at = item_of_load N lane w.load (from_order N lane order once w.load there) in
                     let tells : told w.load ≡ true = ap told (sym at.2) ∙ told_item at.0 (every at.0 at.1) in
                     absurd (both_ways (told w.load) untold tells);
               })
@@ -301,19 +312,18 @@ module _ (N : Table) (capacity l : ℕ) (s : State) (keeps : LaneKeeps N capacit
           let item : ItemNo = record { 0 = load.item } in
           absurd (both_ways (told load) untold (told_by_kind lane.kind s.planned (taker N lane load) (says item own)))
 
-  at_closing : (order : List Load) → IsPermutation all order → (rest : List Entry) → entries ++ rest ≡ text_of order → rest ≡ Closing ∷ [] → GoesOn N capacity s
+  at_closing : (order : List Load) → IsPermutation all order → (rest : List Entry) → entries ++ rest ≡ text_of order → rest ≡ Closing ∷ [] → SendsOn N capacity s l
   at_closing order once rest text is =
       send Closing [] (record { order = order; once = once; is = ap (λ (z : List Entry). entries ++ z) (sym is) ∙ text }) (λ item of kind. absurd (false≢true of))
 
-  at_end : (order : List Load) → IsPermutation all order → entries ≡ text_of order → Rests N s l
+  at_end : (order : List Load) → IsPermutation all order → entries ≡ text_of order → HasTold N s l
   at_end order once is = record {
-    same = empty;
-    ended = λ item there tells. subst (λ (z : List Entry). is_ended item.0 z ≡ true) (sym is) (blocks_end (load_of N lane item) order (Closing ∷ []) (in_order order once item there));
+    ended = λ item there tells. subst (λ (z : List Entry). is_ended item.0 z ≡ true) (sym is) (blocks_end (load_of N lane item) order (Closing ∷ []) (in_order N lane order once item there));
     closed = λ every. subst (λ (z : List Entry). is_closed z ≡ true) (sym is) (any_right is_closing (flat_map block order) (Closing ∷ []) refl);
   }
 
-  empty_goes_or_rests : GoesOn N capacity s ⊎ Rests N s l
-  empty_goes_or_rests =
+  pub sends_or_told : SendsOn N capacity s l ⊎ HasTold N s l
+  sends_or_told =
       let text = keeps.legal.text in
       elim (stands text.order entries keeps.legal.rest text.is) [
         | inl w ↦ within_block text.order text.once keeps.legal.rest text.is w
@@ -330,7 +340,12 @@ pub goes_or_rests : (N : Table) (capacity l : ℕ) (s : State) → LaneKeeps N c
 goes_or_rests N capacity l s keeps within holds = by_mailbox keeps.mailbox keeps.parts
   where
     by_mailbox : (mailbox : List Record) → s.sent l ≡ s.taken l ++ mailbox → GoesOn N capacity s ⊎ Rests N s l
-    by_mailbox [] parts = empty_goes_or_rests N capacity l s keeps within holds (parts ∙ append-nil (s.taken l))
+    by_mailbox [] parts =
+        let same : s.sent l ≡ s.taken l = parts ∙ append-nil (s.taken l) in
+        elim (sends_or_told N capacity l s keeps within (omega (arith, ap length same))) [
+          | inl send ↦ inl (Send (record { 0 = l }), (after_send s l send.0, (send.0, send.1, refl)))
+          | inr told ↦ inr (record { same = same; told = told })
+        ]
     by_mailbox (r ∷ rest) parts =
         let can : CanTake N s l r = record { lane = within; rest = rest; next = parts } in
         inl (Receive (record { 0 = l }), (after_take s l r, (r, can, refl)))

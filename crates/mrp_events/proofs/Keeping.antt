@@ -11,6 +11,7 @@ use Rattle.mrp_record.specs.Text.{IsBeginning}
 use Rattle.mrp_record.proofs.Beginnings.{empty_is_a_beginning}
 use Rattle.mrp_events.specs.declared.event.Event.{Event}
 use Rattle.mrp_events.specs.declared.event.Event.TheVariants.{Send, Receive, Plan}
+use Rattle.mrp_events.specs.Deciding.{RunsGoOn, OpeningIsReached, ReachedGoesOn}
 use Rattle.mrp_events.specs.Loads.{loads}
 use Rattle.mrp_events.specs.State.{State, opening_state, IsDecided, CanSend, CanTake, changed, after_send, after_take, Step, Happens, Run, IsReached}
 
@@ -86,7 +87,7 @@ keeps_step N capacity s t (Receive l) keeps step = subst (Keeps N capacity) (sym
 keeps_step N capacity s t (Plan x) keeps step =
     subst (Keeps N capacity) (sym step.1) (λ k. planned_more N capacity k x.0 (s.sent k) (s.taken k) s.planned (keeps k))
 
-keeps_event : (N : Table) (capacity : ℕ) (s t : State) (event : Event) → Keeps N capacity s → Happens N capacity s event t → Keeps N capacity t
+pub keeps_event : (N : Table) (capacity : ℕ) (s t : State) (event : Event) → Keeps N capacity s → Happens N capacity s event t → Keeps N capacity t
 keeps_event N capacity s t event keeps h = elim h [
   | inl step ↦ keeps_step N capacity s t event keeps step
   | inr none ↦ subst (Keeps N capacity) (sym none.1) keeps
@@ -97,7 +98,18 @@ keeps_run N capacity s t [] keeps run = subst (Keeps N capacity) (sym run) keeps
 keeps_run N capacity s t (event ∷ events) keeps run =
     keeps_run N capacity run.0 t events (keeps_event N capacity s run.0 event keeps run.1) run.2
 
-opening_keeps : (N : Table) (capacity : ℕ) → Keeps N capacity opening_state
+pub runs_go_on : RunsGoOn
+runs_go_on N capacity s t next [] event run h = (next, (subst (λ (z : State). Happens N capacity z event next) run h), refl)
+runs_go_on N capacity s t next (first ∷ events) event run h = (run.0, run.1, runs_go_on N capacity run.0 t next events event run.2 h)
+
+pub opening_is_reached : OpeningIsReached
+opening_is_reached N capacity = ([], refl)
+
+pub reached_goes_on : ReachedGoesOn
+reached_goes_on N capacity s t event reached h =
+    (reached.0 ++ event ∷ [], runs_go_on N capacity opening_state s t reached.0 event reached.1 h)
+
+pub opening_keeps : (N : Table) (capacity : ℕ) → Keeps N capacity opening_state
 opening_keeps N capacity l = record {
   mailbox = [];
   parts = refl;

@@ -10,3 +10,5 @@ pub mod Finishing
 pub mod Bringing
 pub mod Planned
 pub mod Sending
+pub mod Deciding
+pub mod Promising

@@ -24,11 +24,12 @@ use Rattle.mrp_record.specs.declared.record.Record.{Record}
 use Rattle.mrp_record.specs.Entries.{Entry, content, contents, entries_of, is_end, is_ended, is_of}
 use Rattle.mrp_events.specs.declared.event.Event.{Event}
 use Rattle.mrp_events.specs.declared.event.Event.TheVariants.{Send, Receive, Plan}
-use Rattle.mrp_events.specs.Local.{local_incoming, local_gross, AreLegal, PlannedAreReady, AreLocal, LocalPlansAreThePlan}
+use Rattle.mrp_events.specs.Local.{local_incoming, local_gross, AreLegal, PlannedAreReady, AreLocal, LocalPlansAreThePlan, ReachedPlansAreThePlan}
 use Rattle.mrp_events.specs.State.{State, opening_state, IsReady, changed, Step, Run}
 use Rattle.mrp_events.proofs.Bringing.{despatches_bring_incoming, schedules_bring_gross, same_where}
 use Rattle.mrp_events.proofs.Going.{any_left}
 use Rattle.mrp_events.proofs.Keeping.{changed_by}
+use Rattle.mrp_events.proofs.Ordering.{lanes_keep_order}
 
 -- ---- planned pairs stay ready
 
@@ -113,43 +114,53 @@ same_row N f g same = from_range 0 (horizon N) (λ t low high. same t (omega ari
         ap (λ (z : ℕ). z ∷ map f (range_with_len (a + 1) n)) (same a (omega arith) (omega arith))
         ∙ ap (λ (z : List ℕ). g a ∷ z) (from_range (a + 1) n (λ t low high. same t (omega arith) (omega arith)))
 
-module _ (N : Table) (table : IsTable N) (free : IsLoopFree N) (taken : ℕ → List Record) (legal : AreLegal N taken) (planned : ℕ → Bool) (plans : List PlanRows) (are : AreLocal N taken planned plans) where
+module _ (N : Table) (table : IsTable N) (free : IsLoopFree N) (plant : ℕ) (planned : ℕ → Bool) (taken : ℕ → List Record) (plans : List PlanRows) (legal : AreLegal N plant taken) (are : AreLocal N plant planned taken plans) where
   abbrev IsRight : ℕ → Type 0
-  IsRight x = IsPair N x → planned x ≡ true → rows_at plans x ≡ rows_at (plan_of N) x
+  IsRight x = IsPair N x → (pair_at N x).plant.0 ≡ plant → planned x ≡ true → rows_at plans x ≡ rows_at (plan_of N) x
 
   -- a component row asks what it does in the plan
-  bill_asks : (x period : ℕ) → IsReady N planned taken x → ((y : ℕ) → HasEdge N y x → IsRight y) → (b : BillRow) → In N.bills b → asked_by_bill plans x period b ≡ asked_by_bill (plan_of N) x period b
-  bill_asks x period ready right b there =
-      let rows = table.read.bills in
-      let row = All-in (IsBillRow N) N.bills b rows there in
+  bill_asks : (x period : ℕ) → (pair_at N x).plant.0 ≡ plant → IsReady N planned taken x → ((y : ℕ) → HasEdge N y x → IsRight y) → (b : BillRow) → In N.bills b → asked_by_bill plans x period b ≡ asked_by_bill (plan_of N) x period b
+  bill_asks x period here ready right b there =
+      let row = All-in (IsBillRow N) N.bills b table.read.bills there in
       same_where (b.component.0 == x) (b.per * released plans b.parent.0 period) (b.per * released (plan_of N) b.parent.0 period) (λ t.
       let component : b.component.0 ≡ x = eqb-true b.component.0 x t in
       let edge : HasEdge N b.parent.0 x = HasEdge-from_in N (bill_edge b) b.parent.0 x (In-append_left (map bill_edge N.bills) (map (source_edge N) N.sources) (bill_edge b) (In-map bill_edge N.bills b there)) refl component in
       let plants = All-in (λ (z : BillRow). plant_at N z.parent.0 ≡ plant_at N z.component.0) N.bills b table.sourced.plants there in
       let local : (pair_at N b.parent.0).plant.0 ≡ (pair_at N x).plant.0 =
       sym (plant_is N b.parent.0 row.parent) ∙ plants ∙ plant_is N b.component.0 row.component ∙ ap (λ (z : ℕ). (pair_at N z).plant.0) component in
-      ap (λ (rows : PlanRows). b.per * slice_index rows.release period) (right b.parent.0 edge row.parent (ready.demanders b.parent.0 edge local)))
+      ap (λ (rows : PlanRows). b.per * slice_index rows.release period) (right b.parent.0 edge row.parent (local ∙ here) (ready.demanders b.parent.0 edge local)))
 
-  local_gross_is : (x : ℕ) → IsPair N x → IsReady N planned taken x → ((y : ℕ) → HasEdge N y x → IsRight y) → (period : ℕ) → period < horizon N
+  local_gross_is : (x : ℕ) → IsPair N x → (pair_at N x).plant.0 ≡ plant → IsReady N planned taken x → ((y : ℕ) → HasEdge N y x → IsRight y) → (period : ℕ) → period < horizon N
       → local_gross N taken plans x period ≡ gross N (plan_of N) x period
-  local_gross_is x pair ready right period inside =
+  local_gross_is x pair here ready right period inside =
       let bills = sum_by-same (asked_by_bill plans x period) (asked_by_bill (plan_of N) x period) N.bills
-      (λ k d h. bill_asks x period ready right (get_or N.bills k d) (In-from_contains N.bills (get_or N.bills k d) (Contains-get_or N.bills k d h))) in
-      omega (arith, bills, schedules_bring_gross N table taken legal planned x pair ready period inside)
+      (λ k d h. bill_asks x period here ready right (get_or N.bills k d) (In-from_contains N.bills (get_or N.bills k d) (Contains-get_or N.bills k d h))) in
+      omega (arith, bills, schedules_bring_gross N table planned taken x pair (legal_to x here) ready period inside)
+    where
+      legal_to : (x : ℕ) → (pair_at N x).plant.0 ≡ plant → AreLegal N (pair_at N x).plant.0 taken
+      legal_to x here = subst (λ (p : ℕ). AreLegal N p taken) (sym here) legal
 
   right_beside : (x : ℕ) → IsPair N x → ((y : ℕ) → HasEdge N y x → IsRight y) → IsRight x
-  right_beside x pair right same is_planned =
-      let local = are x pair is_planned in
+  right_beside x pair right same here is_planned =
+      let local = are x pair here is_planned in
+      let legal_here = subst (λ (p : ℕ). AreLegal N p taken) (sym here) legal in
       let ins : row_of N (local_incoming N taken x) ≡ row_of N (incoming N x) =
-      same_row N (local_incoming N taken x) (incoming N x) (λ t inside. despatches_bring_incoming N table taken legal planned x pair local.0 t) in
+      same_row N (local_incoming N taken x) (incoming N x) (λ t inside. despatches_bring_incoming N table planned taken x pair legal_here local.0 t) in
       let asked : row_of N (local_gross N taken plans x) ≡ row_of N (gross N (plan_of N) x) =
-      same_row N (local_gross N taken plans x) (gross N (plan_of N) x) (local_gross_is x pair local.0 right) in
+      same_row N (local_gross N taken plans x) (gross N (plan_of N) x) (local_gross_is x pair here local.0 right) in
       local.1
       ∙ ap (λ (row : List ℕ). one (params_at N x) row (row_of N (local_gross N taken plans x))) ins
       ∙ ap (λ (row : List ℕ). one (params_at N x) (row_of N (incoming N x)) row) asked
       ∙ sym ((one_plan N table free).fits.rows x pair)
 
 pub local_plans_are_the_plan : LocalPlansAreThePlan
-local_plans_are_the_plan N table free taken legal planned plans are x pair is_planned =
-    by_demanders N table free (IsRight N table free taken legal planned plans are)
-    (λ y here right. right_beside N table free taken legal planned plans are y here right) x pair pair is_planned
+local_plans_are_the_plan N table free plant planned taken plans legal are x pair here is_planned =
+    by_demanders N table free (IsRight N table free plant planned taken plans legal are)
+    (λ y found right. right_beside N table free plant planned taken plans legal are y found right) x pair pair here is_planned
+
+pub reached_plans_are_the_plan : ReachedPlansAreThePlan
+reached_plans_are_the_plan N table free capacity s reached plans local x pair is_planned =
+    let legal : AreLegal N (pair_at N x).plant.0 s.taken = λ l within here. (lanes_keep_order N capacity s reached l within).taken in
+    let are : AreLocal N (pair_at N x).plant.0 s.planned s.taken plans =
+    λ y found here planned. (planned_are_ready N capacity s reached y found planned, local y found planned) in
+    local_plans_are_the_plan N table free (pair_at N x).plant.0 s.planned s.taken plans legal are x pair refl is_planned

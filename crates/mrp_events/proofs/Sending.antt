@@ -8,10 +8,11 @@ use Rattle.mrp_net.specs.declared.lane.Lane.{Lane}
 use Rattle.mrp_net.specs.declared.lane.LaneKind.{LaneKind}
 use Rattle.mrp_net.specs.declared.lane.LaneKind.TheVariants.{Despatch, Schedule}
 use Rattle.mrp_net.specs.declared.lane.Shipment.{Shipment}
-use Rattle.mrp_net.specs.declared.view.IncomingLane.{IncomingLane}
+use Rattle.mrp_view.specs.declared.view.IncomingLane.{IncomingLane}
 use Rattle.mrp_net.specs.Lanes.{lane_at, lane_items, shipments, opening, reset, pair_on, customer_of, supplier_of, figure, shipped_from}
+use Rattle.mrp_net.specs.Laws.{AreBothLanes}
 use Rattle.mrp_net.specs.Sums.{pair_at}
-use Rattle.mrp_net.specs.View.{comes_to, lane_numbers, incoming_item, incoming_lane}
+use Rattle.mrp_view.specs.View.{comes_to, lane_numbers, incoming_item, incoming_lane}
 use Rattle.mrp_net.proofs.Routing.{opening_despatch, opening_schedule, map-map}
 use Rattle.mrp_net.proofs.Sharing.{sum_map}
 use Rattle.mrp_group.proofs.Kept.{sum_filter}
@@ -52,8 +53,16 @@ customer_by_despatch lane e = ap (λ (k : LaneKind). elim k as (λ _. ℕ) [ Des
 supplier_by_despatch : (lane : Lane) → lane.kind ≡ Despatch → supplier_of lane ≡ lane.sender.0
 supplier_by_despatch lane e = ap (λ (k : LaneKind). elim k as (λ _. ℕ) [ Despatch ↦ lane.sender.0 | Schedule ↦ lane.receiver.0 ]) e
 
-customer_by_schedule : (lane : Lane) → lane.kind ≡ Schedule → customer_of lane ≡ lane.sender.0
+pub customer_by_schedule : (lane : Lane) → lane.kind ≡ Schedule → customer_of lane ≡ lane.sender.0
 customer_by_schedule lane e = ap (λ (k : LaneKind). elim k as (λ _. ℕ) [ Despatch ↦ lane.receiver.0 | Schedule ↦ lane.sender.0 ]) e
+
+pub customers_are_one : (despatch schedule : Lane) → AreBothLanes despatch schedule → customer_of schedule ≡ customer_of despatch
+customers_are_one despatch schedule both =
+    customer_by_schedule schedule both.second ∙ ap (λ (p : PlantNo). p.0) both.customer ∙ sym (customer_by_despatch despatch both.first)
+
+pub suppliers_are_one : (despatch schedule : Lane) → AreBothLanes despatch schedule → supplier_of schedule ≡ supplier_of despatch
+suppliers_are_one despatch schedule both =
+    supplier_by_kind schedule both.second ∙ ap (λ (p : PlantNo). p.0) both.supplier ∙ sym (supplier_by_despatch despatch both.first)
 
 pub schedules_open_after_shipments : SchedulesOpenAfterShipments
 schedules_open_after_shipments N table despatch schedule both records h item there ended =
@@ -63,10 +72,8 @@ schedules_open_after_shipments N table despatch schedule both records h item the
     let reached = cum_is_opening_and_moved (loads N despatch) once records h load known in
     let all = ended_blocks_bring_totals (loads N despatch) once records h load known ended in
     let lines : total load.lines ≡ total (despatched N despatch item) = ap (λ (k : LaneKind). total (lines_by N k despatch item)) both.first in
-    let customer : customer_of schedule ≡ customer_of despatch =
-    customer_by_schedule schedule both.second ∙ ap (λ (p : PlantNo). p.0) both.customer ∙ sym (customer_by_despatch despatch both.first) in
-    let supplier : supplier_of schedule ≡ supplier_of despatch =
-    supplier_by_kind schedule both.second ∙ ap (λ (p : PlantNo). p.0) both.supplier ∙ sym (supplier_by_despatch despatch both.first) in
+    let customer = customers_are_one despatch schedule both in
+    let supplier = suppliers_are_one despatch schedule both in
     let after : ℕ → ℕ → ℕ = λ c p. figure N (pair_no N c item.0) p + shipped_from N (pair_no N c item.0) p in
     let same : after (customer_of schedule) (supplier_of schedule) ≡ after (customer_of despatch) (supplier_of despatch) =
     ap (λ (c : ℕ). after c (supplier_of schedule)) customer ∙ ap (after (customer_of despatch)) supplier in

@@ -1,11 +1,13 @@
 -- What lanes carry: each item once, within the bound, and no longer than the table says.
-use Rattle.std.proofs.Common.{◌≡◌, ℕ, ◌+◌, ◌<◌, ◌≤◌, ◌==◌, ◌&&◌, Bool, true, false, cond, Some, inl, inr, List, [], ◌∷◌, length, get_or, map, refl, sym, ap, subst, ◌∙◌, arith, All, Contains}
+use Rattle.std.proofs.Common.{◌≡◌, ℕ, ◌+◌, ◌*◌, ◌<◌, ◌≤◌, ◌==◌, ◌&&◌, Bool, true, false, cond, Some, inl, inr, List, [], ◌∷◌, length, get_or, map, refl, sym, ap, subst, ◌∙◌, arith, All, Contains}
 use Rattle.std.specs.Prelude.{is_some, option_map}
-use Rattle.std.specs.List.{AllByRecursion, IsDistinct, find}
+use Rattle.std.specs.List.{AllByRecursion, IsDistinct, find, flat_map, range_with_len}
 use Rattle.std.specs.List.Sorted.{IsNonDecreasingBy}
 use Rattle.std.proofs.lemmas.Bool.{cases_Bool, and_parts, eqb-true, false≢true}
 use Rattle.std.proofs.lemmas.List.{get_or-map, length-map}
 use Rattle.std.proofs.lemmas.List.Elements.{All-filter, All-map, filter_agree, Contains-get_or}
+use Rattle.std.proofs.lemmas.List.Concat.{length-flat_map}
+use Rattle.std.proofs.lemmas.List.FromFn.{length-range_with_len}
 use Rattle.std.proofs.lemmas.List.Sums.{sum_by-le, sum_by-le-sum_by}
 use Rattle.mrp_qty.specs.declared.quantity.TheConstants.{MOST}
 use Rattle.mrp_rows.specs.declared.numbers.ItemNo.{ItemNo}
@@ -17,7 +19,7 @@ use Rattle.mrp_net.specs.declared.lane.Lane.{Lane}
 use Rattle.mrp_net.specs.declared.lane.LaneKind.{LaneKind}
 use Rattle.mrp_net.specs.declared.lane.LaneKind.TheVariants.{Despatch, Schedule}
 use Rattle.mrp_net.specs.declared.lane.Shipment.{Shipment}
-use Rattle.mrp_net.specs.Lanes.{lane_items, supplier_of, figure, shipped_from, ships_from, shipment_of, shipments, opening, reset, pair_on, is_reset_of}
+use Rattle.mrp_net.specs.Lanes.{lanes, lanes_of, lanes_between, taken_over, lane_items, supplier_of, figure, shipped_from, ships_from, shipment_of, shipments, opening, reset, pair_on, is_reset_of}
 use Rattle.mrp_net.specs.Laws.{HasSource}
 use Rattle.mrp_net.specs.Plan.{plan_of}
 use Rattle.mrp_net.specs.Sources.{source_on}
@@ -37,9 +39,10 @@ use Rattle.mrp_record.specs.Entries.{Delivery}
 use Rattle.mrp_record.specs.Laws as record_laws
 use Rattle.mrp_record.specs.Laws.{AreLoads, IsSmall, AreSmall}
 use Rattle.mrp_record.specs.Text.{Load, total, block_length, length_of_text}
+use Rattle.mrp_record.proofs.Beginnings as beginnings
 use Rattle.mrp_record.proofs.Forming as forming
 use Rattle.mrp_events.specs.Loads.{delivery_of, despatched, called_in, called, lines_by, load_of, loads, is_rising}
-use Rattle.mrp_events.specs.LoadLaws.{LoadsStandOnce, LoadsAreSmall, OpeningsAreSmall, LegalIsInForm, LegalFiguresAreSmall, LegalCumsAreSmall, TextsAreNoLonger}
+use Rattle.mrp_events.specs.LoadLaws.{LoadsStandOnce, LoadsAreSmall, OpeningsAreSmall, LegalIsInForm, LegalFiguresAreSmall, LegalCumsAreSmall, TextsAreNoLonger, BeginningsAreNoLonger, StepsAreFew}
 use Rattle.mrp_events.proofs.Calling.{source_over, source_item}
 use Rattle.mrp_events.proofs.Delivered.{by_period_total, by_period_some, by_period_inside, by_period_rises, by_period_length, in_order, rises_in_order}
 
@@ -74,10 +77,37 @@ pub texts_are_no_longer : TextsAreNoLonger
 texts_are_no_longer N lane =
     omega (arith, sum_map block_length (load_of N lane) (lane_items N lane), sum_by-le-sum_by (λ item. block_length (load_of N lane item)) (longest_block N lane) (lane_items N lane) (block_is_no_longer N lane))
 
-length_is_small : (N : Table) (lane : Lane) → IsTable N → length_of_text (loads N lane) ≤ MOST
-length_is_small N lane is =
+pub beginnings_are_no_longer : BeginningsAreNoLonger
+beginnings_are_no_longer N lane records h =
+    omega (arith, beginnings.beginnings_are_no_longer (loads N lane) records h, texts_are_no_longer N lane)
+
+length_is_short : (N : Table) (lane : Lane) → IsTable N → length_of_text (loads N lane) ≤ 80000 * 1000002 + 1
+length_is_short N lane is =
     let each : All (λ item. longest_block N lane item ≤ 1000002) (lane_items N lane) = λ k d h. block_is_short N lane (get_or (lane_items N lane) k d) is in
     omega (arith, texts_are_no_longer N lane, sum_by-le (longest_block N lane) 1000002 (lane_items N lane) each, lane_items_are_few N lane is)
+
+-- ---- how long a run is
+
+between_are_two : (N : Table) (customer supplier : ℕ) → length (lanes_between N customer supplier) ≤ 2
+between_are_two N customer supplier = elim (cases_Bool (length (taken_over N customer supplier) == 0)) [
+  | inl none ↦ rw none (omega arith)
+  | inr some ↦ rw some (omega arith)
+]
+
+lanes_are_few : (N : Table) → IsTable N → length (lanes N) ≤ 64 * 128
+lanes_are_few N is =
+    let plants : List ℕ = range_with_len 0 (length N.plants) in
+    let size : length plants ≡ length N.plants = length-range_with_len 0 (length N.plants) in
+    let pieces : (f : ℕ → List Lane) (most : ℕ) → ((k : ℕ) → length (f k) ≤ most) → length (flat_map f plants) ≤ length plants * most =
+    λ f most each. omega (arith, length-flat_map f plants, sum_by-le (λ k. length (f k)) most plants (λ k d h. each (get_or plants k d))) in
+    let of_one : (customer : ℕ) → length (lanes_of N customer) ≤ 128 =
+    λ customer. omega (arith, pieces (lanes_between N customer) 2 (between_are_two N customer), size, is.read.limits.plants) in
+    omega (arith, pieces (lanes_of N) 128 of_one, size, is.read.limits.plants)
+
+pub steps_are_few : StepsAreFew
+steps_are_few N is =
+    let each : All (λ lane. length_of_text (loads N lane) ≤ 80000 * 1000002 + 1) (lanes N) = λ k d h. length_is_short N (get_or (lanes N) k d) is in
+    omega (arith, sum_by-le (λ (lane : Lane). length_of_text (loads N lane)) (80000 * 1000002 + 1) (lanes N) each, lanes_are_few N is, is.read.limits.pairs)
 
 -- ---- shipments
 
@@ -196,7 +226,7 @@ pub loads_are_small : LoadsAreSmall
 loads_are_small N sized lane = (
   All-map (IsSmall (is_rising lane.kind) (horizon N)) (load_of N lane) (lane_items N lane)
       (λ k d h. load_is_small N sized lane (get_or (lane_items N lane) k d) (Contains-get_or (lane_items N lane) k d h)),
-  length_is_small N lane sized.table,
+  (omega (arith, length_is_short N lane sized.table)),
 )
 
 pub openings_are_small : OpeningsAreSmall

@@ -5,3 +5,4 @@ pub mod Laws
 pub mod Progress
 pub mod Local
 pub mod Seen
+pub mod Deciding

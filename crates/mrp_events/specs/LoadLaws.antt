@@ -1,5 +1,5 @@
 -- Laws of what lanes carry.
-use Rattle.std.specs.Prelude.{◌≤◌, List, All, Contains}
+use Rattle.std.specs.Prelude.{◌*◌, ◌≤◌, List, length, All, Contains}
 use Rattle.mrp_qty.specs.declared.quantity.TheConstants.{MOST}
 use Rattle.mrp_rows.specs.declared.numbers.ItemNo.{ItemNo}
 use Rattle.mrp_rows.specs.Table.{Table, IsTable, horizon}
@@ -12,7 +12,7 @@ use Rattle.mrp_record.specs.Entries.{number_of, content, contents, cum}
 use Rattle.mrp_record.specs.Form.{LaneForm, IsInForm}
 use Rattle.mrp_record.specs.Laws.{AreLoads, AreSmall, HasSmallFigures, form_of}
 use Rattle.mrp_record.specs.Text.{IsBeginning, length_of_text}
-use Rattle.mrp_events.specs.Loads.{loads, is_rising}
+use Rattle.mrp_events.specs.Loads.{loads, is_rising, steps}
 
 -- a lane has one load of each of its items
 abbrev pub LoadsStandOnce : Type 0
@@ -53,3 +53,12 @@ LegalCumsAreSmall =
 -- the texts of a lane are within the length that is read off the table alone
 abbrev pub TextsAreNoLonger : Type 0
 TextsAreNoLonger = (N : Table) (lane : Lane) → length_of_text (loads N lane) ≤ longest_text N lane
+
+-- and so is each legal beginning
+abbrev pub BeginningsAreNoLonger : Type 0
+BeginningsAreNoLonger =
+    (N : Table) (lane : Lane) (records : List Record) → IsBeginning (loads N lane) records → length records ≤ longest_text N lane
+
+-- a run has at most 2 * 10^15 events
+abbrev pub StepsAreFew : Type 0
+StepsAreFew = (N : Table) → IsTable N → steps N ≤ 2 * MOST

@@ -44,9 +44,10 @@ abbrev pub local_plan : Table → (ℕ → List Record) → List PlanRows → �
 local_plan N taken plans x =
     one (params_at N x) (row_of N (local_incoming N taken x)) (row_of N (local_gross N taken plans x))
 
--- what has been taken is a legal beginning on each lane
-abbrev pub AreLegal : Table → (ℕ → List Record) → Type 0
-AreLegal N taken = (l : ℕ) → l < length (lanes N) → IsBeginning (loads N (lane_at N l)) (taken l)
+-- what has been taken is a legal beginning on each lane to the plant
+abbrev pub AreLegal : Table → ℕ → (ℕ → List Record) → Type 0
+AreLegal N plant taken =
+    (l : ℕ) → l < length (lanes N) → (lane_at N l).receiver.0 ≡ plant → IsBeginning (loads N (lane_at N l)) (taken l)
 
 -- ---- laws
 
@@ -59,24 +60,34 @@ PlannedAreReady =
 -- to a ready pair the lanes have brought what comes in by the plan of the network
 abbrev pub DespatchesBringIncoming : Type 0
 DespatchesBringIncoming =
-    (N : Table) → IsTable N → (taken : ℕ → List Record) → AreLegal N taken
-    → (planned : ℕ → Bool) (x : ℕ) → IsPair N x → IsReady N planned taken x
+    (N : Table) → IsTable N → (planned : ℕ → Bool) (taken : ℕ → List Record) (x : ℕ) → IsPair N x
+    → AreLegal N (pair_at N x).plant.0 taken → IsReady N planned taken x
     → (period : ℕ) → local_incoming N taken x period ≡ incoming N x period
 
 -- and what its customers call for by that plan
 abbrev pub SchedulesBringGross : Type 0
 SchedulesBringGross =
-    (N : Table) → IsTable N → (taken : ℕ → List Record) → AreLegal N taken
-    → (planned : ℕ → Bool) (x : ℕ) → IsPair N x → IsReady N planned taken x
+    (N : Table) → IsTable N → (planned : ℕ → Bool) (taken : ℕ → List Record) (x : ℕ) → IsPair N x
+    → AreLegal N (pair_at N x).plant.0 taken → IsReady N planned taken x
     → (period : ℕ) → period < horizon N → local_gross N taken (plan_of N) x period ≡ gross N (plan_of N) x period
 
--- plans of ready pairs, each made from its own rows, its parents' plans and what has been taken
-abbrev pub AreLocal : Table → (ℕ → List Record) → (ℕ → Bool) → List PlanRows → Type 0
-AreLocal N taken planned plans =
-    (x : ℕ) → IsPair N x → planned x ≡ true → IsReady N planned taken x × (rows_at plans x ≡ local_plan N taken plans x)
+-- plans of a plant's ready pairs, each made from its own rows, its parents' plans and what has been taken
+abbrev pub AreLocal : Table → ℕ → (ℕ → Bool) → (ℕ → List Record) → List PlanRows → Type 0
+AreLocal N plant planned taken plans =
+    (x : ℕ) → IsPair N x → (pair_at N x).plant.0 ≡ plant → planned x ≡ true
+    → IsReady N planned taken x × (rows_at plans x ≡ local_plan N taken plans x)
 
 -- local plans are the plan: each is that of the one plan of the whole network
 abbrev pub LocalPlansAreThePlan : Type 0
 LocalPlansAreThePlan =
-    (N : Table) → IsTable N → IsLoopFree N → (taken : ℕ → List Record) → AreLegal N taken
-    → (planned : ℕ → Bool) (plans : List PlanRows) → AreLocal N taken planned plans → (x : ℕ) → IsPair N x → planned x ≡ true → rows_at plans x ≡ rows_at (plan_of N) x
+    (N : Table) → IsTable N → IsLoopFree N
+    → (plant : ℕ) (planned : ℕ → Bool) (taken : ℕ → List Record) (plans : List PlanRows)
+    → AreLegal N plant taken → AreLocal N plant planned taken plans
+    → (x : ℕ) → IsPair N x → (pair_at N x).plant.0 ≡ plant → planned x ≡ true → rows_at plans x ≡ rows_at (plan_of N) x
+
+-- so in each state that events lead to, plans that are made so are those of the plan, at every plant
+abbrev pub ReachedPlansAreThePlan : Type 0
+ReachedPlansAreThePlan =
+    (N : Table) → IsTable N → IsLoopFree N → (capacity : ℕ) (s : State) → IsReached N capacity s → (plans : List PlanRows)
+    → ((x : ℕ) → IsPair N x → s.planned x ≡ true → rows_at plans x ≡ local_plan N s.taken plans x)
+    → (x : ℕ) → IsPair N x → s.planned x ≡ true → rows_at plans x ≡ rows_at (plan_of N) x

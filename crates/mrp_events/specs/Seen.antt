@@ -1,19 +1,21 @@
 -- What a plant sees of its lanes says what they carry.
-use Rattle.std.specs.Prelude.{◌≡◌, ℕ, ◌-◌, ◌*◌, ◌/◌, if◌then◌else◌, Bool, true, List, map, sum_by, Contains}
+use Rattle.std.specs.Prelude.{◌≡◌, ℕ, ◌-◌, ◌*◌, ◌/◌, ◌<◌, if◌then◌else◌, Bool, true, List, length, map, sum_by, Contains}
+use Rattle.mrp_lot.specs.One.{PlanRows}
 use Rattle.mrp_rows.specs.declared.numbers.ItemNo.{ItemNo}
 use Rattle.mrp_rows.specs.Table.{Table, IsTable, horizon}
 use Rattle.mrp_net.specs.declared.lane.Lane.{Lane}
 use Rattle.mrp_net.specs.declared.lane.LaneKind.{LaneKind}
 use Rattle.mrp_net.specs.declared.lane.LaneKind.TheVariants.{Despatch, Schedule}
-use Rattle.mrp_net.specs.declared.view.IncomingItem.{IncomingItem}
-use Rattle.mrp_net.specs.declared.view.IncomingLane.{IncomingLane}
-use Rattle.mrp_net.specs.Lanes.{lane_at, lane_items, opening}
+use Rattle.mrp_view.specs.declared.view.IncomingItem.{IncomingItem}
+use Rattle.mrp_view.specs.declared.view.IncomingLane.{IncomingLane}
+use Rattle.mrp_net.specs.Lanes.{lanes, lane_at, lane_items, opening, pair_on}
 use Rattle.mrp_net.specs.Laws.{AreBothLanes, released}
-use Rattle.mrp_net.specs.Loads as seen
+use Rattle.mrp_view.specs.Loads as seen
 use Rattle.mrp_net.specs.Plan.{plan_of}
 use Rattle.mrp_net.specs.Sources.{source_on}
 use Rattle.mrp_net.specs.Sums.{pair_at}
-use Rattle.mrp_net.specs.View.{incoming_lane, outgoing_item, plant_rows}
+use Rattle.mrp_view.specs.View.{incoming_lane, outgoing_item, plant_rows}
+use Rattle.mrp_loops.specs.Loop.{IsLoopFree}
 use Rattle.mrp_record.specs.declared.record.Record.{Record}
 use Rattle.mrp_record.specs.Entries.{contents, cum, deliveries, is_ended}
 use Rattle.mrp_record.specs.Form.{FormItem, LaneForm}
@@ -21,7 +23,7 @@ use Rattle.mrp_record.specs.Laws.{quantity_in}
 use Rattle.mrp_record.specs.Text.{Load, IsBeginning}
 use Rattle.mrp_events.specs.LoadLaws.{lane_form}
 use Rattle.mrp_events.specs.Loads.{delivery_of, by_period, load_of, loads, is_rising}
-use Rattle.mrp_events.specs.Local.{brought}
+use Rattle.mrp_events.specs.Local.{AreLegal, AreLocal, brought}
 
 -- ---- lanes that it sends
 
@@ -62,6 +64,22 @@ SchedulesOpenAfterShipments =
     → (records : List Record) → IsBeginning (loads N despatch) records
     → (item : ItemNo) → Contains (lane_items N despatch) item → is_ended item.0 (contents records) ≡ true
     → cum (opening N despatch item) item.0 (contents records) ≡ opening N schedule item
+
+-- a schedule lane's load by the plans and the taken lists of its sender
+abbrev pub local_load : Table → (ℕ → List Record) → List PlanRows → ℕ → seen.Load → Load
+local_load N taken plans l i =
+    schedule_load (horizon N) (cum i.figure i.item.0 (contents (taken (l - 1)))) (released plans i.customer.0) i
+
+-- so what a plant sends by its own plans is what its lanes carry: of a planned pair each schedule lane has
+-- the load by the pair's local plan, from the figure that the despatch lane before it has reached
+abbrev pub LocalLoadsAreTheLoads : Type 0
+LocalLoadsAreTheLoads =
+    (N : Table) → IsTable N → IsLoopFree N
+    → (plant : ℕ) (planned : ℕ → Bool) (taken : ℕ → List Record) (plans : List PlanRows)
+    → AreLegal N plant taken → AreLocal N plant planned taken plans
+    → (l : ℕ) → l < length (lanes N) → (lane_at N l).kind ≡ Schedule → (lane_at N l).sender.0 ≡ plant
+    → (item : ItemNo) → Contains (lane_items N (lane_at N l)) item → planned (pair_on N (lane_at N l) item) ≡ true
+    → load_of N (lane_at N l) item ≡ local_load N taken plans l (outgoing_item N (lane_at N l) item)
 
 -- ---- lanes that it receives
 

@@ -1,12 +1,14 @@
 //! Laws of what lanes carry, and of every run. Each is the contract of a function that does nothing.
 
 ghost use Rattle.mrp_events.specs.LoadLaws.{LoadsStandOnce, LoadsAreSmall, OpeningsAreSmall, TextsAreNoLonger};
+ghost use Rattle.mrp_events.specs.LoadLaws.{BeginningsAreNoLonger, StepsAreFew};
 ghost use Rattle.mrp_events.specs.LoadLaws.{LegalIsInForm, LegalFiguresAreSmall, LegalCumsAreSmall};
 ghost use Rattle.mrp_events.specs.Laws.{LanesKeepOrder, SentIsDecided, NothingIsLost, ClosedLanesAreWhole};
-ghost use Rattle.mrp_events.specs.Local.{PlannedAreReady, LocalPlansAreThePlan, DespatchesBringIncoming};
-ghost use Rattle.mrp_events.specs.Local.{SchedulesBringGross};
+ghost use Rattle.mrp_events.specs.Local.{PlannedAreReady, DespatchesBringIncoming, SchedulesBringGross};
+ghost use Rattle.mrp_events.specs.Local.{LocalPlansAreThePlan, ReachedPlansAreThePlan};
 ghost use Rattle.mrp_events.specs.Seen.{DespatchesAreSeen, SchedulesAreSeen, SchedulesOpenAfterShipments};
-ghost use Rattle.mrp_events.specs.Seen.{FormsAreSeen, BroughtIsSeen};
+ghost use Rattle.mrp_events.specs.Seen.{LocalLoadsAreTheLoads, FormsAreSeen, BroughtIsSeen};
+ghost use Rattle.mrp_events.specs.Deciding.{EventsAreDecided, EveryListRuns, RunsGoOn, OpeningIsReached, ReachedGoesOn};
 ghost use Rattle.mrp_events.specs.Progress.{RunsBeginWithSteps, EventsAreSteps, NoneIsLeftAtTheEnd};
 ghost use Rattle.mrp_events.specs.Progress.{NoScheduleSticks, EventsAndStepsLeft, LongestRunsFinish};
 
@@ -31,9 +33,12 @@ pub fn openings_are_small()
     ensures { OpeningsAreSmall }
 {}
 
-/// No text of a lane is longer than what is read off the table without any plan.
+/// No text of a lane, and no legal beginning, is longer than what is read off the table without any plan.
+/// A run has at most 2 * 10^15 events, so its steps can be counted in 64 bits.
 pub fn texts_have_the_lanes_length()
-    ensures { TextsAreNoLonger }
+    ensures texts { TextsAreNoLonger }
+    ensures beginnings { BeginningsAreNoLonger }
+    ensures steps { StepsAreFew }
 {}
 
 /// Whatever events happen, in every state that they lead to the records taken on a lane are those sent,
@@ -90,10 +95,12 @@ pub fn taken_blocks_bring_the_plan()
     ensures gross { SchedulesBringGross }
 {}
 
-/// Local plans are the plan: where the plan of each ready pair is made from its own rows, its parents'
-/// plans and what has been taken, it is that of the one plan of the whole network.
+/// Local plans are the plan: where a plant makes the plan of each ready pair from its own rows, its
+/// parents' plans and what has been taken, it is that of the one plan of the whole network. So it is
+/// for every planned pair in each state that events lead to.
 pub fn local_plans_are_the_plan()
-    ensures { LocalPlansAreThePlan }
+    ensures plant { LocalPlansAreThePlan }
+    ensures reached { ReachedPlansAreThePlan }
 {}
 
 /// What a plant sees of the lanes that it sends says their loads: despatches by the shipments on their
@@ -105,9 +112,30 @@ pub fn loads_are_seen()
     ensures opening { SchedulesOpenAfterShipments }
 {}
 
+/// What a plant sends by its own plans is what its lanes carry: of each planned pair a schedule lane has
+/// the load by the pair's local plan, from the figure that the despatch lane before it has reached.
+pub fn local_loads_are_the_loads()
+    ensures { LocalLoadsAreTheLoads }
+{}
+
 /// What a plant sees of the lanes that it receives says what form their records have, and what they
 /// have brought to each of its pairs.
 pub fn incoming_lanes_are_seen()
     ensures forms { FormsAreSeen }
     ensures brought { BroughtIsSeen }
+{}
+
+/// In each state that events lead to an event is enabled or isn't, so each list of events, enabled or
+/// not, leads from the opening state to some state.
+pub fn every_list_runs()
+    ensures decided { EventsAreDecided }
+    ensures runs { EveryListRuns }
+{}
+
+/// What happens after a run makes it longer. So events lead to the opening state, and from each state
+/// that they lead to to the one that an event leads to from there.
+pub fn runs_go_on()
+    ensures runs { RunsGoOn }
+    ensures opening { OpeningIsReached }
+    ensures next { ReachedGoesOn }
 {}

@@ -7,11 +7,7 @@ use Rattle.std.proofs.lemmas.List.{get_or-set_same, get_or-set_other, get_or-tak
 use Rattle.std.proofs.lemmas.List.Edits.{swapped_from_swap, swap_is, length-swap}
 use Rattle.std.proofs.lemmas.List.FromFn.{get_or-range_with_len, length-range_with_len, fill_by_all}
 use Rattle.mrp_rows.specs.declared.numbers.PairNo.{PairNo}
-use Rattle.mrp_ready.specs.Chosen.{AreApart, ArePlaced, Chosen, chosen, number_at}
-
--- the slots once the places in slots i and j change places
-abbrev pub slots_after : List ℕ → List ℕ → ℕ → ℕ → List ℕ
-slots_after places slots i j = set (set slots (get_or places i 0) j) (get_or places j 0) i
+use Rattle.mrp_ready.specs.Chosen.{AreApart, ArePlaced, Chosen, chosen, number_at, slots_after}
 
 -- what is read after the exchange
 record IsExchanged (places slots : List ℕ) (i j : ℕ) : Type 0 where

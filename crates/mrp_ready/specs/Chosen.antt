@@ -1,5 +1,5 @@
 -- Some of the pairs of a plant, and how slots keep them.
-use Rattle.std.specs.Prelude.{◌≡◌, ◌≢◌, ◌≤◌, ◌<◌, ℕ, List, length, map, take, slice_index, slice_index_or, AllPairs}
+use Rattle.std.specs.Prelude.{◌≡◌, ◌≢◌, ◌≤◌, ◌<◌, ℕ, List, length, map, take, slice_index, slice_index_or, slice_set, AllPairs}
 use Rattle.mrp_rows.specs.declared.numbers.PairNo.{PairNo}
 
 -- the pair's number at each place of the plant, and the places that are chosen
@@ -18,6 +18,10 @@ AreApart places = AllPairs (λ x y. x ≢ y) places
 -- the places in the first slots are chosen; `slots` says where each place stands, and `numbers` goes by slots
 abbrev pub chosen : List PairNo → List ℕ → List ℕ → ℕ → Chosen
 chosen numbers places slots count = record { numbers = map (number_at numbers) slots; places = take count places }
+
+-- the slots once the places in slots i and j change places
+abbrev pub slots_after : List ℕ → List ℕ → ℕ → ℕ → List ℕ
+slots_after places slots i j = slice_set (slice_set slots (slice_index places i) j) (slice_index places j) i
 
 -- each place stands in one slot, and each slot has one place
 pub record ArePlaced (numbers : List PairNo) (places slots : List ℕ) (count : ℕ) : Type 0 where

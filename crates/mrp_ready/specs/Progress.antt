@@ -1,6 +1,7 @@
 -- How far the planning of a plant's pairs is. A pair is named by its place there.
 use Rattle.std.specs.Prelude.{◌≡◌, ◌↔◌, ◌<◌, ◌+◌, ◌==◌, ℕ, Bool, true, false, not, List, length, count_by, slice_index, slice_index_or, Contains}
 use Rattle.mrp_rows.specs.declared.numbers.PairNo.{PairNo}
+use Rattle.mrp_ready.specs.Chosen.{Chosen}
 
 -- by place the pair's number, how much it waits for, and whether it is planned; and the pairs that can be planned
 pub record Progress : Type 0 where
@@ -8,6 +9,10 @@ pub record Progress : Type 0 where
   pub waits : List ℕ
   pub planned : List Bool
   pub ready : List ℕ
+
+-- what is kept, with the chosen pairs as the ready ones
+abbrev pub progress_of : List ℕ → List Bool → Chosen → Progress
+progress_of waits planned ready = record { numbers = ready.numbers; waits = waits; planned = planned; ready = ready.places }
 
 -- whether a pair is planned; false where there is no such pair
 abbrev pub is_planned : List Bool → ℕ → Bool

@@ -19,13 +19,13 @@ pub struct Readiness {
 }
 
 impl Model for Readiness {
-    ghost use Rattle.mrp_ready.specs.Progress.{Progress, IsKept};
+    ghost use Rattle.mrp_ready.specs.Progress.{Progress, progress_of, IsKept};
 
     ghost Value = { Progress };
 
-    ghost view = { λ r. record { numbers = r.ready.numbers; waits = r.waits.items; planned = r.planned.items; ready = r.ready.places } };
+    ghost view = { λ r. progress_of r.waits.items r.planned.items r.ready };
 
-    ghost invariant = { λ r. IsKept (record { numbers = r.ready.numbers; waits = r.waits.items; planned = r.planned.items; ready = r.ready.places }) r.left };
+    ghost invariant = { λ r. IsKept (progress_of r.waits.items r.planned.items r.ready) r.left };
 }
 
 impl Readiness {
@@ -53,7 +53,8 @@ impl Readiness {
         ensures waits { IfOk result (λ r. r.waits ≡ waits.items) }
         ensures planned { IfOk result (λ r. r.planned ≡ replicate (length numbers.now) false) }
         ensures listed { IfOk result (λ r. IsListed r.waits r.planned r.ready) }
-        ensures counts { IfOk result (λ r. (joins : List Join) (blocks : ℕ → ℕ) → AreFirstCounts waits.items joins blocks → AreCounts r.waits joins r.planned blocks) }
+        ensures counts { IfOk result (λ r. (joins : List Join) (blocks : ℕ → ℕ)
+            → AreFirstCounts waits.items joins blocks → AreCounts r.waits joins r.planned blocks) }
     {
         let planned = vec![in alloc; false; numbers.len()]?;
         let ready = waiting_for_none(alloc, numbers, &waits)?;
@@ -73,7 +74,8 @@ impl Readiness {
     pub fn settle(&mut self, x: usize, components: &[usize])
         requires ready { Contains self.old.ready x }
         requires known { All (λ y. y < length self.old.waits) components.now }
-        requires waits { (y : ℕ) → y < length self.old.waits → times y components.now ≤ slice_index self.old.waits y }
+        requires waits { (y : ℕ) → y < length self.old.waits
+            → times y components.now ≤ slice_index self.old.waits y }
         ensures numbers { self.new.numbers ≡ self.old.numbers }
         ensures planned { self.new.planned ≡ slice_set self.old.planned x true }
         ensures left { left_of self.new.planned + 1 ≡ left_of self.old.planned }
@@ -155,7 +157,8 @@ impl Readiness {
     /// Lets each component wait for one less.
     fn lower_each(&mut self, components: &[usize])
         requires known { All (λ y. y < length self.old.waits) components.now }
-        requires waits { (y : ℕ) → y < length self.old.waits → times y components.now ≤ slice_index self.old.waits y }
+        requires waits { (y : ℕ) → y < length self.old.waits
+            → times y components.now ≤ slice_index self.old.waits y }
         ensures { Lowers self.old self.new components.now }
     {
         for &component in components {
@@ -188,7 +191,8 @@ fn waiting_for_none(
 ) -> Result<PairSet, AllocError>
     requires { length waits.now ≡ length numbers.now }
     ensures numbers { IfOk result (λ s. s.numbers ≡ numbers.now) }
-    ensures exact { IfOk result (λ s. (x : ℕ) → Contains s.places x ↔ ((x < length waits.now) × (slice_index waits.now x ≡ 0))) }
+    ensures exact { IfOk result (λ s. (x : ℕ)
+        → Contains s.places x ↔ ((x < length waits.now) × (slice_index waits.now x ≡ 0))) }
 {
     let mut ready = PairSet::new(alloc, numbers)?;
     for (x, &count) in waits.iter().enumerate() {

@@ -1,5 +1,6 @@
-ghost use Rattle.std.specs.Prelude.{◌≡◌, ◌<◌, IfOk, length, swap, slice_index, slice_set, slice_index_or};
+ghost use Rattle.std.specs.Prelude.{◌≡◌, ◌<◌, IfOk, length, swap, slice_index};
 ghost use Rattle.std.specs.List.{range_with_len};
+ghost use Rattle.mrp_ready.specs.Chosen.{slots_after};
 
 use crate::PairNo;
 use std::alloc::{AllocError, Global};
@@ -38,7 +39,7 @@ impl Slots {
         requires slot_of_second { slice_index self.old.places.items j < length self.old.slots.items }
         ensures numbers { self.new.numbers.items ≡ swap self.old.numbers.items i j }
         ensures places { self.new.places.items ≡ swap self.old.places.items i j }
-        ensures slots { self.new.slots.items ≡ slice_set (slice_set self.old.slots.items (slice_index self.old.places.items i) j) (slice_index self.old.places.items j) i }
+        ensures slots { self.new.slots.items ≡ slots_after self.old.places.items self.old.slots.items i j }
     {
         let (x, y) = (self.places[i], self.places[j]);
         self.numbers.swap(i, j);

@@ -2,4 +2,5 @@ pub mod Sending
 pub mod Rows
 pub mod Dates
 pub mod Report
+pub mod Lanes
 pub mod Parts

@@ -1,5 +1,5 @@
 //! Reports of a plan as comma-separated rows: the plan rows and the late orders of a plan, the terms
-//! of a gross requirement, and the low-level codes.
+//! of a gross requirement, the low-level codes, and the cumulative figures of lanes.
 //!
 //! A row ends with a line feed, and there is no header row. The room for a report is taken before its
 //! first byte is sent: where it is refused, the writer is as it was.
@@ -7,6 +7,7 @@
 
 mod codes;
 mod fault;
+mod lanes;
 mod late;
 mod pegs;
 mod plan;
@@ -15,6 +16,7 @@ mod writing;
 
 pub use codes::code_rows;
 pub use fault::ReportFault;
+pub use lanes::lane_rows;
 pub use late::late_rows;
 pub use pegs::peg_rows;
 pub use plan::plan_rows;

@@ -1,9 +1,10 @@
 //! Records of lanes: their texts, read, booked and written again, whole and damaged.
 
-use mrp_book::{Book, BookItem};
-use mrp_net::{ItemNo, LaneKind, Network};
+use mrp_book::{Book, BookItem, LaneFigure};
+use mrp_net::{ItemNo, LaneKind, LaneNo, Network};
 use mrp_qty::{Horizon, Qty};
 use mrp_record::Record;
+use mrp_report::lane_rows;
 use mrp_stream::{RecordFaultKind, read_records, write_record};
 use mrp_tables::read_tables_uncounted;
 use std::alloc::{AllocError, Global};
@@ -356,6 +357,36 @@ fn a_million_lines(rt: HostRuntime) -> Result<(), Fail> {
     all = book.book(&Record::Close { number: 1_000_002 }).is_ok() && all;
     assert!(rt; all && book.closed());
     assert!(rt; book.cumulative(item) == Qty::new(1_000_000));
+    Ok(())
+}
+
+#[test]
+fn figures_of_lanes(rt: HostRuntime) -> Result<(), Fail> {
+    let figures = [
+        LaneFigure {
+            lane: LaneNo(0),
+            item: ItemNo(0),
+            opening: Qty::of(100),
+            shipped: Qty::of(108),
+            received: Qty::of(100),
+        },
+        LaneFigure {
+            lane: LaneNo(1),
+            item: ItemNo(0),
+            opening: Qty::of(108),
+            shipped: Qty::of(130),
+            received: Qty::of(130),
+        },
+    ];
+    let wanted = "lane,despatch,B,A,X,100,108,100,8\nlane,schedule,A,B,X,108,130,130,0\n";
+    let Some(network) = network_of(rt.alloc(), FIRM) else {
+        assert!(rt; false);
+        return Ok(());
+    };
+    let mut rows = Vec::new(rt.alloc());
+    assert!(rt; network.lanes() == 2 && network.find_item("X").is_some());
+    assert!(rt; lane_rows(rt.alloc(), &network, &figures, &mut rows).is_ok());
+    assert!(rt; rows.as_slice() == wanted.as_bytes());
     Ok(())
 }
 

@@ -47,7 +47,7 @@ fn first_item(network: &Network, l: LaneNo) -> Option<ItemNo>
 /// Whether both lanes have their items in the order of the customer's pairs.
 fn has_the_customers_order(net: &Network) -> bool {
     net.lanes() == 2
-        && net.item_name(ItemNo(1)) == "X"
+        && net.find_item("X") == Some(ItemNo(1))
         && net.lane_items(LaneNo(0)) == [ItemNo(1), ItemNo(0)].as_slice()
         && net.lane_items(LaneNo(1)) == [ItemNo(1), ItemNo(0)].as_slice()
 }
@@ -149,7 +149,11 @@ fn what_a_supplier_sees(rt: HostRuntime) -> Result<(), Fail> {
     let net = firm(&rt)?;
     let view = PlantView::of(rt.alloc(), &net, PlantNo(1))?;
     assert_eq!(rt; view.outgoing().len(), 1);
-    assert!(rt; view.outgoing().first().is_some_and(|lane| sends_x(&lane.items)));
+    assert!(rt;
+        view.outgoing()
+            .first()
+            .is_some_and(|lane| sends_x(&lane.items))
+    );
     assert!(rt; sees_the_schedule(&view));
     Ok(())
 }

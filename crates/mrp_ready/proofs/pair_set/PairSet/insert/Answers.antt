@@ -1,4 +1,4 @@
-use Rattle.std.proofs.Common.{◌<◌, length, arith}
+use Rattle.std.proofs.Common.{arith}
 use Rattle.mrp_ready.proofs.Placing.{later_slot, inserted}
 use Rattle.mrp_ready.proofs.pair_set.PairSet.insert.Goals as goal
 

@@ -1,4 +1,4 @@
-use Rattle.std.proofs.Common.{◌<◌, ◌≤◌, length, arith, sym, subst}
+use Rattle.std.proofs.Common.{arith, sym, subst}
 use Rattle.std.specs.Prelude.{Contains}
 use Rattle.mrp_ready.specs.Progress.{Progress}
 use Rattle.mrp_ready.proofs.Listing.{planned_inside, ready_inside}

@@ -1,0 +1,131 @@
+-- What an end holds before the first record, after one record more, and at the end.
+use Rattle.std.proofs.Common.{◌≡◌, ℕ, ◌+◌, ◌<◌, ◌≤◌, ◌^◌, true, List, [], ◌∷◌, ◌++◌, length, sym, ap, subst, ◌∙◌, arith, length-append, All, Option}
+use Rattle.crossbeam_queue.specs.declared.array_queue.Doing.{Doing}
+use Rattle.crossbeam_queue.specs.declared.array_queue.Slotted.{Slotted}
+use Rattle.crossbeam_queue.specs.Passes.{Pass, IsPassOf, IsSamePass, view}
+use Rattle.mrp_qty.specs.declared.quantity.TheConstants.{MOST}
+use Rattle.mrp_rows.specs.Table.{Table}
+use Rattle.mrp_net.specs.declared.lane.LaneNo.{LaneNo}
+use Rattle.mrp_net.specs.Lanes.{lanes}
+use Rattle.mrp_loops.specs.Sized.{IsSized}
+use Rattle.mrp_record.specs.declared.record.Record.{Record}
+use Rattle.mrp_lane.specs.declared.tally.ItemPieces.{ItemPieces}
+use Rattle.mrp_lane.specs.declared.view.LaneView.{LaneView}
+use Rattle.mrp_lane.specs.Ends.{End, Name, HasLegalList, Holds, end_of}
+use Rattle.mrp_lane.specs.Reconciled.{figures_of, figures_on}
+use Rattle.mrp_lane.specs.Tallies.{Counts, pieces_in, counted, counts_of}
+use Rattle.mrp_lane.specs.Views.{IsLegal, sending, taking, after_send, Takes}
+use Rattle.mrp_lane.proofs.Counting.{counted_more, length_fits, record_fits, figures_fit, figures_are}
+use Rattle.mrp_lane.proofs.Rule.{empty_is_legal}
+
+abbrev Box : Type 0 → Type 0 → Type 0
+Box Q A = Slotted (Option Record) (Doing Record LaneView) Q A
+
+-- a pass is the mailbox's wherever that lies
+pub still_ours : {Q A : Type 0} (box box' : Box Q A) (p q : Pass Record LaneView) → box' ≡ box → IsPassOf box p → IsSamePass p q → IsPassOf box' q
+still_ours box box' p q there ours same = (same.0 ∙ ours.0 ∙ ap (λ b. b.table.shared.table_id) (sym there), same.2 ∙ ours.1)
+
+-- ---- before the first record
+
+opens : {Q A : Type 0} (box : Box Q A) (p : Pass Record LaneView) (N : Table) (l : ℕ) (counts : Counts) → IsPassOf box p
+    → (view p).named ≡ true → (view p).network ≡ N → (view p).lane ≡ l → IsSized N → l < length (lanes N) → counts ≡ counts_of N l [] → Holds box p l [] counts
+opens box p N l counts ours named is lane sized there counted = record {
+  ours = ours;
+  named = named;
+  lane = lane;
+  sized = subst IsSized (sym is) sized;
+  there = subst (λ (M : Table). l < length (lanes M)) (sym is) there;
+  legal = empty_is_legal (view p).network l;
+  counted = counted ∙ ap (λ (M : Table). counts_of M l []) (sym is);
+}
+
+pub opens_sending : {Q A : Type 0} (box : Box Q A) (p : Pass Record LaneView) (N : Table) (l : ℕ) (counts : Counts) → IsPassOf box p
+    → view p ≡ sending N l [] → IsSized N → l < length (lanes N) → counts ≡ counts_of N l [] → ((view p).sends ≡ true) × Holds box p l (view p).sent counts
+opens_sending box p N l counts ours is sized there counted = (
+  ap (λ (v : LaneView). v.sends) is,
+  subst (λ (list : List Record). Holds box p l list counts) (sym (ap (λ (v : LaneView). v.sent) is))
+      (opens box p N l counts ours (ap (λ (v : LaneView). v.named) is) (ap (λ (v : LaneView). v.network) is) (ap (λ (v : LaneView). v.lane) is) sized there counted),
+)
+
+pub opens_taking : {Q A : Type 0} (box : Box Q A) (p : Pass Record LaneView) (N : Table) (l : ℕ) (counts : Counts) → IsPassOf box p
+    → view p ≡ taking N l [] → IsSized N → l < length (lanes N) → counts ≡ counts_of N l [] → ((view p).takes ≡ true) × Holds box p l (view p).taken counts
+opens_taking box p N l counts ours is sized there counted = (
+  ap (λ (v : LaneView). v.takes) is,
+  subst (λ (list : List Record). Holds box p l list counts) (sym (ap (λ (v : LaneView). v.taken) is))
+      (opens box p N l counts ours (ap (λ (v : LaneView). v.named) is) (ap (λ (v : LaneView). v.network) is) (ap (λ (v : LaneView). v.lane) is) sized there counted),
+)
+
+-- ---- one record more
+
+module _ {Q A : Type 0} {box : Box Q A} {p : Pass Record LaneView} {l : ℕ} {list : List Record} {counts : Counts} (h : Holds box p l list counts) (r : Record) (legal : IsLegal (view p).network l (list ++ r ∷ [])) where
+  pub number_fits : counts.records + 1 < 2 ^ 64
+  number_fits =
+      let number = ap (λ (t : Counts). t.records) h.counted in
+      let most : length (list ++ r ∷ []) ≤ MOST = length_fits (view p).network l (list ++ r ∷ []) h.sized legal in
+      omega (arith, number, most, length-append list (r ∷ []))
+
+  pub more_fits : All (λ i. i.pieces + pieces_in i.item.0 r < 2 ^ 64) counts.items
+  more_fits =
+      subst (λ (t : Counts). All (λ (i : ItemPieces). i.pieces + pieces_in i.item.0 r < 2 ^ 64) t.items) (sym h.counted) (record_fits (view p).network l list r h.sized legal)
+
+  goes_on : (q : Pass Record LaneView) (counts' : Counts) → IsSamePass p q → (view q).named ≡ (view p).named → (view q).network ≡ (view p).network → (view q).lane ≡ (view p).lane
+      → counts' ≡ counted counts r → Holds box q l (list ++ r ∷ []) counts'
+  goes_on q counts' same named is lane count = record {
+    ours = (same.0 ∙ h.ours.0, same.2 ∙ h.ours.1);
+    named = named ∙ h.named;
+    lane = lane ∙ h.lane;
+    sized = subst IsSized (sym is) h.sized;
+    there = subst (λ (M : Table). l < length (lanes M)) (sym is) h.there;
+    legal = subst (λ (M : Table). IsLegal M l (list ++ r ∷ [])) (sym is) legal;
+    counted = count ∙ ap (λ (t : Counts). counted t r) h.counted ∙ counted_more (view p).network l list r ∙ ap (λ (M : Table). counts_of M l (list ++ r ∷ [])) (sym is);
+  }
+
+-- an offer that isn't refused
+pub sends_on : {Q A : Type 0} (box : Box Q A) (p q : Pass Record LaneView) (l : ℕ) (counts counts' : Counts) (r : Record) → ((view p).sends ≡ true) × Holds box p l (view p).sent counts
+    → IsLegal (view p).network l ((view p).sent ++ r ∷ []) → IsSamePass p q → view q ≡ after_send (view p) r → counts' ≡ counted counts r
+    → ((view q).sends ≡ true) × Holds box q l (view q).sent counts'
+sends_on box p q l counts counts' r (may, h) legal same is count = (
+  ap (λ (v : LaneView). v.sends) is ∙ may,
+  subst (λ (list : List Record). Holds box q l list counts') (sym (ap (λ (v : LaneView). v.sent) is))
+      (goes_on h r legal q counts' same (ap (λ (v : LaneView). v.named) is) (ap (λ (v : LaneView). v.network) is) (ap (λ (v : LaneView). v.lane) is) count),
+)
+
+-- what is taken stays legal
+pub taken_is_legal : (v w : LaneView) (r : Record) (l : ℕ) → v.lane ≡ l → Takes v r w → IsLegal v.network l (v.taken ++ r ∷ [])
+taken_is_legal v w r l lane (is, legal) =
+    subst (λ (y : ℕ × List Record). IsLegal v.network y.0 y.1) (λ i. (lane i, (ap (λ (x : LaneView). x.taken) is) i)) legal
+
+pub taken_stays_legal : (v w : LaneView) (r : Record) (l : ℕ) → v.lane ≡ l → Takes v r w → IsLegal w.network l w.taken
+taken_stays_legal v w r l lane (is, legal) =
+    subst (λ (y : Table × ℕ). IsLegal y.0 y.1 w.taken) (λ i. (sym (ap (λ (x : LaneView). x.network) is) i, lane i)) legal
+
+pub takes_on : {Q A : Type 0} (box : Box Q A) (p q : Pass Record LaneView) (l : ℕ) (counts counts' : Counts) (r : Record) → ((view p).takes ≡ true) × Holds box p l (view p).taken counts
+    → IsSamePass p q → Takes (view p) r (view q) → counts' ≡ counted counts r
+    → ((view q).takes ≡ true) × Holds box q l (view q).taken counts'
+takes_on box p q l counts counts' r (may, h) same takes count =
+    let is = takes.0 in (
+      ap (λ (v : LaneView). v.takes) is ∙ may,
+      subst (λ (list : List Record). Holds box q l list counts') (sym (ap (λ (v : LaneView). v.taken) is))
+          (goes_on h r (taken_is_legal (view p) (view q) r l h.lane takes) q counts' same (ap (λ (v : LaneView). v.named) is) (ap (λ (v : LaneView). v.network) is) (ap (λ (v : LaneView). v.lane) is) count),
+    )
+
+-- ---- at the end
+
+pub small_figures : {Q A : Type 0} (box : Box Q A) (p : Pass Record LaneView) (l : ℕ) (list : List Record) (counts : Counts) → Holds box p l list counts
+    → All (λ i. i.opening + i.pieces ≤ MOST) counts.items
+small_figures box p l list counts h =
+    subst (λ (t : Counts). All (λ (i : ItemPieces). i.opening + i.pieces ≤ MOST) t.items) (sym h.counted) (figures_fit (view p).network l list h.sized h.legal)
+
+pub figures_agree : {Q A : Type 0} (box box' : Box Q A) (p p' : Pass Record LaneView) (lane : LaneNo) (l' : ℕ) (sent taken : List Record) (counts counts' : Counts) (s t : End)
+    → Holds box p lane.0 sent counts → Holds box' p' l' taken counts' → end_of box p lane.0 sent ≡ s → end_of box' p' l' taken ≡ t → s.name ≡ t.name
+    → figures_of lane counts.items counts'.items ≡ figures_on s.name.network s.name.lane s.list t.list
+figures_agree box box' p p' lane l' sent taken counts counts' s t h h' is is' same =
+    let N = s.name.network in
+    let l = s.name.lane in
+    let number : lane.0 ≡ l = ap (λ (e : End). e.name.lane) is in
+    let count : counts ≡ counts_of N l s.list = h.counted ∙ ap (λ (e : End). counts_of e.name.network e.name.lane e.list) is in
+    let count' : counts' ≡ counts_of N l t.list = h'.counted ∙ ap (λ (e : End). counts_of e.name.network e.name.lane e.list) is' ∙ ap (λ (n : Name). counts_of n.network n.lane t.list) (sym same) in
+    let legal : IsLegal N l s.list = subst HasLegalList is h.legal in
+    let legal' : IsLegal N l t.list = subst (λ (n : Name). IsLegal n.network n.lane t.list) (sym same) (subst HasLegalList is' h'.legal) in
+    let sized : IsSized N = subst (λ (e : End). IsSized e.name.network) is h.sized in
+    (λ j. figures_of (record { 0 = number j }) (count j).items (count' j).items) ∙ figures_are N l s.list t.list sized.table legal legal'

@@ -1,0 +1,97 @@
+-- What the passes to a lane's mailbox know, and the rule that holds at each of its steps.
+use Rattle.std.specs.Prelude.{◌≡◌, ℕ, true, false, List, [], ◌∷◌, ◌++◌, pos}
+use mathlib.Core.Option.{some}
+use lib.ListN.{get_elem?}
+use Rattle.mrp_rows.specs.Table.{Table}
+use Rattle.mrp_net.specs.Lanes.{lane_at}
+use Rattle.mrp_record.specs.declared.record.Record.{Record}
+use Rattle.mrp_record.specs.Text.{IsBeginning}
+use Rattle.mrp_events.specs.Loads.{loads}
+use Rattle.mrp_lane.specs.declared.view.LaneView.{LaneView}
+
+-- a legal beginning of what the lane l of the network N carries
+abbrev pub IsLegal : Table → ℕ → List Record → Type 0
+IsLegal N l records = IsBeginning (loads N (lane_at N l)) records
+
+-- ---- what a pass knows
+
+-- the first pass of a mailbox may push and pop, and isn't told yet whose mailbox it is
+abbrev pub blank : Table
+blank = record {
+  calendar = record { first = pos 0; days = 0; periods = 0 };
+  plants = [];
+  items = [];
+  pairs = [];
+  sources = [];
+  bills = [];
+  demands = [];
+  receipts = [];
+  ships = [];
+  cums = [];
+  resets = [];
+}
+
+abbrev pub unnamed : LaneView
+unnamed = record { sends = true; takes = true; named = false; network = blank; lane = 0; sent = []; taken = [] }
+
+-- the sender knows what it sent, the receiver what it took
+abbrev pub sending : Table → ℕ → List Record → LaneView
+sending N l sent = record { sends = true; takes = false; named = true; network = N; lane = l; sent = sent; taken = [] }
+
+abbrev pub taking : Table → ℕ → List Record → LaneView
+taking N l taken = record { sends = false; takes = true; named = true; network = N; lane = l; sent = []; taken = taken }
+
+-- the sender's pass when it has taken in the receiver's, which is spent then
+abbrev pub joined : LaneView → LaneView → LaneView
+joined v w = record { sends = true; takes = true; named = true; network = v.network; lane = v.lane; sent = v.sent; taken = w.taken }
+
+abbrev pub spent : LaneView
+spent = record unnamed { sends = false; takes = false }
+
+-- ---- the rule
+
+-- one line of records: which lane's, the pass that sends and the pass that takes, all that was sent and
+-- all that was taken
+pub record Line : Type 0 where
+  pub network : Table
+  pub lane : ℕ
+  pub sender : ℕ
+  pub taker : ℕ
+  pub sent : List Record
+  pub taken : List Record
+
+abbrev pub IsNamed : Line → LaneView → Type 0
+IsNamed line v = v.named ≡ true → (v.network ≡ line.network) × (v.lane ≡ line.lane)
+
+-- the pass that sends is one, and so is the pass that takes; each knows its list, and whose lane it is
+pub record Fits (line : Line) (pass : ℕ) (v : LaneView) : Type 0 where
+  pub sends : v.sends ≡ true → (pass ≡ line.sender) × (v.sent ≡ line.sent) × IsNamed line v
+  pub takes : v.takes ≡ true → (pass ≡ line.taker) × (v.taken ≡ line.taken) × IsNamed line v
+
+-- what was sent is what was taken and then what the mailbox holds, and it is a legal beginning
+pub record Carries (line : Line) (mailbox : List Record) (views : List LaneView) : Type 0 where
+  pub whole : line.sent ≡ line.taken ++ mailbox
+  pub legal : IsLegal line.network line.lane line.sent
+  pub fits : (pass : ℕ) (v : LaneView) → get_elem? views pass ≡ some v → Fits line pass v
+
+abbrev pub Keeps : List Record → List LaneView → Type 0
+Keeps mailbox views = (line : Line) × Carries line mailbox views
+
+-- ---- what a step tells
+
+abbrev pub after_send : LaneView → Record → LaneView
+after_send v r = record v { sent = v.sent ++ r ∷ [] }
+
+abbrev pub after_take : LaneView → Record → LaneView
+after_take v r = record v { taken = v.taken ++ r ∷ [] }
+
+abbrev pub Takes : LaneView → Record → LaneView → Type 0
+Takes v r w = (w ≡ after_take v r) × IsLegal v.network v.lane w.taken
+
+-- the records end with those of the mailbox
+abbrev pub EndsWith : List Record → List Record → Type 0
+EndsWith records mailbox = (before : List Record) × (records ≡ before ++ mailbox)
+
+-- a pass that may push and pop knows that what was sent and isn't taken is in the mailbox
+abbrev pub Leaves : LaneView → List Record → Type 0
+Leaves v mailbox = v.sends ≡ true → v.sent ≡ v.taken ++ mailbox

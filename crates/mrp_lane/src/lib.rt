@@ -1,0 +1,21 @@
+//! A lane between two threads: a mailbox of bounded room without locks, and its two ends.
+//!
+//! The sender's thread owns one end and the receiver's the other. Whatever the two threads do, and in
+//! whichever order their steps fall, the records taken are the records offered, in order and each once,
+//! but for the last ones, which lie in the mailbox; and what has been offered is a legal beginning of the
+//! lane's text. Once both ends are in one thread again they can be reconciled.
+#![tactic(auto)]
+
+mod ends;
+mod joining;
+pub mod laws;
+mod making;
+mod tally;
+mod view;
+
+pub use ends::{SendEnd, TakeEnd};
+pub use joining::{Reconciled, reconcile};
+pub use making::{MOST_ROOM, lane};
+pub use mrp_book::LaneFigure;
+pub use mrp_net::{ItemNo, LaneNo};
+pub use mrp_record::Record;

@@ -1,0 +1,94 @@
+//! How the two ends of a lane are made.
+ghost use Rattle.std.specs.Prelude.{◌≡◌, ◌≤◌, ◌<◌, [], min, length, IfOk};
+ghost use Rattle.crossbeam_queue.specs.Passes.{view, IsPassOf, IsSamePass};
+ghost use Rattle.mrp_net.specs.Lanes.{lanes, lane_at};
+ghost use Rattle.mrp_net.specs.Texts.{longest_text};
+ghost use Rattle.mrp_lane.specs.Views.{sending, taking, unnamed};
+ghost use Rattle.mrp_lane.specs.declared.making.TheConstants.{MOST_ROOM};
+
+use crate::ends::{SendEnd, TakeEnd};
+use crate::tally::Tally;
+use crate::view::{LanePass, Mailbox, Naming, Parting};
+use mrp_loops::SizedNet;
+use mrp_net::{LaneNo, Network};
+use mrp_qty::Memory;
+use std::alloc::Global;
+use std::marker::Brand;
+use std::sync::Arc;
+
+/// The greatest capacity of a mailbox, in records.
+pub const MOST_ROOM: u64 = 65_536;
+
+/// The two ends of a new mailbox for a lane of the network.
+///
+/// The mailbox has room for `capacity` records, 1 to [`MOST_ROOM`], or for the longest text that the
+/// lane can have where that is less. Nothing was sent or taken yet.
+///
+/// # Errors
+///
+/// [`Memory`] where a growth is refused.
+pub fn lane(
+    alloc: Global,
+    net: &SizedNet<'_>,
+    lane: LaneNo,
+    capacity: u64,
+) -> Result<(SendEnd, TakeEnd), Memory>
+    requires lane { lane.0 < length (lanes net.now.network) }
+    requires capacity { (1 ≤ capacity) × (capacity ≤ MOST_ROOM) }
+    ensures network { IfOk result (λ ends. ends.0.name.network ≡ net.now.network) }
+    ensures lane { IfOk result (λ ends. ends.0.name.lane ≡ lane.0) }
+    ensures room { IfOk result (λ ends. ends.0.name.room ≡ min capacity (longest_text net.now.network (lane_at net.now.network lane.0))) }
+    ensures same { IfOk result (λ ends. ends.0.name ≡ ends.1.name) }
+    ensures empty { IfOk result (λ ends. (ends.0.list ≡ []) × (ends.1.list ≡ [])) }
+{
+    let network = net.network();
+    let room = capacity.min(network.longest_text(lane));
+    let (mailbox, mut pass) = Mailbox::ruled(alloc, room as usize)?;
+    let takers_pass = name(&mailbox, &mut pass, network, lane);
+    let mailbox = Arc::new(alloc, mailbox)?;
+    let takers_mailbox = Arc::try_clone(&mailbox)?;
+    let send = SendEnd {
+        mailbox,
+        pass,
+        lane,
+        tally: Tally::of(alloc, network, lane)?,
+    };
+    let take = TakeEnd {
+        mailbox: takers_mailbox,
+        pass: takers_pass,
+        lane,
+        tally: Tally::of(alloc, network, lane)?,
+    };
+    Ok((send, take))
+}
+
+/// Tells the first pass of a mailbox whose it is, and makes the receiver's.
+fn name(mailbox: &Mailbox, pass: &mut LanePass, network: &Network, lane: LaneNo) -> LanePass
+    requires pass { IsPassOf mailbox.now pass.old }
+    requires first { view pass.old ≡ unnamed }
+    ensures same { IsSamePass pass.old pass.new }
+    ensures takers { IsPassOf mailbox.now result }
+    ensures sends { view pass.new ≡ sending network.now lane.0 [] }
+    ensures takes { view result ≡ taking network.now lane.0 [] }
+{
+    part::<Brand>(mailbox, pass, network, lane)
+}
+
+/// The same at any name.
+fn part<N: Naming>(
+    mailbox: &Mailbox,
+    pass: &mut LanePass,
+    network: &Network,
+    lane: LaneNo,
+) -> LanePass
+    requires pass { IsPassOf mailbox.now pass.old }
+    requires first { view pass.old ≡ unnamed }
+    requires network { network.now ≡ N.network }
+    requires lane { lane.0 ≡ N.lane }
+    ensures same { IsSamePass pass.old pass.new }
+    ensures takers { IsPassOf mailbox.now result }
+    ensures sends { view pass.new ≡ sending network.now lane.0 [] }
+    ensures takes { view result ≡ taking network.now lane.0 [] }
+{
+    mailbox.another::<Parting<N>>(pass)
+}

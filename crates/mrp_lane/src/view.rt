@@ -1,0 +1,119 @@
+//! What the two ends of a lane know of its mailbox, and the rule that each step keeps.
+
+use crossbeam_queue::protocol::{Join, Lesson, Outcome, Protocol, Split};
+use crossbeam_queue::{Pass, RuledArrayQueue};
+use mrp_net::Network;
+use mrp_record::Record;
+use std::collections::LinkedList;
+use std::marker::{Brand, PhantomData};
+
+/// What a pass to a lane's mailbox may do and knows. No value of it is made.
+pub struct LaneView {
+    /// Whether it may push, and so knows all that was sent.
+    pub sends: bool,
+    /// Whether it may pop, and so knows all that was taken.
+    pub takes: bool,
+    /// Whether it knows the network and the lane.
+    pub named: bool,
+    /// The network.
+    pub network: Network,
+    /// The lane's number.
+    pub lane: usize,
+    /// What was sent, if it may push.
+    pub sent: LinkedList<Record>,
+    /// What was taken, if it may pop.
+    pub taken: LinkedList<Record>,
+}
+
+/// The rule of a lane's mailbox.
+pub struct LaneRule;
+
+impl Protocol<Record, LaneView> for LaneRule {
+    ghost use Rattle.mrp_lane.specs.Views.{Keeps, unnamed};
+
+    ghost holds = { Keeps };
+
+    ghost first = { unnamed };
+}
+
+/// The mailbox of a lane.
+pub type Mailbox = RuledArrayQueue<Record, LaneView, LaneRule>;
+
+/// What one end knows of the mailbox. It has no bytes.
+pub type LanePass = Pass<Record, LaneView>;
+
+/// A push appends the record to what was sent. Where there is no room, what was sent ends with what the
+/// mailbox holds.
+pub struct Sent;
+
+impl Outcome<Record, LaneView> for Sent {
+    ghost use Rattle.std.specs.Prelude.{◌≡◌};
+    ghost use Rattle.mrp_lane.specs.Views.{after_send};
+
+    ghost then = { λ v r w. w ≡ after_send v r };
+}
+
+impl Lesson<Record, LaneView> for Sent {
+    ghost use Rattle.mrp_lane.specs.Views.{EndsWith};
+
+    ghost fact = { λ v mailbox. EndsWith v.sent mailbox };
+}
+
+/// A pop appends the record to what was taken, which stays a legal beginning. Where there is nothing to
+/// take, all that was sent is taken, as far as the pass knows both.
+pub struct Taken;
+
+impl Outcome<Record, LaneView> for Taken {
+    ghost use Rattle.mrp_lane.specs.Views.{Takes};
+
+    ghost then = { Takes };
+}
+
+impl Lesson<Record, LaneView> for Taken {
+    ghost use Rattle.mrp_lane.specs.Views.{Leaves};
+
+    ghost fact = { Leaves };
+}
+
+/// The name of a lane, for proofs.
+pub trait Naming {
+    ghost use Rattle.std.specs.Prelude.{ℕ};
+    ghost use Rattle.mrp_rows.specs.Table.{Table};
+
+    ghost network: { Table };
+
+    ghost lane: { ℕ };
+}
+
+impl Naming for Brand {
+    ghost use Rattle.mrp_lane.specs.Views.{blank};
+
+    ghost network = { blank };
+
+    ghost lane = { 0 };
+}
+
+/// The first pass becomes the sender's, and the new one is the receiver's.
+pub struct Parting<N: Naming> {
+    name: PhantomData<N>,
+}
+
+impl<N: Naming> Split<LaneView> for Parting<N> {
+    ghost use Rattle.std.specs.Prelude.{[]};
+    ghost use Rattle.mrp_lane.specs.Views.{sending, taking};
+
+    ghost left = { λ _. sending N.network N.lane [] };
+
+    ghost right = { λ _. taking N.network N.lane [] };
+}
+
+/// The sender's pass takes in the receiver's.
+pub struct Meeting;
+
+impl Join<LaneView> for Meeting {
+    ghost use Rattle.mrp_lane.specs.Views.{joined, spent};
+
+    ghost both = { joined };
+
+    ghost spent = { spent };
+}

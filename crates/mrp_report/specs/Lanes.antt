@@ -1,0 +1,42 @@
+-- The report of the cumulative figures of lanes.
+use Rattle.std.specs.Prelude.{ℕ, ◌-◌, ◌<◌, ◌≤◌, List, [], ◌∷◌, length, slice_index_or, decimal, codes as text_bytes}
+use Rattle.std.specs.List.{flat_map}
+use Rattle.mrp_rows.specs.declared.numbers.ItemNo.{ItemNo}
+use Rattle.mrp_rows.specs.declared.numbers.PlantNo.{PlantNo}
+use Rattle.mrp_rows.specs.Table.{Table}
+use Rattle.mrp_net.specs.declared.lane.Lane.{Lane}
+use Rattle.mrp_net.specs.declared.lane.LaneKind.{LaneKind}
+use Rattle.mrp_net.specs.declared.lane.LaneKind.TheVariants.{Despatch, Schedule}
+use Rattle.mrp_net.specs.Lanes.{lane_at, lanes}
+use Rattle.mrp_book.specs.declared.figure.LaneFigure.{LaneFigure}
+use Rattle.mrp_report.specs.Rows.{row}
+
+-- what the row of a figure calls the kind of its lane
+abbrev pub kind_word : LaneKind → List ℕ
+kind_word Despatch = text_bytes "despatch"
+kind_word Schedule = text_bytes "schedule"
+
+-- the names of a plant and of an item
+abbrev pub plant_name : Table → PlantNo → List ℕ
+plant_name N plant = slice_index_or N.plants plant.0 []
+
+abbrev pub item_name : Table → ItemNo → List ℕ
+item_name N item = slice_index_or N.items item.0 []
+
+-- the row of a figure of that lane: opening, shipped, received, and what is in transit
+unfoldable pub figure_row : Table → Lane → LaneFigure → List ℕ
+figure_row N lane figure =
+    row (text_bytes "lane" ∷ kind_word lane.kind ∷ plant_name N lane.sender ∷ plant_name N lane.receiver ∷ item_name N figure.item ∷ decimal figure.opening ∷ decimal figure.shipped ∷ decimal figure.received ∷ decimal (figure.shipped - figure.received) ∷ [])
+
+abbrev pub lane_row : Table → LaneFigure → List ℕ
+lane_row N figure = figure_row N (lane_at N figure.lane.0) figure
+
+-- the report of the figures, in their order
+unfoldable pub lane_text : Table → List LaneFigure → List ℕ
+lane_text N figures = flat_map (lane_row N) figures
+
+-- a figure of a lane and an item of the network, with no more received than shipped
+pub record IsFigure (N : Table) (figure : LaneFigure) : Type 0 where
+  pub lane : figure.lane.0 < length (lanes N)
+  pub item : figure.item.0 < length N.items
+  pub received : figure.received ≤ figure.shipped
