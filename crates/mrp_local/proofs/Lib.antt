@@ -1,5 +1,4 @@
-pub mod Bringing
-pub mod Booking
+pub mod Seeing
 pub mod Drafting
 pub mod Planned
 pub mod Sending

@@ -3,6 +3,7 @@ use Rattle.std.proofs.Common.{◌≡◌, ℕ, suc, zero, ◌<◌, Bool, true, Li
 use Rattle.mrp_lot.specs.One.{PlanRows, IsWithin}
 use Rattle.mrp_lot.specs.OneLaws.{one-gross, one-incoming}
 use Rattle.mrp_rows.specs.Table.{Table, IsTable}
+use Rattle.mrp_net.specs.Plan.{plan_of}
 use Rattle.mrp_net.specs.Sums.{pair_at, params_at}
 use Rattle.mrp_net.proofs.Members.{All-in}
 use Rattle.mrp_view.specs.declared.view.PlantEdge.{PlantEdge}
@@ -12,13 +13,13 @@ use Rattle.mrp_loops.specs.Within.{plan_at}
 use Rattle.mrp_loops.proofs.Codes.{edge_raises}
 use Rattle.mrp_loops.proofs.Coded.{codes_exist}
 use Rattle.mrp_loops.proofs.Edges.{HasEdge-pairs}
-use Rattle.mrp_loops.proofs.OnePlan.{one_plan}
 use Rattle.mrp_loops.proofs.Within.{plan_is_within}
 use Rattle.mrp_record.specs.declared.record.Record.{Record}
-use Rattle.mrp_local.specs.Local.{local_incoming, local_gross, local_row, AwaitsNothing, IsPlannedLocally, IsLocal, AreLegal}
-use Rattle.mrp_local.specs.Laws.{IsPairAt, IsThePlan, LocalPlansAreThePlan, DraftsAreThePlan, DraftsAreWithin, PlannableIsLocal}
-use Rattle.mrp_local.proofs.Booking.{brought_over_lanes, brought_on_view}
-use Rattle.mrp_local.proofs.Drafting.{sees_pair, sees_edge, seen_edges, HasParents, draft_incoming, draft_gross, draft_plan}
+use Rattle.mrp_events.specs.Local.{AreLegal}
+use Rattle.mrp_local.specs.Local.{local_incoming, local_gross, local_row, AwaitsNothing, IsPlannedLocally, IsLocal}
+use Rattle.mrp_local.specs.Laws.{IsPairAt, GetsThePlan, LocalPlansAreThePlan, DraftsAreThePlan, DraftsAreWithin, PlannableIsLocal}
+use Rattle.mrp_local.proofs.Drafting.{HasParents, draft_incoming, draft_gross, draft_plan}
+use Rattle.mrp_local.proofs.Seeing.{sees_pair, seen_edges, ready_over_network, ready_on_view}
 
 -- ---- plans
 
@@ -29,18 +30,19 @@ module _ (N : Table) (is : IsTable N) (free : IsLoopFree N) (plant : ℕ) (taken
 
   -- where the parents that are planned have the network's plans, so has each pair that awaits nothing
   next : (x : ℕ) → IsPairAt N plant x → AwaitsNothing (plant_rows N plant) taken planned (plant_pair N x)
-      → ((y : ℕ) → HasEdge N y x → IsPairAt N plant y → planned y ≡ true → IsPlanned y) → IsThePlan N plant taken plans x
+      → ((y : ℕ) → HasEdge N y x → IsPairAt N plant y → planned y ≡ true → IsPlanned y) → GetsThePlan N (plant_rows N plant) taken plans x
   next x at ready earlier =
-      let parents : HasParents N plant plans x = λ k d h mine.
+      let parents : HasParents N plant plans (plan_of N) x = λ k d h mine.
       let e : PlantEdge = get_or (plant_edges N plant) k d in
       let seen = seen_edges N plant k d h in
       let edge = subst (λ (z : ℕ). HasEdge N e.parent.0 z) mine seen.0 in
       let here = seen.1 ∙ ap (λ (z : ℕ). (pair_at N z).plant.0) mine ∙ at.at_plant in
       earlier e.parent.0 edge (record { pair = (HasEdge-pairs N is e.parent.0 x edge).0; at_plant = here }) (ready.parents k d h mine) in
+      let is_ready = ready_over_network N is plant planned taken x at ready in
       record {
-        incoming = draft_incoming N is plant taken legal plans x at ready.brought parents;
-        gross = draft_gross N is plant taken legal plans x at ready.brought parents;
-        plan = sym (draft_plan N is plant taken legal plans x at ready.brought parents) ∙ sym ((one_plan N is free).fits.rows x at.pair);
+        incoming = draft_incoming N is plant planned taken legal x at is_ready plans parents;
+        gross = draft_gross N is plant planned taken legal x at is_ready plans parents;
+        plan = draft_plan N is plant planned taken legal x at is_ready plans parents free;
       }
 
   pub own : (x : ℕ) → IsPairAt N plant x → planned x ≡ true → IsPlannedLocally (plant_rows N plant) taken planned plans (plant_pair N x)
@@ -60,49 +62,34 @@ module _ (N : Table) (is : IsTable N) (free : IsLoopFree N) (plant : ℕ) (taken
       let codes = codes_exist N is free in
       by_code codes.0 codes.1 (suc (slice_index codes.0 x)) x (omega arith) at done
 
-  pub drafts_are : (x : ℕ) → IsPairAt N plant x → AwaitsNothing (plant_rows N plant) taken planned (plant_pair N x) → IsThePlan N plant taken plans x
+  pub drafts_are : (x : ℕ) → IsPairAt N plant x → AwaitsNothing (plant_rows N plant) taken planned (plant_pair N x) → GetsThePlan N (plant_rows N plant) taken plans x
   drafts_are x at ready = next x at ready (λ y edge there before. plans_are y there before)
 
 pub local_plans_are_the_plan : LocalPlansAreThePlan
-local_plans_are_the_plan N is free plant taken legal planned plans local x at done = plans_are N is free plant taken legal planned plans local x at done
+local_plans_are_the_plan N is free plant taken planned plans works x at done =
+    plans_are N is free plant taken works.legal planned plans works.local x at done
 
 pub drafts_are_the_plan : DraftsAreThePlan
-drafts_are_the_plan N is free plant taken legal planned plans local x at ready = drafts_are N is free plant taken legal planned plans local x at ready
+drafts_are_the_plan N is free plant taken planned plans works x at ready =
+    drafts_are N is free plant taken works.legal planned plans works.local x at ready
 
 pub drafts_are_within : DraftsAreWithin
-drafts_are_within N sized plant taken legal planned plans local x at ready =
+drafts_are_within N sized plant taken planned plans works x at ready =
     let V = plant_rows N plant in
     let p = plant_pair N x in
-    let draft = (drafts_are N sized.table sized.loop_free plant taken legal planned plans local x at ready).plan in
-    let comes : (plan_at N x).incoming ≡ local_row V (local_incoming V taken p) =
-    sym (ap (λ (rows : PlanRows). rows.incoming) draft) ∙ one-incoming p.params (local_row V (local_incoming V taken p)) (local_row V (local_gross V taken plans p)) in
-    let asked : (plan_at N x).gross ≡ local_row V (local_gross V taken plans p) =
-    sym (ap (λ (rows : PlanRows). rows.gross) draft) ∙ one-gross p.params (local_row V (local_incoming V taken p)) (local_row V (local_gross V taken plans p)) in
+    let comes : List ℕ = local_row V (local_incoming V taken p) in
+    let asked : List ℕ = local_row V (local_gross V taken plans p) in
+    let draft = (drafts_are_the_plan N sized.table sized.loop_free plant taken planned plans works x at ready).plan in
+    let same_comes : (plan_at N x).incoming ≡ comes = sym (ap (λ (rows : PlanRows). rows.incoming) draft) ∙ one-incoming p.params comes asked in
+    let same_asked : (plan_at N x).gross ≡ asked = sym (ap (λ (rows : PlanRows). rows.gross) draft) ∙ one-gross p.params comes asked in
     let within = (plan_is_within N sized sized.needs sized.are_needs x at.pair).together in
-    subst (λ (row : List ℕ). IsWithin (params_at N x) (local_row V (local_incoming V taken p)) row) asked
-    (subst (λ (row : List ℕ). IsWithin (params_at N x) row (plan_at N x).gross) comes within)
+    subst (λ (row : List ℕ). IsWithin (params_at N x) comes row) same_asked
+    (subst (λ (row : List ℕ). IsWithin (params_at N x) row (plan_at N x).gross) same_comes within)
 
 -- ---- which pairs can be planned
 
 pub plannable_is_local : PlannableIsLocal
 plannable_is_local N is plant s x at = (
-  (λ can. record {
-    unplanned = can.unplanned;
-    ready = record {
-      parents = λ k d h mine.
-          let e : PlantEdge = get_or (plant_edges N plant) k d in
-          let seen = seen_edges N plant k d h in
-          can.demanders e.parent.0 (subst (λ (z : ℕ). HasEdge N e.parent.0 z) mine seen.0) (seen.1 ∙ ap (λ (z : ℕ). (pair_at N z).plant.0) mine);
-      brought = brought_on_view N plant s.taken (pair_at N x).item (λ l within here. can.brought l within (here ∙ sym at.at_plant));
-    };
-  }),
-  (λ can. record {
-    pair = at.pair;
-    unplanned = can.unplanned;
-    demanders = λ y edge same.
-        let seen = sees_edge N is plant x y at edge (same ∙ at.at_plant) in
-        let of_parent = All-in (λ e. e.component.0 ≡ x → s.planned e.parent.0 ≡ true) (plant_edges N plant) seen.0 can.ready.parents seen.1 seen.2 in
-        subst (λ (z : ℕ). s.planned z ≡ true) seen.3 of_parent;
-    brought = λ l within here. brought_over_lanes N plant s.taken (pair_at N x).item can.ready.brought l within (here ∙ at.at_plant);
-  }),
+  (λ can. record { unplanned = can.unplanned; ready = ready_on_view N plant s.planned s.taken x at can.ready }),
+  (λ can. record { pair = at.pair; unplanned = can.unplanned; ready = ready_over_network N is plant s.planned s.taken x at can.ready }),
 )

@@ -1,7 +1,7 @@
 -- What a plant has to send over its lanes, by its own view, plans and lists. `taken` has the records of
 -- each lane by the lane's number, `planned` and `plans` say which pairs are planned and how, by the
 -- pair's number.
-use Rattle.std.specs.Prelude.{◌≡◌, ℕ, ◌-◌, ◌*◌, ◌/◌, ◌<◌, Bool, true, List, length, map, filter, drop, slice_index}
+use Rattle.std.specs.Prelude.{◌≡◌, ℕ, ◌-◌, ◌<◌, Bool, true, List, length, map, filter, drop, slice_index}
 use Rattle.std.specs.List.{range_with_len}
 use Rattle.mrp_lot.specs.One.{PlanRows}
 use Rattle.mrp_net.specs.declared.lane.LaneKind.{LaneKind}
@@ -12,6 +12,7 @@ use Rattle.mrp_view.specs.View.{PlantRows}
 use Rattle.mrp_record.specs.declared.record.Record.{Record}
 use Rattle.mrp_record.specs.Entries.{Delivery, contents, cum}
 use Rattle.mrp_events.specs.Loads.{delivery_of, delivery_in, has_pieces}
+use Rattle.mrp_events.specs.Seen.{share_of}
 use Rattle.mrp_cursor.specs.Cursor.{Goods}
 
 -- ---- despatch lanes
@@ -29,7 +30,7 @@ despatch_goods i = record {
 
 -- the supplier's share of a release
 abbrev pub share : Load → ℕ → ℕ
-share i release = release * i.high / 1000 - release * i.low / 1000
+share i release = share_of i.low i.high release
 
 -- its part of what the customer's plan releases in a period
 abbrev pub called_for : (ℕ → PlanRows) → Load → ℕ → ℕ

@@ -1,15 +1,14 @@
 -- What a plant plans from its own view and from the records that have come to it. `taken` has the
 -- records of each lane by the lane's number, `planned` and `plans` say which pairs are planned and how,
 -- by the pair's number.
-use Rattle.std.specs.Prelude.{◌≡◌, ℕ, ◌+◌, ◌*◌, ◌<◌, ◌==◌, if◌then◌else◌, not, Bool, true, false, List, length, map, filter, sum_by, slice_index, All, Contains}
+use Rattle.std.specs.Prelude.{◌≡◌, ℕ, ◌+◌, ◌*◌, ◌==◌, if◌then◌else◌, not, Bool, true, false}
+use Rattle.std.specs.Prelude.{List, map, filter, sum_by, slice_index, All, Contains}
 use Rattle.std.specs.List.{position_or_len, range_with_len}
 use Rattle.mrp_lot.specs.One.{PlanRows, one}
 use Rattle.mrp_rows.specs.declared.numbers.ItemNo.{ItemNo}
 use Rattle.mrp_rows.specs.declared.numbers.PairNo.{PairNo}
-use Rattle.mrp_rows.specs.Table.{Table}
 use Rattle.mrp_net.specs.declared.lane.LaneKind.{LaneKind}
 use Rattle.mrp_net.specs.declared.lane.LaneKind.TheVariants.{Despatch, Schedule}
-use Rattle.mrp_net.specs.Lanes.{lanes, lane_at}
 use Rattle.mrp_net.specs.Laws.{is_despatch}
 use Rattle.mrp_view.specs.declared.view.IncomingLane.{IncomingLane}
 use Rattle.mrp_view.specs.declared.view.PlantPair.{PlantPair}
@@ -17,8 +16,6 @@ use Rattle.mrp_view.specs.View.{PlantRows}
 use Rattle.mrp_record.specs.declared.record.Record.{Record}
 use Rattle.mrp_record.specs.Entries.{Entry, contents, deliveries, is_ended}
 use Rattle.mrp_record.specs.Laws.{quantity_in}
-use Rattle.mrp_record.specs.Text.{IsBeginning}
-use Rattle.mrp_events.specs.Loads.{loads}
 
 -- ---- what has come
 
@@ -37,7 +34,8 @@ lanes_in kind V = filter (λ lane. is_of_kind kind lane.kind) V.incoming
 -- what lanes of one kind have brought of an item for a period: on despatch lanes what is to arrive, on
 -- schedule lanes what is called for
 abbrev pub booked_on : LaneKind → PlantRows → (ℕ → List Record) → ItemNo → ℕ → ℕ
-booked_on kind V taken item period = sum_by (λ lane. pieces_in item.0 period (contents (taken lane.number.0))) (lanes_in kind V)
+booked_on kind V taken item period =
+    sum_by (λ lane. pieces_in item.0 period (contents (taken lane.number.0))) (lanes_in kind V)
 
 -- ---- the plan of a pair
 
@@ -55,19 +53,22 @@ asked_within V plans x period =
 
 -- scheduled receipts: the receipt rows, and what has come on despatch lanes
 abbrev pub local_incoming : PlantRows → (ℕ → List Record) → PlantPair → ℕ → ℕ
-local_incoming V taken p period = amount_at V V.receipts p.number period + booked_on Despatch V taken p.item period
+local_incoming V taken p period =
+    amount_at V V.receipts p.number period + booked_on Despatch V taken p.item period
 
 -- gross requirement: the demand rows, what the parents ask, and what is called for on schedule lanes
 abbrev pub local_gross : PlantRows → (ℕ → List Record) → (ℕ → PlanRows) → PlantPair → ℕ → ℕ
 local_gross V taken plans p period =
-    amount_at V V.demands p.number period + asked_within V plans p.number period + booked_on Schedule V taken p.item period
+    amount_at V V.demands p.number period + asked_within V plans p.number period
+    + booked_on Schedule V taken p.item period
 
 -- an amount for each period, as a row
 abbrev pub local_row : PlantRows → (ℕ → ℕ) → List ℕ
 local_row V amount = map amount (range_with_len 0 V.horizon)
 
 abbrev pub local_plan : PlantRows → (ℕ → List Record) → (ℕ → PlanRows) → PlantPair → PlanRows
-local_plan V taken plans p = one p.params (local_row V (local_incoming V taken p)) (local_row V (local_gross V taken plans p))
+local_plan V taken plans p =
+    one p.params (local_row V (local_incoming V taken p)) (local_row V (local_gross V taken plans p))
 
 -- ---- which pairs can be planned
 
@@ -92,15 +93,11 @@ pub record CanBePlanned (V : PlantRows) (taken : ℕ → List Record) (planned :
 -- ---- plans
 
 -- a pair was planned when nothing was missing for it, and by the rules
-pub record IsPlannedLocally (V : PlantRows) (taken : ℕ → List Record) (planned : ℕ → Bool) (plans : ℕ → PlanRows) (p : PlantPair) : Type 0 where
+pub record IsPlannedLocally (V : PlantRows) (taken : ℕ → List Record) (planned : ℕ → Bool) (plans : ℕ → PlanRows)
+    (p : PlantPair) : Type 0 where
   pub ready : AwaitsNothing V taken planned p
   pub plan : plans p.number.0 ≡ local_plan V taken plans p
 
 -- and so was each of the plant's pairs that is planned
 abbrev pub IsLocal : PlantRows → (ℕ → List Record) → (ℕ → Bool) → (ℕ → PlanRows) → Type 0
 IsLocal V taken planned plans = All (λ p. planned p.number.0 ≡ true → IsPlannedLocally V taken planned plans p) V.pairs
-
--- what has come to a plant is on each lane a legal beginning of the lane's text
-abbrev pub AreLegal : Table → ℕ → (ℕ → List Record) → Type 0
-AreLegal N plant taken =
-    (l : ℕ) → l < length (lanes N) → (lane_at N l).receiver.0 ≡ plant → IsBeginning (loads N (lane_at N l)) (taken l)

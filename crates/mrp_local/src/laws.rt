@@ -1,7 +1,7 @@
 //! Laws of local plans and of what is sent by them. Each is the contract of a function that does nothing.
 
 ghost use Rattle.mrp_local.specs.Laws.{LocalPlansAreThePlan, DraftsAreThePlan, DraftsAreWithin, PlannableIsLocal};
-ghost use Rattle.mrp_local.specs.Laws.{LocalGoodsAreTheLoads, LocalGoodsAgree, LocalGoodsAreSmall, LocalGoodsAreBounded};
+ghost use Rattle.mrp_local.specs.Laws.{LocalGoodsAreTheLoads, LocalGoodsAgree, LocalGoodsAreSmall};
 
 /// Whatever has come to a plant so far, the pairs that it has planned have the plan of the network, and
 /// so will each pair for which nothing is missing.
@@ -10,8 +10,8 @@ pub fn local_plans_are_the_plan()
     ensures drafts { DraftsAreThePlan }
 {}
 
-/// In a sized network what a pair has, what comes in, what is asked for, safety stock and the quantities
-/// of its lot rule are together at most 10^15 pieces, once nothing is missing for its plan.
+/// In a sized network what a pair has on hand, what comes in, what is asked for, safety stock and the
+/// quantities of its lot rule are together at most 10^15 pieces, once nothing is missing for its plan.
 pub fn drafts_are_within()
     ensures { DraftsAreWithin }
 {}
@@ -24,14 +24,13 @@ pub fn plannable_is_local()
 
 /// What a plant has to send of an item that may be sent is what the lane carries of it in the network:
 /// its shipments on a despatch lane, and on a schedule lane the parts of the releases of the pair that
-/// takes it. So a cursor over its own goods sends the network's text.
+/// takes it. So its goods agree with the network's loads as the laws of cursors ask.
 pub fn local_goods_are_the_loads()
     ensures goods { LocalGoodsAreTheLoads }
     ensures agree { LocalGoodsAgree }
 {}
 
-/// In a sized network they are small enough for a cursor's 64 bits.
+/// In a sized network what a plant has to send is small, and a cursor over it stays within its 64 bits.
 pub fn local_goods_are_small()
-    ensures small { LocalGoodsAreSmall }
-    ensures bounded { LocalGoodsAreBounded }
+    ensures { LocalGoodsAreSmall }
 {}
