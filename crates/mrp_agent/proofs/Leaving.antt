@@ -1,5 +1,5 @@
 -- What an agent has left to send is what is left of its goods.
-use Rattle.std.proofs.Common.{◌≡◌, ℕ, zero, suc, ◌+◌, ◌-◌, ◌<◌, ◌≤◌, ◌==◌, eqb, Bool, true, false, cond, Option, Some, None, option_map, List, [], ◌∷◌, inl, inr, length, get_or, map, drop, slice_index, refl, sym, ap, ◌∙◌, subst, arith}
+use Rattle.std.proofs.Common.{◌≡◌, ℕ, zero, suc, ◌+◌, ◌-◌, ◌<◌, ◌≤◌, ◌==◌, eqb, Bool, true, false, cond, Option, Some, None, option_map, List, [], ◌∷◌, inl, inr, length, get_or, map, drop, slice_index, refl, sym, ap, ◌∙◌, subst, arith, add-one}
 use Rattle.std.specs.List.{All, Contains, count_by, filter, find, position_or_len, range_with_len, slice_get}
 use Rattle.std.proofs.lemmas.Bool.{cases_Bool, eq-eqb}
 use Rattle.std.proofs.lemmas.List.{get_or_default, get_or-map, length-map, drop_all}
@@ -35,7 +35,7 @@ use Rattle.mrp_local.specs.Goods.{called_for, by_period_from, goods_of, goods_by
 use Rattle.mrp_agent.specs.State.{AgentState, incoming_at, incoming_place, outgoing_at, book_at, out_at, plans_of, no_incoming}
 use Rattle.mrp_agent.specs.Sending.{figure_of, figure_in, next_shipment, shipment_line, call_line, next_called, called_by, remainder, remainder_by, left_at}
 use Rattle.mrp_agent.specs.Shows.{BooksShow, form_of, book_item}
-use Rattle.mrp_agent.proofs.Places.{place_is_only, place_found, place_at}
+use Rattle.mrp_agent.proofs.Looking.{place_is_only, place_found, place_at}
 
 -- ---- lines
 
@@ -44,7 +44,9 @@ shipments_left shipments mark = by (slice_get shipments mark) refl
   where
     by : (o : Option Shipment) → slice_get shipments mark ≡ o → IsNext (λ m. map delivery_of (drop m shipments)) mark (option_map (shipment_line mark) o)
     by None e = ap (λ (z : List Shipment). map delivery_of z) (drop_all mark shipments (none_there shipments mark e))
-    by (Some s) e = ap (λ (z : List Shipment). map delivery_of z) (drop_there shipments mark s e)
+    by (Some s) e =
+        ap (λ (z : List Shipment). map delivery_of z) (drop_there shipments mark s e)
+        ∙ ap (λ (n : ℕ). delivery_of s ∷ map delivery_of (drop n shipments)) (sym (add-one mark))
 
 none_passes : {X : Type 0} (p : X → Bool) (xs : List X) → find p xs ≡ None → filter p xs ≡ []
 none_passes p [] e = refl
@@ -103,6 +105,14 @@ figure_read (Some g) n e = cc e
 pub no_figure : (o : Option ItemFigure) → option_map (λ g. g.figure + g.closed) o ≡ None → figure_of o ≡ 0
 no_figure None e = refl
 no_figure (Some g) e = absurd (cc e)
+
+pub figure_some : (form : LaneForm) (records : List Record) (b : Figures) (item : ℕ) (o : Option ℕ) (n : ℕ) → book.Shows form b records
+    → o ≡ option_map (λ i. cum i.opening i.item (contents records)) (item_on form item) → o ≡ Some n → n ≡ figure_in b item
+figure_some form records b item o n s e is = sym (figure_read (find_item b.items item) n (figure_shown form records b item s ∙ sym e ∙ is))
+
+pub figure_none : (form : LaneForm) (records : List Record) (b : Figures) (item : ℕ) (o : Option ℕ) → book.Shows form b records
+    → o ≡ option_map (λ i. cum i.opening i.item (contents records)) (item_on form item) → o ≡ None → 0 ≡ figure_in b item
+figure_none form records b item o s e is = sym (no_figure (find_item b.items item) (figure_shown form records b item s ∙ sym e ∙ is))
 
 -- the form's item of a lane before a schedule lane
 abbrev before_item : Load → FormItem

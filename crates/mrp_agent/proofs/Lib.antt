@@ -1,3 +1,10 @@
-pub mod Places
+pub mod Looking
 pub mod Leaving
 pub mod Sent
+pub mod Queueing
+pub mod Asked
+pub mod Calling
+pub mod Owning
+pub mod Drafts
+pub mod Calls
+pub mod Made

@@ -30,7 +30,7 @@ use Rattle.mrp_agent.specs.Kept.{HasPeriods, HasRooms, HasTaken, Indexes, IsKept
 use Rattle.mrp_agent.specs.Sending.{left_at, next_out, goods_at, IsWithin64, Continues, NothingContinues}
 use Rattle.mrp_agent.specs.Shows.{BooksShow, OutShows, Shows}
 use Rattle.mrp_agent.proofs.Leaving.{left_is_left}
-use Rattle.mrp_agent.proofs.Places.{place_found, only_place}
+use Rattle.mrp_agent.proofs.Looking.{place_found, only_place}
 
 -- ---- values changed at one place
 

@@ -3,6 +3,7 @@ use Rattle.std.specs.Prelude.{ℕ, ◌+◌, List, map, Contains}
 use Rattle.mrp_lot.specs.One.{PlanRows, one, IsWithin}
 use Rattle.mrp_lot.specs.declared.params.PairParams.{PairParams}
 use Rattle.mrp_rows.specs.declared.numbers.PairNo.{PairNo}
+use Rattle.mrp_view.specs.Seen.{IsOwn}
 use Rattle.mrp_ready.specs.Chosen.{number_at}
 use Rattle.mrp_local.specs.Local.{amount_at, asked_within, local_row}
 use Rattle.mrp_agent.specs.State.{AgentState, plans_of, pair_of}
@@ -24,5 +25,6 @@ ready_numbers A = map (number_at A.progress.numbers) A.progress.ready
 
 -- a pair can be drafted: it can be planned, and its quantities are together within 10^15
 pub record CanDraft (A : AgentState) (x : PairNo) : Type 0 where
+  pub own : IsOwn A.view x
   pub ready : Contains (ready_numbers A) x
   pub within : IsWithin (pair_of A.view x).params (drafted_incoming A x) (drafted_gross A x)

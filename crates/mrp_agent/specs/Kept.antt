@@ -4,12 +4,16 @@ use Rattle.std.specs.List.{range_with_len}
 use Rattle.mrp_lot.specs.One.{PlanRows}
 use Rattle.mrp_rows.specs.declared.numbers.ItemNo.{ItemNo}
 use Rattle.mrp_group.specs.Groups.{IsGrouped}
+use Rattle.mrp_view.specs.declared.view.IncomingLane.{IncomingLane}
 use Rattle.mrp_view.specs.declared.view.OutgoingLane.{OutgoingLane}
 use Rattle.mrp_view.specs.declared.view.PlantEdge.{PlantEdge}
 use Rattle.mrp_view.specs.Seen.{IsView}
 use Rattle.mrp_view.specs.View.{PlantRows}
 use Rattle.mrp_qty.specs.declared.quantity.TheConstants.{MOST}
 use Rattle.mrp_record.specs.declared.record.Record.{Record}
+use Rattle.mrp_record.specs.Form.{LaneForm}
+use Rattle.mrp_book.specs.Figures as book
+use Rattle.mrp_book.specs.Figures.{Figures}
 use Rattle.mrp_ready.specs.Counts.{components_of}
 use Rattle.mrp_agent.specs.declared.edges.ParentEdge.{ParentEdge}
 use Rattle.mrp_agent.specs.State.{AgentState, outgoing_at, out_at, pair_place}
@@ -52,6 +56,12 @@ pub record HasRooms (A : AgentState) : Type 0 where
   pub outs : length A.outs ≡ length A.view.outgoing
   pub sizes : (k : ℕ) → k < length A.view.outgoing → (out_at A k).size ≡ length (outgoing_at A.view k).items
 
+-- a book shows some list
+pub record IsShowing (b : Figures) : Type 0 where
+  pub form : LaneForm
+  pub records : List Record
+  pub shows : book.Shows form b records
+
 -- its books show some lists, and it waits for what has not come
 pub record HasTaken (A : AgentState) : Type 0 where
   pub taken : ℕ → List Record
@@ -65,8 +75,11 @@ pub record IsKept (A : AgentState) (I : Indexes) : Type 0 where
   pub taken : HasTaken A
 
 -- the figures of the lanes that come in begin at 10^15 pieces at most
+abbrev pub HasSmallItems : IncomingLane → Type 0
+HasSmallItems lane = All (λ i. i.opening ≤ MOST) lane.items
+
 abbrev pub HasSmallOpenings : PlantRows → Type 0
-HasSmallOpenings V = All (λ lane. All (λ i. i.opening ≤ MOST) lane.items) V.incoming
+HasSmallOpenings V = All HasSmallItems V.incoming
 
 -- a lane has each item once
 pub record HasItemsOnce (lane : OutgoingLane) : Type 0 where

@@ -6,3 +6,4 @@ pub mod Sending
 pub mod After
 pub mod Kept
 pub mod Making
+pub mod Sent

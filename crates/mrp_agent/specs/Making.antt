@@ -11,13 +11,12 @@ use Rattle.mrp_book.specs.Figures as book
 use Rattle.mrp_book.specs.Figures.{Figures}
 use Rattle.mrp_cursor.specs.Cursor.{OutFigures, Goods}
 use Rattle.mrp_cursor.specs.Shows.{ShowsSent}
-use Rattle.mrp_agent.specs.State.{pair_place, no_book, no_incoming, no_out, no_outgoing}
+use Rattle.mrp_agent.specs.State.{pair_place, no_out, no_outgoing}
 use Rattle.mrp_agent.specs.Shows.{form_of}
 
 -- the book of each lane, before its first record
-pub record AreNewBooks (V : PlantRows) (lanes : List IncomingLane) (books : List Figures) : Type 0 where
-  pub size : length books ≡ length lanes
-  pub show : (k : ℕ) → k < length books → book.Shows (form_of V (slice_index_or lanes k no_incoming)) (slice_index_or books k no_book) []
+abbrev pub new_figures : PlantRows → IncomingLane → Figures
+new_figures V lane = book.figures (form_of V lane) []
 
 -- the places of the pairs that await the blocks of the lanes that come in
 abbrev pub place_awaited : PlantRows → IncomingItem → ℕ

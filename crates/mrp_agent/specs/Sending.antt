@@ -59,15 +59,15 @@ pub record AreShares (item : OutgoingItem) : Type 0 where
 abbrev pub left_to_ship : Load → ℕ → Remainder
 left_to_ship load mark = record { item = load.item; opening = load.figure; reset = load.reset; line = next_shipment load.shipments mark }
 
+abbrev pub left_to_call : Figures → List ℕ → OutgoingItem → ℕ → Remainder
+left_to_call before release item mark =
+    record { item = item.item; opening = figure_in before item.item.0; reset = item.reset; line = next_called release item mark }
+
 -- what is left of the item at a place from a mark on
 abbrev pub remainder_by : LaneKind → AgentState → OutgoingLane → Load → ℕ → Remainder
 remainder_by Despatch A lane load mark = left_to_ship load mark
-remainder_by Schedule A lane load mark = record {
-  item = load.item;
-  opening = figure_in (book_at A (incoming_place A.view (lane.number.0 - 1))) load.item.0;
-  reset = load.reset;
-  line = next_called (plans_of A load.customer.0).release (bare load) mark;
-}
+remainder_by Schedule A lane load mark =
+    left_to_call (book_at A (incoming_place A.view (lane.number.0 - 1))) (plans_of A load.customer.0).release (bare load) mark
 
 abbrev pub remainder : AgentState → OutgoingLane → ℕ → ℕ → Remainder
 remainder A lane mark place = remainder_by lane.kind A lane (load_at lane.items place) mark

@@ -1,7 +1,7 @@
 -- Which sent lists, taken lists and planned pairs an agent shows. `sent` and `taken` have the records of
 -- each lane by the lane's number, `planned` says which pairs are planned, by the pair's number.
 use Rattle.std.specs.Prelude.{◌≡◌, ◌↔◌, ℕ, ◌+◌, ◌-◌, ◌<◌, ◌^◌, ◌==◌, ◌&&◌, not, min, Bool, List, length, map, sum_by, count_by, Contains}
-use Rattle.std.specs.List.{flat_map}
+use Rattle.std.specs.List.{flat_map, list_all}
 use Rattle.mrp_rows.specs.declared.numbers.ItemNo.{ItemNo}
 use Rattle.mrp_net.specs.declared.lane.LaneKind.TheVariants.{Despatch, Schedule}
 use Rattle.mrp_view.specs.declared.view.IncomingItem.{IncomingItem}
@@ -18,7 +18,7 @@ use Rattle.mrp_book.specs.Figures as book
 use Rattle.mrp_cursor.specs.Shows.{ShowsSent}
 use Rattle.mrp_ready.specs.declared.join.Join.{Join}
 use Rattle.mrp_ready.specs.Counts.{Awaited, AreCounts, open_blocks}
-use Rattle.mrp_ready.specs.Progress.{is_planned}
+use Rattle.mrp_ready.specs.Progress.{is_planned, left_of}
 use Rattle.mrp_local.specs.Local.{amount_at, booked_on, local_incoming, IsLocal}
 use Rattle.mrp_agent.specs.State.{AgentState, incoming_at, outgoing_at, book_at, out_at, pair_place, plans_of}
 use Rattle.mrp_local.specs.Goods.{goods_of, IsSendable}
@@ -94,3 +94,9 @@ pub record Shows (A : AgentState) (sent taken : ℕ → List Record) (planned : 
   pub planned_are : (p : PlantPair) → Contains A.view.pairs p → planned p.number.0 ≡ is_planned A.progress.planned (pair_place A.view p.number.0)
   pub local : IsLocal A.view taken planned (plans_of A)
   pub outs : (k : ℕ) → k < length A.view.outgoing → OutShows A sent taken planned k
+
+-- ---- done
+
+-- all pairs are planned, and all lanes are closed, those that come in and those that go out
+abbrev pub is_done : AgentState → Bool
+is_done A = (left_of A.progress.planned == 0) && list_all (λ b. b.closed) A.books && list_all (λ o. o.closed) A.outs

@@ -1,4 +1,6 @@
-ghost use Rattle.std.specs.Prelude.{◌≡◌, ◌<◌, IfOk, IfSome, length};
+ghost use Rattle.std.specs.Prelude.{◌≡◌, All, IfOk, IfSome};
+ghost use Rattle.std.specs.List.{list_all};
+ghost use Rattle.mrp_agent.specs.Kept.{IsShowing};
 
 use crate::edges::ParentEdge;
 use crate::making::{blank_plans, first_progress, idle_outs, new_books};
@@ -70,12 +72,13 @@ impl Model for Agent {
 }
 
 impl Agent {
-    ghost use Rattle.std.specs.Prelude.{ℕ, Contains, map};
+    ghost use Rattle.std.specs.Prelude.{◌↔◌, IsSome, IsTrue, slice_get};
+    ghost use Rattle.mrp_ready.specs.Progress.{is_planned, left_of};
     ghost use Rattle.mrp_view.specs.Seen.{IsView};
     ghost use Rattle.mrp_agent.specs.Drafts.{ready_numbers};
     ghost use Rattle.mrp_agent.specs.Kept.{HasSmallOpenings};
-    ghost use Rattle.mrp_agent.specs.Shows.{Shows};
-    ghost use Rattle.mrp_agent.specs.State.{};
+    ghost use Rattle.mrp_agent.specs.Shows.{is_done};
+    ghost use Rattle.mrp_agent.specs.State.{pair_place, plans_of};
 
     /// The agent of a plant that sees this: nothing has come, nothing was sent, and no pair is planned.
     /// It takes all the room that its life needs.
@@ -89,13 +92,13 @@ impl Agent {
         ensures view { IfOk result (λ agent. agent.view ≡ view) }
     {
         let items = ItemPlaces::of_pairs(alloc, view.pairs())?;
-        let parents = parent_edges(alloc, &view)?;
+        let parents = parent_edges(alloc, &view, view.edges())?;
         let pairs = view.pairs().len();
         let edges = group(alloc, &ByComponent, &parents, pairs)?;
         let joins = joins(alloc, &parents)?;
         let components = Components::new(alloc, &joins, pairs)?;
         let out_items = out_items(alloc, view.outgoing())?;
-        let books = new_books(alloc, &view)?;
+        let books = new_books(alloc, &view, view.incoming())?;
         let came = Vec::from_slice(alloc, view.receipts())?;
         let called = Vec::from_slice(alloc, view.demands())?;
         let plans = blank_plans(alloc, view.horizon(), pairs)?;
@@ -131,17 +134,24 @@ impl Agent {
     }
 
     /// A pair that can be planned, where there is one.
-    pub fn ready(&self) -> Option<PairNo> {
+    pub fn ready(&self) -> Option<PairNo>
+        ensures { result ≡ slice_get (ready_numbers self.now) 0 }
+    {
         self.ready_pairs().first().copied()
     }
 
     /// How many pairs aren't planned.
-    pub fn left(&self) -> usize {
+    pub fn left(&self) -> usize
+        ensures { result ≡ left_of self.now.progress.planned }
+    {
         self.progress.left()
     }
 
     /// The plan of a pair, once it is planned; `None` where it isn't, or is another plant's.
-    pub fn planned(&self, x: PairNo) -> Option<&PairPlan> {
+    pub fn planned(&self, x: PairNo) -> Option<&PairPlan>
+        ensures plan { IfSome result (λ plan. plan.now ≡ plans_of self.now x.0) }
+        ensures there { IsSome result ↔ IsTrue (is_planned self.now.progress.planned (pair_place self.now.view x.0)) }
+    {
         let place = self.view.place(x)?;
         if self.progress.planned(place) {
             Some(&self.plans[place])
@@ -152,17 +162,37 @@ impl Agent {
 
     /// Whether the plant's work is done: all pairs are planned, all lanes that come in are booked to the
     /// end, and all that go out are sent to the end.
-    pub fn done(&self) -> bool {
+    pub fn done(&self) -> bool
+        ensures { result ≡ is_done self.now }
+    {
         self.progress.left() == 0 && are_booked(&self.books) && are_sent(&self.outs)
     }
 }
 
 /// Whether the closing record of each lane is booked.
-fn are_booked(books: &[Book]) -> bool {
-    books.iter().all(|book| book.closed())
+fn are_booked(books: &[Book]) -> bool
+    requires { All IsShowing books.now }
+    ensures { result ≡ list_all (λ b. b.closed) books.now }
+{
+    for book in books {
+        if !is_booked(book) {
+            return false;
+        }
+    }
+    true
+}
+
+/// Whether the closing record of a lane is booked.
+fn is_booked(book: &Book) -> bool
+    requires { IsShowing book.now }
+    ensures { result ≡ book.now.closed }
+{
+    book.closed()
 }
 
 /// Whether the closing record of each lane is sent.
-fn are_sent(outs: &[OutCursor]) -> bool {
+fn are_sent(outs: &[OutCursor]) -> bool
+    ensures { result ≡ list_all (λ o. o.closed) outs.now }
+{
     outs.iter().all(|out| out.is_closed())
 }

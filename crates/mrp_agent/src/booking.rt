@@ -1,4 +1,4 @@
-ghost use Rattle.std.specs.Prelude.{◌≡◌, ◌==◌, ◌*◌, ◌<◌, ◌≤◌, length, IfSome};
+ghost use Rattle.std.specs.Prelude.{◌≡◌, ◌==◌, ◌*◌, ◌<◌, ◌≤◌, length, position, IfSome};
 ghost use Rattle.std.specs.List.{position_or_len};
 ghost use Rattle.mrp_agent.specs.After.{with_line, added_at, ended_place, BlockEnded, IsAwaited};
 
@@ -49,12 +49,17 @@ impl Agent {
 }
 
 /// The place of a lane among those that come in, or how many these are.
-#[tactic(auto, using(crate::proofs::Places::place_or_len))]
 pub(crate) fn incoming_place(lanes: &[IncomingLane], lane: LaneNo) -> usize
     ensures { result ≡ position_or_len (λ l. l.number.0 == lane.0) lanes.now }
 {
-    let place = lanes.iter().position(|known| known.number.0 == lane.0);
-    place.unwrap_or(lanes.len())
+    find_incoming(lanes, lane).unwrap_or(lanes.len())
+}
+
+/// The place of a lane among those that come in.
+fn find_incoming(lanes: &[IncomingLane], lane: LaneNo) -> Option<usize>
+    ensures { result ≡ position (λ l. l.number.0 == lane.0) lanes.now }
+{
+    lanes.iter().position(|known| known.number.0 == lane.0)
 }
 
 /// Adds the pieces of a line at its pair and period; another record adds nothing.

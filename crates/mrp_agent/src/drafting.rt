@@ -1,9 +1,11 @@
 ghost use Rattle.std.specs.Prelude.{◌≡◌, ◌<◌, ◌≤◌, ◌+◌, ℕ, All, length, slice_index};
 ghost use Rattle.mrp_qty.specs.declared.quantity.TheConstants.{MOST};
-ghost use Rattle.mrp_agent.specs.Asking.{CanAsk, asked_by, asked_on};
+ghost use Rattle.mrp_lot.specs.One.{one};
+ghost use Rattle.mrp_agent.specs.Asking.{CanAsk, HasDraft, asked_by, asked_on, grossed};
 
 use crate::Agent;
 use crate::edges::ParentEdge;
+use mrp_lot::PairParams;
 use mrp_net::PairNo;
 use mrp_netting::{PairPlan, plan_pair};
 use mrp_qty::Row;
@@ -28,11 +30,35 @@ impl Agent {
         };
         let periods = self.view.horizon().get() as usize;
         let begin = place * periods;
-        incoming.copy_pieces(&self.came[begin..begin + periods]);
-        gross.copy_pieces(&self.called[begin..begin + periods]);
-        add_asked(self.edges.get(place), &self.plans, gross);
-        plan_pair(&self.view.pairs()[place].params, incoming, gross, into);
+        let came = &self.came[begin..begin + periods];
+        let called = &self.called[begin..begin + periods];
+        let params = self.view.pairs()[place].params;
+        let edges = self.edges.get(place);
+        draft_from(&params, came, called, edges, &self.plans, incoming, gross, into);
     }
+}
+
+/// Writes the plan of a pair from what has come, what is called for, and the plans of its parents.
+fn draft_from(
+    params: &PairParams,
+    came: &[u64],
+    called: &[u64],
+    edges: &[ParentEdge],
+    plans: &[PairPlan],
+    incoming: &mut Row,
+    gross: &mut Row,
+    into: &mut PairPlan,
+)
+    requires draft { HasDraft params.now came.now called.now edges.now plans.now }
+    requires incoming { length incoming.old ≡ length came.now }
+    requires gross { length gross.old ≡ length called.now }
+    requires into { length into.old.gross ≡ length called.now }
+    ensures { into.new ≡ one params.now came.now (grossed called.now edges.now plans.now) }
+{
+    incoming.copy_pieces(came);
+    gross.copy_pieces(called);
+    add_asked(edges, plans, gross);
+    plan_pair(params, incoming, gross, into);
 }
 
 /// Adds to `gross` what the releases of a pair's parents ask of it.

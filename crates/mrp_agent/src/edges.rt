@@ -31,15 +31,19 @@ impl KeyOf<ParentEdge> for ByComponent {
 }
 
 /// The edges of a plant by places.
-pub(crate) fn parent_edges(alloc: Global, view: &PlantView) -> Result<Vec<ParentEdge>, AllocError>
-    requires { All (IsPlantEdge view.now) view.now.edges }
-    ensures { IfOk result (λ v. v.items ≡ map (parent_edge view.now) view.now.edges) }
+pub(crate) fn parent_edges(
+    alloc: Global,
+    view: &PlantView,
+    edges: &[PlantEdge],
+) -> Result<Vec<ParentEdge>, AllocError>
+    requires { All (IsPlantEdge view.now) edges.now }
+    ensures { IfOk result (λ v. v.items ≡ map (parent_edge view.now) edges.now) }
 {
-    let mut edges = Vec::new(alloc);
-    for edge in view.edges() {
-        edges.push(parent_edge(view, edge))?;
+    let mut parents = Vec::new(alloc);
+    for edge in edges {
+        parents.push(parent_edge(view, edge))?;
     }
-    Ok(edges)
+    Ok(parents)
 }
 
 /// An edge by places.

@@ -1,12 +1,13 @@
 ghost use Rattle.std.specs.Prelude.{◌≡◌, ◌+◌, ◌++◌, ◌<◌, ◌≤◌, ◌^◌, [], false, All, IfOk, length, map, replicate};
+ghost use Rattle.std.specs.List.{flat_map};
 ghost use Rattle.mrp_qty.specs.declared.quantity.TheConstants.{MOST};
 ghost use Rattle.mrp_book.specs.Figures.{Shows};
 ghost use Rattle.mrp_netting.specs.Plan.{nothing_planned};
 ghost use Rattle.mrp_ready.specs.Counts.{AreFirstCounts};
 ghost use Rattle.mrp_ready.specs.Progress.{times};
 ghost use Rattle.mrp_view.specs.Seen.{IsIncomingItem, IsIncomingLane};
-ghost use Rattle.mrp_agent.specs.Kept.{HasSmallOpenings};
-ghost use Rattle.mrp_agent.specs.Making.{AreIdle, AreNewBooks, IsIdle, awaited_length, awaited_places, place_awaited};
+ghost use Rattle.mrp_agent.specs.Kept.{HasSmallItems};
+ghost use Rattle.mrp_agent.specs.Making.{AreIdle, new_figures, IsIdle, awaited_length, awaited_places, place_awaited};
 ghost use Rattle.mrp_agent.specs.Shows.{book_item, form_of};
 
 use mrp_book::{Book, BookItem};
@@ -19,13 +20,17 @@ use mrp_view::{IncomingItem, IncomingLane, OutgoingLane, PlantView};
 use std::alloc::{AllocError, Global};
 
 /// The book of each lane that comes in.
-pub(crate) fn new_books(alloc: Global, view: &PlantView) -> Result<Vec<Book>, AllocError>
-    requires lanes { All (IsIncomingLane view.now) view.now.incoming }
-    requires openings { HasSmallOpenings view.now }
-    ensures { IfOk result (λ v. AreNewBooks view.now view.now.incoming v.items) }
+pub(crate) fn new_books(
+    alloc: Global,
+    view: &PlantView,
+    lanes: &[IncomingLane],
+) -> Result<Vec<Book>, AllocError>
+    requires lanes { All (IsIncomingLane view.now) lanes.now }
+    requires openings { All HasSmallItems lanes.now }
+    ensures { IfOk result (λ v. v.items ≡ map (new_figures view.now) lanes.now) }
 {
     let mut books = Vec::new(alloc);
-    for lane in view.incoming() {
+    for lane in lanes {
         books.push(new_book(alloc, view, lane)?)?;
     }
     Ok(books)
@@ -34,8 +39,9 @@ pub(crate) fn new_books(alloc: Global, view: &PlantView) -> Result<Vec<Book>, Al
 /// The book of one lane.
 fn new_book(alloc: Global, view: &PlantView, lane: &IncomingLane) -> Result<Book, AllocError>
     requires lane { IsIncomingLane view.now lane.now }
-    requires openings { All (λ i. i.opening ≤ MOST) lane.now.items }
-    ensures { IfOk result (λ b. Shows (form_of view.now lane.now) b []) }
+    requires openings { HasSmallItems lane.now }
+    ensures shows { IfOk result (λ b. Shows (form_of view.now lane.now) b []) }
+    ensures value { IfOk result (λ b. b ≡ new_figures view.now lane.now) }
 {
     let items = book_items(alloc, lane.items.as_slice())?;
     Book::new(alloc, lane.kind, view.horizon(), &items)
@@ -87,7 +93,7 @@ pub(crate) fn first_progress(
     ensures waits { IfOk result (λ r. AreFirstCounts r.waits joins.now (λ y. times y (awaited_places view.now))) }
 {
     let numbers = numbers(alloc, view)?;
-    let awaited = awaited_places(alloc, view)?;
+    let awaited = awaited_places(alloc, view, view.incoming())?;
     let waits = first_waits(alloc, joins, &awaited, numbers.len())?;
     Ok(Readiness::new(alloc, &numbers, waits)?)
 }
@@ -100,12 +106,16 @@ fn numbers(alloc: Global, view: &PlantView) -> Result<Vec<PairNo>, AllocError>
 }
 
 /// The place of the pair of each block that comes in.
-fn awaited_places(alloc: Global, view: &PlantView) -> Result<Vec<usize>, AllocError>
-    requires { All (IsIncomingLane view.now) view.now.incoming }
-    ensures { IfOk result (λ v. v.items ≡ awaited_places view.now) }
+fn awaited_places(
+    alloc: Global,
+    view: &PlantView,
+    lanes: &[IncomingLane],
+) -> Result<Vec<usize>, AllocError>
+    requires { All (IsIncomingLane view.now) lanes.now }
+    ensures { IfOk result (λ v. v.items ≡ flat_map (λ lane. map (place_awaited view.now) lane.items) lanes.now) }
 {
     let mut places = Vec::new(alloc);
-    for lane in view.incoming() {
+    for lane in lanes {
         add_awaited(&mut places, view, lane.items.as_slice())?;
     }
     Ok(places)
