@@ -15,7 +15,7 @@ use Rattle.mrp_record.specs.declared.record.Record.{Record}
 use Rattle.mrp_book.specs.Figures.{Figures}
 use Rattle.mrp_cursor.specs.declared.remainder.Remainder.{Remainder}
 use Rattle.mrp_cursor.specs.Cursor.{OutFigures}
-use Rattle.mrp_cursor.specs.Next.{stepped}
+use Rattle.mrp_cursor.specs.Next.{next_record, stepped}
 use Rattle.mrp_agent.specs.State.{AgentState, book_at, incoming_at, incoming_place, outgoing_at, outgoing_place, out_at, pair_place, plans_of, no_book, no_out, no_plan}
 use Rattle.mrp_agent.specs.After.{after_sent}
 use Rattle.mrp_agent.specs.Kept.{HasTaken, Indexes, IsKept, IsShowing}
@@ -101,3 +101,10 @@ pub kept_outs : (A : AgentState) (I : Indexes) (k : ℕ) (outs : List OutFigures
 kept_outs A I k outs within kept is =
     let P : List OutFigures → Type 0 = λ z. IsKept (record A { outs = z }) I in
     subst P (sym is) (sent_kept A I k within kept)
+
+-- the record that is given
+pub next_is : (A : AgentState) (k j : ℕ) (o : OutFigures) (left : Option Remainder) (r : Option Record) → k ≡ j → j < length A.outs → o ≡ get_or A.outs k o → left ≡ left_at A k → r ≡ next_record o left → r ≡ next_out A j
+next_is A k j o left r same within is e s =
+    let inside : k < length A.outs = omega arith in
+    let is' : o ≡ out_at A k = read_is A.outs k o no_out is inside in
+    s ∙ ap (λ (z : OutFigures). next_record z left) is' ∙ ap (λ (z : Option Remainder). next_record (out_at A k) z) e ∙ ap (next_out A) same

@@ -8,3 +8,4 @@ pub mod Owning
 pub mod Drafts
 pub mod Calls
 pub mod Made
+pub mod Network

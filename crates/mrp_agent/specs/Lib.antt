@@ -7,3 +7,4 @@ pub mod After
 pub mod Kept
 pub mod Making
 pub mod Sent
+pub mod Laws

@@ -11,6 +11,7 @@ mod booking;
 mod drafting;
 mod edges;
 mod gate;
+pub mod laws;
 mod making;
 mod places;
 mod sending;

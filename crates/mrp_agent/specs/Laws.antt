@@ -1,0 +1,44 @@
+-- Laws of agents in a network: what they plan is its plan, and what they send is what its lanes carry.
+use Rattle.std.specs.Prelude.{◌≡◌, ℕ, ◌<◌, Bool, true, List, [], ◌∷◌, ◌++◌, length}
+use Rattle.mrp_rows.specs.Table.{Table, IsTable}
+use Rattle.mrp_net.specs.Lanes.{lane_at}
+use Rattle.mrp_view.specs.View.{plant_rows}
+use Rattle.mrp_loops.specs.Loop.{IsLoopFree}
+use Rattle.mrp_loops.specs.Sized.{IsSized}
+use Rattle.mrp_loops.specs.Within.{plan_at}
+use Rattle.mrp_record.specs.declared.record.Record.{Record}
+use Rattle.mrp_record.specs.Text.{IsBeginning}
+use Rattle.mrp_events.specs.Loads.{loads}
+use Rattle.mrp_events.specs.Local.{AreLegal}
+use Rattle.mrp_local.specs.Laws.{IsPairAt}
+use Rattle.mrp_agent.specs.State.{AgentState, outgoing_at, plans_of}
+use Rattle.mrp_agent.specs.Sending.{Continues, IsWithin64}
+use Rattle.mrp_agent.specs.Shows.{Shows}
+
+-- an agent of a plant of the network, to which legal beginnings have come
+pub record WorksIn (N : Table) (plant : ℕ) (A : AgentState) (sent taken : ℕ → List Record) (planned : ℕ → Bool) : Type 0 where
+  pub view : A.view ≡ plant_rows N plant
+  pub legal : AreLegal N plant taken
+  pub shows : Shows A sent taken planned
+
+-- the plan that it keeps of a planned pair is the network's
+abbrev pub PlannedPairsHaveThePlan : Type 0
+PlannedPairsHaveThePlan =
+    (N : Table) → IsTable N → IsLoopFree N
+    → (plant : ℕ) (A : AgentState) (sent taken : ℕ → List Record) (planned : ℕ → Bool) → WorksIn N plant A sent taken planned
+    → (x : ℕ) → IsPairAt N plant x → planned x ≡ true → plans_of A x ≡ plan_at N x
+
+-- in a sized network the numbers and figures that it sends stay below 2^64
+abbrev pub SentIsWithin64 : Type 0
+SentIsWithin64 =
+    (N : Table) → IsSized N
+    → (plant : ℕ) (A : AgentState) (sent taken : ℕ → List Record) (planned : ℕ → Bool) → WorksIn N plant A sent taken planned
+    → (k : ℕ) → k < length A.view.outgoing → IsWithin64 A taken k
+
+-- and a record that it is given to send continues what it sent to a legal beginning of the network's lane
+abbrev pub SentIsLegal : Type 0
+SentIsLegal =
+    (N : Table) → IsSized N
+    → (plant : ℕ) (A : AgentState) (sent taken : ℕ → List Record) (planned : ℕ → Bool) → WorksIn N plant A sent taken planned
+    → (k : ℕ) → k < length A.view.outgoing → (r : Record) → Continues A sent taken k r
+    → IsBeginning (loads N (lane_at N (outgoing_at A.view k).number.0)) (sent (outgoing_at A.view k).number.0 ++ r ∷ [])

@@ -1,0 +1,16 @@
+//! Laws of agents in a network. Each is the contract of a function that does nothing.
+
+ghost use Rattle.mrp_agent.specs.Laws.{PlannedPairsHaveThePlan, SentIsLegal, SentIsWithin64};
+
+/// In a network without loops an agent that has taken legal beginnings keeps the network's plan of each
+/// planned pair.
+pub fn planned_pairs_have_the_plan()
+    ensures { PlannedPairsHaveThePlan }
+{}
+
+/// In a sized network such an agent's numbers and figures stay below 2^64, and each record that it is
+/// given to send continues what it sent to a legal beginning of the network's lane.
+pub fn what_is_sent_is_legal()
+    ensures within { SentIsWithin64 }
+    ensures legal { SentIsLegal }
+{}
