@@ -60,12 +60,19 @@ impl Agent {
     {
         let place = self.outs[k].head()?;
         let mark = self.outs[k].mark();
-        let lane = &self.view.outgoing()[k];
-        let remainder = match lane.kind {
+        Some(self.left_of(&self.view.outgoing()[k], place, mark))
+    }
+
+    /// What is left of the item at a place of a lane that goes out, from a mark on.
+    fn left_of(&self, lane: &OutgoingLane, place: usize, mark: usize) -> Remainder
+        requires lane { Contains self.now.view.outgoing lane.now }
+        requires place { place < length lane.now.items }
+        ensures { result ≡ remainder self.now lane.now mark place }
+    {
+        match lane.kind {
             LaneKind::Despatch => left_to_ship(&lane.items, place, mark),
             LaneKind::Schedule => self.schedule_left(lane, place, mark),
-        };
-        Some(remainder)
+        }
     }
 
     /// What a schedule lane has left to call for of an item.
