@@ -1,0 +1,5 @@
+//! Tries of agents.
+#![tactic(auto)]
+
+#[cfg(test)]
+mod tests;
