@@ -90,7 +90,7 @@ asked_is A x own t (e ∷ es) h =
 
 -- ---- rows
 
-map_same : (f g : ℕ → ℕ) (a n : ℕ) → ((t : ℕ) → t < a + n → f t ≡ g t) → map f (range_with_len a n) ≡ map g (range_with_len a n)
+pub map_same : (f g : ℕ → ℕ) (a n : ℕ) → ((t : ℕ) → t < a + n → f t ≡ g t) → map f (range_with_len a n) ≡ map g (range_with_len a n)
 map_same f g a zero same = refl
 map_same f g a (suc n) same =
     let later = map_same f g (a + 1) n (λ t h. same t (omega arith)) in

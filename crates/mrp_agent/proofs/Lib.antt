@@ -9,3 +9,4 @@ pub mod Drafts
 pub mod Calls
 pub mod Made
 pub mod Network
+pub mod Settled
