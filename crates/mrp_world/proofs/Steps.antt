@@ -254,7 +254,7 @@ can_is_first N capacity boxes s l r hold can = behind (s.taken l) (box_at boxes 
 
 -- ---- what the calls of a plant and a mailbox give
 
-first_of : {X : Type 0} (xs : List X) (x : X) → slice_get xs 0 ≡ Some x → xs ≡ x ∷ drop 1 xs
+pub first_of : {X : Type 0} (xs : List X) (x : X) → slice_get xs 0 ≡ Some x → xs ≡ x ∷ drop 1 xs
 first_of [] x e = absurd (cc)
 first_of (y ∷ xs) x e = ap (λ z. z ∷ xs) (some_same e)
   where

@@ -52,6 +52,9 @@ finished_by shows w s shown =
       | inr f ↦ subst P (sym f) (λ is. false≢true (sym f ∙ eq-eqb w.left 0 (shown.left ∙ end.1 is)))
     ]
 
+pub finished_at : {A : Type 0} (shows : Showing A) (w : WorldState A) (left : ℕ) → left ≡ w.left → (s : State) → WorldShows shows w s → MatchBool (left == 0) (IsFinished w.network s) (¬ IsFinished w.network s)
+finished_at shows w left e s shown = subst (λ (n : ℕ). MatchBool (n == 0) (IsFinished w.network s) (¬ IsFinished w.network s)) (sym e) (finished_by shows w s shown)
+
 pub none_left_is_finished : {A : Type 0} (shows : Showing A) (w : WorldState A) (s : State) → WorldShows shows w s → w.left ≡ 0 → IsFinished w.network s
 none_left_is_finished shows w s shown none = (none_is_left_at_the_end w.network w.capacity s shown.parts.reached).0 (sym shown.left ∙ none)
 

@@ -15,7 +15,7 @@ pub const MOST_ROOM: u64 = 65_536;
 
 /// Where the last event happened: the next one is looked for from there on.
 #[derive(Clone, Copy)]
-struct Near {
+struct Place {
     lane: usize,
     plant: usize,
 }
@@ -31,7 +31,7 @@ pub struct World<'a, P: Plant> {
     plants: Vec<P>,
     boxes: Vec<Mailbox>,
     left: u64,
-    near: Near,
+    near: Place,
 }
 
 impl<'a, P: Plant> Model for World<'a, P> {
@@ -157,13 +157,13 @@ impl<'a, P: Plant> World<'a, P> {
 }
 
 /// Where an event happened.
-fn near(network: &Network, event: Event, before: Near) -> Near {
+fn near(network: &Network, event: Event, before: Place) -> Place {
     match event {
         Event::Send(lane) | Event::Receive(lane) => {
             if lane.0 >= network.lanes() {
                 return before;
             }
-            Near {
+            Place {
                 lane: lane.0,
                 plant: network.lane(lane).receiver.0,
             }
@@ -172,7 +172,7 @@ fn near(network: &Network, event: Event, before: Near) -> Near {
             if x.0 >= network.pairs() {
                 return before;
             }
-            Near {
+            Place {
                 lane: before.lane,
                 plant: network.pair(x).plant.0,
             }
