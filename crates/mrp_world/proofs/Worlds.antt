@@ -101,3 +101,30 @@ runs_one shows w event new applied leads nowhere same network capacity = record 
     | inr f ↦ (s, (s, inr (nowhere f s shown, refl), refl), subst (λ v. WorldShows shows v s) (sym (same f)) shown)
   ];
 }
+
+-- ---- one event, at the world's fields
+
+pub world_leads : {A : Type 0} (shows : Showing A) (N : Table) (capacity : ℕ) (plants : List A) (boxes : List Held) (left : ℕ) (event : Event) (new_plants : List A) (new_boxes : List Held) (w : WorldState A)
+    → world N capacity plants boxes left ≡ w → Lead shows N plants boxes event new_plants new_boxes → (s : State) → WorldShows shows w s
+    → (t : State) × Step w.network w.capacity s event t × WorldShows shows (world N capacity new_plants new_boxes (left - 1)) t
+world_leads shows N capacity plants boxes left event new_plants new_boxes w e leads =
+    subst (λ v. (s : State) → WorldShows shows v s → (t : State) × Step v.network v.capacity s event t × WorldShows shows (world N capacity new_plants new_boxes (left - 1)) t) e
+    (λ s shown. let x = leads_to shows N capacity plants boxes left event new_plants new_boxes s leads shown in (x.next, x.step, x.shown))
+
+pub world_nowhere : {A : Type 0} (shows : Showing A) (N : Table) (capacity : ℕ) (plants : List A) (boxes : List Held) (left : ℕ) (event : Event) (w : WorldState A)
+    → world N capacity plants boxes left ≡ w → LeadNowhere shows N plants boxes event → (s : State) → WorldShows shows w s → ¬ IsEnabled w.network w.capacity s event
+world_nowhere shows N capacity plants boxes left event w e nowhere =
+    subst (λ v. (s : State) → WorldShows shows v s → ¬ IsEnabled v.network v.capacity s event) e (λ s shown. nowhere capacity s shown.parts)
+
+pub world_after : {A : Type 0} (shows : Showing A) (N : Table) (capacity : ℕ) (plants : List A) (boxes : List Held) (left : ℕ) (event : Event) (new_plants : List A) (new_boxes : List Held)
+    → IsWorld shows (world N capacity plants boxes left) → Lead shows N plants boxes event new_plants new_boxes → IsWorld shows (world N capacity new_plants new_boxes (left - 1))
+world_after shows N capacity plants boxes left event new_plants new_boxes is leads =
+    let x = leads_to shows N capacity plants boxes left event new_plants new_boxes is.state leads is.shown in
+    record { holds = is.holds; state = x.next; shown = x.shown }
+
+pub some_left : {A : Type 0} (shows : Showing A) (N : Table) (capacity : ℕ) (plants : List A) (boxes : List Held) (left : ℕ) (event : Event) (new_plants : List A) (new_boxes : List Held)
+    → IsWorld shows (world N capacity plants boxes left) → Lead shows N plants boxes event new_plants new_boxes → 1 ≤ left
+some_left shows N capacity plants boxes left event new_plants new_boxes is leads =
+    let x = leads_to shows N capacity plants boxes left event new_plants new_boxes is.state leads is.shown in
+    let e : (left - 1) + 1 ≡ left = x.some in
+    omega (arith, e)
