@@ -4,6 +4,7 @@
 
 mod damage;
 mod firms;
+mod lanes;
 mod loops;
 mod networks;
 mod planning;
