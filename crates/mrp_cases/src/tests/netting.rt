@@ -181,21 +181,3 @@ fn two_periods_at_a_time_over_a_year(rt: HostRuntime) -> Result<(), Fail> {
     );
     Ok(())
 }
-
-#[test]
-fn a_plan_takes_another_over(rt: HostRuntime) -> Result<(), Fail> {
-    let late = PairParams {
-        lead: 3,
-        ..pair(Rule::LotForLot)
-    };
-    let plan = planned(rt.alloc(), &late, &[0, 0], &[4, 7])?;
-    let mut room = planned(rt.alloc(), &pair(Rule::Periods(2)), &[0, 9], &[5, 3])?;
-    if room.gross().len() != plan.gross().len() {
-        return Err("the horizons differ")?;
-    }
-    room.copy_from(&plan);
-    assert!(rt; shows(room.release(), &[11, 0]));
-    assert!(rt; shows(room.gross(), &[4, 7]));
-    assert_eq!(rt; room.late_count(), 2);
-    Ok(())
-}
