@@ -1,1 +1,12 @@
+pub mod Looking
+pub mod Leaving
+pub mod Sent
+pub mod Queueing
+pub mod Asked
+pub mod Calling
+pub mod Owning
+pub mod Drafts
+pub mod Calls
+pub mod Made
 pub mod Network
+pub mod Settled

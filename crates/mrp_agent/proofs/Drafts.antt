@@ -1,0 +1,166 @@
+-- What an agent drafts from is what its state says.
+use Rattle.std.proofs.Common.{◌≡◌, ℕ, zero, suc, ◌+◌, ◌-◌, ◌*◌, ◌<◌, ◌≤◌, ◌==◌, eqb, cond, if◌then◌else◌, Bool, true, false, List, [], ◌∷◌, inl, inr, length, get_or, map, sum, sum_by, slice_index, slice_range, take, drop, refl, sym, ap, ◌∙◌, subst, arith}
+use Rattle.std.specs.List.{All, Contains, count_by, filter, position_or_len, range_with_len}
+use Rattle.std.proofs.lemmas.Bool.{cases_Bool, cases_eq, eq-eqb, eqb-true, ne_eqb}
+use Rattle.std.proofs.lemmas.FromFn.{get_or-range_with_len}
+use Rattle.std.proofs.lemmas.List.{get_or-map, get_or-drop, get_or_default, length-map, length-drop, drop_more, take_more}
+use Rattle.std.proofs.lemmas.List.Elements.{All-head, All-tail, All-filter, All-map}
+use Rattle.std.proofs.lemmas.List.Sums.{sum_by-cons, passes_at_first, get_or-le-sum_by}
+use Rattle.mrp_qty.specs.declared.quantity.TheConstants.{MOST}
+use Rattle.mrp_lot.specs.One.{PlanRows, IsWithin, one}
+use Rattle.mrp_lot.specs.declared.params.PairParams.{PairParams}
+use Rattle.mrp_rows.specs.declared.numbers.PairNo.{PairNo}
+use Rattle.mrp_view.specs.declared.view.PlantEdge.{PlantEdge}
+use Rattle.mrp_view.specs.declared.view.PlantPair.{PlantPair}
+use Rattle.mrp_view.specs.Seen.{IsView, IsOwn, IsPlantEdge}
+use Rattle.mrp_view.specs.View.{PlantRows}
+use Rattle.mrp_local.specs.Local.{amount_at, asked_within, local_row}
+use Rattle.mrp_agent.specs.declared.edges.ParentEdge.{ParentEdge}
+use Rattle.mrp_agent.specs.State.{AgentState, pair_place, pair_of, plans_of, no_plan, no_pair}
+use Rattle.mrp_agent.specs.Asking.{asked_by, asked_on, CanAsk, HasDraft, grossed}
+use Rattle.mrp_agent.specs.Drafts.{drafted, drafted_incoming, drafted_gross, CanDraft}
+use Rattle.mrp_agent.specs.Kept.{parent_edge, HasRooms}
+use Rattle.mrp_agent.proofs.Owning.{own_within}
+
+-- ---- slices
+
+-- a part of a list, number by number
+pub part_is : (xs : List ℕ) (a n : ℕ) → a + n ≤ length xs → slice_range xs a (a + n) ≡ map (λ t. slice_index xs (a + t)) (range_with_len 0 n)
+part_is xs a n within =
+    let count : a + n - a ≡ n = omega arith in
+    ap (λ (k : ℕ). take k (drop a xs)) count ∙ from xs a 0 n (omega (arith, within)) ∙ refl
+  where
+    from : (xs : List ℕ) (a t n : ℕ) → a + t + n ≤ length xs → take n (drop (a + t) xs) ≡ map (λ t. slice_index xs (a + t)) (range_with_len t n)
+    from xs a t zero within = refl
+    from xs a t (suc n) within =
+        let here : a + t < length xs = omega arith in
+        let next : a + t + 1 ≡ a + (t + 1) = omega arith in
+        let more : drop (a + t) xs ≡ slice_index xs (a + t) ∷ drop (a + (t + 1)) xs = drop_more xs (a + t) 0 here ∙ ap (λ (k : ℕ). slice_index xs (a + t) ∷ drop k xs) next in
+        ap (take (suc n)) more ∙ ap (λ (z : List ℕ). slice_index xs (a + t) ∷ z) (from xs a (t + 1) n (omega arith))
+
+pub row_within : (place pairs periods : ℕ) → place < pairs → place * periods + periods ≤ pairs * periods
+row_within place pairs periods within =
+    let least : place + 1 ≤ pairs = omega arith in
+    grind (arith, mul_le place pairs periods within)
+  where
+    mul_le : (place pairs periods : ℕ) → place < pairs → (place + 1) * periods ≤ pairs * periods
+    mul_le place zero periods h = absurd (omega arith)
+    mul_le zero (suc pairs) periods h = omega arith
+    mul_le (suc place) (suc pairs) periods h = omega (arith, mul_le place pairs periods (omega arith))
+
+-- ---- the parents
+
+-- two of the plant's pairs stand at one place where they have one number
+pub places_apart : (V : PlantRows) (x y : PairNo) → IsOwn V x → IsOwn V y → pair_place V x.0 ≡ pair_place V y.0 → x.0 ≡ y.0
+places_apart V x y own_x own_y same =
+    let at : (z : PairNo) → IsOwn V z → (get_or V.pairs (pair_place V z.0) no_pair).number.0 ≡ z.0 = λ z own.
+    eqb-true (get_or V.pairs (pair_place V z.0) no_pair).number.0 z.0 (passes_at_first (λ (p : PlantPair). eqb p.number.0 z.0) V.pairs no_pair (own_within V z own)) in
+    sym (at x own_x) ∙ ap (λ (k : ℕ). (get_or V.pairs k no_pair).number.0) same ∙ at y own_y
+
+same_component : (V : PlantRows) (x : PairNo) (e : PlantEdge) → IsOwn V x → IsPlantEdge V e → (pair_place V e.component.0 == pair_place V x.0) ≡ (e.component.0 == x.0)
+same_component V x e own is =
+    elim (cases_eq e.component.0 x.0) as (λ _. eqb (pair_place V e.component.0) (pair_place V x.0) ≡ eqb e.component.0 x.0) [
+      | inl same ↦ eq-eqb (pair_place V e.component.0) (pair_place V x.0) (ap (pair_place V) same) ∙ sym (eq-eqb e.component.0 x.0 same)
+      | inr other ↦
+          ne_eqb (pair_place V e.component.0) (pair_place V x.0) (λ e'. other (places_apart V e.component x is.component own e'))
+          ∙ sym (ne_eqb e.component.0 x.0 other)
+    ]
+
+-- what the edges by places ask is what the plant's edges do
+pub asked_is : (A : AgentState) (x : PairNo) → IsOwn A.view x → (t : ℕ) (es : List PlantEdge) → All (IsPlantEdge A.view) es
+    → asked_by A.plans (filter (λ e. e.component == pair_place A.view x.0) (map (parent_edge A.view) es)) t
+    ≡ sum_by (λ e. if e.component.0 == x.0 then e.per * slice_index (plans_of A e.parent.0).release t else 0) es
+asked_is A x own t [] h = refl
+asked_is A x own t (e ∷ es) h =
+    let V : PlantRows = A.view in
+    let test : Bool = pair_place V e.component.0 == pair_place V x.0 in
+    let asks : PlantEdge → ℕ = λ e. e.per * slice_index (plans_of A e.parent.0).release t in
+    let here : test ≡ (e.component.0 == x.0) = same_component V x e own (All-head (IsPlantEdge V) e es h) in
+    let later = asked_is A x own t es (All-tail (IsPlantEdge V) e es h) in
+    let all = sum_by-cons (λ (e : PlantEdge). if e.component.0 == x.0 then asks e else 0) e es in
+    let F : Bool → Type 0 = λ b. asked_by A.plans (cond b (parent_edge V e ∷ filter (λ e. e.component == pair_place V x.0) (map (parent_edge V) es)) (filter (λ e. e.component == pair_place V x.0) (map (parent_edge V) es))) t
+        ≡ cond b (asks e) 0 + sum_by (λ e. if e.component.0 == x.0 then asks e else 0) es in
+    let by : (b : Bool) → F b = λ b. elim b as F [
+      | true ↦
+          let one = sum_by-cons (asked_on A.plans t) (parent_edge V e) (filter (λ e. e.component == pair_place V x.0) (map (parent_edge V) es)) in
+          omega (arith, one, later)
+      | false ↦ omega (arith, later)
+    ] in
+    by test ∙ ap (λ (b : Bool). cond b (asks e) 0 + sum_by (λ e. if e.component.0 == x.0 then asks e else 0) es) here ∙ sym all
+
+-- ---- rows
+
+pub map_same : (f g : ℕ → ℕ) (a n : ℕ) → ((t : ℕ) → t < a + n → f t ≡ g t) → map f (range_with_len a n) ≡ map g (range_with_len a n)
+map_same f g a zero same = refl
+map_same f g a (suc n) same =
+    let later = map_same f g (a + 1) n (λ t h. same t (omega arith)) in
+    ap (λ (z : ℕ). z ∷ map f (range_with_len (a + 1) n)) (same a (omega arith)) ∙ ap (λ (z : List ℕ). g a ∷ z) later
+
+length_range : (a n : ℕ) → length (range_with_len a n) ≡ n
+length_range a zero = refl
+length_range a (suc n) = omega (arith, length_range (a + 1) n)
+
+abbrev edges_at : PlantRows → ℕ → List ParentEdge
+edges_at V place = filter (λ e. e.component == place) (map (parent_edge V) V.edges)
+
+module _ (A : AgentState) (view : IsView A.view) (rooms : HasRooms A) (x : PairNo) (own : IsOwn A.view x) where
+  abbrev Place : ℕ
+  Place = pair_place A.view x.0
+
+  abbrev Part : List ℕ → List ℕ
+  Part amounts = slice_range amounts (pair_place A.view x.0 * A.view.horizon) (pair_place A.view x.0 * A.view.horizon + A.view.horizon)
+
+  bound : pair_place A.view x.0 * A.view.horizon + A.view.horizon ≤ length A.view.pairs * A.view.horizon
+  bound = row_within (pair_place A.view x.0) (length A.view.pairs) A.view.horizon (own_within A.view x own)
+
+  pub came_is : Part A.came ≡ drafted_incoming A x
+  came_is = part_is A.came (pair_place A.view x.0 * A.view.horizon) A.view.horizon (omega (arith, bound, rooms.came))
+
+  called_is : Part A.called ≡ map (λ t. slice_index A.called (pair_place A.view x.0 * A.view.horizon + t)) (range_with_len 0 A.view.horizon)
+  called_is = part_is A.called (pair_place A.view x.0 * A.view.horizon) A.view.horizon (omega (arith, bound, rooms.called))
+
+  called_length : length (Part A.called) ≡ A.view.horizon
+  called_length =
+      ap length called_is ∙ length-map (range_with_len 0 A.view.horizon) (λ t. slice_index A.called (pair_place A.view x.0 * A.view.horizon + t)) ∙ length_range 0 A.view.horizon
+
+  called_at : (t : ℕ) → t < A.view.horizon → slice_index (Part A.called) t ≡ slice_index A.called (pair_place A.view x.0 * A.view.horizon + t)
+  called_at t within =
+      let f : ℕ → ℕ = λ t. slice_index A.called (pair_place A.view x.0 * A.view.horizon + t) in
+      ap (λ (z : List ℕ). slice_index z t) called_is
+      ∙ get_or-map f (range_with_len 0 A.view.horizon) t 0 0 (omega (arith, within, length_range 0 A.view.horizon))
+      ∙ ap f (get_or-range_with_len 0 A.view.horizon t 0 within ∙ zero_first t)
+    where
+      zero_first : (t : ℕ) → 0 + t ≡ t
+      zero_first t = omega arith
+
+  pub gross_is : grossed (Part A.called) (edges_at A.view (pair_place A.view x.0)) A.plans ≡ drafted_gross A x
+  gross_is =
+      let f : ℕ → ℕ = λ t. slice_index (Part A.called) t + asked_by A.plans (edges_at A.view (pair_place A.view x.0)) t in
+      let g : ℕ → ℕ = λ t. amount_at A.view A.called x t + asked_within A.view (plans_of A) x t in
+      ap (λ (n : ℕ). map f (range_with_len 0 n)) called_length
+      ∙ map_same f g 0 A.view.horizon
+      (λ t h.
+          let lower : t < A.view.horizon = omega arith in
+          ap (λ (n : ℕ). n + asked_by A.plans (edges_at A.view (pair_place A.view x.0)) t) (called_at t lower)
+          ∙ ap (λ (n : ℕ). amount_at A.view A.called x t + n) (asked_is A x own t A.view.edges view.edges))
+
+  can_ask : (e : PlantEdge) → IsPlantEdge A.view e → CanAsk A.plans (length (Part A.called)) (parent_edge A.view e)
+  can_ask e is =
+      let within : pair_place A.view e.parent.0 < length A.plans = omega (arith, own_within A.view e.parent is.parent, rooms.plans) in
+      record { known = within; periods_are = (rooms.periods (pair_place A.view e.parent.0) no_plan within).gross ∙ sym called_length }
+
+  pub has_draft : IsWithin (pair_of A.view x).params (drafted_incoming A x) (drafted_gross A x)
+      → HasDraft (pair_of A.view x).params (Part A.came) (Part A.called) (edges_at A.view (pair_place A.view x.0)) A.plans
+  has_draft within = record {
+    within =
+        subst (λ (z : List ℕ). IsWithin (pair_of A.view x).params z (grossed (Part A.called) (edges_at A.view (pair_place A.view x.0)) A.plans)) (sym came_is)
+        (subst (λ (z : List ℕ). IsWithin (pair_of A.view x).params (drafted_incoming A x) z) (sym gross_is) within);
+    edges_are =
+        All-filter (λ (e : ParentEdge). e.component == pair_place A.view x.0) (CanAsk A.plans (length (Part A.called))) (map (parent_edge A.view) A.view.edges)
+        (All-map (CanAsk A.plans (length (Part A.called))) (parent_edge A.view) A.view.edges (λ k d h. can_ask (get_or A.view.edges k d) (view.edges k d h)));
+  }
+
+  pub drafted_is : one (pair_of A.view x).params (Part A.came) (grossed (Part A.called) (edges_at A.view (pair_place A.view x.0)) A.plans) ≡ drafted A x
+  drafted_is =
+      ap (λ (z : List ℕ). one (pair_of A.view x).params z (grossed (Part A.called) (edges_at A.view (pair_place A.view x.0)) A.plans)) came_is
+      ∙ ap (λ (z : List ℕ). one (pair_of A.view x).params (drafted_incoming A x) z) gross_is
