@@ -56,7 +56,7 @@ pub periods_kept : (A : AgentState) → HasRooms A → (x : PairNo) → IsOwn A.
 periods_kept A rooms x own =
     rooms.periods (pair_place A.view x.0) no_plan (omega (arith, own_place A x own, rooms.plans))
 
-own_of : (A : AgentState) (lane : OutgoingLane) (j : ℕ) → IsScheduleLane A.view lane → j < length lane.items → IsOwn A.view (load_at lane.items j).customer
+pub own_of : (A : AgentState) (lane : OutgoingLane) (j : ℕ) → IsScheduleLane A.view lane → j < length lane.items → IsOwn A.view (load_at lane.items j).customer
 own_of A lane j sched within = by (sched.customers j _ within)
   where
     by : IsOwnOf A.view (load_at lane.items j).customer (load_at lane.items j).item → IsOwn A.view (load_at lane.items j).customer

@@ -23,6 +23,16 @@ unreachable-requires c =
     let at = ap (λ (i : OutgoingItem). position (λ (p : PlantPair). p.number.0 == i.customer.0) A.view.pairs) c.get-item.ensures ∙ own_found A.view (load_at c.args.lane.now.items c.args.place).customer facts.own in
     c.in_default.not-Some _ (c.place.ensures ∙ at)
 
+pub index-requires : goal.index-requires
+index-requires c =
+    let A : AgentState = the_view c.self.inside in
+    let I : Indexes = record { items = c.self.inside.items; edges = c.self.inside.edges.rows.items; starts = c.self.inside.edges.starts.items; components = c.self.inside.components; out_items = c.self.inside.out_items.items } in
+    let there : Contains A.view.outgoing c.args.lane.now = subst (λ (a : AgentState). Contains a.view.outgoing c.args.lane.now) (sym c.self.view_is) c.requires.lane in
+    let facts : CallFacts A c.args.lane.now c.args.place = call_facts A I c.self.invariant c.args.lane.now there c.requires.schedule c.args.place c.requires.place in
+    let at : c.incoming_place-before.result ≡ incoming_place A.view (c.args.lane.now.number.0 - 1) =
+    c.incoming_place-before.ensures ∙ ap (λ (z : List IncomingLane). position_or_len (λ (l : IncomingLane). l.number.0 == c.args.lane.now.number.0 - 1) z) c.incoming.ensures in
+    omega (arith, facts.book, at)
+
 pub left_to_call-requires-clause-book : goal.left_to_call-requires-clause-book
 left_to_call-requires-clause-book c =
     let A : AgentState = the_view c.self.inside in
