@@ -1,10 +1,10 @@
 -- An agent's plans are those of the network, and what it sends is what the network's lanes carry.
-use Rattle.std.proofs.Common.{◌≡◌, ℕ, ◌<◌, Bool, true, List, length, sym, subst}
+use Rattle.std.proofs.Common.{◌≡◌, ℕ, ◌<◌, Bool, List, length, sym, subst}
 use Rattle.std.specs.List.{All, Contains}
-use Rattle.mrp_rows.specs.Table.{Table, IsTable}
+use Rattle.mrp_rows.specs.Table.{Table}
 use Rattle.mrp_net.specs.Lanes.{lane_at}
 use Rattle.mrp_view.specs.declared.view.OutgoingLane.{OutgoingLane}
-use Rattle.mrp_view.specs.View.{PlantRows, outgoing_lane, plant_rows}
+use Rattle.mrp_view.specs.View.{PlantRows, outgoing_lane}
 use Rattle.mrp_loops.specs.Sized.{IsSized}
 use Rattle.mrp_record.specs.declared.record.Record.{Record}
 use Rattle.mrp_events.specs.Loads.{loads}
