@@ -15,8 +15,8 @@ pub fn what_is_sent_is_legal()
     ensures legal { SentIsLegal }
 {}
 
-/// Where such an agent is given no record to send, no record continues what it sent to a legal
-/// beginning of the network's lane but one whose item's pair isn't planned yet.
+/// Where such an agent of a sized network is given no record to send, no record continues what it sent
+/// to a legal beginning of the network's lane but one whose item's pair isn't planned yet.
 pub fn nothing_legal_is_left()
     ensures { NothingLegalIsLeft }
 {}
