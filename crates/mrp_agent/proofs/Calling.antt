@@ -1,9 +1,8 @@
 -- The next period in which there is something to call for.
-use Rattle.std.proofs.Common.{◌≡◌, ℕ, zero, suc, ◌+◌, ◌-◌, ◌<◌, ◌≤◌, eqb, not, Bool, true, false, cond, Option, Some, None, option_map, List, [], ◌∷◌, length, map, slice_index, refl, sym, ap, ◌∙◌, subst, arith}
+use Rattle.std.proofs.Common.{◌≡◌, ℕ, suc, ◌+◌, ◌-◌, ◌<◌, ◌≤◌, not, true, false, Option, Some, None, option_map, List, length, map, refl, sym, ap, ◌∙◌, arith}
 use Rattle.std.specs.List.{find, range_with_len}
 use Rattle.std.proofs.lemmas.Bool.{eq-eqb, ne_eqb}
 use Rattle.mrp_view.specs.declared.view.OutgoingItem.{OutgoingItem}
-use Rattle.mrp_record.specs.Entries.{Delivery}
 use Rattle.mrp_events.specs.Loads.{delivery_in, has_pieces}
 use Rattle.mrp_cursor.specs.declared.remainder.NextLine.{NextLine}
 use Rattle.mrp_agent.specs.Sending.{next_called, called_by, call_line}

@@ -1,29 +1,28 @@
 -- What an agent's methods of sending know.
-use Rattle.std.proofs.Common.{◌≡◌, ℕ, ◌-◌, ◌<◌, ◌≤◌, ◌==◌, eqb, Option, Some, None, IfSome, IfNone, List, length, get_or, set, position, refl, sym, ap, ◌∙◌, subst, arith}
-use Rattle.std.specs.List.{All, Contains, position_or_len}
+use Rattle.std.proofs.Common.{◌≡◌, ℕ, ◌-◌, ◌<◌, ◌≤◌, Option, Some, None, IfSome, IfNone, List, length, get_or, set, sym, ap, ◌∙◌, subst, arith, rules}
+use Rattle.std.specs.List.{Contains}
 use Rattle.std.proofs.lemmas.List.{get_or_default}
-use Rattle.std.proofs.lemmas.List.Elements.{All-contains, All-get_or}
+use Rattle.std.proofs.lemmas.List.Elements.{All-contains}
 use Rattle.mrp_lot.specs.One.{PlanRows}
-use Rattle.mrp_rows.specs.declared.numbers.PairNo.{PairNo}
 use Rattle.mrp_net.specs.declared.lane.LaneKind.{LaneKind}
-use Rattle.mrp_net.specs.declared.lane.LaneKind.TheVariants.{Despatch, Schedule}
+use Rattle.mrp_net.specs.declared.lane.LaneKind.TheVariants.{Schedule}
 use Rattle.mrp_view.specs.declared.view.OutgoingItem.{OutgoingItem}
 use Rattle.mrp_view.specs.declared.view.OutgoingLane.{OutgoingLane}
-use Rattle.mrp_view.specs.Loads.{Load, bare, load_at, no_load}
-use Rattle.mrp_view.specs.Seen.{IsView, IsOwn, IsOutgoingItem, IsOutgoingLane, IsScheduleLane}
+use Rattle.mrp_view.specs.Loads.{bare, load_at, no_load}
+use Rattle.mrp_view.specs.Seen.{IsOwn, IsOutgoingItem, IsOutgoingLane, IsScheduleLane}
 use Rattle.mrp_record.specs.declared.record.Record.{Record}
 use Rattle.mrp_book.specs.Figures.{Figures}
 use Rattle.mrp_cursor.specs.declared.remainder.Remainder.{Remainder}
 use Rattle.mrp_cursor.specs.Cursor.{OutFigures}
 use Rattle.mrp_cursor.specs.Next.{next_record, stepped}
-use Rattle.mrp_agent.specs.State.{AgentState, book_at, incoming_at, incoming_place, outgoing_at, outgoing_place, out_at, pair_place, plans_of, no_book, no_out, no_plan}
+use Rattle.mrp_agent.specs.State.{AgentState, book_at, incoming_at, incoming_place, out_at, pair_place, plans_of, no_out}
 use Rattle.mrp_agent.specs.After.{after_sent}
 use Rattle.mrp_agent.specs.Kept.{HasTaken, Indexes, IsKept, IsShowing}
 use Rattle.mrp_agent.specs.Sending.{AreShares, left_at, left_to_call, next_out, remainder, remainder_by}
 use Rattle.mrp_agent.specs.Sent.{GivenIsLegal, NoneCanBeSent, IsAppended}
 use Rattle.mrp_agent.specs.Shows.{form_of}
 use Rattle.mrp_agent.proofs.Leaving.{place_before}
-use Rattle.mrp_agent.proofs.Owning.{own_found, own_within}
+use Rattle.mrp_agent.proofs.Owning.{own_within}
 use Rattle.mrp_agent.proofs.Sent.{given_is_legal, none_can_be_sent, own_of, sent_shows, sent_kept}
 
 -- an element that was read
@@ -45,8 +44,8 @@ pub record CallFacts (A : AgentState) (lane : OutgoingLane) (j : ℕ) : Type 0 w
   pub shares : AreShares (bare (load_at lane.items j))
   pub after : 1 ≤ lane.number.0
 
-pub call_facts : (A : AgentState) (I : Indexes) → IsKept A I → (lane : OutgoingLane) → Contains A.view.outgoing lane → lane.kind ≡ Schedule → (j : ℕ) → j < length lane.items → CallFacts A lane j
-call_facts A I kept lane there kind j within =
+pub call_facts : (A : AgentState) {I : Indexes} → IsKept A I → (lane : OutgoingLane) → Contains A.view.outgoing lane → lane.kind ≡ Schedule → (j : ℕ) → j < length lane.items → CallFacts A lane j
+call_facts A kept lane there kind j within =
     let sched = All-contains (λ (z : OutgoingLane). z.kind ≡ Schedule → IsScheduleLane A.view z) A.view.outgoing lane kept.view.schedules there kind in
     let out = All-contains (IsOutgoingLane A.view) A.view.outgoing lane kept.view.outgoing there in
     let item : IsOutgoingItem A.view (load_at lane.items j) = out.items j no_load within in
@@ -74,17 +73,17 @@ call_is A lane j mark item b plan r kind i e p is =
 
 -- ---- promises
 
-pub given_legal : (A : AgentState) (I : Indexes) → IsKept A I → (k : ℕ) → k < length A.view.outgoing → (o : Option Record) → o ≡ next_out A k → IfSome o (λ r. GivenIsLegal A k r)
-given_legal A I kept k within None e = search rules
-given_legal A I kept k within (Some r) e =
+pub given_legal : (A : AgentState) {I : Indexes} → IsKept A I → (k : ℕ) → k < length A.view.outgoing → (o : Option Record) → o ≡ next_out A k → IfSome o (λ r. GivenIsLegal A k r)
+given_legal A kept k within None e = search rules
+given_legal A kept k within (Some r) e =
     λ sent taken planned shows bounded. given_is_legal A kept.view kept.rooms sent taken planned shows k within r bounded (sym e)
 
-pub none_legal : (A : AgentState) (I : Indexes) → IsKept A I → (k : ℕ) → k < length A.view.outgoing → (o : Option Record) → o ≡ next_out A k → IfNone o (NoneCanBeSent A k)
-none_legal A I kept k within None e = λ sent taken planned shows. none_can_be_sent A kept.view kept.rooms sent taken planned shows k within (sym e)
-none_legal A I kept k within (Some r) e = search rules
+pub none_legal : (A : AgentState) {I : Indexes} → IsKept A I → (k : ℕ) → k < length A.view.outgoing → (o : Option Record) → o ≡ next_out A k → IfNone o (NoneCanBeSent A k)
+none_legal A kept k within None e = λ sent taken planned shows. none_can_be_sent A kept.view kept.rooms sent taken planned shows k within (sym e)
+none_legal A kept k within (Some r) e = search rules
 
-pub appended : (A B : AgentState) (I : Indexes) → IsKept A I → (k : ℕ) → k < length A.view.outgoing → B ≡ after_sent A k → (r : Record) → next_out A k ≡ Some r → IsAppended A B k r
-appended A B I kept k within is r given =
+pub appended : (A B : AgentState) {I : Indexes} → IsKept A I → (k : ℕ) → k < length A.view.outgoing → B ≡ after_sent A k → (r : Record) → next_out A k ≡ Some r → IsAppended A B k r
+appended A B kept k within is r given =
     let P : AgentState → Type 0 = λ z. IsAppended A z k r in
     subst P (sym is) (λ sent taken planned shows bounded. sent_shows A kept.view kept.rooms sent taken planned shows k within r bounded given)
 
@@ -97,8 +96,8 @@ stepped_outs A k j o new left same within is e s =
     let step : new ≡ stepped (out_at A k) (left_at A k) = s ∙ ap (λ (z : OutFigures). stepped z left) is' ∙ ap (λ (z : Option Remainder). stepped (out_at A k) z) e in
     ap (λ (z : OutFigures). set A.outs k z) step ∙ ap (λ (z : ℕ). set A.outs z (stepped (out_at A z) (left_at A z))) same
 
-pub kept_outs : (A : AgentState) (I : Indexes) (k : ℕ) (outs : List OutFigures) → k < length A.view.outgoing → IsKept A I → outs ≡ set A.outs k (stepped (out_at A k) (left_at A k)) → IsKept (record A { outs = outs }) I
-kept_outs A I k outs within kept is =
+pub kept_outs : (A : AgentState) {I : Indexes} (k : ℕ) (outs : List OutFigures) → k < length A.view.outgoing → IsKept A I → outs ≡ set A.outs k (stepped (out_at A k) (left_at A k)) → IsKept (record A { outs = outs }) I
+kept_outs A {I} k outs within kept is =
     let P : List OutFigures → Type 0 = λ z. IsKept (record A { outs = z }) I in
     subst P (sym is) (sent_kept A I k within kept)
 

@@ -1,21 +1,18 @@
 -- What an agent has left to send is what is left of its goods.
-use Rattle.std.proofs.Common.{◌≡◌, ℕ, zero, suc, ◌+◌, ◌-◌, ◌<◌, ◌≤◌, ◌==◌, eqb, Bool, true, false, cond, Option, Some, None, option_map, List, [], ◌∷◌, inl, inr, length, get_or, map, drop, slice_index, refl, sym, ap, ◌∙◌, subst, arith, add-one}
-use Rattle.std.specs.List.{All, Contains, count_by, filter, find, position_or_len, range_with_len, slice_get}
+use Rattle.std.proofs.Common.{◌≡◌, ℕ, zero, suc, ◌+◌, ◌-◌, ◌<◌, ◌≤◌, ◌==◌, eqb, Bool, true, Option, Some, None, option_map, List, [], ◌∷◌, inl, inr, length, get_or, map, drop, refl, sym, ap, ◌∙◌, subst, arith, add-one}
+use Rattle.std.specs.List.{Contains, count_by, filter, find, position_or_len, range_with_len, slice_get}
 use Rattle.std.proofs.lemmas.Bool.{cases_Bool, eq-eqb}
 use Rattle.std.proofs.lemmas.List.{get_or_default, get_or-map, length-map, drop_all}
 use Rattle.std.proofs.lemmas.List.Elements.{All-contains, Contains-get_or}
 use Rattle.std.proofs.lemmas.List.Folds.{find_at}
-use Rattle.std.proofs.lemmas.Option.{slice_get-get_or, slice_get-map}
-use Rattle.mrp_lot.specs.One.{PlanRows}
+use Rattle.std.proofs.lemmas.Option.{slice_get-get_or}
 use Rattle.mrp_net.specs.declared.lane.LaneKind.{LaneKind}
 use Rattle.mrp_net.specs.declared.lane.LaneKind.TheVariants.{Despatch, Schedule}
 use Rattle.mrp_net.specs.declared.lane.Shipment.{Shipment}
-use Rattle.mrp_view.specs.declared.view.IncomingItem.{IncomingItem}
 use Rattle.mrp_view.specs.declared.view.IncomingLane.{IncomingLane}
 use Rattle.mrp_view.specs.declared.view.OutgoingLane.{OutgoingLane}
-use Rattle.mrp_view.specs.Loads.{Load, bare, load_at, no_load}
+use Rattle.mrp_view.specs.Loads.{Load, load_at, no_load}
 use Rattle.mrp_view.specs.Seen.{IsView, IsOutgoingLane, IsScheduleLane, lane_before, despatched}
-use Rattle.mrp_view.specs.View.{PlantRows}
 use Rattle.mrp_view.proofs.Once.{count-map}
 use Rattle.mrp_record.specs.declared.record.Record.{Record}
 use Rattle.mrp_record.specs.Entries.{Delivery, contents, cum}
@@ -26,16 +23,13 @@ use Rattle.mrp_book.specs.Faults.{find_item}
 use Rattle.mrp_book.specs.Figures as book
 use Rattle.mrp_book.specs.Figures.{Figures}
 use Rattle.mrp_book.proofs.Showing.{shown}
-use Rattle.mrp_cursor.specs.declared.remainder.NextLine.{NextLine}
-use Rattle.mrp_cursor.specs.declared.remainder.Remainder.{Remainder}
-use Rattle.mrp_cursor.specs.Cursor.{Goods, OutFigures}
 use Rattle.mrp_cursor.specs.Next.{IsLeft, IsNext, IsRemainder}
 use Rattle.mrp_cursor.proofs.Lists.{drop_there, none_there}
-use Rattle.mrp_local.specs.Goods.{called_for, by_period_from, goods_of, goods_by, share}
+use Rattle.mrp_local.specs.Goods.{called_for, by_period_from, goods_of, goods_by}
 use Rattle.mrp_agent.specs.State.{AgentState, incoming_at, incoming_place, outgoing_at, book_at, out_at, plans_of, no_incoming}
-use Rattle.mrp_agent.specs.Sending.{figure_of, figure_in, next_shipment, shipment_line, call_line, next_called, called_by, remainder, remainder_by, left_at}
+use Rattle.mrp_agent.specs.Sending.{figure_of, figure_in, next_shipment, shipment_line, call_line, remainder, remainder_by, left_at}
 use Rattle.mrp_agent.specs.Shows.{BooksShow, form_of, book_item}
-use Rattle.mrp_agent.proofs.Looking.{place_is_only, place_found, place_at}
+use Rattle.mrp_agent.proofs.Looking.{place_is_only, place_found}
 
 -- ---- lines
 
@@ -154,9 +148,10 @@ module _ (A : AgentState) (taken : ℕ → List Record) (view : IsView A.view) (
       by (k, low, is) =
           let l : ℕ = lane.number.0 - 1 in
           let p : IncomingLane → Bool = λ z. eqb z.number.0 l in
-          let same : incoming_place A.view l ≡ k = place_is_only p A.view.incoming k (lane_before lane) (view.incoming_once l) low (ap p is ∙ eq-eqb l l refl) in
-          (subst (λ (n : ℕ). n < length A.view.incoming) (sym same) low,
-          ap (incoming_at A.view) same ∙ get_or_default A.view.incoming k no_incoming (lane_before lane) low ∙ is)
+          let same : incoming_place A.view l ≡ k = place_is_only p A.view.incoming k (lane_before lane) (view.incoming_once l) low (ap p is ∙ eq-eqb l l refl) in (
+            subst (λ (n : ℕ). n < length A.view.incoming) (sym same) low,
+            ap (incoming_at A.view) same ∙ get_or_default A.view.incoming k no_incoming (lane_before lane) low ∙ is,
+          )
 
   pub opening_is : (lane : OutgoingLane) → IsScheduleLane A.view lane → IsOutgoingLane A.view lane → (j : ℕ) → j < length lane.items
       → figure_in (book_at A (incoming_place A.view (lane.number.0 - 1))) (load_at lane.items j).item.0

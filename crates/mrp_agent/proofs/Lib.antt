@@ -8,5 +8,6 @@ pub mod Owning
 pub mod Drafts
 pub mod Calls
 pub mod Made
+pub mod Left
 pub mod Network
 pub mod Settled

@@ -1,10 +1,9 @@
 -- Places that are looked for.
-use Rattle.std.proofs.Common.{◌≡◌, ℕ, zero, suc, ◌+◌, ◌<◌, ◌≤◌, ◌==◌, eqb, ltb, Bool, true, false, cond, Option, Some, None, IsSome, List, [], ◌∷◌, ◌⊎◌, inl, inr, length, get_or, map, position, unwrap_or, refl, sym, ap, ◌∙◌, subst, arith}
-use Rattle.std.specs.List.{All, Contains, count_by, position_or_len}
-use Rattle.std.proofs.lemmas.Bool.{cases_Bool, cases_lt, eq-eqb, lt-ltb, ltb-true, ltb-false}
+use Rattle.std.proofs.Common.{◌≡◌, ℕ, zero, suc, ◌+◌, ◌<◌, ◌≤◌, ltb, Bool, true, false, cond, Some, None, List, [], ◌∷◌, inl, inr, length, get_or, position, unwrap_or, refl, sym, ap, ◌∙◌, arith}
+use Rattle.std.specs.List.{Contains, count_by, position_or_len}
+use Rattle.std.proofs.lemmas.Bool.{cases_Bool, cases_lt, lt-ltb, ltb-true}
 use Rattle.std.proofs.lemmas.Bool.Decides.{nat_tests}
-use Rattle.std.proofs.lemmas.List.{get_or_default}
-use Rattle.std.proofs.lemmas.List.Sums.{fails_before_first, prefix_len-le-length, sum_by-cons, get_or-le-sum_by}
+use Rattle.std.proofs.lemmas.List.Sums.{fails_before_first, sum_by-cons, get_or-le-sum_by}
 use Rattle.mrp_view.proofs.Once.{one, none}
 
 -- a place is in the list or just past its end

@@ -1,6 +1,5 @@
 -- The places of the plant's own pairs.
 use Rattle.std.proofs.Common.{◌≡◌, ℕ, ◌<◌, ◌==◌, eqb, Option, Some, IsSome, length, position, rules, sym, ap, ◌∙◌, subst}
-use Rattle.std.specs.List.{Contains, position_or_len}
 use Rattle.std.proofs.lemmas.Bool.{eq-eqb}
 use Rattle.mrp_rows.specs.declared.numbers.PairNo.{PairNo}
 use Rattle.mrp_rows.specs.declared.numbers.ItemNo.{ItemNo}

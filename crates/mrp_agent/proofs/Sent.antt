@@ -1,32 +1,31 @@
 -- What an agent shows after a record was sent.
-use Rattle.std.proofs.Common.{◌≡◌, ◌↔◌, ℕ, ◌+◌, ◌-◌, ◌<◌, ◌≤◌, ◌==◌, eqb, Bool, true, false, cond, Option, Some, None, List, [], ◌∷◌, ◌++◌, ◌⊎◌, inl, inr, length, get_or, set, slice_index, refl, sym, ap, ◌∙◌, subst, arith}
-use Rattle.std.specs.List.{All, Contains, count_by, slice_get, position_or_len}
+use Rattle.std.proofs.Common.{◌≡◌, ◌↔◌, ℕ, ◌<◌, eqb, Bool, cond, Option, Some, None, List, [], ◌∷◌, ◌++◌, inl, inr, length, refl, sym, ap, ◌∙◌, subst, arith}
+use Rattle.std.specs.List.{Contains}
 use Rattle.std.proofs.lemmas.Bool.{cases_eq, eq-eqb, ne_eqb}
-use Rattle.std.proofs.lemmas.List.{get_or-set_same, get_or-set_other, length-set, get_or_default}
+use Rattle.std.proofs.lemmas.List.{get_or-set_same, get_or-set_other, length-set}
 use Rattle.std.proofs.lemmas.List.Elements.{All-contains, Contains-get_or}
-use Rattle.mrp_lot.specs.One.{PlanRows}
 use Rattle.mrp_rows.specs.declared.numbers.PairNo.{PairNo}
-use Rattle.mrp_net.specs.declared.lane.LaneKind.TheVariants.{Despatch, Schedule}
+use Rattle.mrp_net.specs.declared.lane.LaneKind.TheVariants.{Schedule}
 use Rattle.mrp_view.specs.declared.view.OutgoingLane.{OutgoingLane}
 use Rattle.mrp_view.specs.declared.view.PlantPair.{PlantPair}
-use Rattle.mrp_view.specs.Loads.{Load, load_at}
+use Rattle.mrp_view.specs.Loads.{load_at}
 use Rattle.mrp_view.specs.Seen.{IsView, IsOwn, IsOwnOf, IsScheduleLane}
 use Rattle.mrp_record.specs.declared.record.Record.{Record}
 use Rattle.mrp_cursor.specs.declared.remainder.Remainder.{Remainder}
-use Rattle.mrp_cursor.specs.Cursor.{Goods, OutFigures}
-use Rattle.mrp_cursor.specs.Next.{IsLeft, next_record, stepped}
+use Rattle.mrp_cursor.specs.Cursor.{OutFigures}
+use Rattle.mrp_cursor.specs.Next.{IsLeft, stepped}
 use Rattle.mrp_cursor.specs.Shows.{ShowsSent}
 use Rattle.mrp_cursor.proofs.Lists.{contains_there}
 use Rattle.mrp_cursor.proofs.Nothing.{none_is_left}
 use Rattle.mrp_cursor.proofs.Steps.{steps_show, given_continues, steps_keep_places}
 use Rattle.mrp_cursor.proofs.Texts.{queued_are_places}
 use Rattle.mrp_events.specs.State.{changed}
-use Rattle.mrp_local.specs.Goods.{goods_of, IsSendable}
+use Rattle.mrp_local.specs.Goods.{IsSendable}
 use Rattle.mrp_agent.specs.State.{AgentState, outgoing_at, out_at, pair_place, plans_of, no_out, no_outgoing, no_plan}
 use Rattle.mrp_agent.specs.After.{after_sent}
 use Rattle.mrp_agent.specs.Kept.{HasPeriods, HasRooms, HasTaken, Indexes, IsKept}
 use Rattle.mrp_agent.specs.Sending.{left_at, next_out, goods_at, IsWithin64, Continues, NothingContinues}
-use Rattle.mrp_agent.specs.Shows.{BooksShow, OutShows, Shows}
+use Rattle.mrp_agent.specs.Shows.{OutShows, Shows}
 use Rattle.mrp_agent.proofs.Leaving.{left_is_left}
 use Rattle.mrp_agent.proofs.Looking.{place_found, only_place}
 
@@ -56,7 +55,7 @@ pub periods_kept : (A : AgentState) → HasRooms A → (x : PairNo) → IsOwn A.
 periods_kept A rooms x own =
     rooms.periods (pair_place A.view x.0) no_plan (omega (arith, own_place A x own, rooms.plans))
 
-own_of : (A : AgentState) (lane : OutgoingLane) (j : ℕ) → IsScheduleLane A.view lane → j < length lane.items → IsOwn A.view (load_at lane.items j).customer
+pub own_of : (A : AgentState) (lane : OutgoingLane) (j : ℕ) → IsScheduleLane A.view lane → j < length lane.items → IsOwn A.view (load_at lane.items j).customer
 own_of A lane j sched within = by (sched.customers j _ within)
   where
     by : IsOwnOf A.view (load_at lane.items j).customer (load_at lane.items j).item → IsOwn A.view (load_at lane.items j).customer

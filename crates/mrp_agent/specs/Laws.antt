@@ -7,12 +7,14 @@ use Rattle.mrp_loops.specs.Loop.{IsLoopFree}
 use Rattle.mrp_loops.specs.Sized.{IsSized}
 use Rattle.mrp_loops.specs.Within.{plan_at}
 use Rattle.mrp_record.specs.declared.record.Record.{Record}
+use Rattle.mrp_record.specs.Entries.{content}
 use Rattle.mrp_record.specs.Text.{IsBeginning}
 use Rattle.mrp_events.specs.Loads.{loads}
 use Rattle.mrp_events.specs.Local.{AreLegal}
+use Rattle.mrp_events.specs.State.{IsDecided}
 use Rattle.mrp_local.specs.Laws.{IsPairAt}
 use Rattle.mrp_agent.specs.State.{AgentState, outgoing_at, plans_of}
-use Rattle.mrp_agent.specs.Sending.{Continues, IsWithin64}
+use Rattle.mrp_agent.specs.Sending.{Continues, NothingContinues, IsWithin64}
 use Rattle.mrp_agent.specs.Shows.{Shows}
 
 -- an agent of a plant of the network, to which legal beginnings have come
@@ -42,3 +44,13 @@ SentIsLegal =
     → (plant : ℕ) (A : AgentState) (sent taken : ℕ → List Record) (planned : ℕ → Bool) → WorksIn N plant A sent taken planned
     → (k : ℕ) → k < length A.view.outgoing → (r : Record) → Continues A sent taken k r
     → IsBeginning (loads N (lane_at N (outgoing_at A.view k).number.0)) (sent (outgoing_at A.view k).number.0 ++ r ∷ [])
+
+-- where no record of its goods continues what it sent, none that the events let be sent does: none that
+-- keeps the network's lane a legal beginning and is, on a schedule lane, of an item whose pair is planned
+abbrev pub NothingLegalIsLeft : Type 0
+NothingLegalIsLeft =
+    (N : Table) → IsSized N
+    → (plant : ℕ) (A : AgentState) (sent taken : ℕ → List Record) (planned : ℕ → Bool) → WorksIn N plant A sent taken planned
+    → (k : ℕ) → k < length A.view.outgoing → NothingContinues A sent taken k
+    → (r : Record) → IsDecided N planned (lane_at N (outgoing_at A.view k).number.0) (content r)
+    → IsBeginning (loads N (lane_at N (outgoing_at A.view k).number.0)) (sent (outgoing_at A.view k).number.0 ++ r ∷ []) → ⊥

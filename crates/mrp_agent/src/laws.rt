@@ -1,6 +1,6 @@
 //! Laws of agents in a network. Each is the contract of a function that does nothing.
 
-ghost use Rattle.mrp_agent.specs.Laws.{PlannedPairsHaveThePlan, SentIsLegal, SentIsWithin64};
+ghost use Rattle.mrp_agent.specs.Laws.{NothingLegalIsLeft, PlannedPairsHaveThePlan, SentIsLegal, SentIsWithin64};
 
 /// In a network without loops an agent that has taken legal beginnings keeps the network's plan of each
 /// planned pair.
@@ -13,4 +13,10 @@ pub fn planned_pairs_have_the_plan()
 pub fn what_is_sent_is_legal()
     ensures within { SentIsWithin64 }
     ensures legal { SentIsLegal }
+{}
+
+/// Where such an agent of a sized network is given no record to send, no record continues what it sent
+/// to a legal beginning of the network's lane but one whose item's pair isn't planned yet.
+pub fn nothing_legal_is_left()
+    ensures { NothingLegalIsLeft }
 {}
