@@ -8,5 +8,8 @@ pub mod Owning
 pub mod Drafts
 pub mod Calls
 pub mod Made
+pub mod Opening
+pub mod Reading
+pub mod Viewing
 pub mod Network
 pub mod Settled

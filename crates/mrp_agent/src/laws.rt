@@ -1,6 +1,6 @@
 //! Laws of agents in a network. Each is the contract of a function that does nothing.
 
-ghost use Rattle.mrp_agent.specs.Laws.{PlannedPairsHaveThePlan, SentIsLegal, SentIsWithin64};
+ghost use Rattle.mrp_agent.specs.Laws.{PlannedPairsHaveThePlan, SentIsLegal, SentIsWithin64, ViewsCanBePlanned};
 
 /// In a network without loops an agent that has taken legal beginnings keeps the network's plan of each
 /// planned pair.
@@ -13,4 +13,10 @@ pub fn planned_pairs_have_the_plan()
 pub fn what_is_sent_is_legal()
     ensures within { SentIsWithin64 }
     ensures legal { SentIsLegal }
+{}
+
+/// In a sized network what a plant sees is all that its agent needs to begin, as [`crate::Agent::new`]
+/// requires: the view says enough, and no figures begin above 10^15 pieces.
+pub fn what_a_plant_sees_is_enough()
+    ensures { ViewsCanBePlanned }
 {}

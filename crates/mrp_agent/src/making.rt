@@ -3,7 +3,7 @@ ghost use Rattle.std.specs.List.{flat_map};
 ghost use Rattle.mrp_qty.specs.declared.quantity.TheConstants.{MOST};
 ghost use Rattle.mrp_book.specs.Figures.{Shows};
 ghost use Rattle.mrp_netting.specs.Plan.{nothing_planned};
-ghost use Rattle.mrp_ready.specs.Counts.{AreFirstCounts};
+ghost use Rattle.mrp_ready.specs.Counts.{AreCounts};
 ghost use Rattle.mrp_ready.specs.Progress.{times};
 ghost use Rattle.mrp_view.specs.Seen.{IsIncomingItem, IsIncomingLane};
 ghost use Rattle.mrp_agent.specs.Kept.{HasSmallItems};
@@ -86,11 +86,11 @@ pub(crate) fn first_progress(
 ) -> Result<Readiness, Memory>
     requires lanes { All (IsIncomingLane view.now) view.now.incoming }
     requires joins { All (λ j. j.component < length view.now.pairs) joins.now }
-    requires few { length joins.now + awaited_length view.now < 2 ^ 64 }
+    requires few { length joins.now < 2 ^ 63 }
     ensures numbers { IfOk result (λ r. r.numbers ≡ map (λ p. p.number) view.now.pairs) }
     ensures planned { IfOk result (λ r. r.planned ≡ replicate (length view.now.pairs) false) }
     ensures size { IfOk result (λ r. length r.waits ≡ length view.now.pairs) }
-    ensures waits { IfOk result (λ r. AreFirstCounts r.waits joins.now (λ y. times y (awaited_places view.now))) }
+    ensures waits { IfOk result (λ r. AreCounts r.waits joins.now r.planned (λ y. times y (awaited_places view.now))) }
 {
     let numbers = numbers(alloc, view)?;
     let awaited = awaited_places(alloc, view, view.incoming())?;
