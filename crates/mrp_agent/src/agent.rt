@@ -4,7 +4,7 @@ ghost use Rattle.mrp_agent.specs.Kept.{IsShowing};
 
 use crate::booking::incoming_place;
 use crate::edges::ParentEdge;
-use crate::making::{blank_plans, first_progress, idle_outs, new_books};
+use crate::making::{blank_plans, copy_of, first_progress, idle_outs, new_books};
 use crate::places::{ItemPlaces, out_items};
 use crate::edges::{ByComponent, joins, parent_edges};
 use mrp_book::Book;
@@ -104,8 +104,8 @@ impl Agent {
         let components = Components::new(alloc, &joins, pairs)?;
         let out_items = out_items(alloc, view.outgoing())?;
         let books = new_books(alloc, &view, view.incoming())?;
-        let came = Vec::from_slice(alloc, view.receipts())?;
-        let called = Vec::from_slice(alloc, view.demands())?;
+        let came = copy_of(alloc, view.receipts())?;
+        let called = copy_of(alloc, view.demands())?;
         let plans = blank_plans(alloc, view.horizon(), pairs)?;
         let progress = first_progress(alloc, &view, &joins)?;
         let outs = idle_outs(alloc, view.outgoing())?;

@@ -1,4 +1,4 @@
-ghost use Rattle.std.specs.Prelude.{◌≡◌, ◌+◌, ◌++◌, ◌<◌, ◌≤◌, ◌^◌, [], false, All, IfOk, length, map, replicate};
+ghost use Rattle.std.specs.Prelude.{◌≡◌, ℕ, ◌++◌, ◌<◌, ◌≤◌, ◌^◌, [], false, All, IfOk, length, map, replicate, slice_index};
 ghost use Rattle.std.specs.List.{flat_map};
 ghost use Rattle.mrp_qty.specs.declared.quantity.TheConstants.{MOST};
 ghost use Rattle.mrp_book.specs.Figures.{Shows};
@@ -61,6 +61,14 @@ fn book_items(alloc: Global, items: &[IncomingItem]) -> Result<Vec<BookItem>, Al
         })?;
     }
     Ok(found)
+}
+
+/// The amounts, each of 64 bits.
+pub(crate) fn copy_of(alloc: Global, amounts: &[u64]) -> Result<Vec<u64>, AllocError>
+    ensures same { IfOk result (λ v. v.items ≡ amounts.now) }
+    ensures fits { IfOk result (λ v. (k : ℕ) → slice_index amounts.now k < 2 ^ 64) }
+{
+    Vec::from_slice(alloc, amounts)
 }
 
 /// Room for the plan of each pair.

@@ -15,7 +15,7 @@ use Rattle.mrp_agent.specs.Kept.{parent_edge, HasItemsOnce, Indexes, IsKept}
 use Rattle.mrp_agent.specs.Making.{AreIdle, awaited_places, new_figures}
 use Rattle.mrp_agent.specs.Shows.{Shows, joins_of}
 use Rattle.mrp_agent.specs.State.{AgentState}
-use Rattle.mrp_agent.proofs.Opening.{AreMade, IsFirst, agent_opened, components_known, indexes_made, joins_known, joins_made, lanes_once, none_planned, nothing, opening_kept, opening_shows}
+use Rattle.mrp_agent.proofs.Opening.{AreFit, AreMade, IsFirst, agent_opened, components_known, indexes_made, joins_known, joins_made, lanes_once, none_planned, nothing, opening_kept, opening_shows}
 use Rattle.mrp_agent.proofs.agent.Agent.new.Goals as goal
 
 pub of_pairs-requires : goal.of_pairs-requires
@@ -73,8 +73,8 @@ invariant_of-result c =
     let idle : AreIdle V.outgoing c.in_ok-outs.outs.items = subst (λ (z : List OutgoingLane). AreIdle z c.in_ok-outs.outs.items) c.outgoing-2.ensures c.in_ok-outs.ensures in
     let made : AreMade V c.in_ok-books.books.items c.in_ok-came.came.items c.in_ok-called.called.items c.in_ok-plans.plans.items = record {
       books_are = c.in_ok-books.ensures ∙ ap (λ (z : List IncomingLane). map (new_figures V) z) c.incoming.ensures;
-      came_is = c.in_ok-came.ensures.items ∙ c.receipts.ensures;
-      called_is = c.in_ok-called.ensures.items ∙ c.demands.ensures;
+      came_is = c.in_ok-came.ensures.same ∙ c.receipts.ensures;
+      called_is = c.in_ok-called.ensures.same ∙ c.demands.ensures;
       plans_are = c.in_ok-plans.ensures ∙ ap (λ (n : ℕ). replicate n (nothing_planned c.horizon.result)) pairs ∙ ap (λ (h : ℕ). replicate (length V.pairs) (nothing_planned h)) c.horizon.ensures;
     } in
     let opens = agent_opened V c.in_ok-books.books.items c.in_ok-came.came.items c.in_ok-called.called.items c.in_ok-plans.plans.items c.in_ok-progress.progress c.in_ok-outs.outs.items made in
@@ -103,12 +103,12 @@ returns-clause-opens c =
     let idle : AreIdle V.outgoing c.in_ok-outs.outs.items = subst (λ (z : List OutgoingLane). AreIdle z c.in_ok-outs.outs.items) c.outgoing-2.ensures c.in_ok-outs.ensures in
     let made : AreMade V c.in_ok-books.books.items c.in_ok-came.came.items c.in_ok-called.called.items c.in_ok-plans.plans.items = record {
       books_are = c.in_ok-books.ensures ∙ ap (λ (z : List IncomingLane). map (new_figures V) z) c.incoming.ensures;
-      came_is = c.in_ok-came.ensures.items ∙ c.receipts.ensures;
-      called_is = c.in_ok-called.ensures.items ∙ c.demands.ensures;
+      came_is = c.in_ok-came.ensures.same ∙ c.receipts.ensures;
+      called_is = c.in_ok-called.ensures.same ∙ c.demands.ensures;
       plans_are = c.in_ok-plans.ensures ∙ ap (λ (n : ℕ). replicate n (nothing_planned c.horizon.result)) pairs ∙ ap (λ (h : ℕ). replicate (length V.pairs) (nothing_planned h)) c.horizon.ensures;
     } in
     let opens = agent_opened V c.in_ok-books.books.items c.in_ok-came.came.items c.in_ok-called.called.items c.in_ok-plans.plans.items c.in_ok-progress.progress c.in_ok-outs.outs.items made in
-    let t = c.type_inv in
-    let r = c.receipts.type_inv in
     subst (λ (a : AgentState). Shows a nothing nothing none_planned) (sym opens)
-    (opening_shows V c.in_ok-progress.progress c.in_ok-outs.outs.items c.requires.seen c.requires.openings first idle ? ?)
+    (opening_shows V c.in_ok-progress.progress c.in_ok-outs.outs.items c.requires.seen c.requires.openings first idle
+      (subst AreFit c.receipts.ensures c.in_ok-came.ensures.fits)
+      (subst AreFit c.demands.ensures c.in_ok-called.ensures.fits))
