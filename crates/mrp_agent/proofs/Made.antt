@@ -72,9 +72,10 @@ pub books_once : (items : List IncomingItem) → ((item : ℕ) → count_by (λ 
 unfolding IsDistinct
 books_once [] once = search rules
 books_once (i ∷ items) once =
-    let here = sum_by-cons (λ (z : IncomingItem). cond (eqb z.item.0 i.item.0) 1 0) i items in
-    (none_same i items (omega (arith, once i.item.0, here, one (eqb i.item.0 i.item.0) (eq-eqb i.item.0 i.item.0 refl))),
-    books_once items (λ item. omega (arith, once item, sum_by-cons (λ (z : IncomingItem). cond (eqb z.item.0 item) 1 0) i items)))
+    let here = sum_by-cons (λ (z : IncomingItem). cond (eqb z.item.0 i.item.0) 1 0) i items in (
+      none_same i items (omega (arith, once i.item.0, here, one (eqb i.item.0 i.item.0) (eq-eqb i.item.0 i.item.0 refl))),
+      books_once items (λ item. omega (arith, once item, sum_by-cons (λ (z : IncomingItem). cond (eqb z.item.0 item) 1 0) i items)),
+    )
 
 -- ---- lists made item by item
 
@@ -109,10 +110,12 @@ idle_more lanes k lane outs next o within is h idle grown =
     last [] x d j e = subst (λ (n : ℕ). get_or (x ∷ []) n d ≡ x) (sym e) refl
     last (y ∷ xs) x d zero e = absurd (omega (arith, e))
     last (y ∷ xs) x d (suc j) e = last xs x d j (omega (arith, e))
+
     front : {X : Type 0} (xs : List X) (x d : X) (j : ℕ) → j < length xs → get_or (xs ++ x ∷ []) j d ≡ get_or xs j d
     front [] x d j low = absurd (omega (arith, low))
     front (y ∷ xs) x d zero low = refl
     front (y ∷ xs) x d (suc j) low = front xs x d j (omega (arith, low))
+
     grow : (before : List OutgoingLane) (outs : List OutFigures) → AreIdle before outs → AreIdle (before ++ lane ∷ []) (outs ++ o ∷ [])
     grow before outs h = record {
       size = omega (arith, h.size, length-append before (lane ∷ []), length-append outs (o ∷ []));
@@ -136,4 +139,4 @@ pub awaited_known : (V : PlantRows) (lanes : List IncomingLane) → All (IsIncom
 awaited_known V lanes h =
     All-flat_map (λ (y : ℕ). y < length V.pairs) (λ (lane : IncomingLane). map (place_awaited V) lane.items) lanes
     (λ k d within. All-map (λ (y : ℕ). y < length V.pairs) (place_awaited V) (get_or lanes k d).items
-      (λ j e inside. own_within V _ (own_of_item V _ _ ((h k d within).items j e inside).pair)))
+    (λ j e inside. own_within V _ (own_of_item V _ _ ((h k d within).items j e inside).pair)))

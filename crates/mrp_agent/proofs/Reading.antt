@@ -39,7 +39,7 @@ found_item : (n : ℕ) (items : List IncomingItem) → find (λ i. i.item == n) 
 found_item n [] = refl
 found_item n (i ∷ items) =
     elim (cases_Bool (eqb i.item.0 n))
-        as (λ _. find (λ (f : FormItem). eqb f.item n) (map book.form_item (map book_item (i ∷ items))) ≡ option_map (λ (i : IncomingItem). book.form_item (book_item i)) (find (λ (z : IncomingItem). eqb z.item.0 n) (i ∷ items))) [
+    as (λ _. find (λ (f : FormItem). eqb f.item n) (map book.form_item (map book_item (i ∷ items))) ≡ option_map (λ (i : IncomingItem). book.form_item (book_item i)) (find (λ (z : IncomingItem). eqb z.item.0 n) (i ∷ items))) [
       | inl here ↦ rw here refl
       | inr later ↦ rw later (found_item n items)
     ]

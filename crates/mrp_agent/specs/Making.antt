@@ -25,9 +25,6 @@ place_awaited V i = pair_place V i.pair.0
 abbrev pub awaited_places : PlantRows → List ℕ
 awaited_places V = flat_map (λ lane. map (place_awaited V) lane.items) V.incoming
 
-abbrev pub awaited_length : PlantRows → ℕ
-awaited_length V = length (awaited_places V)
-
 -- the cursor of a lane before its first record: all that is shipped may be sent, and nothing yet of what is called for
 abbrev pub idle_queue : LaneKind → ℕ → List ℕ
 idle_queue Despatch size = range_with_len 0 size

@@ -3,10 +3,9 @@ ghost use Rattle.std.specs.List.{list_all};
 ghost use Rattle.mrp_agent.specs.Kept.{IsShowing};
 
 use crate::booking::incoming_place;
-use crate::edges::ParentEdge;
+use crate::edges::{ByComponent, ParentEdge, joins, parent_edges};
 use crate::making::{blank_plans, copy_of, first_progress, idle_outs, new_books};
 use crate::places::{ItemPlaces, out_items};
-use crate::edges::{ByComponent, joins, parent_edges};
 use mrp_book::Book;
 use mrp_cursor::OutCursor;
 use mrp_group::{Groups, group};
@@ -186,7 +185,15 @@ impl Agent {
         ensures finished { (sent taken : ℕ → List Record) (planned : ℕ → Bool) → Shows self.now sent taken planned
             → (IsTrue result ↔ HasDone self.now.view sent taken planned) }
     {
-        self.progress.left() == 0 && are_booked(&self.books) && are_sent(&self.outs)
+        let _ = &self.view;
+        self.is_done()
+    }
+
+    /// The same, by what is kept.
+    fn is_done(&self) -> bool
+        ensures { result ≡ is_done self.now }
+    {
+        self.left() == 0 && are_booked(&self.books) && are_sent(&self.outs)
     }
 }
 

@@ -7,7 +7,7 @@ ghost use Rattle.mrp_ready.specs.Counts.{AreCounts};
 ghost use Rattle.mrp_ready.specs.Progress.{times};
 ghost use Rattle.mrp_view.specs.Seen.{IsIncomingItem, IsIncomingLane};
 ghost use Rattle.mrp_agent.specs.Kept.{HasSmallItems};
-ghost use Rattle.mrp_agent.specs.Making.{AreIdle, new_figures, IsIdle, awaited_length, awaited_places, place_awaited};
+ghost use Rattle.mrp_agent.specs.Making.{AreIdle, new_figures, IsIdle, awaited_places, place_awaited};
 ghost use Rattle.mrp_agent.specs.Shows.{book_item, form_of};
 
 use mrp_book::{Book, BookItem};
@@ -145,10 +145,7 @@ fn add_awaited(
 }
 
 /// The cursor of each lane, before the first record. What is shipped may be sent at once.
-pub(crate) fn idle_outs(
-    alloc: Global,
-    lanes: &[OutgoingLane],
-) -> Result<Vec<OutCursor>, AllocError>
+pub(crate) fn idle_outs(alloc: Global, lanes: &[OutgoingLane]) -> Result<Vec<OutCursor>, AllocError>
     ensures { IfOk result (λ v. AreIdle lanes.now v.items) }
 {
     let mut outs = Vec::new(alloc);

@@ -20,7 +20,7 @@ returns-then-place-len c =
     let is : c.index.result.now ≡ book_at A k = c.index.ensures ∙ get_or_default A.books c.incoming_place-place.result c.index.result.now no_book inside ∙ ap (book_at A) at in
     let P : AgentState → Type 0 = λ a. (sent taken : ℕ → List Record) (planned : ℕ → Bool) → Shows a sent taken planned → c.cumulative.result ≡ received a.view taken c.args.lane c.args.item in
     subst P c.self.view_is (λ sent taken planned shows.
-      figure_said A taken c.args.lane c.args.item c.cumulative.result c.index.result.now c.incoming_place-place.result shows.books at is (omega (arith, inside, c.self.invariant.rooms.books)) c.cumulative.ensures)
+    figure_said A taken c.args.lane c.args.item c.cumulative.result c.index.result.now c.incoming_place-place.result shows.books at is (omega (arith, inside, c.self.invariant.rooms.books)) c.cumulative.ensures)
 
 pub returns-else-place-len : goal.returns-else-place-len
 returns-else-place-len c =

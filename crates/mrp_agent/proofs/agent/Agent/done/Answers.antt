@@ -1,4 +1,4 @@
-use Rattle.std.proofs.Common.{◌≡◌, ◌↔◌, ℕ, Bool, List, rules, subst}
+use Rattle.std.proofs.Common.{◌≡◌, ◌↔◌, ℕ, Bool, List, subst}
 use Rattle.std.specs.Prelude.{IsTrue}
 use Rattle.mrp_record.specs.declared.record.Record.{Record}
 use Rattle.mrp_agent.specs.Kept.{Indexes}
@@ -9,18 +9,9 @@ use Rattle.mrp_agent.specs.contracts.agent.Agent.{the_view}
 use Rattle.mrp_agent.proofs.Reading.{done_said}
 use Rattle.mrp_agent.proofs.agent.Agent.done.Goals as goal
 
-pub returns-then-are_booked-clause-finished : goal.returns-then-are_booked-clause-finished
-returns-then-are_booked-clause-finished c =
+pub returns-clause-finished : goal.returns-clause-finished
+returns-clause-finished c =
     let A : AgentState = the_view c.self.inside in
     let I : Indexes = record { items = c.self.inside.items; edges = c.self.inside.edges.rows.items; starts = c.self.inside.edges.starts.items; components = c.self.inside.components; out_items = c.self.inside.out_items.items } in
-    let exact : c.are_sent.result ≡ is_done c.args.self.now = search rules in
-    let P : AgentState → Type 0 = λ a. c.are_sent.result ≡ is_done a → (sent taken : ℕ → List Record) (planned : ℕ → Bool) → Shows a sent taken planned → IsTrue c.are_sent.result ↔ HasDone a.view sent taken planned in
-    subst P c.self.view_is (done_said A I c.self.invariant c.are_sent.result) exact
-
-pub returns-else-are_booked-clause-finished : goal.returns-else-are_booked-clause-finished
-returns-else-are_booked-clause-finished c =
-    let A : AgentState = the_view c.self.inside in
-    let I : Indexes = record { items = c.self.inside.items; edges = c.self.inside.edges.rows.items; starts = c.self.inside.edges.starts.items; components = c.self.inside.components; out_items = c.self.inside.out_items.items } in
-    let exact : c.if-left-eq0.value ≡ is_done c.args.self.now = search rules in
-    let P : AgentState → Type 0 = λ a. c.if-left-eq0.value ≡ is_done a → (sent taken : ℕ → List Record) (planned : ℕ → Bool) → Shows a sent taken planned → IsTrue c.if-left-eq0.value ↔ HasDone a.view sent taken planned in
-    subst P c.self.view_is (done_said A I c.self.invariant c.if-left-eq0.value) exact
+    let P : AgentState → Type 0 = λ a. c.is_done.result ≡ is_done a → (sent taken : ℕ → List Record) (planned : ℕ → Bool) → Shows a sent taken planned → IsTrue c.is_done.result ↔ HasDone a.view sent taken planned in
+    subst P c.self.view_is (done_said A I c.self.invariant c.is_done.result) c.is_done.ensures

@@ -110,5 +110,5 @@ returns-clause-opens c =
     let opens = agent_opened V c.in_ok-books.books.items c.in_ok-came.came.items c.in_ok-called.called.items c.in_ok-plans.plans.items c.in_ok-progress.progress c.in_ok-outs.outs.items made in
     subst (λ (a : AgentState). Shows a nothing nothing none_planned) (sym opens)
     (opening_shows V c.in_ok-progress.progress c.in_ok-outs.outs.items c.requires.seen c.requires.openings first idle
-      (subst AreFit c.receipts.ensures c.in_ok-came.ensures.fits)
-      (subst AreFit c.demands.ensures c.in_ok-called.ensures.fits))
+    (subst AreFit c.receipts.ensures c.in_ok-came.ensures.fits)
+    (subst AreFit c.demands.ensures c.in_ok-called.ensures.fits))
