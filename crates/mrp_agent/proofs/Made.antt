@@ -12,7 +12,6 @@ use Rattle.mrp_rows.proofs.Keys.{same_test}
 use Rattle.mrp_spell.proofs.Mapped.{list_any_keys}
 use Rattle.mrp_view.specs.declared.view.IncomingItem.{IncomingItem}
 use Rattle.mrp_view.proofs.Once.{one, none}
-use Rattle.mrp_book.specs.declared.item.BookItem.{BookItem}
 use Rattle.mrp_book.specs.Figures.{is_same_book_item}
 use Rattle.mrp_view.specs.declared.view.IncomingLane.{IncomingLane}
 use Rattle.mrp_view.specs.declared.view.OutgoingLane.{OutgoingLane}

@@ -1,16 +1,14 @@
 -- What an agent shows at first: nothing has come, nothing was sent, and no pair is planned.
-use Rattle.std.proofs.Common.{◌≡◌, ℕ, zero, suc, ◌+◌, ◌*◌, ◌<◌, ◌≤◌, ◌^◌, ◌==◌, ◌&&◌, eqb, cond, not, min, Bool, true, false, List, [], ◌∷◌, ◌++◌, ◌↔◌, inl, inr, length, get_or, map, replicate, refl, sym, ap, ◌∙◌, subst, arith}
+use Rattle.std.proofs.Common.{◌≡◌, ℕ, zero, suc, ◌+◌, ◌<◌, ◌≤◌, ◌^◌, ◌==◌, ◌&&◌, eqb, cond, not, Bool, false, List, [], ◌∷◌, ◌↔◌, inl, inr, length, get_or, map, replicate, refl, sym, ap, ◌∙◌, subst, arith}
 use Rattle.std.specs.Prelude.{slice_index}
 use Rattle.std.specs.List.{All, Contains, count_by, flat_map, range_with_len, sum_by}
 use Rattle.std.proofs.Math.Bool.{and-true}
 use Rattle.std.proofs.lemmas.Bool.{cases_lt}
-use Rattle.std.proofs.lemmas.List.{get_or_default, get_or-map, get_or-replicate, length-map, length-replicate}
+use Rattle.std.proofs.lemmas.List.{get_or-map, get_or-replicate, length-map, length-replicate}
 use Rattle.std.proofs.lemmas.List.Elements.{All-get_or, All-map, All-replicate}
-use Rattle.std.proofs.lemmas.List.FromFn.{get_or-range_with_len, length-range_with_len}
 use Rattle.std.proofs.lemmas.List.Sums.{sum_by-append, sum_by-cons}
 use Rattle.mrp_qty.specs.declared.quantity.TheConstants.{MOST}
 use Rattle.mrp_lot.specs.One.{PlanRows}
-use Rattle.mrp_rows.specs.declared.numbers.PairNo.{PairNo}
 use Rattle.mrp_net.specs.declared.lane.LaneKind.{LaneKind}
 use Rattle.mrp_net.specs.declared.lane.LaneKind.TheVariants.{Despatch, Schedule}
 use Rattle.mrp_view.specs.declared.view.IncomingItem.{IncomingItem}
@@ -22,7 +20,7 @@ use Rattle.mrp_view.specs.Seen.{IsView, IsIncomingLane, IsPlantEdge}
 use Rattle.mrp_view.specs.View.{PlantRows}
 use Rattle.mrp_netting.specs.Plan.{nothing_planned}
 use Rattle.mrp_record.specs.declared.record.Record.{Record}
-use Rattle.mrp_record.specs.Form.{FormItem, LaneForm}
+use Rattle.mrp_record.specs.Form.{FormItem}
 use Rattle.mrp_book.specs.declared.item.BookItem.{BookItem}
 use Rattle.mrp_book.specs.Figures as book
 use Rattle.mrp_book.specs.Figures.{Figures}
@@ -34,11 +32,11 @@ use Rattle.mrp_ready.specs.declared.join.Join.{Join}
 use Rattle.mrp_ready.specs.Counts.{Awaited, AreCounts, components_of, open_blocks}
 use Rattle.mrp_ready.specs.Progress.{Progress, is_planned, times}
 use Rattle.mrp_local.specs.Goods.{goods_of, IsSendable}
-use Rattle.mrp_local.specs.Local.{amount_at, booked_on, lanes_in, local_incoming, pieces_in, IsLocal, IsPlannedLocally}
-use Rattle.mrp_agent.specs.State.{AgentState, incoming_at, outgoing_at, book_at, out_at, no_book, no_incoming, no_out, no_outgoing, pair_place, plans_of}
-use Rattle.mrp_agent.specs.Shows.{Shows, OutShows, BooksShow, Awaits, awaited, awaited_on, block_awaited, book_item, form_of, join_of, joins_of, up_to_last}
-use Rattle.mrp_agent.specs.Kept.{parent_edge, HasItemsOnce, HasPeriods, HasRooms, HasSmallItems, HasSmallOpenings, HasTaken, Indexes, AreIndexes, IsKept}
-use Rattle.mrp_agent.specs.Making.{AreIdle, IsIdle, IsIdleLane, awaited_places, idle_queue, new_figures, place_awaited}
+use Rattle.mrp_local.specs.Local.{amount_at, booked_on, lanes_in}
+use Rattle.mrp_agent.specs.State.{AgentState, incoming_at, outgoing_at, book_at, out_at, no_book, no_incoming, pair_place, plans_of}
+use Rattle.mrp_agent.specs.Shows.{Shows, OutShows, BooksShow, awaited, awaited_on, block_awaited, book_item, form_of, join_of, joins_of, up_to_last}
+use Rattle.mrp_agent.specs.Kept.{parent_edge, HasItemsOnce, HasPeriods, HasRooms, HasSmallItems, HasSmallOpenings, Indexes, AreIndexes, IsKept}
+use Rattle.mrp_agent.specs.Making.{AreIdle, IsIdleLane, awaited_places, idle_queue, new_figures, place_awaited}
 use Rattle.mrp_agent.specs.declared.edges.ParentEdge.{ParentEdge}
 use Rattle.mrp_agent.proofs.Made.{books_once}
 use Rattle.mrp_agent.proofs.Owning.{own_within}

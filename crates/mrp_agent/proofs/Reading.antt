@@ -1,7 +1,7 @@
 -- What the calls that read an agent say of each history that it shows.
-use Rattle.std.proofs.Common.{◌≡◌, ℕ, zero, suc, ◌+◌, ◌<◌, ◌≤◌, ◌==◌, eqb, cond, not, ◌&&◌, Bool, true, false, Option, Some, None, option_map, List, [], ◌∷◌, ◌↔◌, inl, inr, length, get_or, map, position, refl, sym, ap, ◌∙◌, subst, arith}
+use Rattle.std.proofs.Common.{◌≡◌, ℕ, zero, suc, ◌<◌, ◌≤◌, ◌==◌, eqb, cond, not, ◌&&◌, Bool, true, false, Option, Some, None, option_map, List, [], ◌∷◌, ◌↔◌, inl, inr, length, get_or, map, position, refl, sym, ap, ◌∙◌, subst, arith}
 use Rattle.std.specs.Prelude.{IsTrue, option_and_then}
-use Rattle.std.specs.List.{All, Contains, count_by, find, list_all, position_or_len, slice_get}
+use Rattle.std.specs.List.{Contains, find, list_all}
 use Rattle.std.proofs.lemmas.Bool.{cases_Bool, cases_lt, eq-eqb, eqb-true, and_parts, and_from}
 use Rattle.std.proofs.lemmas.List.{get_or_default}
 use Rattle.std.proofs.lemmas.List.Elements.{Contains-get_or}
@@ -16,7 +16,7 @@ use Rattle.mrp_view.specs.declared.view.IncomingLane.{IncomingLane}
 use Rattle.mrp_view.specs.declared.view.OutgoingLane.{OutgoingLane}
 use Rattle.mrp_view.specs.declared.view.PlantPair.{PlantPair}
 use Rattle.mrp_view.specs.View.{PlantRows}
-use Rattle.mrp_view.proofs.Once.{one, count_none}
+use Rattle.mrp_view.proofs.Once.{count_none}
 use Rattle.mrp_record.specs.declared.record.Record.{Record}
 use Rattle.mrp_record.specs.Entries.{contents, cum, is_closed}
 use Rattle.mrp_record.specs.Form.{FormItem, LaneForm, item_on}

@@ -1,6 +1,5 @@
-use Rattle.std.proofs.Common.{◌≡◌, ◌∙◌, ap, refl, arith}
+use Rattle.std.proofs.Common.{◌∙◌, ap, refl, arith}
 use Rattle.indexmap.specs.IndexSet.{insert_key}
-use Rattle.mrp_rows.specs.declared.numbers.ItemNo.{ItemNo}
 use Rattle.mrp_rows.specs.contracts.numbers.ItemNoPartialEq.TheImpl.{eq-value}
 use Rattle.mrp_view.specs.declared.view.OutgoingItem.{OutgoingItem}
 use Rattle.mrp_view.specs.Loads.{Load, load_at, no_load}
