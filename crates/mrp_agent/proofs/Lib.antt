@@ -9,5 +9,8 @@ pub mod Drafts
 pub mod Calls
 pub mod Made
 pub mod Left
+pub mod Opening
+pub mod Reading
+pub mod Viewing
 pub mod Network
 pub mod Settled

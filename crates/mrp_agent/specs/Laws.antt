@@ -2,6 +2,7 @@
 use Rattle.std.specs.Prelude.{◌≡◌, ℕ, ◌<◌, Bool, true, List, [], ◌∷◌, ◌++◌, length}
 use Rattle.mrp_rows.specs.Table.{Table, IsTable}
 use Rattle.mrp_net.specs.Lanes.{lane_at}
+use Rattle.mrp_view.specs.Seen.{IsView}
 use Rattle.mrp_view.specs.View.{plant_rows}
 use Rattle.mrp_loops.specs.Loop.{IsLoopFree}
 use Rattle.mrp_loops.specs.Sized.{IsSized}
@@ -15,6 +16,7 @@ use Rattle.mrp_events.specs.State.{IsDecided}
 use Rattle.mrp_local.specs.Laws.{IsPairAt}
 use Rattle.mrp_agent.specs.State.{AgentState, outgoing_at, plans_of}
 use Rattle.mrp_agent.specs.Sending.{Continues, NothingContinues, IsWithin64}
+use Rattle.mrp_agent.specs.Kept.{HasSmallOpenings}
 use Rattle.mrp_agent.specs.Shows.{Shows}
 
 -- an agent of a plant of the network, to which legal beginnings have come
@@ -54,3 +56,7 @@ NothingLegalIsLeft =
     → (k : ℕ) → k < length A.view.outgoing → NothingContinues A sent taken k
     → (r : Record) → IsDecided N planned (lane_at N (outgoing_at A.view k).number.0) (content r)
     → IsBeginning (loads N (lane_at N (outgoing_at A.view k).number.0)) (sent (outgoing_at A.view k).number.0 ++ r ∷ []) → ⊥
+
+-- what a plant of a sized network sees is all that its agent needs to begin
+abbrev pub ViewsCanBePlanned : Type 0
+ViewsCanBePlanned = (N : Table) → IsSized N → (plant : ℕ) → IsView (plant_rows N plant) × HasSmallOpenings (plant_rows N plant)

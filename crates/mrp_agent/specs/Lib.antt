@@ -7,4 +7,5 @@ pub mod After
 pub mod Kept
 pub mod Making
 pub mod Sent
+pub mod Reading
 pub mod Laws

@@ -1,5 +1,5 @@
 -- What an agent is made of.
-use Rattle.std.specs.Prelude.{◌≡◌, ℕ, ◌<◌, List, [], length, map, sum_by, slice_index_or}
+use Rattle.std.specs.Prelude.{◌≡◌, ℕ, ◌<◌, List, [], length, map, slice_index_or}
 use Rattle.std.specs.List.{flat_map, range_with_len}
 use Rattle.mrp_net.specs.declared.lane.LaneKind.{LaneKind}
 use Rattle.mrp_net.specs.declared.lane.LaneKind.TheVariants.{Despatch, Schedule}
@@ -24,9 +24,6 @@ place_awaited V i = pair_place V i.pair.0
 
 abbrev pub awaited_places : PlantRows → List ℕ
 awaited_places V = flat_map (λ lane. map (place_awaited V) lane.items) V.incoming
-
-abbrev pub awaited_length : PlantRows → ℕ
-awaited_length V = length (awaited_places V)
 
 -- the cursor of a lane before its first record: all that is shipped may be sent, and nothing yet of what is called for
 abbrev pub idle_queue : LaneKind → ℕ → List ℕ

@@ -2,16 +2,16 @@ ghost use Rattle.std.specs.Prelude.{◌≡◌, All, IfOk, IfSome};
 ghost use Rattle.std.specs.List.{list_all};
 ghost use Rattle.mrp_agent.specs.Kept.{IsShowing};
 
-use crate::edges::ParentEdge;
-use crate::making::{blank_plans, first_progress, idle_outs, new_books};
+use crate::booking::incoming_place;
+use crate::edges::{ByComponent, ParentEdge, joins, parent_edges};
+use crate::making::{blank_plans, copy_of, first_progress, idle_outs, new_books};
 use crate::places::{ItemPlaces, out_items};
-use crate::edges::{ByComponent, joins, parent_edges};
 use mrp_book::Book;
 use mrp_cursor::OutCursor;
 use mrp_group::{Groups, group};
-use mrp_net::PairNo;
+use mrp_net::{ItemNo, LaneNo, PairNo};
 use mrp_netting::PairPlan;
-use mrp_qty::Memory;
+use mrp_qty::{Memory, Qty};
 use mrp_ready::{Components, Readiness};
 use mrp_view::PlantView;
 use std::alloc::Global;
@@ -72,12 +72,15 @@ impl Model for Agent {
 }
 
 impl Agent {
-    ghost use Rattle.std.specs.Prelude.{◌↔◌, IsSome, IsTrue, slice_get};
+    ghost use Rattle.std.specs.Prelude.{◌↔◌, ℕ, Bool, IsSome, IsTrue, List, slice_get};
+    ghost use Rattle.mrp_record.specs.declared.record.Record.{Record};
+    ghost use Rattle.mrp_events.specs.State.{opening_state};
     ghost use Rattle.mrp_ready.specs.Progress.{is_planned, left_of};
     ghost use Rattle.mrp_view.specs.Seen.{IsView};
     ghost use Rattle.mrp_agent.specs.Drafts.{ready_numbers};
     ghost use Rattle.mrp_agent.specs.Kept.{HasSmallOpenings};
-    ghost use Rattle.mrp_agent.specs.Shows.{is_done};
+    ghost use Rattle.mrp_agent.specs.Reading.{HasDone, received};
+    ghost use Rattle.mrp_agent.specs.Shows.{Shows, is_done};
     ghost use Rattle.mrp_agent.specs.State.{pair_place, plans_of};
 
     /// The agent of a plant that sees this: nothing has come, nothing was sent, and no pair is planned.
@@ -90,6 +93,7 @@ impl Agent {
         requires seen { IsView view }
         requires openings { HasSmallOpenings view }
         ensures view { IfOk result (λ agent. agent.view ≡ view) }
+        ensures opens { IfOk result (λ agent. Shows agent opening_state.sent opening_state.taken opening_state.planned) }
     {
         let items = ItemPlaces::of_pairs(alloc, view.pairs())?;
         let parents = parent_edges(alloc, &view, view.edges())?;
@@ -99,8 +103,8 @@ impl Agent {
         let components = Components::new(alloc, &joins, pairs)?;
         let out_items = out_items(alloc, view.outgoing())?;
         let books = new_books(alloc, &view, view.incoming())?;
-        let came = Vec::from_slice(alloc, view.receipts())?;
-        let called = Vec::from_slice(alloc, view.demands())?;
+        let came = copy_of(alloc, view.receipts())?;
+        let called = copy_of(alloc, view.demands())?;
         let plans = blank_plans(alloc, view.horizon(), pairs)?;
         let progress = first_progress(alloc, &view, &joins)?;
         let outs = idle_outs(alloc, view.outgoing())?;
@@ -160,12 +164,36 @@ impl Agent {
         }
     }
 
+    /// The cumulative figure received of an item over a lane, closed years added, in pieces; `None` where
+    /// the lane doesn't come in, or doesn't have the item.
+    pub fn cumulative(&self, lane: LaneNo, item: ItemNo) -> Option<Qty>
+        ensures { (sent taken : ℕ → List Record) (planned : ℕ → Bool) → Shows self.now sent taken planned
+            → result ≡ received self.now.view taken lane item }
+    {
+        let place = incoming_place(self.view.incoming(), lane);
+        if place < self.books.len() {
+            self.books[place].cumulative(item)
+        } else {
+            None
+        }
+    }
+
     /// Whether the plant's work is done: all pairs are planned, all lanes that come in are booked to the
     /// end, and all that go out are sent to the end.
     pub fn done(&self) -> bool
+        ensures exact { result ≡ is_done self.now }
+        ensures finished { (sent taken : ℕ → List Record) (planned : ℕ → Bool) → Shows self.now sent taken planned
+            → (IsTrue result ↔ HasDone self.now.view sent taken planned) }
+    {
+        let _ = &self.view;
+        self.is_done()
+    }
+
+    /// The same, by what is kept.
+    fn is_done(&self) -> bool
         ensures { result ≡ is_done self.now }
     {
-        self.progress.left() == 0 && are_booked(&self.books) && are_sent(&self.outs)
+        self.left() == 0 && are_booked(&self.books) && are_sent(&self.outs)
     }
 }
 

@@ -1,6 +1,6 @@
 //! Laws of agents in a network. Each is the contract of a function that does nothing.
 
-ghost use Rattle.mrp_agent.specs.Laws.{NothingLegalIsLeft, PlannedPairsHaveThePlan, SentIsLegal, SentIsWithin64};
+ghost use Rattle.mrp_agent.specs.Laws.{NothingLegalIsLeft, PlannedPairsHaveThePlan, SentIsLegal, SentIsWithin64, ViewsCanBePlanned};
 
 /// In a network without loops an agent that has taken legal beginnings keeps the network's plan of each
 /// planned pair.
@@ -19,4 +19,10 @@ pub fn what_is_sent_is_legal()
 /// to a legal beginning of the network's lane but one whose item's pair isn't planned yet.
 pub fn nothing_legal_is_left()
     ensures { NothingLegalIsLeft }
+{}
+
+/// In a sized network what a plant sees is all that its agent needs to begin, as [`crate::Agent::new`]
+/// requires: the view says enough, and no figures begin above 10^15 pieces.
+pub fn what_a_plant_sees_is_enough()
+    ensures { ViewsCanBePlanned }
 {}

@@ -1,13 +1,13 @@
-ghost use Rattle.std.specs.Prelude.{◌≡◌, ◌+◌, ◌++◌, ◌<◌, ◌≤◌, ◌^◌, [], false, All, IfOk, length, map, replicate};
+ghost use Rattle.std.specs.Prelude.{◌≡◌, ℕ, ◌++◌, ◌<◌, ◌≤◌, ◌^◌, [], false, All, IfOk, length, map, replicate, slice_index};
 ghost use Rattle.std.specs.List.{flat_map};
 ghost use Rattle.mrp_qty.specs.declared.quantity.TheConstants.{MOST};
 ghost use Rattle.mrp_book.specs.Figures.{Shows};
 ghost use Rattle.mrp_netting.specs.Plan.{nothing_planned};
-ghost use Rattle.mrp_ready.specs.Counts.{AreFirstCounts};
+ghost use Rattle.mrp_ready.specs.Counts.{AreCounts};
 ghost use Rattle.mrp_ready.specs.Progress.{times};
 ghost use Rattle.mrp_view.specs.Seen.{IsIncomingItem, IsIncomingLane};
 ghost use Rattle.mrp_agent.specs.Kept.{HasSmallItems};
-ghost use Rattle.mrp_agent.specs.Making.{AreIdle, new_figures, IsIdle, awaited_length, awaited_places, place_awaited};
+ghost use Rattle.mrp_agent.specs.Making.{AreIdle, new_figures, IsIdle, awaited_places, place_awaited};
 ghost use Rattle.mrp_agent.specs.Shows.{book_item, form_of};
 
 use mrp_book::{Book, BookItem};
@@ -63,6 +63,14 @@ fn book_items(alloc: Global, items: &[IncomingItem]) -> Result<Vec<BookItem>, Al
     Ok(found)
 }
 
+/// The amounts, each of 64 bits.
+pub(crate) fn copy_of(alloc: Global, amounts: &[u64]) -> Result<Vec<u64>, AllocError>
+    ensures same { IfOk result (λ v. v.items ≡ amounts.now) }
+    ensures fits { IfOk result (λ v. (k : ℕ) → slice_index amounts.now k < 2 ^ 64) }
+{
+    Vec::from_slice(alloc, amounts)
+}
+
 /// Room for the plan of each pair.
 pub(crate) fn blank_plans(
     alloc: Global,
@@ -86,11 +94,11 @@ pub(crate) fn first_progress(
 ) -> Result<Readiness, Memory>
     requires lanes { All (IsIncomingLane view.now) view.now.incoming }
     requires joins { All (λ j. j.component < length view.now.pairs) joins.now }
-    requires few { length joins.now + awaited_length view.now < 2 ^ 64 }
+    requires few { length joins.now < 2 ^ 63 }
     ensures numbers { IfOk result (λ r. r.numbers ≡ map (λ p. p.number) view.now.pairs) }
     ensures planned { IfOk result (λ r. r.planned ≡ replicate (length view.now.pairs) false) }
     ensures size { IfOk result (λ r. length r.waits ≡ length view.now.pairs) }
-    ensures waits { IfOk result (λ r. AreFirstCounts r.waits joins.now (λ y. times y (awaited_places view.now))) }
+    ensures waits { IfOk result (λ r. AreCounts r.waits joins.now r.planned (λ y. times y (awaited_places view.now))) }
 {
     let numbers = numbers(alloc, view)?;
     let awaited = awaited_places(alloc, view, view.incoming())?;
@@ -137,10 +145,7 @@ fn add_awaited(
 }
 
 /// The cursor of each lane, before the first record. What is shipped may be sent at once.
-pub(crate) fn idle_outs(
-    alloc: Global,
-    lanes: &[OutgoingLane],
-) -> Result<Vec<OutCursor>, AllocError>
+pub(crate) fn idle_outs(alloc: Global, lanes: &[OutgoingLane]) -> Result<Vec<OutCursor>, AllocError>
     ensures { IfOk result (λ v. AreIdle lanes.now v.items) }
 {
     let mut outs = Vec::new(alloc);
