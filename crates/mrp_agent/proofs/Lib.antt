@@ -10,3 +10,6 @@ pub mod Calls
 pub mod Made
 pub mod Network
 pub mod Settled
+pub mod Arriving
+pub mod Bringing
+pub mod Ending

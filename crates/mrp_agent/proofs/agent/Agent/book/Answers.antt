@@ -1,0 +1,5 @@
+use Rattle.mrp_agent.proofs.Ending.{falls}
+use Rattle.mrp_agent.proofs.agent.Agent.book.Goals as goal
+
+pub end_block-requires : goal.end_block-requires
+end_block-requires c = ?
