@@ -48,6 +48,12 @@ sum_changed {X} f g key (x ∷ xs) (suc k) d once within same =
       | inr other ↦ omega (arith, same x other, sum_changed f g key xs k d (omega (arith, once, all)) inside same, sum_by-cons f x xs, sum_by-cons g x xs)
     ]
 
+-- ---- a sum of the same parts
+
+pub sum_each : {X : Type 0} (f g : X → ℕ) (xs : List X) → ((x : X) → f x ≡ g x) → sum_by f xs ≡ sum_by g xs
+sum_each f g [] same = refl
+sum_each f g (x ∷ xs) same = omega (arith, same x, sum_each f g xs same, sum_by-cons f x xs, sum_by-cons g x xs)
+
 -- ---- one record more
 
 contents_more : (records : List Record) (r : Record) → contents (records ++ r ∷ []) ≡ contents records ++ content r ∷ []

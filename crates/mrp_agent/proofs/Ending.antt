@@ -21,7 +21,7 @@ use Rattle.mrp_ready.specs.Progress.{Progress}
 use Rattle.mrp_agent.specs.State.{incoming_at, pair_place, no_incoming}
 use Rattle.mrp_agent.specs.After.{items_of, place_of, ended_place, Falls, IsAwaited}
 use Rattle.mrp_agent.specs.Shows.{form_of, awaited, awaited_on, block_awaited}
-use Rattle.mrp_agent.proofs.Arriving.{ended_more, sum_changed, with_taken}
+use Rattle.mrp_agent.proofs.Arriving.{ended_more, sum_changed, sum_each, with_taken}
 use Rattle.mrp_agent.proofs.Bringing.{IsOpenOn, IsPlaced, no_item, open_on, placed}
 use Rattle.mrp_agent.proofs.Sent.{changed_there, changed_elsewhere}
 
@@ -30,10 +30,6 @@ use Rattle.mrp_agent.proofs.Sent.{changed_there, changed_elsewhere}
 or_false : (b : Bool) → (b || false) ≡ b
 or_false true = refl
 or_false false = refl
-
-sum_each : {X : Type 0} (f g : X → ℕ) (xs : List X) → ((x : X) → f x ≡ g x) → sum_by f xs ≡ sum_by g xs
-sum_each f g [] same = refl
-sum_each f g (x ∷ xs) same = omega (arith, same x, sum_each f g xs same, sum_by-cons f x xs, sum_by-cons g x xs)
 
 sum_flat : {X Y : Type 0} (f : Y → ℕ) (g : X → List Y) (xs : List X) → sum_by f (flat_map g xs) ≡ sum_by (λ x. sum_by f (g x)) xs
 sum_flat f g [] = refl

@@ -13,3 +13,4 @@ pub mod Settled
 pub mod Arriving
 pub mod Bringing
 pub mod Ending
+pub mod Booked

@@ -1,4 +1,4 @@
-use Rattle.mrp_agent.proofs.Ending.{falls}
+use Rattle.mrp_agent.proofs.Booked.{fits}
 use Rattle.mrp_agent.proofs.agent.Agent.book.Goals as goal
 
 pub end_block-requires : goal.end_block-requires
