@@ -27,9 +27,9 @@ use Rattle.mrp_cursor.specs.Shows.{ShowsSent}
 use Rattle.mrp_cursor.proofs.Queues.{looks_at_queued}
 use Rattle.mrp_ready.specs.Counts.{open_blocks}
 use Rattle.mrp_ready.specs.Progress.{Progress, is_planned}
-use Rattle.mrp_local.specs.Goods.{goods_by, goods_of, called_for, by_period_from}
+use Rattle.mrp_local.specs.Goods.{goods_by, goods_of, called_for, by_period_from, IsSendable}
 use Rattle.mrp_local.specs.Local.{amount_at, asked_within, booked_on, is_of_kind, lanes_in, local_gross, local_incoming, local_plan, local_row, AwaitsNothing, Carries, IsLocal, IsPlannedLocally}
-use Rattle.mrp_agent.specs.State.{AgentState, book_at, incoming_at, outgoing_at, pair_place, plans_of, no_book, no_incoming}
+use Rattle.mrp_agent.specs.State.{AgentState, book_at, incoming_at, outgoing_at, out_at, pair_place, plans_of, no_book, no_incoming}
 use Rattle.mrp_agent.specs.After.{after_booked, added_for, came_by, called_by, ended_place, items_of, place_of, with_line, BlockEnded, IsAwaited}
 use Rattle.mrp_agent.specs.Kept.{HasRooms, HasTaken, Indexes, IsKept}
 use Rattle.mrp_agent.specs.Shows.{awaited, form_of, joins_of, up_to_last, Awaits, BooksShow, Comes, IsCalled, OutShows, Shows}
@@ -211,3 +211,62 @@ module _ (A : AgentState) (view : IsView A.view) (rooms : HasRooms A) (k : ℕ) 
         subst (λ (item : ItemNo). entries_of item.0 (contents (Then (l - 1))) ≡ entries_of item.0 (contents (taken (l - 1)))) its (same_entries A.view taken planned k within r fits p h.ready (l - 1)) in
         let G : List Entry → Goods = λ z. record { item = i.item.0; opening = fold figure_after i.figure z + sum_by closed_of z; reset = i.reset; from = by_period_from (called_for plans i) A.view.horizon } in
         ap G (sym same)
+
+    -- the cursors look at the goods of planned customers alone
+    outs_stay : (sent : ℕ → List Record) (planned : ℕ → Bool) → IsLocal A.view taken planned (plans_of A) → (i : ℕ) → i < length A.view.outgoing → OutShows A sent taken planned i → OutShows New sent Then planned i
+    outs_stay sent planned local i inside out =
+        let lane : OutgoingLane = outgoing_at A.view i in
+        let same : (j : ℕ) → Contains (out_at A i).queue j → goods_of A.view taken (plans_of A) lane j ≡ goods_of A.view Then (plans_of A) lane j = λ j queued.
+            let may = (out.queued j).0 queued in
+            by_kind j may lane.kind refl
+        in
+        record { size = out.size; shows = looks_at_queued (goods_of A.view taken (plans_of A) lane) (goods_of A.view Then (plans_of A) lane) (out_at A i) (sent lane.number.0) same out.shows; queued = out.queued }
+      where
+        by_kind : (j : ℕ) → IsSendable planned (outgoing_at A.view i) j → (kind : LaneKind) → (outgoing_at A.view i).kind ≡ kind
+            → goods_of A.view taken (plans_of A) (outgoing_at A.view i) j ≡ goods_of A.view Then (plans_of A) (outgoing_at A.view i) j
+        by_kind j may Despatch kind =
+            let lane : OutgoingLane = outgoing_at A.view i in
+            ap (λ (z : LaneKind). goods_by z A.view taken (plans_of A) lane.number.0 (load_at lane.items j)) kind
+            ∙ sym (ap (λ (z : LaneKind). goods_by z A.view Then (plans_of A) lane.number.0 (load_at lane.items j)) kind)
+        by_kind j may Schedule kind =
+            let lane : OutgoingLane = outgoing_at A.view i in
+            let sched = is_schedule A view rooms i inside kind in
+            ap (λ (z : LaneKind). goods_by z A.view taken (plans_of A) lane.number.0 (load_at lane.items j)) kind
+            ∙ goods_stay planned (plans_of A) local (load_at lane.items j) (sched.customers j no_load may.within) Schedule (λ _. may.decided kind) lane.number.0
+            ∙ sym (ap (λ (z : LaneKind). goods_by z A.view Then (plans_of A) lane.number.0 (load_at lane.items j)) kind)
+
+  -- the record is appended to what was taken, and nothing else has changed
+  pub booked_shows : BlockEnded (ended_place (items_of A.view) r) A.progress progress → (sent taken : ℕ → List Record) (planned : ℕ → Bool) → Shows A sent taken planned
+      → Shows New sent (with_taken A.view taken k r) planned
+  booked_shows ended sent taken planned shows = record {
+    books = books_show taken shows.books;
+    waits = still_awaits taken shows.books ended shows.waits;
+    came = λ p there. came_more taken shows.books p there (shows.came p there) Lane.kind refl;
+    called = λ p there. called_more taken shows.books p there (shows.called p there) Lane.kind refl;
+    planned_are = λ p there. shows.planned_are p there ∙ ap (λ (z : List Bool). is_planned z (pair_place A.view p.number.0)) (sym ended.planned);
+    local = local_stays taken shows.books planned (plans_of A) shows.local;
+    outs = λ i inside. outs_stay taken shows.books sent planned shows.local i inside (shows.outs i inside);
+  }
+
+  -- ---- what is kept
+
+  booked_rooms : BlockEnded (ended_place (items_of A.view) r) A.progress progress → HasRooms New
+  booked_rooms ended = record {
+    books = length-set A.books k figures ∙ rooms.books;
+    came = came_length Lane.kind A.view A.came r ∙ rooms.came;
+    called = called_length Lane.kind A.view A.called r ∙ rooms.called;
+    plans = rooms.plans;
+    periods = rooms.periods;
+    numbers = ended.numbers ∙ rooms.numbers;
+    waits = ended.size ∙ rooms.waits;
+    planned = ap (λ (z : List Bool). length z) ended.planned ∙ rooms.planned;
+    outs = rooms.outs;
+    sizes = rooms.sizes;
+  }
+
+  booked_taken : BlockEnded (ended_place (items_of A.view) r) A.progress progress → HasTaken A → HasTaken New
+  booked_taken ended has =
+      record { taken = with_taken A.view has.taken k r; books = books_show has.taken has.books; waits = still_awaits has.taken has.books ended has.waits }
+
+  pub booked_kept : (I : Indexes) → IsKept A I → BlockEnded (ended_place (items_of A.view) r) A.progress progress → IsKept New I
+  booked_kept I kept ended = record { view = view; indexes = kept.indexes; rooms = booked_rooms ended; taken = booked_taken ended kept.taken }
