@@ -14,3 +14,4 @@ pub mod Arriving
 pub mod Bringing
 pub mod Ending
 pub mod Booked
+pub mod BookCalls
