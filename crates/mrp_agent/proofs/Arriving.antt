@@ -1,5 +1,5 @@
 -- What one record more of a lane brings, and what sums over the lanes become by it.
-use Rattle.std.proofs.Common.{◌≡◌, ℕ, zero, suc, ◌+◌, ◌<◌, ◌≤◌, ◌==◌, eqb, cond, Bool, true, false, ◌||◌, List, [], ◌∷◌, ◌++◌, inl, inr, length, get_or, refl, sym, ap, ◌∙◌, arith, append-nil}
+use Rattle.std.proofs.Common.{◌≡◌, ℕ, zero, suc, ◌+◌, ◌<◌, ◌≤◌, ◌==◌, eqb, cond, Bool, false, ◌||◌, List, [], ◌∷◌, ◌++◌, inl, inr, length, get_or, refl, ap, ◌∙◌, arith, append-nil}
 use Rattle.std.specs.List.{count_by, sum_by, list_any, filter_map}
 use Rattle.std.proofs.lemmas.Bool.{cases_Bool, cases_eq, eq-eqb, ne_eqb}
 use Rattle.std.proofs.lemmas.List.{map-append}
@@ -10,9 +10,9 @@ use Rattle.mrp_rows.specs.declared.numbers.ItemNo.{ItemNo}
 use Rattle.mrp_net.specs.declared.lane.LaneKind.{LaneKind}
 use Rattle.mrp_view.specs.declared.view.IncomingLane.{IncomingLane}
 use Rattle.mrp_view.specs.View.{PlantRows}
-use Rattle.mrp_view.proofs.Once.{one, none}
+use Rattle.mrp_view.proofs.Once.{one}
 use Rattle.mrp_record.specs.declared.record.Record.{Record}
-use Rattle.mrp_record.specs.Entries.{Entry, LineOf, EndOf, ResetOf, Closing, Delivery, content, contents, entries_of, deliveries, delivery_of, is_of, is_end, is_ended}
+use Rattle.mrp_record.specs.Entries.{Entry, LineOf, EndOf, ResetOf, Delivery, content, contents, entries_of, deliveries, delivery_of, is_of, is_end, is_ended}
 use Rattle.mrp_record.specs.Laws.{quantity_in}
 use Rattle.mrp_events.specs.State.{changed}
 use Rattle.mrp_local.specs.Local.{pieces_in, is_of_kind, booked_on}

@@ -1,6 +1,6 @@
 -- What an agent shows after a record was booked.
-use Rattle.std.proofs.Common.{◌≡◌, ℕ, ◌+◌, ◌-◌, ◌*◌, ◌<◌, ◌==◌, eqb, Bool, true, false, cond, Option, Some, None, IfSome, List, [], ◌∷◌, ◌++◌, inl, inr, length, get_or, set, map, refl, sym, ap, ◌∙◌, subst, arith}
-use Rattle.std.specs.List.{All, Contains, count_by, fold, sum_by, filter_map, list_any, range_with_len}
+use Rattle.std.proofs.Common.{◌≡◌, ℕ, ◌+◌, ◌-◌, ◌*◌, ◌<◌, eqb, Bool, true, false, cond, Option, Some, None, IfSome, List, [], ◌∷◌, ◌++◌, inl, inr, length, get_or, map, refl, sym, ap, ◌∙◌, subst, arith}
+use Rattle.std.specs.List.{Contains, fold, sum_by, filter_map, list_any, range_with_len}
 use Rattle.std.proofs.lemmas.Bool.{both_ways, cases_eq, cases_lt, eq-eqb, false_from_ne_true, le-ltb, lt-ltb}
 use Rattle.std.proofs.lemmas.List.{get_or-map, get_or-set_same, get_or-set_other, length-map, length-set}
 use Rattle.std.proofs.lemmas.List.Elements.{All-contains}
@@ -23,7 +23,6 @@ use Rattle.mrp_record.specs.Laws.{quantity_in}
 use Rattle.mrp_book.specs.Figures as book
 use Rattle.mrp_book.specs.Figures.{Figures}
 use Rattle.mrp_cursor.specs.Cursor.{Goods}
-use Rattle.mrp_cursor.specs.Shows.{ShowsSent}
 use Rattle.mrp_cursor.proofs.Queues.{looks_at_queued}
 use Rattle.mrp_ready.specs.Counts.{open_blocks}
 use Rattle.mrp_ready.specs.Progress.{Progress, is_planned}
@@ -217,8 +216,8 @@ module _ (A : AgentState) (view : IsView A.view) (rooms : HasRooms A) (k : ℕ) 
     outs_stay sent planned local i inside out =
         let lane : OutgoingLane = outgoing_at A.view i in
         let same : (j : ℕ) → Contains (out_at A i).queue j → goods_of A.view taken (plans_of A) lane j ≡ goods_of A.view Then (plans_of A) lane j = λ j queued.
-            let may = (out.queued j).0 queued in
-            by_kind j may lane.kind refl
+        let may = (out.queued j).0 queued in
+        by_kind j may lane.kind refl
         in
         record { size = out.size; shows = looks_at_queued (goods_of A.view taken (plans_of A) lane) (goods_of A.view Then (plans_of A) lane) (out_at A i) (sent lane.number.0) same out.shows; queued = out.queued }
       where

@@ -1,32 +1,28 @@
 -- What an agent knows of a record that it books.
-use Rattle.std.proofs.Common.{◌≡◌, ℕ, zero, suc, ◌+◌, ◌*◌, ◌<◌, ◌≤◌, ◌==◌, eqb, ltb, cond, Bool, true, false, ◌&&◌, ◌||◌, not, Option, Some, None, IfSome, List, [], ◌∷◌, ◌++◌, inl, inr, length, get_or, set, map, position, refl, sym, ap, ◌∙◌, subst, arith, rules}
+use Rattle.std.proofs.Common.{◌≡◌, ℕ, suc, ◌+◌, ◌*◌, ◌<◌, ◌==◌, eqb, Bool, true, false, Option, Some, None, List, [], ◌∷◌, inl, inr, length, get_or, set, map, position, refl, sym, ap, ◌∙◌, subst, arith}
 use Rattle.std.specs.Prelude.{IsSomeAnd}
-use Rattle.std.specs.List.{All, Contains, count_by, sum_by, find, flat_map, position_or_len}
-use Rattle.std.proofs.lemmas.Bool.{cases_Bool, cases_eq, cases_lt, eq-eqb, eqb-true, ne_eqb, lt-ltb, le-ltb, or_right, or_from}
-use Rattle.std.proofs.lemmas.List.{get_or-map, get_or-set_same, get_or-set_other, get_or_default, length-map, length-set}
-use Rattle.std.proofs.lemmas.List.Sums.{sum_by-cons, sum_by-append, passes_at_first}
+use Rattle.std.specs.List.{Contains, find, position_or_len}
+use Rattle.std.proofs.lemmas.Bool.{cases_Bool, cases_eq, cases_lt, eq-eqb, eqb-true, ne_eqb, lt-ltb, le-ltb}
+use Rattle.std.proofs.lemmas.List.{get_or-map, get_or-set_same, get_or-set_other, get_or_default, length-map}
+use Rattle.std.proofs.lemmas.List.Sums.{passes_at_first}
 use Rattle.std.proofs.lemmas.Nat.{mul-add-lt, same_from_place}
 use Rattle.mrp_rows.specs.declared.numbers.ItemNo.{ItemNo}
-use Rattle.mrp_net.specs.declared.lane.LaneKind.{LaneKind}
-use Rattle.mrp_net.specs.declared.lane.LaneKind.TheVariants.{Despatch, Schedule}
 use Rattle.mrp_view.specs.declared.view.IncomingItem.{IncomingItem}
 use Rattle.mrp_view.specs.declared.view.IncomingLane.{IncomingLane}
 use Rattle.mrp_view.specs.declared.view.PlantPair.{PlantPair}
-use Rattle.mrp_view.specs.Seen.{IsView, IsOwnOf, IsIncomingItem, IsIncomingLane}
+use Rattle.mrp_view.specs.Seen.{IsView}
 use Rattle.mrp_view.specs.View.{PlantRows}
-use Rattle.mrp_view.proofs.Once.{one, none, count-map}
 use Rattle.mrp_record.specs.declared.record.Record.{Record}
 use Rattle.mrp_record.specs.declared.record.Record.TheVariants.{Line, ItemEnd, Reset, Close}
-use Rattle.mrp_record.specs.Entries.{Entry, LineOf, EndOf, ResetOf, Closing, content, contents, is_of, is_ended}
-use Rattle.mrp_record.specs.Form.{FormItem, LaneForm, EntryFits, GoesOn, item_on}
+use Rattle.mrp_record.specs.Entries.{Entry, LineOf, EndOf, ResetOf, Closing, content, is_of, is_ended}
+use Rattle.mrp_record.specs.Form.{FormItem, EntryFits, GoesOn, item_on}
 use Rattle.mrp_book.specs.Figures as book
 use Rattle.mrp_local.specs.Local.{amount_at}
-use Rattle.mrp_agent.specs.State.{incoming_at, pair_place, no_incoming, no_pair}
-use Rattle.mrp_agent.specs.After.{added_for, items_of, place_of, with_line, ended_place, Falls}
-use Rattle.mrp_agent.specs.Shows.{form_of, up_to_last, awaited, awaited_on, block_awaited, book_item}
-use Rattle.mrp_agent.proofs.Arriving.{HasLanesOnce, brought, ended_more, line_brings, line_brings_later, other_brings_nothing, end_brings_nothing, reset_brings_nothing, sum_changed, with_taken}
+use Rattle.mrp_agent.specs.State.{pair_place, no_pair}
+use Rattle.mrp_agent.specs.After.{added_for, items_of, place_of, with_line}
+use Rattle.mrp_agent.specs.Shows.{form_of, up_to_last, book_item}
+use Rattle.mrp_agent.proofs.Arriving.{brought, line_brings, line_brings_later, other_brings_nothing, end_brings_nothing, reset_brings_nothing}
 use Rattle.mrp_agent.proofs.Looking.{place_at, place_is_only, place_known}
-use Rattle.mrp_agent.proofs.Sent.{changed_there, changed_elsewhere}
 
 -- ---- the place of a pair is the place of its item
 
@@ -81,8 +77,8 @@ module _ (V : PlantRows) (view : IsView V) (amounts : List ℕ) (size : length a
   line_at number period quantity cumulative item within None e =
       let h = placed V view p there in
       let other : item.0 ≡ p.item.0 → ⊥ = λ same.
-          let some : None ≡ Some (pair_place V p.number.0) = sym e ∙ ap (λ (n : ℕ). position (λ (i : ItemNo). eqb i.0 n) (items_of V)) same ∙ h.item in
-          cc some
+      let some : None ≡ Some (pair_place V p.number.0) = sym e ∙ ap (λ (n : ℕ). position (λ (i : ItemNo). eqb i.0 n) (items_of V)) same ∙ h.item in
+      cc some
       in
       let nothing = other_brings_nothing p.item.0 t (LineOf item.0 period quantity cumulative) (ne_eqb item.0 p.item.0 other) in
       now ∙ ap up_to_last (omega (arith, nothing))

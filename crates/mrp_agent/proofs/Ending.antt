@@ -1,19 +1,18 @@
 -- How many blocks are open after a record: one fewer of a pair after its item's end, and else as many.
-use Rattle.std.proofs.Common.{◌≡◌, ℕ, zero, suc, ◌+◌, ◌<◌, ◌≤◌, ◌==◌, eqb, cond, Bool, true, false, ◌&&◌, ◌||◌, not, Option, Some, None, IfSome, List, [], ◌∷◌, ◌++◌, inl, inr, length, get_or, map, position, refl, sym, ap, ◌∙◌, subst, arith, rules}
-use Rattle.std.specs.List.{All, Contains, count_by, sum_by, flat_map}
+use Rattle.std.proofs.Common.{◌≡◌, ℕ, ◌+◌, ◌<◌, ◌==◌, eqb, cond, Bool, true, false, ◌&&◌, ◌||◌, not, Option, Some, IfSome, List, [], ◌∷◌, ◌++◌, inl, inr, length, get_or, position, refl, sym, ap, ◌∙◌, subst, arith, rules}
+use Rattle.std.specs.List.{count_by, sum_by, flat_map}
 use Rattle.std.proofs.lemmas.Bool.{cases_Bool, eq-eqb, ne_eqb, or_right}
-use Rattle.std.proofs.lemmas.List.Elements.{Contains-get_or}
 use Rattle.std.proofs.lemmas.List.Sums.{sum_by-cons, sum_by-append}
 use Rattle.mrp_rows.specs.declared.numbers.ItemNo.{ItemNo}
 use Rattle.mrp_rows.specs.declared.numbers.PairNo.{PairNo}
 use Rattle.mrp_view.specs.declared.view.IncomingItem.{IncomingItem}
 use Rattle.mrp_view.specs.declared.view.IncomingLane.{IncomingLane}
-use Rattle.mrp_view.specs.Seen.{IsView, IsOwnOf, IsIncomingItem, IsIncomingLane}
+use Rattle.mrp_view.specs.Seen.{IsView, IsOwnOf, IsIncomingLane}
 use Rattle.mrp_view.specs.View.{PlantRows}
 use Rattle.mrp_view.proofs.Once.{one, none, count-map}
 use Rattle.mrp_record.specs.declared.record.Record.{Record}
 use Rattle.mrp_record.specs.declared.record.Record.TheVariants.{Line, ItemEnd, Reset, Close}
-use Rattle.mrp_record.specs.Entries.{Entry, LineOf, EndOf, ResetOf, Closing, content, contents, is_ended}
+use Rattle.mrp_record.specs.Entries.{LineOf, EndOf, ResetOf, content, contents, is_ended}
 use Rattle.mrp_record.specs.Form.{EntryFits}
 use Rattle.mrp_ready.specs.declared.join.Join.{Join}
 use Rattle.mrp_ready.specs.Counts.{Awaited, AreCounts, IsOneEnded, open_blocks}
@@ -73,8 +72,8 @@ module _ (V : PlantRows) (view : IsView V) (taken : ℕ → List Record) (k : �
   stays : ((item : ℕ) → is_ended item (content r ∷ []) ≡ false) → (y : ℕ) → open_blocks (awaited V (with_taken V taken k r)) y ≡ open_blocks (awaited V taken) y
   stays no_end y =
       let same : (i : IncomingItem) → awaits_one V y (Before ++ r ∷ []) i ≡ awaits_one V y Before i = λ i.
-          ap (λ (b : Bool). cond ((pair_place V i.pair.0 == y) && not b) 1 0)
-          (ended_more i.item.0 Before r ∙ ap (λ (b : Bool). is_ended i.item.0 (contents Before) || b) (no_end i.item.0) ∙ or_false (is_ended i.item.0 (contents Before)))
+      ap (λ (b : Bool). cond ((pair_place V i.pair.0 == y) && not b) 1 0)
+      (ended_more i.item.0 Before r ∙ ap (λ (b : Bool). is_ended i.item.0 (contents Before) || b) (no_end i.item.0) ∙ or_false (is_ended i.item.0 (contents Before)))
       in
       omega (arith, change y, sum_each (awaits_one V y (Before ++ r ∷ [])) (awaits_one V y Before) Lane.items same)
 
@@ -112,18 +111,18 @@ module _ (V : PlantRows) (view : IsView V) (taken : ℕ → List Record) (k : �
         ended_more It.item.0 Before r ∙ or_right (is_ended It.item.0 (contents Before)) (is_ended It.item.0 (content r ∷ [])) (ends It.item.0 ∙ eq-eqb item.0 It.item.0 (sym o.is)) in
         ap (λ (b : Bool). cond ((pair_place V It.pair.0 == y) && not b) 1 0) ended
         ∙ elim (cases_Bool (eqb Pair y)) as (λ _. ◌≡◌ {A = ℕ} (cond (eqb Pair y && false) 1 0) 0) [
-            | inl here ↦ rw here refl
-            | inr other ↦ rw other refl
-          ]
+          | inl here ↦ rw here refl
+          | inr other ↦ rw other refl
+        ]
 
     was_open : (y : ℕ) → awaits_one V y Before It ≡ cond (eqb Pair y) 1 0
     was_open y =
         let unended : is_ended It.item.0 (contents Before) ≡ false = ap (λ (n : ℕ). is_ended n (contents Before)) o.is ∙ o.unended in
         ap (λ (b : Bool). cond ((pair_place V It.pair.0 == y) && not b) 1 0) unended
         ∙ elim (cases_Bool (eqb Pair y)) as (λ _. ◌≡◌ {A = ℕ} (cond (eqb Pair y && true) 1 0) (cond (eqb Pair y) 1 0)) [
-            | inl here ↦ rw here refl
-            | inr other ↦ rw other refl
-          ]
+          | inl here ↦ rw here refl
+          | inr other ↦ rw other refl
+        ]
 
     fewer : (y : ℕ) → open_blocks (awaited V (with_taken V taken k r)) y + cond (eqb Pair y) 1 0 ≡ open_blocks (awaited V taken) y
     fewer y =

@@ -38,7 +38,14 @@ impl Agent {
         let k = incoming_place(self.view.incoming(), lane);
         self.books[k].book(entry)?;
         let kind = self.view.incoming()[k].kind;
-        add_entry(&mut self.came, &mut self.called, &self.view, &self.items, kind, entry);
+        add_entry(
+            &mut self.came,
+            &mut self.called,
+            &self.view,
+            &self.items,
+            kind,
+            entry,
+        );
         end_block(&mut self.progress, &self.items, entry);
         Ok(())
     }
