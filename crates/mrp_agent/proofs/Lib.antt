@@ -14,3 +14,8 @@ pub mod Reading
 pub mod Viewing
 pub mod Network
 pub mod Settled
+pub mod Arriving
+pub mod Bringing
+pub mod Ending
+pub mod Booked
+pub mod BookCalls

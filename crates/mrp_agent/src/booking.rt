@@ -1,6 +1,6 @@
 ghost use Rattle.std.specs.Prelude.{◌≡◌, ◌==◌, ◌*◌, ◌<◌, ◌≤◌, length, position, IfSome};
 ghost use Rattle.std.specs.List.{position_or_len};
-ghost use Rattle.mrp_agent.specs.After.{with_line, added_at, ended_place, BlockEnded, IsAwaited};
+ghost use Rattle.mrp_agent.specs.After.{came_by, called_by, items_of, with_line, added_at, ended_place, BlockEnded, IsAwaited};
 
 use crate::Agent;
 use crate::places::ItemPlaces;
@@ -8,7 +8,7 @@ use mrp_book::BookFault;
 use mrp_net::{LaneKind, LaneNo};
 use mrp_ready::Readiness;
 use mrp_record::Record;
-use mrp_view::IncomingLane;
+use mrp_view::{IncomingLane, PlantView};
 
 impl Agent {
     ghost use Rattle.std.specs.Prelude.{ℕ, List, [], ◌∷◌, ◌++◌, Bool, Some, IfErr, OnErr, OnOk};
@@ -36,13 +36,16 @@ impl Agent {
         ensures unchanged { OnErr result (self.new ≡ self.old) }
     {
         let k = incoming_place(self.view.incoming(), lane);
-        let kind = self.view.incoming()[k].kind;
-        let periods = self.view.horizon().get() as usize;
         self.books[k].book(entry)?;
-        match kind {
-            LaneKind::Despatch => add_line(&mut self.came, &self.items, periods, entry),
-            LaneKind::Schedule => add_line(&mut self.called, &self.items, periods, entry),
-        }
+        let kind = self.view.incoming()[k].kind;
+        add_entry(
+            &mut self.came,
+            &mut self.called,
+            &self.view,
+            &self.items,
+            kind,
+            entry,
+        );
         end_block(&mut self.progress, &self.items, entry);
         Ok(())
     }
@@ -60,6 +63,29 @@ fn find_incoming(lanes: &[IncomingLane], lane: LaneNo) -> Option<usize>
     ensures { result ≡ position (λ l. l.number.0 == lane.0) lanes.now }
 {
     lanes.iter().position(|known| known.number.0 == lane.0)
+}
+
+/// Adds the pieces of a line where they belong: on a despatch lane they come in, on a schedule lane they
+/// are called for.
+fn add_entry(
+    came: &mut Vec<u64>,
+    called: &mut Vec<u64>,
+    view: &PlantView,
+    items: &ItemPlaces,
+    kind: LaneKind,
+    entry: &Record,
+)
+    requires items { items.now ≡ items_of view.now }
+    requires came { length came.old.items ≡ length view.now.pairs * view.now.horizon }
+    requires called { length called.old.items ≡ length view.now.pairs * view.now.horizon }
+    ensures came { came.new.items ≡ came_by kind view.now came.old.items entry.now }
+    ensures called { called.new.items ≡ called_by kind view.now called.old.items entry.now }
+{
+    let periods = view.horizon().get() as usize;
+    match kind {
+        LaneKind::Despatch => add_line(came, items, periods, entry),
+        LaneKind::Schedule => add_line(called, items, periods, entry),
+    }
 }
 
 /// Adds the pieces of a line at its pair and period; another record adds nothing.
