@@ -2,10 +2,9 @@ ghost use Rattle.std.specs.Prelude.{◌≡◌, All, IfOk, IfSome};
 ghost use Rattle.std.specs.List.{list_all};
 ghost use Rattle.mrp_agent.specs.Kept.{IsShowing};
 
-use crate::edges::ParentEdge;
+use crate::edges::{ByComponent, ParentEdge, joins, parent_edges};
 use crate::making::{blank_plans, first_progress, idle_outs, new_books};
 use crate::places::{ItemPlaces, out_items};
-use crate::edges::{ByComponent, joins, parent_edges};
 use mrp_book::Book;
 use mrp_cursor::OutCursor;
 use mrp_group::{Groups, group};
@@ -72,12 +71,15 @@ impl Model for Agent {
 }
 
 impl Agent {
-    ghost use Rattle.std.specs.Prelude.{◌↔◌, IsSome, IsTrue, slice_get};
+    ghost use Rattle.std.specs.Prelude.{◌↔◌, ◌≢◌, ℕ, Bool, List, AllPairs, Contains, IsSome, IsTrue, slice_get};
     ghost use Rattle.mrp_ready.specs.Progress.{is_planned, left_of};
-    ghost use Rattle.mrp_view.specs.Seen.{IsView};
+    ghost use Rattle.mrp_record.specs.declared.record.Record.{Record};
+    ghost use Rattle.mrp_view.specs.declared.view.PlantPair.{PlantPair};
+    ghost use Rattle.mrp_view.specs.Seen.{IsOwn, IsView};
+    ghost use Rattle.mrp_local.specs.Local.{CanBePlanned};
     ghost use Rattle.mrp_agent.specs.Drafts.{ready_numbers};
     ghost use Rattle.mrp_agent.specs.Kept.{HasSmallOpenings};
-    ghost use Rattle.mrp_agent.specs.Shows.{is_done};
+    ghost use Rattle.mrp_agent.specs.Shows.{Shows, is_done};
     ghost use Rattle.mrp_agent.specs.State.{pair_place, plans_of};
 
     /// The agent of a plant that sees this: nothing has come, nothing was sent, and no pair is planned.
@@ -128,7 +130,11 @@ impl Agent {
 
     /// The pairs that can be planned, each once.
     pub fn ready_pairs(&self) -> &[PairNo]
-        ensures { result.now ≡ ready_numbers self.now }
+        ensures numbers { result.now ≡ ready_numbers self.now }
+        ensures own { All (IsOwn self.now.view) result.now }
+        ensures once { AllPairs (λ x y. x ≢ y) result.now }
+        ensures exact { (sent taken : ℕ → List Record) (planned : ℕ → Bool) → Shows self.now sent taken planned
+            → (p : PlantPair) → Contains self.now.view.pairs p → Contains result.now p.number ↔ CanBePlanned self.now.view taken planned p }
     {
         self.progress.ready_pairs()
     }
