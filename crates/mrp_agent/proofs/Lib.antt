@@ -11,3 +11,5 @@ pub mod Made
 pub mod Network
 pub mod Settled
 pub mod Waiting
+pub mod SettledOuts
+pub mod SettledState

@@ -234,3 +234,6 @@ module _ (A : AgentState) (view : IsView A.view) (rooms : HasRooms A) (listed : 
 
   pub ready_are_once : AreApart A.progress.ready → AllPairs (λ x y. x ≢ y) (ready_numbers A)
   ready_are_once apart = ready_once A.view view A.progress.numbers A.progress.waits A.progress.planned A.progress.ready rooms.numbers rooms.waits listed apart
+
+  pub ready_at : (x : PairNo) → Contains (ready_numbers A) x → IsOwn A.view x × Contains A.progress.ready (pair_place A.view x.0)
+  ready_at x there = ready_place A.view view A.progress.numbers A.progress.waits A.progress.planned A.progress.ready rooms.numbers rooms.waits listed x there
