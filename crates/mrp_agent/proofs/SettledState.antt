@@ -1,9 +1,11 @@
 -- An agent shows after a pair's plan is settled what it showed before, with the pair planned.
-use Rattle.std.proofs.Common.{◌≡◌, ℕ, ◌<◌, ◌≤◌, Bool, true, false, List, inl, inr, length, get_or, map, set, refl, sym, ap, ◌∙◌, subst, arith}
-use Rattle.std.specs.List.{All, Contains}
+use Rattle.std.proofs.Common.{◌≡◌, ℕ, ◌<◌, ◌≤◌, ◌==◌, Bool, true, false, Some, List, [], inl, inr, length, get_or, map, set, slice_index, refl, sym, ap, ◌∙◌, subst, arith}
+use Rattle.std.specs.List.{All, Contains, filter, slice_get}
 use Rattle.std.proofs.lemmas.Bool.{both_ways, cases_eq}
 use Rattle.std.proofs.lemmas.List.{length-set}
-use Rattle.std.proofs.lemmas.List.Elements.{All-contains, All-set, Contains-get_or}
+use Rattle.std.proofs.lemmas.List.Elements.{All-contains, All-filter, All-map, All-set, Contains-get_or}
+use Rattle.std.proofs.lemmas.List.FromFn.{get_or-map-range_with_len}
+use Rattle.std.proofs.lemmas.Option.{get_or_from_slice_get}
 use Rattle.mrp_lot.specs.One.{PlanRows}
 use Rattle.mrp_rows.specs.declared.numbers.PairNo.{PairNo}
 use Rattle.mrp_net.specs.declared.lane.LaneKind.TheVariants.{Schedule}
@@ -16,7 +18,9 @@ use Rattle.mrp_record.specs.declared.record.Record.{Record}
 use Rattle.mrp_cursor.specs.Cursor.{OutFigures}
 use Rattle.mrp_cursor.specs.Shows.{ShowsSent}
 use Rattle.mrp_ready.specs.declared.join.Join.{Join}
-use Rattle.mrp_ready.specs.Progress.{Progress, is_planned}
+use Rattle.mrp_ready.specs.Counts.{components_of, open_blocks}
+use Rattle.mrp_ready.specs.Progress.{Progress, is_planned, times}
+use Rattle.mrp_ready.proofs.Counting.{components_wait}
 use Rattle.mrp_events.specs.State.{changed}
 use Rattle.mrp_events.proofs.Keeping.{changed_by}
 use Rattle.mrp_local.specs.Goods.{goods_of, IsSendable}
@@ -26,7 +30,8 @@ use Rattle.mrp_agent.specs.State.{AgentState, out_at, outgoing_at, pair_of, pair
 use Rattle.mrp_agent.specs.After.{after_settled, settled_out, AreSettled, PairSettled}
 use Rattle.mrp_agent.specs.Drafts.{CanDraft, drafted, ready_numbers}
 use Rattle.mrp_agent.specs.Kept.{HasPeriods, HasRooms, Indexes, IsKept}
-use Rattle.mrp_agent.specs.Shows.{Awaits, OutShows, Shows, join_of, joins_of}
+use Rattle.mrp_agent.specs.Shows.{Awaits, OutShows, Shows, awaited, join_of, joins_of}
+use Rattle.mrp_agent.proofs.Owning.{own_within}
 use Rattle.mrp_agent.proofs.Settled.{SameParents, drafted_is_local, drafted_periods, drafted_same, local_same, marked_elsewhere, marked_there, parents_stay, plan_elsewhere, plan_there, planned_after, settled_taken}
 use Rattle.mrp_agent.proofs.SettledOuts.{LaneShows, lane_settled, queued_by_size}
 use Rattle.mrp_agent.proofs.Waiting.{IsListedIn, pair_is, place_ready, places_apart, ready_at, ready_can_be_planned, ready_is}
@@ -194,3 +199,32 @@ settled_kept A I x plan progress outs kept settling = record {
   rooms = rooms_after A kept.view kept.rooms x plan progress outs settling;
   taken = settled_taken A (pair_place A.view x.0) plan progress outs settling.marks kept.taken;
 }
+
+-- ---- the components of a pair
+
+module _ (A : AgentState) (I : Indexes) (kept : IsKept A I) (k : ℕ) (within : k < length A.view.pairs) (components : List ℕ) (are : slice_get I.components k ≡ Some components) where
+  pub components_are : components ≡ components_of (joins_of A.view) k
+  components_are =
+      let f : ℕ → List ℕ = components_of (joins_of A.view) in
+      let n : ℕ = length A.view.pairs in
+      sym (get_or_from_slice_get I.components k components [] are)
+      ∙ ap (λ (z : List (List ℕ)). get_or z k []) kept.indexes.components
+      ∙ get_or-map-range_with_len f 0 n k k [] within (omega arith)
+
+  pub components_known : All (λ y. y < length A.progress.waits) components
+  components_known =
+      let size : length A.progress.waits ≡ length A.view.pairs = kept.rooms.waits in
+      let P : ℕ → Type 0 = λ y. y < length A.progress.waits in
+      subst (All P) (sym components_are)
+      (All-map P (λ j. j.component) (filter (λ j. j.demander == k) (joins_of A.view))
+      (All-filter (λ j. j.demander == k) (λ j. P j.component) (joins_of A.view)
+      (All-map (λ (j : Join). P j.component) (join_of A.view) A.view.edges
+      (λ i d h.
+      let e : PlantEdge = get_or A.view.edges i d in
+      let edge : IsPlantEdge A.view e = kept.view.edges i d h in
+      omega (arith, size, own_within A.view e.component edge.component)))))
+
+  pub components_wait_for_it : IsListedIn A → Contains A.progress.ready k → (y : ℕ) → y < length A.progress.waits → times y components ≤ slice_index A.progress.waits y
+  components_wait_for_it listed ready y known =
+      let law = components_wait A.progress.waits (joins_of A.view) A.progress.planned (open_blocks (awaited A.view kept.taken.taken)) kept.taken.waits k ((listed.exact k).0 ready).unplanned y known in
+      subst (λ (z : List ℕ). times y z ≤ slice_index A.progress.waits y) (sym components_are) law
