@@ -1,9 +1,9 @@
 -- What an agent has after a pair's plan is settled: the plans, which pairs are planned, and what they wait for.
-use Rattle.std.proofs.Common.{◌≡◌, ◌↔◌, ℕ, ◌+◌, ◌-◌, ◌*◌, ◌^◌, ◌<◌, ◌≤◌, ◌==◌, eqb, cond, if◌then◌else◌, min, Bool, true, false, List, [], ◌∷◌, inl, inr, length, get_or, map, set, sum, sum_by, slice_index, refl, sym, ap, ◌∙◌, subst, arith}
+use Rattle.std.proofs.Common.{◌≡◌, ℕ, ◌+◌, ◌*◌, ◌<◌, ◌≤◌, ◌==◌, eqb, cond, if◌then◌else◌, Bool, true, false, List, [], ◌∷◌, inl, inr, length, get_or, map, set, sum, sum_by, slice_index, refl, sym, ap, ◌∙◌, arith}
 use Rattle.std.specs.List.{All, Contains, range_with_len}
 use Rattle.std.proofs.lemmas.Bool.{both_ways, cases_eq, cases_Bool, eq-eqb, eqb-true, ne_eqb}
-use Rattle.std.proofs.lemmas.List.{get_or-set_same, get_or-set_other, length-set}
-use Rattle.std.proofs.lemmas.List.Elements.{All-head, All-set, All-tail}
+use Rattle.std.proofs.lemmas.List.{get_or-set_same, get_or-set_other}
+use Rattle.std.proofs.lemmas.List.Elements.{All-head, All-tail}
 use Rattle.std.proofs.lemmas.List.FromFn.{get_or-map-range_with_len, length-map-range_with_len}
 use Rattle.std.proofs.lemmas.List.Sums.{get_or-le-sum_by, sum_by-cons}
 use Rattle.mrp_qty.specs.declared.quantity.TheConstants.{MOST}
@@ -11,7 +11,7 @@ use Rattle.mrp_lot.specs.One.{PlanRows, IsWithin, one, release_at}
 use Rattle.mrp_lot.specs.declared.params.PairParams.{PairParams}
 use Rattle.mrp_lot.specs.RangeLaws.{map-range-same}
 use Rattle.mrp_rows.specs.declared.numbers.PairNo.{PairNo}
-use Rattle.mrp_net.specs.declared.lane.LaneKind.TheVariants.{Despatch, Schedule}
+use Rattle.mrp_net.specs.declared.lane.LaneKind.TheVariants.{Schedule}
 use Rattle.mrp_view.specs.declared.view.PlantEdge.{PlantEdge}
 use Rattle.mrp_view.specs.declared.view.PlantPair.{PlantPair}
 use Rattle.mrp_view.specs.Seen.{IsView, IsOwn, IsPlantEdge}
@@ -25,7 +25,7 @@ use Rattle.mrp_agent.specs.State.{AgentState, pair_of, pair_place, plans_of, no_
 use Rattle.mrp_agent.specs.After.{after_settled, PairSettled}
 use Rattle.mrp_agent.specs.Drafts.{drafted, drafted_incoming, drafted_gross}
 use Rattle.mrp_agent.specs.Kept.{HasPeriods, HasRooms, HasTaken}
-use Rattle.mrp_agent.specs.Shows.{Awaits, Comes, IsCalled, joins_of, up_to_last}
+use Rattle.mrp_agent.specs.Shows.{Comes, IsCalled, joins_of, up_to_last}
 use Rattle.mrp_agent.proofs.Owning.{own_within}
 use Rattle.mrp_agent.proofs.Waiting.{pair_is, places_apart}
 

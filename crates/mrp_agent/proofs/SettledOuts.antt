@@ -1,10 +1,10 @@
 -- What the cursor of a lane that goes out shows after a pair is planned: the item of the pair may be sent.
-use Rattle.std.proofs.Common.{◌≡◌, ◌↔◌, ℕ, ◌+◌, ◌-◌, ◌<◌, ◌≤◌, ◌==◌, eqb, Bool, true, false, Option, Some, None, List, [], ◌∷◌, ◌++◌, ◌⊎◌, inl, inr, length, get_or, map, set, position, slice_index, refl, sym, ap, ◌∙◌, subst, arith}
+use Rattle.std.proofs.Common.{◌≡◌, ◌↔◌, ℕ, ◌-◌, ◌<◌, eqb, Bool, true, false, Option, Some, None, List, [], ◌∷◌, ◌++◌, inl, inr, length, get_or, map, slice_index, refl, sym, ap, ◌∙◌, subst, arith}
 use Rattle.std.specs.Prelude.{nat_lt, ◌&&◌}
-use Rattle.std.specs.List.{All, Contains, count_by, position_or_len}
+use Rattle.std.specs.List.{Contains, position_or_len}
 use Rattle.std.proofs.lemmas.Bool.{both_ways, cases_eq, cond_both, eq-eqb, eqb-true}
-use Rattle.std.proofs.lemmas.List.{get_or-map, length-map, length-set}
-use Rattle.std.proofs.lemmas.List.Elements.{All-set, Contains-append_left, Contains-get_or, Contains-push, Contains-push_cases}
+use Rattle.std.proofs.lemmas.List.{get_or-map, length-map}
+use Rattle.std.proofs.lemmas.List.Elements.{Contains-append_left, Contains-get_or, Contains-push, Contains-push_cases}
 use Rattle.std.proofs.lemmas.List.Quantifiers.{position-Some}
 use Rattle.mrp_lot.specs.One.{PlanRows}
 use Rattle.mrp_rows.specs.declared.numbers.ItemNo.{ItemNo}
@@ -12,7 +12,6 @@ use Rattle.mrp_rows.specs.declared.numbers.PairNo.{PairNo}
 use Rattle.mrp_net.specs.declared.lane.LaneKind.{LaneKind}
 use Rattle.mrp_net.specs.declared.lane.LaneKind.TheVariants.{Despatch, Schedule}
 use Rattle.mrp_view.specs.declared.view.OutgoingLane.{OutgoingLane}
-use Rattle.mrp_view.specs.declared.view.PlantEdge.{PlantEdge}
 use Rattle.mrp_view.specs.declared.view.PlantPair.{PlantPair}
 use Rattle.mrp_view.specs.Loads.{Load, load_at, no_load}
 use Rattle.mrp_view.specs.Seen.{IsView, IsOwn, IsOwnOf, IsOutgoingLane, IsScheduleLane}
@@ -23,20 +22,13 @@ use Rattle.mrp_cursor.specs.Cursor.{Goods, OutFigures}
 use Rattle.mrp_cursor.specs.Next.{queued}
 use Rattle.mrp_cursor.specs.Shows.{ShowsSent}
 use Rattle.mrp_cursor.proofs.Queues.{queues_show, looks_at_queued}
-use Rattle.mrp_ready.specs.Progress.{Progress, is_planned}
 use Rattle.mrp_events.specs.State.{changed}
 use Rattle.mrp_events.proofs.Keeping.{changed_by}
 use Rattle.mrp_local.specs.Goods.{by_period_from, goods_by, goods_of, share, IsSendable}
-use Rattle.mrp_local.specs.Local.{AwaitsNothing, CanBePlanned, IsLocal, IsPlannedLocally}
-use Rattle.mrp_agent.specs.State.{AgentState, out_at, outgoing_at, pair_of, pair_place, plans_of, no_out, no_outgoing}
-use Rattle.mrp_agent.specs.After.{after_settled, place_of, queued_at, queued_by, settled_out, AreSettled, PairSettled}
-use Rattle.mrp_agent.specs.Drafts.{CanDraft, drafted, ready_numbers}
-use Rattle.mrp_agent.specs.Kept.{HasPeriods, HasRooms, Indexes, IsKept}
-use Rattle.mrp_agent.specs.Shows.{Awaits, OutShows, Shows, joins_of}
+use Rattle.mrp_agent.specs.After.{place_of, queued_at, queued_by, settled_out}
 use Rattle.mrp_agent.proofs.Looking.{only_place, place_found, place_known}
-use Rattle.mrp_agent.proofs.Owning.{own_within}
-use Rattle.mrp_agent.proofs.Settled.{SameParents, drafted_is_local, drafted_periods, drafted_same, local_same, marked_elsewhere, marked_there, parents_stay, plan_elsewhere, plan_there, planned_after, settled_taken}
-use Rattle.mrp_agent.proofs.Waiting.{IsListedIn, own_planned, pair_is, place_ready, ready_at, ready_can_be_planned, ready_is, same_item, same_number}
+use Rattle.mrp_agent.proofs.Settled.{marked_elsewhere, marked_there}
+use Rattle.mrp_agent.proofs.Waiting.{same_item, same_number}
 
 -- ---- the place of an item
 
@@ -95,12 +87,6 @@ module _ (V : PlantRows) (taken : ℕ → List Record) (plans others : ℕ → P
       (stay : (y : PairNo) → IsOwn V y → (y.0 ≡ p.number.0 → ⊥) → plans y.0 ≡ others y.0)
       (lane : OutgoingLane) (once : IsOutgoingLane V lane) (schedule : lane.kind ≡ Schedule → IsScheduleLane V lane)
       (o : OutFigures) (sent : List Record) (old : LaneShows (goods_of V taken plans lane) planned lane o sent) where
-    abbrev Later : ℕ → Bool
-    Later = changed planned p.number.0 true
-
-    abbrev At : ℕ → Load
-    At j = load_at lane.items j
-
     still : (y : ℕ) → planned y ≡ true → changed planned p.number.0 true y ≡ true
     still y done = changed_by (λ (b : Bool). b ≡ true) planned p.number.0 true y (λ _. refl) done
 
@@ -144,12 +130,12 @@ module _ (V : PlantRows) (taken : ℕ → List Record) (plans others : ℕ → P
       size = old.size;
       shows = same_shows;
       queued = λ j. (
-          λ in_queue. still_sendable j ((old.queued j).0 in_queue),
-          λ may.
-              (old.queued j).1 record {
-                within = may.within;
-                decided = λ kind. sym (marked_elsewhere planned p.number.0 (load_at lane.items j).customer.0 (none j kind may.within)) ∙ may.decided kind;
-              },
+        λ in_queue. still_sendable j ((old.queued j).0 in_queue),
+        λ may.
+            (old.queued j).1 record {
+              within = may.within;
+              decided = λ kind. sym (marked_elsewhere planned p.number.0 (load_at lane.items j).customer.0 (none j kind may.within)) ∙ may.decided kind;
+            },
       );
     }
 
@@ -165,33 +151,30 @@ module _ (V : PlantRows) (taken : ℕ → List Record) (plans others : ℕ → P
           size = queued_size o k ∙ old.size;
           shows = more.1;
           queued = λ j. (
-              λ in_queue.
-                  elim (Contains-push_cases o.queue k j (subst (λ (z : List ℕ). Contains z j) more.0 in_queue)) [
-                    | inl before ↦ still_sendable j ((old.queued j).0 before)
-                    | inr here ↦ subst (IsSendable (changed planned p.number.0 true) lane) here now
-                  ],
-              λ may.
-                  let has : Contains (o.queue ++ k ∷ []) j =
-                  elim (cases_eq (load_at lane.items j).customer.0 p.number.0) [
-                    | inl same ↦
-                        let item : ℕ = p.item.0 in
-                        let test : (i : ℕ) → (load_at lane.items i).item ≡ p.item → eqb (load_at lane.items i).item.0 item ≡ true = λ i e.
-                        eq-eqb (load_at lane.items i).item.0 item (ap (λ (n : ItemNo). n.0) e) in
-                        let place : k ≡ j = only_place (λ (i : Load). eqb i.item.0 item) lane.items k j no_load (once.once item) within may.within (test k is) (test j (of_pair j kind may.within same)) in
-                        subst (Contains (o.queue ++ k ∷ [])) place (Contains-push o.queue k)
-                    | inr other ↦
-                        Contains-append_left o.queue (k ∷ []) j
-                        ((old.queued j).1 record {
-                          within = may.within;
-                          decided = λ _. sym (marked_elsewhere planned p.number.0 (load_at lane.items j).customer.0 other) ∙ may.decided kind;
-                        })
-                  ] in
-                  subst (λ (z : List ℕ). Contains z j) (sym more.0) has,
+            λ in_queue.
+                elim (Contains-push_cases o.queue k j (subst (λ (z : List ℕ). Contains z j) more.0 in_queue)) [
+                  | inl before ↦ still_sendable j ((old.queued j).0 before)
+                  | inr here ↦ subst (IsSendable (changed planned p.number.0 true) lane) here now
+                ],
+            λ may.
+                let has : Contains (o.queue ++ k ∷ []) j =
+                elim (cases_eq (load_at lane.items j).customer.0 p.number.0) [
+                  | inl same ↦
+                      let item : ℕ = p.item.0 in
+                      let test : (i : ℕ) → (load_at lane.items i).item ≡ p.item → eqb (load_at lane.items i).item.0 item ≡ true = λ i e.
+                      eq-eqb (load_at lane.items i).item.0 item (ap (λ (n : ItemNo). n.0) e) in
+                      let place : k ≡ j = only_place (λ (i : Load). eqb i.item.0 item) lane.items k j no_load (once.once item) within may.within (test k is) (test j (of_pair j kind may.within same)) in
+                      subst (Contains (o.queue ++ k ∷ [])) place (Contains-push o.queue k)
+                  | inr other ↦
+                      Contains-append_left o.queue (k ∷ []) j
+                      ((old.queued j).1 record {
+                        within = may.within;
+                        decided = λ _. sym (marked_elsewhere planned p.number.0 (load_at lane.items j).customer.0 other) ∙ may.decided kind;
+                      })
+                ] in
+                subst (λ (z : List ℕ). Contains z j) (sym more.0) has,
           );
         }
-
-    abbrev Items : List ItemNo
-    Items = map (λ i. i.item) lane.items
 
     item_at : (j : ℕ) → j < length lane.items → get_or (map (λ i. i.item) lane.items) j no_load.item ≡ (load_at lane.items j).item
     item_at j within = get_or-map (λ (i : Load). i.item) lane.items j no_load no_load.item within

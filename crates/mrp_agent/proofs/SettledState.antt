@@ -1,7 +1,7 @@
 -- An agent shows after a pair's plan is settled what it showed before, with the pair planned.
-use Rattle.std.proofs.Common.{◌≡◌, ℕ, ◌<◌, ◌≤◌, ◌==◌, Bool, true, false, Some, List, [], inl, inr, length, get_or, map, set, slice_index, refl, sym, ap, ◌∙◌, subst, arith}
+use Rattle.std.proofs.Common.{◌≡◌, ℕ, ◌<◌, ◌≤◌, ◌==◌, Bool, true, false, Some, List, [], inl, inr, length, get_or, map, slice_index, refl, sym, ap, ◌∙◌, subst, arith}
 use Rattle.std.specs.List.{All, Contains, filter, slice_get}
-use Rattle.std.proofs.lemmas.Bool.{both_ways, cases_eq}
+use Rattle.std.proofs.lemmas.Bool.{cases_eq}
 use Rattle.std.proofs.lemmas.List.{length-set}
 use Rattle.std.proofs.lemmas.List.Elements.{All-contains, All-filter, All-map, All-set, Contains-get_or}
 use Rattle.std.proofs.lemmas.List.FromFn.{get_or-map-range_with_len}
@@ -13,26 +13,24 @@ use Rattle.mrp_view.specs.declared.view.OutgoingLane.{OutgoingLane}
 use Rattle.mrp_view.specs.declared.view.PlantEdge.{PlantEdge}
 use Rattle.mrp_view.specs.declared.view.PlantPair.{PlantPair}
 use Rattle.mrp_view.specs.Seen.{IsView, IsOwn, IsOutgoingLane, IsPlantEdge, IsScheduleLane}
-use Rattle.mrp_view.specs.View.{PlantRows}
 use Rattle.mrp_record.specs.declared.record.Record.{Record}
 use Rattle.mrp_cursor.specs.Cursor.{OutFigures}
-use Rattle.mrp_cursor.specs.Shows.{ShowsSent}
 use Rattle.mrp_ready.specs.declared.join.Join.{Join}
 use Rattle.mrp_ready.specs.Counts.{components_of, open_blocks}
 use Rattle.mrp_ready.specs.Progress.{Progress, is_planned, times}
 use Rattle.mrp_ready.proofs.Counting.{components_wait}
 use Rattle.mrp_events.specs.State.{changed}
 use Rattle.mrp_events.proofs.Keeping.{changed_by}
-use Rattle.mrp_local.specs.Goods.{goods_of, IsSendable}
+use Rattle.mrp_local.specs.Goods.{goods_of}
 use Rattle.mrp_local.specs.Local.{AwaitsNothing, CanBePlanned, IsLocal, IsPlannedLocally, local_plan}
 use Rattle.mrp_net.proofs.Members.{In-from_contains, In-map, All-in}
-use Rattle.mrp_agent.specs.State.{AgentState, out_at, outgoing_at, pair_of, pair_place, plans_of, no_out, no_outgoing}
+use Rattle.mrp_agent.specs.State.{AgentState, out_at, outgoing_at, pair_of, pair_place, plans_of, no_outgoing}
 use Rattle.mrp_agent.specs.After.{after_settled, settled_out, AreSettled, PairSettled}
 use Rattle.mrp_agent.specs.Drafts.{CanDraft, drafted, ready_numbers}
 use Rattle.mrp_agent.specs.Kept.{HasPeriods, HasRooms, Indexes, IsKept}
 use Rattle.mrp_agent.specs.Shows.{Awaits, OutShows, Shows, awaited, join_of, joins_of}
 use Rattle.mrp_agent.proofs.Owning.{own_within}
-use Rattle.mrp_agent.proofs.Settled.{SameParents, drafted_is_local, drafted_periods, drafted_same, local_same, marked_elsewhere, marked_there, parents_stay, plan_elsewhere, plan_there, planned_after, settled_taken}
+use Rattle.mrp_agent.proofs.Settled.{drafted_is_local, drafted_periods, drafted_same, local_same, marked_elsewhere, parents_stay, plan_elsewhere, plan_there, planned_after, settled_taken}
 use Rattle.mrp_agent.proofs.SettledOuts.{LaneShows, lane_settled, queued_by_size}
 use Rattle.mrp_agent.proofs.Waiting.{IsListedIn, pair_is, place_ready, places_apart, ready_at, ready_can_be_planned, ready_is}
 
@@ -48,18 +46,9 @@ pair_number : (a b : PairNo) → a.0 ≡ b.0 → a ≡ b
 pair_number a b e = ap (λ (n : ℕ). let x : PairNo = record { 0 = n } in x) e
 
 module _ (A : AgentState) (view : IsView A.view) (rooms : HasRooms A) (x : PairNo) (plan : PlanRows) (progress : Progress) (outs : List OutFigures) (settling : IsSettling A x plan progress outs) where
-  abbrev New : AgentState
-  New = after_settled A (pair_place A.view x.0) plan progress outs
-
-  own : IsOwn A.view x
-  own = settling.can.own
-
   -- ---- what it shows
 
   module _ (sent taken : ℕ → List Record) (planned : ℕ → Bool) (shows : Shows A sent taken planned) where
-    abbrev Later : ℕ → Bool
-    Later = changed planned x.0 true
-
     can_be : (p : PlantPair) → Contains A.view.pairs p → p.number ≡ x → CanBePlanned A.view taken planned p
     can_be p there is = (ready_can_be_planned A view rooms settling.listed sent taken planned shows p there).0 (subst (Contains (ready_numbers A)) (sym is) settling.can.ready)
 

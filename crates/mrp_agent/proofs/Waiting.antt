@@ -1,13 +1,12 @@
 -- The pairs that wait for nothing are exactly those that can be planned.
-use Rattle.std.proofs.Common.{◌≡◌, ◌≢◌, ◌↔◌, ℕ, ◌<◌, ◌≤◌, ◌==◌, eqb, Bool, true, false, List, [], ◌∷◌, inl, inr, length, get_or, map, refl, sym, ap, ◌∙◌, subst, arith}
-use Rattle.std.specs.List.{All, AllPairs, Contains, count_by, position_or_len}
-use Rattle.std.proofs.lemmas.Bool.{eq-eqb, eqb-true}
+use Rattle.std.proofs.Common.{◌≡◌, ◌≢◌, ◌↔◌, ℕ, ◌<◌, eqb, Bool, true, List, length, get_or, map, refl, sym, ap, ◌∙◌, subst, arith}
+use Rattle.std.specs.List.{All, AllPairs, Contains}
+use Rattle.std.proofs.lemmas.Bool.{eq-eqb}
 use Rattle.std.proofs.lemmas.List.{get_or-map, get_or_default, length-map}
 use Rattle.std.proofs.lemmas.List.Elements.{All-map, Contains-get_or}
-use Rattle.std.proofs.lemmas.List.Sums.{passes_at_first}
 use Rattle.mrp_rows.specs.declared.numbers.ItemNo.{ItemNo}
 use Rattle.mrp_rows.specs.declared.numbers.PairNo.{PairNo}
-use Rattle.mrp_net.proofs.Members.{In, In-from_contains, Contains-from_in, In-map, map_only, In-flat_map, All-in}
+use Rattle.mrp_net.proofs.Members.{In-from_contains, Contains-from_in, In-map, map_only, In-flat_map, All-in}
 use Rattle.mrp_view.specs.declared.view.IncomingItem.{IncomingItem}
 use Rattle.mrp_view.specs.declared.view.IncomingLane.{IncomingLane}
 use Rattle.mrp_view.specs.declared.view.PlantEdge.{PlantEdge}
@@ -21,14 +20,14 @@ use Rattle.mrp_ready.specs.declared.join.Join.{Join}
 use Rattle.mrp_ready.specs.Chosen.{AreApart, number_at}
 use Rattle.mrp_ready.specs.Counts.{Awaited}
 use Rattle.mrp_ready.specs.Laws.{NothingIsOpen}
-use Rattle.mrp_ready.specs.Progress.{is_planned, IsFree, IsListed}
+use Rattle.mrp_ready.specs.Progress.{is_planned, IsListed}
 use Rattle.mrp_ready.proofs.Counting.{ready_where_nothing_is_open}
-use Rattle.mrp_local.specs.Local.{AwaitsNothing, CanBePlanned, Carries, HasBrought}
+use Rattle.mrp_local.specs.Local.{CanBePlanned, Carries, HasBrought}
 use Rattle.mrp_agent.specs.State.{AgentState, pair_of, pair_place, item_place, no_pair}
 use Rattle.mrp_agent.specs.Drafts.{ready_numbers}
 use Rattle.mrp_agent.specs.Kept.{HasRooms}
 use Rattle.mrp_agent.specs.Shows.{Awaits, Shows, awaited, awaited_on, block_awaited, join_of, joins_of}
-use Rattle.mrp_agent.proofs.Looking.{only_place, place_is_only}
+use Rattle.mrp_agent.proofs.Looking.{place_is_only}
 use Rattle.mrp_agent.proofs.Owning.{own_of_item, own_within}
 
 module _ (V : PlantRows) (view : IsView V) where

@@ -47,7 +47,7 @@ impl Agent {
         ensures ready { Contains self.now.progress.ready result }
         ensures listed { IsListed self.now.progress.waits self.now.progress.planned self.now.progress.ready }
     {
-        // Only the ready places say that each of them is a pair of the plant.
+        // Its contract says that each ready place is one of the plant's pairs.
         let _ready = self.progress.ready_pairs();
         let Some(place) = self.view.place(x) else {
             unreachable!()

@@ -1,4 +1,4 @@
-use Rattle.std.proofs.Common.{◌≡◌, ℕ, Option, Some, None, sym, ap, ◌∙◌, subst}
+use Rattle.std.proofs.Common.{◌≡◌, Some, None, sym, ◌∙◌, subst}
 use Rattle.std.specs.List.{Contains}
 use Rattle.mrp_view.specs.Seen.{IsOwn}
 use Rattle.mrp_agent.specs.Drafts.{ready_numbers}

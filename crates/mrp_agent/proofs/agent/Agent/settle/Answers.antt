@@ -1,18 +1,14 @@
-use Rattle.std.proofs.Common.{◌≡◌, ℕ, ◌<◌, Bool, true, List, length, get_or, map, set, sym, ap, ◌∙◌, subst, arith}
+use Rattle.std.proofs.Common.{◌≡◌, ℕ, ◌<◌, true, List, length, get_or, sym, ap, ◌∙◌, subst, arith}
 use Rattle.std.specs.List.{Contains}
 use Rattle.std.proofs.lemmas.List.{get_or_default}
 use Rattle.std.proofs.lemmas.List.FromFn.{length-map-range_with_len}
-use Rattle.mrp_rows.specs.declared.numbers.PairNo.{PairNo}
 use Rattle.mrp_rows.specs.declared.numbers.ItemNo.{ItemNo}
 use Rattle.mrp_view.specs.declared.view.OutgoingLane.{OutgoingLane}
 use Rattle.mrp_view.specs.declared.view.PlantPair.{PlantPair}
 use Rattle.mrp_lot.specs.One.{PlanRows}
-use Rattle.mrp_cursor.specs.Cursor.{OutFigures}
-use Rattle.mrp_record.specs.declared.record.Record.{Record}
 use Rattle.mrp_ready.specs.Counts.{components_of}
-use Rattle.mrp_ready.specs.Progress.{Progress}
 use Rattle.mrp_events.specs.State.{changed}
-use Rattle.mrp_agent.specs.State.{AgentState, no_pair, no_plan, pair_of, pair_place}
+use Rattle.mrp_agent.specs.State.{AgentState, no_pair, pair_of, pair_place}
 use Rattle.mrp_agent.specs.After.{after_settled, AreSettled, PairSettled}
 use Rattle.mrp_agent.specs.Drafts.{CanDraft, drafted, ready_numbers}
 use Rattle.mrp_agent.specs.Kept.{Indexes, IsKept}
