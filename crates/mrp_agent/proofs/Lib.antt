@@ -19,3 +19,6 @@ pub mod Bringing
 pub mod Ending
 pub mod Booked
 pub mod BookCalls
+pub mod Waiting
+pub mod SettledOuts
+pub mod SettledState

@@ -72,11 +72,14 @@ impl Model for Agent {
 }
 
 impl Agent {
-    ghost use Rattle.std.specs.Prelude.{◌↔◌, ℕ, Bool, IsSome, IsTrue, List, slice_get};
+    ghost use Rattle.std.specs.Prelude.{◌↔◌, ℕ, Bool, IsSome, IsTrue, List, slice_get, ◌≢◌, AllPairs, Contains};
     ghost use Rattle.mrp_record.specs.declared.record.Record.{Record};
     ghost use Rattle.mrp_events.specs.State.{opening_state};
     ghost use Rattle.mrp_ready.specs.Progress.{is_planned, left_of};
-    ghost use Rattle.mrp_view.specs.Seen.{IsView};
+    ghost use Rattle.mrp_record.specs.declared.record.Record.{Record};
+    ghost use Rattle.mrp_view.specs.declared.view.PlantPair.{PlantPair};
+    ghost use Rattle.mrp_view.specs.Seen.{IsOwn, IsView};
+    ghost use Rattle.mrp_local.specs.Local.{CanBePlanned};
     ghost use Rattle.mrp_agent.specs.Drafts.{ready_numbers};
     ghost use Rattle.mrp_agent.specs.Kept.{HasSmallOpenings};
     ghost use Rattle.mrp_agent.specs.Reading.{HasDone, received};
@@ -132,7 +135,11 @@ impl Agent {
 
     /// The pairs that can be planned, each once.
     pub fn ready_pairs(&self) -> &[PairNo]
-        ensures { result.now ≡ ready_numbers self.now }
+        ensures numbers { result.now ≡ ready_numbers self.now }
+        ensures own { All (IsOwn self.now.view) result.now }
+        ensures once { AllPairs (λ x y. x ≢ y) result.now }
+        ensures exact { (sent taken : ℕ → List Record) (planned : ℕ → Bool) → Shows self.now sent taken planned
+            → (p : PlantPair) → Contains self.now.view.pairs p → Contains result.now p.number ↔ CanBePlanned self.now.view taken planned p }
     {
         self.progress.ready_pairs()
     }
