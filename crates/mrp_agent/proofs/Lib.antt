@@ -10,3 +10,4 @@ pub mod Calls
 pub mod Made
 pub mod Network
 pub mod Settled
+pub mod DraftLaws
