@@ -5,6 +5,7 @@ use Rattle.std.proofs.lemmas.List.Elements.{All-from_get_or}
 use Rattle.std.proofs.lemmas.List.FromFn.{fill_by_all, get_or-map-range_with_len, length-map-range_with_len}
 use Rattle.std.proofs.lemmas.List.Sums.{get_or-le-sum_by, sum_by_more_le, sum_by_more}
 use Rattle.mrp_lot.specs.One.{PlanRows, IsWithin, one}
+use Rattle.mrp_lot.specs.OneLaws.{one-gross}
 use Rattle.mrp_lot.specs.declared.params.PairParams.{PairParams}
 use Rattle.mrp_qty.specs.declared.quantity.TheConstants.{MOST}
 use Rattle.mrp_agent.specs.declared.edges.ParentEdge.{ParentEdge}
@@ -70,3 +71,18 @@ pub grossed_is : (called : List ℕ) (edges : List ParentEdge) (plans : List Pla
     → new ≡ grossed called edges plans
 grossed_is called edges plans new size each =
     fill_by_all (λ (t : ℕ). slice_index called t + asked_by plans edges t) new (length called) 0 size each
+
+-- ---- lengths
+
+pub grossed_length : (called : List ℕ) (edges : List ParentEdge) (plans : List PlanRows) → length (grossed called edges plans) ≡ length called
+grossed_length called edges plans = length-map-range_with_len (λ (t : ℕ). slice_index called t + asked_by plans edges t) 0 (length called)
+
+pub came_length : (params : PairParams) (came called : List ℕ) (edges : List ParentEdge) (plans : List PlanRows) → IsWithin params came (grossed called edges plans)
+    → length came ≡ length called
+came_length params came called edges plans h = h.periods ∙ grossed_length called edges plans
+
+-- a plan has a period for each that is called for
+pub drafted_length : (params : PairParams) (came called : List ℕ) (edges : List ParentEdge) (plans : List PlanRows) (plan : PlanRows) → plan ≡ one params came (grossed called edges plans)
+    → length plan.gross ≡ length called
+drafted_length params came called edges plans plan is =
+    ap (λ (z : PlanRows). length z.gross) is ∙ ap length (one-gross params came (grossed called edges plans)) ∙ grossed_length called edges plans

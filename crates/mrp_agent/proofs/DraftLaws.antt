@@ -69,17 +69,17 @@ module _ (V : PlantRows) (taken : ℕ → List Record) (plans : ℕ → PlanRows
   incoming_is =
       map_same (λ (t : ℕ). amount_at V came p.number t) (local_incoming V taken p) 0 V.horizon
       (λ t h.
-          let low : t < V.horizon = omega arith in
-          comes t low ∙ small_sum (local_incoming V taken p t) (omega (arith, in_row V (local_incoming V taken p) t low, small.total)))
+      let low : t < V.horizon = omega arith in
+      comes t low ∙ small_sum (local_incoming V taken p t) (omega (arith, in_row V (local_incoming V taken p) t low, small.total)))
 
   gross_is : local_row V (λ t. amount_at V called p.number t + asked_within V plans p.number t) ≡ local_row V (local_gross V taken plans p)
   gross_is =
       map_same (λ (t : ℕ). amount_at V called p.number t + asked_within V plans p.number t) (local_gross V taken plans p) 0 V.horizon
       (λ t h.
-          let low : t < V.horizon = omega arith in
-          let most : local_gross V taken plans p t ≤ MOST = omega (arith, in_row V (local_gross V taken plans p) t low, small.total) in
-          let sum_is = small_sum (amount_at V V.demands p.number t + booked_on Schedule V taken p.item t) (omega (arith, most)) in
-          omega (arith, is_called t low, sum_is))
+      let low : t < V.horizon = omega arith in
+      let most : local_gross V taken plans p t ≤ MOST = omega (arith, in_row V (local_gross V taken plans p) t low, small.total) in
+      let sum_is = small_sum (amount_at V V.demands p.number t + booked_on Schedule V taken p.item t) (omega (arith, most)) in
+      omega (arith, is_called t low, sum_is))
 
 -- ---- the laws
 

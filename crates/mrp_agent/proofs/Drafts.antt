@@ -74,7 +74,7 @@ asked_is A x own t (e ∷ es) h =
     let later = asked_is A x own t es (All-tail (IsPlantEdge V) e es h) in
     let all = sum_by-cons (λ (e : PlantEdge). if e.component.0 == x.0 then asks e else 0) e es in
     let F : Bool → Type 0 = λ b. asked_by A.plans (cond b (parent_edge V e ∷ filter (λ e. e.component == pair_place V x.0) (map (parent_edge V) es)) (filter (λ e. e.component == pair_place V x.0) (map (parent_edge V) es))) t
-        ≡ cond b (asks e) 0 + sum_by (λ e. if e.component.0 == x.0 then asks e else 0) es in
+    ≡ cond b (asks e) 0 + sum_by (λ e. if e.component.0 == x.0 then asks e else 0) es in
     let by : (b : Bool) → F b = λ b. elim b as F [
       | true ↦
           let one = sum_by-cons (asked_on A.plans t) (parent_edge V e) (filter (λ e. e.component == pair_place V x.0) (map (parent_edge V) es)) in
@@ -124,9 +124,9 @@ module _ (A : AgentState) (view : IsView A.view) (rooms : HasRooms A) (x : PairN
       ap (λ (n : ℕ). map f (range_with_len 0 n)) called_length
       ∙ map_same f g 0 A.view.horizon
       (λ t h.
-          let lower : t < A.view.horizon = omega arith in
-          ap (λ (n : ℕ). n + asked_by A.plans (edges_at A.view (pair_place A.view x.0)) t) (called_at t lower)
-          ∙ ap (λ (n : ℕ). amount_at A.view A.called x t + n) (asked_is A x own t A.view.edges view.edges))
+      let lower : t < A.view.horizon = omega arith in
+      ap (λ (n : ℕ). n + asked_by A.plans (edges_at A.view (pair_place A.view x.0)) t) (called_at t lower)
+      ∙ ap (λ (n : ℕ). amount_at A.view A.called x t + n) (asked_is A x own t A.view.edges view.edges))
 
   can_ask : (e : PlantEdge) → IsPlantEdge A.view e → CanAsk A.plans (length (Part A.called)) (parent_edge A.view e)
   can_ask e is =

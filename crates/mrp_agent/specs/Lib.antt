@@ -8,3 +8,4 @@ pub mod Kept
 pub mod Making
 pub mod Sent
 pub mod Laws
+pub mod Marking

@@ -35,7 +35,7 @@ impl Agent {
 }
 
 /// Lets each schedule lane send what it has of an item.
-fn queue_item(
+pub(crate) fn queue_item(
     outs: &mut Vec<OutCursor>,
     lanes: &[OutgoingLane],
     items: &[ItemPlaces],

@@ -29,8 +29,8 @@ plan_pair-requires-clause-within c =
     subst (λ (row : List ℕ). IsWithin c.args.params.now row c.add_asked.new.gross) (sym c.copy_pieces.ensures)
     (subst (λ (row : List ℕ). IsWithin c.args.params.now c.args.came.now row) (sym gross) c.requires.draft.within)
 
-pub returns : goal.returns
-returns c =
+pub returns-clause-plan : goal.returns-clause-plan
+returns-clause-plan c =
     let gross : c.add_asked.new.gross ≡ grossed c.args.called.now c.args.edges.now c.args.plans.now =
     asked_added c.args.called.now c.copy_pieces-2.new.self c.add_asked.new.gross c.args.edges.now c.args.plans.now c.copy_pieces-2.ensures c.add_asked.ensures.size c.add_asked.ensures.each in
     c.plan_pair.ensures

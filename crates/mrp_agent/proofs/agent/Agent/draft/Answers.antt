@@ -19,7 +19,7 @@ unreachable-requires c =
 pub get-edges-requires-clause-rises : goal.get-edges-requires-clause-rises
 get-edges-requires-clause-rises c =
     let A : AgentState = the_view c.self.inside in
-    let I : Indexes = record { items = c.self.inside.items; edges = c.self.inside.edges.rows.items; starts = c.self.inside.edges.starts.items; components = c.self.inside.components; out_items = c.self.inside.out_items.items } in
+    let I : Indexes = record { items = c.self.inside.items; edges = c.self.inside.edges.rows.items; starts = c.self.inside.edges.starts.items; components = c.self.inside.components; out_items = c.self.inside.out_items.items; desk = length c.self.inside.desk.gross } in
     let can : CanDraft A c.args.x = subst (λ (a : AgentState). CanDraft a c.args.x) (sym c.self.view_is) c.requires.can in
     let at = own_place_is A.view c.args.x c.place.result c.in-Some.place can.own c.place.ensures c.in-Some.is in
     (edges_rise A.view I c.args.x c.in-Some.place c.self.invariant.indexes can.own at).0
@@ -27,7 +27,7 @@ get-edges-requires-clause-rises c =
 pub get-edges-requires-clause-within : goal.get-edges-requires-clause-within
 get-edges-requires-clause-within c =
     let A : AgentState = the_view c.self.inside in
-    let I : Indexes = record { items = c.self.inside.items; edges = c.self.inside.edges.rows.items; starts = c.self.inside.edges.starts.items; components = c.self.inside.components; out_items = c.self.inside.out_items.items } in
+    let I : Indexes = record { items = c.self.inside.items; edges = c.self.inside.edges.rows.items; starts = c.self.inside.edges.starts.items; components = c.self.inside.components; out_items = c.self.inside.out_items.items; desk = length c.self.inside.desk.gross } in
     let can : CanDraft A c.args.x = subst (λ (a : AgentState). CanDraft a c.args.x) (sym c.self.view_is) c.requires.can in
     let at = own_place_is A.view c.args.x c.place.result c.in-Some.place can.own c.place.ensures c.in-Some.is in
     (edges_rise A.view I c.args.x c.in-Some.place c.self.invariant.indexes can.own at).1
@@ -35,7 +35,7 @@ get-edges-requires-clause-within c =
 pub draft_from-requires-clause-draft : goal.draft_from-requires-clause-draft
 draft_from-requires-clause-draft c =
     let A : AgentState = the_view c.self.inside in
-    let I : Indexes = record { items = c.self.inside.items; edges = c.self.inside.edges.rows.items; starts = c.self.inside.edges.starts.items; components = c.self.inside.components; out_items = c.self.inside.out_items.items } in
+    let I : Indexes = record { items = c.self.inside.items; edges = c.self.inside.edges.rows.items; starts = c.self.inside.edges.starts.items; components = c.self.inside.components; out_items = c.self.inside.out_items.items; desk = length c.self.inside.desk.gross } in
     let can : CanDraft A c.args.x = subst (λ (a : AgentState). CanDraft a c.args.x) (sym c.self.view_is) c.requires.can in
     let at : c.in-Some.place ≡ pair_place A.view c.args.x.0 = own_place_is A.view c.args.x c.place.result c.in-Some.place can.own c.place.ensures c.in-Some.is in
     let periods : c.get-periods.result ≡ A.view.horizon = c.get-periods.ensures.value ∙ c.horizon.ensures in
@@ -48,10 +48,10 @@ draft_from-requires-clause-draft c =
     } in
     can_draft_from A c.args.x _ _ _ c.get-edges.result.now c.deref-3.result.now read c.self.invariant.view c.self.invariant.rooms can
 
-pub returns : goal.returns
-returns c =
+pub returns-clause-plan : goal.returns-clause-plan
+returns-clause-plan c =
     let A : AgentState = the_view c.self.inside in
-    let I : Indexes = record { items = c.self.inside.items; edges = c.self.inside.edges.rows.items; starts = c.self.inside.edges.starts.items; components = c.self.inside.components; out_items = c.self.inside.out_items.items } in
+    let I : Indexes = record { items = c.self.inside.items; edges = c.self.inside.edges.rows.items; starts = c.self.inside.edges.starts.items; components = c.self.inside.components; out_items = c.self.inside.out_items.items; desk = length c.self.inside.desk.gross } in
     let can : CanDraft A c.args.x = subst (λ (a : AgentState). CanDraft a c.args.x) (sym c.self.view_is) c.requires.can in
     let at : c.in-Some.place ≡ pair_place A.view c.args.x.0 = own_place_is A.view c.args.x c.place.result c.in-Some.place can.own c.place.ensures c.in-Some.is in
     let periods : c.get-periods.result ≡ A.view.horizon = c.get-periods.ensures.value ∙ c.horizon.ensures in
@@ -62,4 +62,4 @@ returns c =
       edges_are = edges_read A.view I c.args.x c.get-edges.result.now c.in-Some.place c.self.invariant.indexes can.own at c.get-edges.ensures;
       plans_are = c.deref-3.ensures.value;
     } in
-    record { plan = c.draft_from.ensures ∙ draft_is A c.args.x _ _ _ c.get-edges.result.now c.deref-3.result.now read c.self.invariant.view c.self.invariant.rooms can.own ∙ ap (λ (a : AgentState). drafted a c.args.x) c.self.view_is }
+    c.draft_from.ensures.plan ∙ draft_is A c.args.x _ _ _ c.get-edges.result.now c.deref-3.result.now read c.self.invariant.view c.self.invariant.rooms can.own ∙ ap (λ (a : AgentState). drafted a c.args.x) c.self.view_is
