@@ -212,3 +212,11 @@ draft_is A x params came called edges plans read view rooms own =
     ∙ ap (λ (z : List ParentEdge). one (pair_of A.view x).params (Part A view rooms x own A.came) (grossed (Part A view rooms x own A.called) z plans)) read.edges_are
     ∙ ap (λ (z : List PlanRows). one (pair_of A.view x).params (Part A view rooms x own A.came) (grossed (Part A view rooms x own A.called) (edges_at A.view (pair_place A.view x.0)) z)) read.plans_are
     ∙ drafted_is A view rooms x own
+
+-- the part of a list that a pair has ends within it
+pub part_bound : (V : PlantRows) (x : PairNo) (amounts xs : List ℕ) (at periods : ℕ) → IsOwn V x → length amounts ≡ length V.pairs * V.horizon → xs ≡ amounts → at ≡ pair_place V x.0
+    → periods ≡ V.horizon → at * periods + periods ≤ length xs
+part_bound V x amounts xs at periods own size is here same =
+    let most : pair_place V x.0 * V.horizon + V.horizon ≤ length V.pairs * V.horizon = row_within (pair_place V x.0) (length V.pairs) V.horizon (own_within V x own) in
+    let left : at * periods + periods ≡ pair_place V x.0 * V.horizon + V.horizon = ap (λ (k : ℕ). k * periods + periods) here ∙ ap (λ (n : ℕ). pair_place V x.0 * n + n) same in
+    omega (arith, most, left, size, ap length is)

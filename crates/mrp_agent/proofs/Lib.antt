@@ -11,3 +11,4 @@ pub mod Made
 pub mod Network
 pub mod Settled
 pub mod DraftLaws
+pub mod Desks

@@ -3,7 +3,8 @@ use crate::settling::queue_item;
 use mrp_net::PairNo;
 
 impl Agent {
-    ghost use Rattle.std.specs.Prelude.{◌≡◌, ◌↔◌, ℕ, Bool, true, List, Contains, IsTrue, OnFalse, OnTrue, slice_set};
+    ghost use Rattle.std.specs.Prelude.{◌≡◌, ◌↔◌, ℕ, Bool, true, List, Contains, IsTrue, slice_set};
+    ghost use Rattle.std.specs.Bool.{OnFalse, OnTrue};
     ghost use Rattle.mrp_lot.specs.One.{IsWithin};
     ghost use Rattle.mrp_record.specs.declared.record.Record.{Record};
     ghost use Rattle.mrp_view.specs.Seen.{IsOwn};
