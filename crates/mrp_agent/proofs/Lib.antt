@@ -12,3 +12,4 @@ pub mod Network
 pub mod Settled
 pub mod DraftLaws
 pub mod Desks
+pub mod Marked

@@ -7,6 +7,7 @@ impl Agent {
     ghost use Rattle.std.specs.Bool.{OnFalse, OnTrue};
     ghost use Rattle.mrp_lot.specs.One.{IsWithin};
     ghost use Rattle.mrp_record.specs.declared.record.Record.{Record};
+    ghost use Rattle.mrp_ready.specs.Progress.{IsFree};
     ghost use Rattle.mrp_view.specs.Seen.{IsOwn};
     ghost use Rattle.mrp_events.specs.State.{changed};
     ghost use Rattle.mrp_agent.specs.State.{pair_of, pair_place, plans_of};
@@ -56,7 +57,8 @@ impl Agent {
 
     /// Counts the pair at a place as planned, and lets the schedule lanes that have its item send it.
     fn mark_planned(&mut self, place: usize)
-        requires { Contains self.old.progress.ready place }
+        requires ready { Contains self.old.progress.ready place }
+        requires free { IsFree self.old.progress.waits self.old.progress.planned place }
         ensures { IsMarked self.old place self.new }
     {
         self.progress.settle(place, self.components.of(place));
