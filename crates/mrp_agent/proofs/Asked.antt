@@ -1,10 +1,15 @@
 -- What the releases of a pair's parents ask of it.
-use Rattle.std.proofs.Common.{◌≡◌, ℕ, ◌+◌, ◌*◌, ◌<◌, ◌≤◌, List, length, sum_by, slice_index, get_or, take, refl, sym, ap, ◌∙◌, subst, arith}
-use Rattle.std.proofs.lemmas.List.Sums.{sum_by_more_le, sum_by_more}
-use Rattle.mrp_lot.specs.One.{PlanRows}
+use Rattle.std.proofs.Common.{◌≡◌, ℕ, ◌+◌, ◌*◌, ◌<◌, ◌≤◌, List, length, map, sum, sum_by, slice_index, get_or, take, refl, sym, ap, ◌∙◌, subst, arith}
+use Rattle.std.specs.List.{All, range_with_len}
+use Rattle.std.proofs.lemmas.List.Elements.{All-from_get_or}
+use Rattle.std.proofs.lemmas.List.FromFn.{fill_by_all, get_or-map-range_with_len, length-map-range_with_len}
+use Rattle.std.proofs.lemmas.List.Sums.{get_or-le-sum_by, sum_by_more_le, sum_by_more}
+use Rattle.mrp_lot.specs.One.{PlanRows, IsWithin, one}
+use Rattle.mrp_lot.specs.OneLaws.{one-gross}
+use Rattle.mrp_lot.specs.declared.params.PairParams.{PairParams}
 use Rattle.mrp_qty.specs.declared.quantity.TheConstants.{MOST}
 use Rattle.mrp_agent.specs.declared.edges.ParentEdge.{ParentEdge}
-use Rattle.mrp_agent.specs.Asking.{asked_by, asked_on, CanAsk}
+use Rattle.mrp_agent.specs.Asking.{asked_by, asked_on, CanAsk, grossed}
 
 abbrev pub no_edge : ParentEdge
 no_edge = record { component = 0; parent = 0; per = 0 }
@@ -37,3 +42,47 @@ more_asked plans edges k e old now new h inside is size each = record {
       let more : asked_by plans (take (k + 1) edges) t ≡ asked_by plans (take k edges) t + asked_on plans t (get_or edges k no_edge) = sum_by_more (asked_on plans t) edges k no_edge inside in
       omega (arith, each t lower, h.each t low, more, this);
 }
+
+-- ---- the gross requirements
+
+-- a period's gross requirement, within the sum of all
+grossed_at : (called : List ℕ) (edges : List ParentEdge) (plans : List PlanRows) (t : ℕ) → t < length called
+    → slice_index (grossed called edges plans) t ≡ slice_index called t + asked_by plans edges t
+grossed_at called edges plans t low =
+    get_or-map-range_with_len (λ (t : ℕ). slice_index called t + asked_by plans edges t) 0 (length called) t t 0 low (omega arith)
+
+pub gross_within : (params : PairParams) (came called : List ℕ) (edges : List ParentEdge) (plans : List PlanRows) → IsWithin params came (grossed called edges plans)
+    → (t : ℕ) → t < length called → slice_index called t + asked_by plans edges t ≤ MOST
+gross_within params came called edges plans h t low =
+    let inside : t < length (grossed called edges plans) =
+    omega (arith, low, length-map-range_with_len (λ (t : ℕ). slice_index called t + asked_by plans edges t) 0 (length called)) in
+    let part : slice_index (grossed called edges plans) t ≤ sum (grossed called edges plans) = get_or-le-sum_by (λ (n : ℕ). n) (grossed called edges plans) t 0 inside in
+    omega (arith, part, h.total, grossed_at called edges plans t low)
+
+-- so what is called for is small
+pub called_within : (params : PairParams) (came called : List ℕ) (edges : List ParentEdge) (plans : List PlanRows) → IsWithin params came (grossed called edges plans)
+    → All (λ n. n ≤ MOST) called
+called_within params came called edges plans h =
+    All-from_get_or (λ (n : ℕ). n ≤ MOST) called 0 (λ t low. omega (arith, gross_within params came called edges plans h t low))
+
+-- what is called for, and on top of it what the parents ask
+pub grossed_is : (called : List ℕ) (edges : List ParentEdge) (plans : List PlanRows) (new : List ℕ) → length new ≡ length called
+    → ((t : ℕ) → t < length called → slice_index new t ≡ slice_index called t + asked_by plans edges t)
+    → new ≡ grossed called edges plans
+grossed_is called edges plans new size each =
+    fill_by_all (λ (t : ℕ). slice_index called t + asked_by plans edges t) new (length called) 0 size each
+
+-- ---- lengths
+
+pub grossed_length : (called : List ℕ) (edges : List ParentEdge) (plans : List PlanRows) → length (grossed called edges plans) ≡ length called
+grossed_length called edges plans = length-map-range_with_len (λ (t : ℕ). slice_index called t + asked_by plans edges t) 0 (length called)
+
+pub came_length : (params : PairParams) (came called : List ℕ) (edges : List ParentEdge) (plans : List PlanRows) → IsWithin params came (grossed called edges plans)
+    → length came ≡ length called
+came_length params came called edges plans h = h.periods ∙ grossed_length called edges plans
+
+-- a plan has a period for each that is called for
+pub drafted_length : (params : PairParams) (came called : List ℕ) (edges : List ParentEdge) (plans : List PlanRows) (plan : PlanRows) → plan ≡ one params came (grossed called edges plans)
+    → length plan.gross ≡ length called
+drafted_length params came called edges plans plan is =
+    ap (λ (z : PlanRows). length z.gross) is ∙ ap length (one-gross params came (grossed called edges plans)) ∙ grossed_length called edges plans

@@ -22,3 +22,6 @@ pub mod BookCalls
 pub mod Waiting
 pub mod SettledOuts
 pub mod SettledState
+pub mod DraftLaws
+pub mod Desks
+pub mod Marked

@@ -24,19 +24,22 @@ abbrev pub parent_edge : PlantRows → PlantEdge → ParentEdge
 parent_edge V e = record { component = pair_place V e.component.0; parent = pair_place V e.parent.0; per = e.per }
 
 -- The indexes: the items of the pairs by place, the edges in groups by their components, the places of
--- the components that go into each pair, and the items of each lane that goes out.
+-- the components that go into each pair, and the items of each lane that goes out. With them stands how
+-- many periods the desk has on which plans are drafted.
 pub record Indexes : Type 0 where
   pub items : List ItemNo
   pub edges : List ParentEdge
   pub starts : List ℕ
   pub components : List (List ℕ)
   pub out_items : List (List ItemNo)
+  pub desk : ℕ
 
 pub record AreIndexes (V : PlantRows) (I : Indexes) : Type 0 where
   pub items : I.items ≡ map (λ p. p.item) V.pairs
   pub edges : IsGrouped (λ e. e.component) (length V.pairs) (map (parent_edge V) V.edges) I.edges I.starts
   pub components : I.components ≡ map (components_of (joins_of V)) (range_with_len 0 (length V.pairs))
   pub out_items : I.out_items ≡ map (λ lane. map (λ i. i.item) lane.items) V.outgoing
+  pub desk : I.desk ≡ V.horizon
 
 -- a plan has a row's amount for each period
 pub record HasPeriods (V : PlantRows) (plan : PlanRows) : Type 0 where

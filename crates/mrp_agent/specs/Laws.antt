@@ -1,5 +1,8 @@
 -- Laws of agents in a network: what they plan is its plan, and what they send is what its lanes carry.
 use Rattle.std.specs.Prelude.{◌≡◌, ℕ, ◌<◌, Bool, true, List, [], ◌∷◌, ◌++◌, length}
+use Rattle.mrp_lot.specs.One.{IsWithin}
+use Rattle.mrp_lot.specs.declared.params.PairParams.{PairParams}
+use Rattle.mrp_rows.specs.declared.numbers.PairNo.{PairNo}
 use Rattle.mrp_rows.specs.Table.{Table, IsTable}
 use Rattle.mrp_net.specs.Lanes.{lane_at}
 use Rattle.mrp_view.specs.Seen.{IsView}
@@ -13,10 +16,11 @@ use Rattle.mrp_record.specs.Text.{IsBeginning}
 use Rattle.mrp_events.specs.Loads.{loads}
 use Rattle.mrp_events.specs.Local.{AreLegal}
 use Rattle.mrp_events.specs.State.{IsDecided}
-use Rattle.mrp_local.specs.Laws.{IsPairAt}
-use Rattle.mrp_agent.specs.State.{AgentState, outgoing_at, plans_of}
+use Rattle.mrp_local.specs.Laws.{IsPairAt, IsReadyAt}
+use Rattle.mrp_agent.specs.State.{AgentState, outgoing_at, plans_of, pair_of}
 use Rattle.mrp_agent.specs.Sending.{Continues, NothingContinues, IsWithin64}
 use Rattle.mrp_agent.specs.Kept.{HasSmallOpenings}
+use Rattle.mrp_agent.specs.Drafts.{drafted, drafted_gross, drafted_incoming}
 use Rattle.mrp_agent.specs.Shows.{Shows}
 
 -- an agent of a plant of the network, to which legal beginnings have come
@@ -31,6 +35,26 @@ PlannedPairsHaveThePlan =
     (N : Table) → IsTable N → IsLoopFree N
     → (plant : ℕ) (A : AgentState) (sent taken : ℕ → List Record) (planned : ℕ → Bool) → WorksIn N plant A sent taken planned
     → (x : ℕ) → IsPairAt N plant x → planned x ≡ true → plans_of A x ≡ plan_at N x
+
+-- a pair as calls name it
+abbrev pub numbered : ℕ → PairNo
+numbered x = record { 0 = x }
+
+-- once nothing is missing for a pair, its rows in a sized network are together within 10^15
+abbrev pub DraftsAreWithin : Type 0
+DraftsAreWithin =
+    (N : Table) → IsSized N
+    → (plant : ℕ) (A : AgentState) (sent taken : ℕ → List Record) (planned : ℕ → Bool) → WorksIn N plant A sent taken planned
+    → (x : ℕ) → IsPairAt N plant x → IsReadyAt N plant taken planned x
+    → IsWithin (pair_of A.view (numbered x)).params (drafted_incoming A (numbered x)) (drafted_gross A (numbered x))
+
+-- and what it drafts by them is the network's plan of the pair
+abbrev pub DraftsAreThePlan : Type 0
+DraftsAreThePlan =
+    (N : Table) → IsSized N
+    → (plant : ℕ) (A : AgentState) (sent taken : ℕ → List Record) (planned : ℕ → Bool) → WorksIn N plant A sent taken planned
+    → (x : ℕ) → IsPairAt N plant x → IsReadyAt N plant taken planned x
+    → drafted A (numbered x) ≡ plan_at N x
 
 -- in a sized network the numbers and figures that it sends stay below 2^64
 abbrev pub SentIsWithin64 : Type 0

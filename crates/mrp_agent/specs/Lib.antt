@@ -9,3 +9,4 @@ pub mod Making
 pub mod Sent
 pub mod Reading
 pub mod Laws
+pub mod Marking

@@ -5,6 +5,7 @@ ghost use Rattle.mrp_agent.specs.Kept.{IsShowing};
 use crate::booking::incoming_place;
 use crate::edges::{ByComponent, ParentEdge, joins, parent_edges};
 use crate::making::{blank_plans, copy_of, first_progress, idle_outs, new_books};
+use crate::desk::Desk;
 use crate::places::{ItemPlaces, out_items};
 use mrp_book::Book;
 use mrp_cursor::OutCursor;
@@ -34,9 +35,11 @@ pub struct Agent {
     pub(crate) plans: Vec<PairPlan>,
     pub(crate) progress: Readiness,
     pub(crate) outs: Vec<OutCursor>,
+    pub(crate) desk: Desk,
 }
 
 impl Model for Agent {
+    ghost use Rattle.std.specs.Prelude.{length};
     ghost use Rattle.mrp_agent.specs.State.{AgentState};
     ghost use Rattle.mrp_agent.specs.Kept.{IsKept};
 
@@ -68,6 +71,7 @@ impl Model for Agent {
           starts = a.edges.starts.items;
           components = a.components;
           out_items = a.out_items.items;
+          desk = length a.desk.gross;
         }) };
 }
 
@@ -111,6 +115,7 @@ impl Agent {
         let plans = blank_plans(alloc, view.horizon(), pairs)?;
         let progress = first_progress(alloc, &view, &joins)?;
         let outs = idle_outs(alloc, view.outgoing())?;
+        let desk = Desk::new(alloc, view.horizon())?;
         Ok(Agent {
             view,
             items,
@@ -123,6 +128,7 @@ impl Agent {
             plans,
             progress,
             outs,
+            desk,
         })
     }
 

@@ -24,6 +24,8 @@ impl Agent {
         requires gross { length gross.old ≡ self.now.view.horizon }
         requires into { length into.old.gross ≡ self.now.view.horizon }
         ensures plan { into.new ≡ drafted self.now x }
+        ensures incoming { length incoming.new ≡ length incoming.old }
+        ensures gross { length gross.new ≡ length gross.old }
     {
         let Some(place) = self.view.place(x) else {
             unreachable!()
@@ -34,12 +36,21 @@ impl Agent {
         let called = &self.called[begin..begin + periods];
         let params = self.view.pairs()[place].params;
         let edges = self.edges.get(place);
-        draft_from(&params, came, called, edges, &self.plans, incoming, gross, into);
+        draft_from(
+            &params,
+            came,
+            called,
+            edges,
+            &self.plans,
+            incoming,
+            gross,
+            into,
+        );
     }
 }
 
 /// Writes the plan of a pair from what has come, what is called for, and the plans of its parents.
-fn draft_from(
+pub(crate) fn draft_from(
     params: &PairParams,
     came: &[u64],
     called: &[u64],
@@ -53,7 +64,9 @@ fn draft_from(
     requires incoming { length incoming.old ≡ length came.now }
     requires gross { length gross.old ≡ length called.now }
     requires into { length into.old.gross ≡ length called.now }
-    ensures { into.new ≡ one params.now came.now (grossed called.now edges.now plans.now) }
+    ensures plan { into.new ≡ one params.now came.now (grossed called.now edges.now plans.now) }
+    ensures incoming { length incoming.new ≡ length incoming.old }
+    ensures gross { length gross.new ≡ length gross.old }
 {
     incoming.copy_pieces(came);
     gross.copy_pieces(called);

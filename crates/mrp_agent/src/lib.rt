@@ -8,12 +8,14 @@
 
 mod agent;
 mod booking;
+mod desk;
 mod drafting;
 mod edges;
 mod gate;
 pub mod laws;
 mod making;
 mod places;
+mod planning;
 mod sending;
 mod settling;
 

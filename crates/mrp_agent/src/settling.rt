@@ -58,6 +58,13 @@ impl Agent {
 
 /// Lets each schedule lane send what it has of an item.
 fn queue_item(outs: &mut Vec<OutCursor>, lanes: &[OutgoingLane], items: &[ItemPlaces], item: ItemNo)
+
+pub(crate) fn queue_item(
+    outs: &mut Vec<OutCursor>,
+    lanes: &[OutgoingLane],
+    items: &[ItemPlaces],
+    item: ItemNo,
+)
     requires outs { length outs.old.items ≡ length lanes.now }
     requires items { items.now ≡ map (λ lane. map (λ i. i.item) lane.items) lanes.now }
     ensures { AreSettled lanes.now item outs.old.items outs.new.items }
