@@ -3,9 +3,9 @@ ghost use Rattle.std.specs.List.{list_all};
 ghost use Rattle.mrp_agent.specs.Kept.{IsShowing};
 
 use crate::booking::incoming_place;
+use crate::desk::Desk;
 use crate::edges::{ByComponent, ParentEdge, joins, parent_edges};
 use crate::making::{blank_plans, copy_of, first_progress, idle_outs, new_books};
-use crate::desk::Desk;
 use crate::places::{ItemPlaces, out_items};
 use mrp_book::Book;
 use mrp_cursor::OutCursor;
@@ -77,7 +77,6 @@ impl Model for Agent {
 
 impl Agent {
     ghost use Rattle.std.specs.Prelude.{◌↔◌, ℕ, Bool, IsSome, IsTrue, List, slice_get, ◌≢◌, AllPairs, Contains};
-    ghost use Rattle.mrp_record.specs.declared.record.Record.{Record};
     ghost use Rattle.mrp_events.specs.State.{opening_state};
     ghost use Rattle.mrp_ready.specs.Progress.{is_planned, left_of};
     ghost use Rattle.mrp_record.specs.declared.record.Record.{Record};

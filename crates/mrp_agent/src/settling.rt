@@ -57,8 +57,6 @@ impl Agent {
 }
 
 /// Lets each schedule lane send what it has of an item.
-fn queue_item(outs: &mut Vec<OutCursor>, lanes: &[OutgoingLane], items: &[ItemPlaces], item: ItemNo)
-
 pub(crate) fn queue_item(
     outs: &mut Vec<OutCursor>,
     lanes: &[OutgoingLane],

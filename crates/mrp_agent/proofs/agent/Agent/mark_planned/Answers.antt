@@ -70,4 +70,3 @@ returns c =
     let new : AgentState = record A { progress = c.settle.new.self; outs = c.queue_item.new.outs.items } in
     let marked : IsMarked A c.args.place new = record { same = refl; settled = settled; queued = queued } in
     subst (λ (a : AgentState). IsMarked a c.args.place new) c.self.view_is marked
-

@@ -11,7 +11,6 @@ use Rattle.mrp_agent.proofs.agent.Agent.next_out.Goals as goal
 pub returns-clause-given : goal.returns-clause-given
 returns-clause-given c =
     let A : AgentState = the_view c.self.inside in
-    let I : Indexes = record { items = c.self.inside.items; edges = c.self.inside.edges.rows.items; starts = c.self.inside.edges.starts.items; components = c.self.inside.components; out_items = c.self.inside.out_items.items; desk = length c.self.inside.desk.gross } in
     let k : ℕ = outgoing_place A.view c.args.lane.0 in
     let within : k < length A.view.outgoing = subst (λ (a : AgentState). outgoing_place a.view c.args.lane.0 < length a.view.outgoing) (sym c.self.view_is) c.requires.outgoing in
     let at : c.outgoing_place-k.result ≡ k = c.outgoing_place-k.ensures ∙ ap (λ (z : List OutgoingLane). position_or_len (λ (l : OutgoingLane). l.number.0 == c.args.lane.0) z) c.outgoing.ensures in
@@ -24,7 +23,6 @@ returns-clause-given c =
 pub returns-clause-none : goal.returns-clause-none
 returns-clause-none c =
     let A : AgentState = the_view c.self.inside in
-    let I : Indexes = record { items = c.self.inside.items; edges = c.self.inside.edges.rows.items; starts = c.self.inside.edges.starts.items; components = c.self.inside.components; out_items = c.self.inside.out_items.items; desk = length c.self.inside.desk.gross } in
     let k : ℕ = outgoing_place A.view c.args.lane.0 in
     let within : k < length A.view.outgoing = subst (λ (a : AgentState). outgoing_place a.view c.args.lane.0 < length a.view.outgoing) (sym c.self.view_is) c.requires.outgoing in
     let at : c.outgoing_place-k.result ≡ k = c.outgoing_place-k.ensures ∙ ap (λ (z : List OutgoingLane). position_or_len (λ (l : OutgoingLane). l.number.0 == c.args.lane.0) z) c.outgoing.ensures in

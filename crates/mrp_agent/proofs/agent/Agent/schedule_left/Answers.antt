@@ -15,7 +15,6 @@ use Rattle.mrp_agent.proofs.agent.Agent.schedule_left.Goals as goal
 pub unreachable-requires : goal.unreachable-requires
 unreachable-requires c =
     let A : AgentState = the_view c.self.inside in
-    let I : Indexes = record { items = c.self.inside.items; edges = c.self.inside.edges.rows.items; starts = c.self.inside.edges.starts.items; components = c.self.inside.components; out_items = c.self.inside.out_items.items; desk = length c.self.inside.desk.gross } in
     let there : Contains A.view.outgoing c.args.lane.now = subst (λ (a : AgentState). Contains a.view.outgoing c.args.lane.now) (sym c.self.view_is) c.requires.lane in
     let facts : CallFacts A c.args.lane.now c.args.place = call_facts A c.self.invariant c.args.lane.now there c.requires.schedule c.args.place c.requires.place in
     let at = ap (λ (i : OutgoingItem). position (λ (p : PlantPair). p.number.0 == i.customer.0) A.view.pairs) c.get-item.ensures ∙ own_found A.view (load_at c.args.lane.now.items c.args.place).customer facts.own in
@@ -33,7 +32,6 @@ index-requires c =
 pub left_to_call-requires-clause-book : goal.left_to_call-requires-clause-book
 left_to_call-requires-clause-book c =
     let A : AgentState = the_view c.self.inside in
-    let I : Indexes = record { items = c.self.inside.items; edges = c.self.inside.edges.rows.items; starts = c.self.inside.edges.starts.items; components = c.self.inside.components; out_items = c.self.inside.out_items.items; desk = length c.self.inside.desk.gross } in
     let there : Contains A.view.outgoing c.args.lane.now = subst (λ (a : AgentState). Contains a.view.outgoing c.args.lane.now) (sym c.self.view_is) c.requires.lane in
     let facts : CallFacts A c.args.lane.now c.args.place = call_facts A c.self.invariant c.args.lane.now there c.requires.schedule c.args.place c.requires.place in
     let k : ℕ = incoming_place A.view (c.args.lane.now.number.0 - 1) in
@@ -46,7 +44,6 @@ left_to_call-requires-clause-book c =
 pub left_to_call-requires-clause-shares : goal.left_to_call-requires-clause-shares
 left_to_call-requires-clause-shares c =
     let A : AgentState = the_view c.self.inside in
-    let I : Indexes = record { items = c.self.inside.items; edges = c.self.inside.edges.rows.items; starts = c.self.inside.edges.starts.items; components = c.self.inside.components; out_items = c.self.inside.out_items.items; desk = length c.self.inside.desk.gross } in
     let there : Contains A.view.outgoing c.args.lane.now = subst (λ (a : AgentState). Contains a.view.outgoing c.args.lane.now) (sym c.self.view_is) c.requires.lane in
     let facts : CallFacts A c.args.lane.now c.args.place = call_facts A c.self.invariant c.args.lane.now there c.requires.schedule c.args.place c.requires.place in
     subst AreShares (sym c.get-item.ensures) facts.shares
@@ -54,7 +51,6 @@ left_to_call-requires-clause-shares c =
 pub returns : goal.returns
 returns c =
     let A : AgentState = the_view c.self.inside in
-    let I : Indexes = record { items = c.self.inside.items; edges = c.self.inside.edges.rows.items; starts = c.self.inside.edges.starts.items; components = c.self.inside.components; out_items = c.self.inside.out_items.items; desk = length c.self.inside.desk.gross } in
     let there : Contains A.view.outgoing c.args.lane.now = subst (λ (a : AgentState). Contains a.view.outgoing c.args.lane.now) (sym c.self.view_is) c.requires.lane in
     let facts : CallFacts A c.args.lane.now c.args.place = call_facts A c.self.invariant c.args.lane.now there c.requires.schedule c.args.place c.requires.place in
     let k : ℕ = incoming_place A.view (c.args.lane.now.number.0 - 1) in

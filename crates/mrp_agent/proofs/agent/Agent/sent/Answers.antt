@@ -13,7 +13,6 @@ use Rattle.mrp_agent.proofs.agent.Agent.sent.Goals as goal
 pub invariant_of-self : goal.invariant_of-self
 invariant_of-self c =
     let A : AgentState = the_view c.self.inside in
-    let I : Indexes = record { items = c.self.inside.items; edges = c.self.inside.edges.rows.items; starts = c.self.inside.edges.starts.items; components = c.self.inside.components; out_items = c.self.inside.out_items.items; desk = length c.self.inside.desk.gross } in
     let k : ℕ = outgoing_place A.view c.args.lane.0 in
     let within : k < length A.view.outgoing = subst (λ (a : AgentState). outgoing_place a.view c.args.lane.0 < length a.view.outgoing) (sym c.self.view_is) c.requires.outgoing in
     let at : c.outgoing_place-k.result ≡ k = c.outgoing_place-k.ensures ∙ ap (λ (z : List OutgoingLane). position_or_len (λ (l : OutgoingLane). l.number.0 == c.args.lane.0) z) c.outgoing.ensures in
@@ -25,7 +24,6 @@ invariant_of-self c =
 pub returns-clause-appended : goal.returns-clause-appended
 returns-clause-appended c =
     let A : AgentState = the_view c.self.inside in
-    let I : Indexes = record { items = c.self.inside.items; edges = c.self.inside.edges.rows.items; starts = c.self.inside.edges.starts.items; components = c.self.inside.components; out_items = c.self.inside.out_items.items; desk = length c.self.inside.desk.gross } in
     let k : ℕ = outgoing_place A.view c.args.lane.0 in
     let within : k < length A.view.outgoing = subst (λ (a : AgentState). outgoing_place a.view c.args.lane.0 < length a.view.outgoing) (sym c.self.view_is) c.requires.outgoing in
     let at : c.outgoing_place-k.result ≡ k = c.outgoing_place-k.ensures ∙ ap (λ (z : List OutgoingLane). position_or_len (λ (l : OutgoingLane). l.number.0 == c.args.lane.0) z) c.outgoing.ensures in
