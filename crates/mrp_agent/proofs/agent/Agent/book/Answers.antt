@@ -17,7 +17,7 @@ use Rattle.mrp_agent.proofs.agent.Agent.book.Goals as goal
 pub end_block-requires : goal.end_block-requires
 end_block-requires c =
     let A : AgentState = the_view c.self.inside in
-    let I : Indexes = record { items = c.self.inside.items; edges = c.self.inside.edges.rows.items; starts = c.self.inside.edges.starts.items; components = c.self.inside.components; out_items = c.self.inside.out_items.items } in
+    let I : Indexes = record { items = c.self.inside.items; edges = c.self.inside.edges.rows.items; starts = c.self.inside.edges.starts.items; components = c.self.inside.components; out_items = c.self.inside.out_items.items; desk = length c.self.inside.desk.gross } in
     let l : ℕ = c.args.lane.0 in
     let within : incoming_place A.view l < length A.view.incoming = subst (λ (a : AgentState). incoming_place a.view l < length a.view.incoming) (sym c.self.view_is) c.requires.incoming in
     let at : c.incoming_place-k.result ≡ incoming_place A.view l = c.incoming_place-k.ensures ∙ ap (λ (z : List IncomingLane). position_or_len (λ (k : IncomingLane). k.number.0 == l) z) c.incoming.ensures in
@@ -26,7 +26,7 @@ end_block-requires c =
 pub invariant_of-self-2 : goal.invariant_of-self-2
 invariant_of-self-2 c =
     let A : AgentState = the_view c.self.inside in
-    let I : Indexes = record { items = c.self.inside.items; edges = c.self.inside.edges.rows.items; starts = c.self.inside.edges.starts.items; components = c.self.inside.components; out_items = c.self.inside.out_items.items } in
+    let I : Indexes = record { items = c.self.inside.items; edges = c.self.inside.edges.rows.items; starts = c.self.inside.edges.starts.items; components = c.self.inside.components; out_items = c.self.inside.out_items.items; desk = length c.self.inside.desk.gross } in
     let l : ℕ = c.args.lane.0 in
     let within : incoming_place A.view l < length A.view.incoming = subst (λ (a : AgentState). incoming_place a.view l < length a.view.incoming) (sym c.self.view_is) c.requires.incoming in
     let at : c.incoming_place-k.result ≡ incoming_place A.view l = c.incoming_place-k.ensures ∙ ap (λ (z : List IncomingLane). position_or_len (λ (k : IncomingLane). k.number.0 == l) z) c.incoming.ensures in
@@ -37,7 +37,7 @@ invariant_of-self-2 c =
 pub returns-clause-booked : goal.returns-clause-booked
 returns-clause-booked c =
     let A : AgentState = the_view c.self.inside in
-    let I : Indexes = record { items = c.self.inside.items; edges = c.self.inside.edges.rows.items; starts = c.self.inside.edges.starts.items; components = c.self.inside.components; out_items = c.self.inside.out_items.items } in
+    let I : Indexes = record { items = c.self.inside.items; edges = c.self.inside.edges.rows.items; starts = c.self.inside.edges.starts.items; components = c.self.inside.components; out_items = c.self.inside.out_items.items; desk = length c.self.inside.desk.gross } in
     let l : ℕ = c.args.lane.0 in
     let within : incoming_place A.view l < length A.view.incoming = subst (λ (a : AgentState). incoming_place a.view l < length a.view.incoming) (sym c.self.view_is) c.requires.incoming in
     let at : c.incoming_place-k.result ≡ incoming_place A.view l = c.incoming_place-k.ensures ∙ ap (λ (z : List IncomingLane). position_or_len (λ (k : IncomingLane). k.number.0 == l) z) c.incoming.ensures in
@@ -49,7 +49,7 @@ returns-clause-booked c =
 pub returns-in_err-book-clause-refused : goal.returns-in_err-book-clause-refused
 returns-in_err-book-clause-refused c =
     let A : AgentState = the_view c.self.inside in
-    let I : Indexes = record { items = c.self.inside.items; edges = c.self.inside.edges.rows.items; starts = c.self.inside.edges.starts.items; components = c.self.inside.components; out_items = c.self.inside.out_items.items } in
+    let I : Indexes = record { items = c.self.inside.items; edges = c.self.inside.edges.rows.items; starts = c.self.inside.edges.starts.items; components = c.self.inside.components; out_items = c.self.inside.out_items.items; desk = length c.self.inside.desk.gross } in
     let l : ℕ = c.args.lane.0 in
     let within : incoming_place A.view l < length A.view.incoming = subst (λ (a : AgentState). incoming_place a.view l < length a.view.incoming) (sym c.self.view_is) c.requires.incoming in
     let at : c.incoming_place-k.result ≡ incoming_place A.view l = c.incoming_place-k.ensures ∙ ap (λ (z : List IncomingLane). position_or_len (λ (k : IncomingLane). k.number.0 == l) z) c.incoming.ensures in

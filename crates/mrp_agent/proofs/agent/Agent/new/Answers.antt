@@ -78,7 +78,7 @@ invariant_of-result c =
       plans_are = c.in_ok-plans.ensures ∙ ap (λ (n : ℕ). replicate n (nothing_planned c.horizon.result)) pairs ∙ ap (λ (h : ℕ). replicate (length V.pairs) (nothing_planned h)) c.horizon.ensures;
     } in
     let opens = agent_opened V c.in_ok-books.books.items c.in_ok-came.came.items c.in_ok-called.called.items c.in_ok-plans.plans.items c.in_ok-progress.progress c.in_ok-outs.outs.items made in
-    let I : Indexes = record { items = c.in_ok-items.items; edges = c.in_ok-edges.edges.rows.items; starts = c.in_ok-edges.edges.starts.items; components = c.in_ok-components.components; out_items = c.in_ok-out_items.out_items.items } in
+    let I : Indexes = record { items = c.in_ok-items.items; edges = c.in_ok-edges.edges.rows.items; starts = c.in_ok-edges.edges.starts.items; components = c.in_ok-components.components; out_items = c.in_ok-out_items.out_items.items; desk = length c.in_ok-desk.desk.gross } in
     let indexes = indexes_made V I c.deref.result.now c.deref-3.result.now (length c.pairs-pairs.result.now) pairs
     (c.in_ok-items.ensures ∙ ap (λ (z : List PlantPair). map (λ p. p.item) z) c.pairs.ensures)
     (c.deref.ensures.value ∙ parents)

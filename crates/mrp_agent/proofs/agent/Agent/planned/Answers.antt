@@ -10,7 +10,7 @@ use Rattle.mrp_agent.proofs.agent.Agent.planned.Goals as goal
 pub returns-in_err-place-clause-there : goal.returns-in_err-place-clause-there
 returns-in_err-place-clause-there c =
     let A : AgentState = the_view c.self.inside in
-    let I : Indexes = record { items = c.self.inside.items; edges = c.self.inside.edges.rows.items; starts = c.self.inside.edges.starts.items; components = c.self.inside.components; out_items = c.self.inside.out_items.items } in
+    let I : Indexes = record { items = c.self.inside.items; edges = c.self.inside.edges.rows.items; starts = c.self.inside.edges.starts.items; components = c.self.inside.components; out_items = c.self.inside.out_items.items; desk = length c.self.inside.desk.gross } in
     let flag : is_planned c.args.self.now.progress.planned (pair_place c.args.self.now.view c.args.x.0) ≡ false =
     subst (λ (a : AgentState). is_planned a.progress.planned (pair_place a.view c.args.x.0) ≡ false) c.self.view_is
     (other_unplanned A I c.self.invariant c.args.x (sym c.place.ensures ∙ c.in_err-place.was)) in

@@ -50,7 +50,7 @@ of-requires c =
 pub settle-requires-clause-known : goal.settle-requires-clause-known
 settle-requires-clause-known c =
     let A : AgentState = the_view c.self.inside in
-    let I : Indexes = record { items = c.self.inside.items; edges = c.self.inside.edges.rows.items; starts = c.self.inside.edges.starts.items; components = c.self.inside.components; out_items = c.self.inside.out_items.items } in
+    let I : Indexes = record { items = c.self.inside.items; edges = c.self.inside.edges.rows.items; starts = c.self.inside.edges.starts.items; components = c.self.inside.components; out_items = c.self.inside.out_items.items; desk = length c.self.inside.desk.gross } in
     let can : CanDraft A c.args.x = subst (λ (a : AgentState). CanDraft a c.args.x) (sym c.self.view_is) c.requires.can in
     let at : c.ready_place-place.result ≡ pair_place A.view c.args.x.0 = c.ready_place-place.ensures.place ∙ ap (λ (a : AgentState). pair_place a.view c.args.x.0) (sym c.self.view_is) in
     components_known A I c.self.invariant c.ready_place-place.result (omega (arith, at, own_within A.view c.args.x can.own)) c.of.result.now c.of.ensures
@@ -58,7 +58,7 @@ settle-requires-clause-known c =
 pub settle-requires-clause-waits : goal.settle-requires-clause-waits
 settle-requires-clause-waits c =
     let A : AgentState = the_view c.self.inside in
-    let I : Indexes = record { items = c.self.inside.items; edges = c.self.inside.edges.rows.items; starts = c.self.inside.edges.starts.items; components = c.self.inside.components; out_items = c.self.inside.out_items.items } in
+    let I : Indexes = record { items = c.self.inside.items; edges = c.self.inside.edges.rows.items; starts = c.self.inside.edges.starts.items; components = c.self.inside.components; out_items = c.self.inside.out_items.items; desk = length c.self.inside.desk.gross } in
     let can : CanDraft A c.args.x = subst (λ (a : AgentState). CanDraft a c.args.x) (sym c.self.view_is) c.requires.can in
     let at : c.ready_place-place.result ≡ pair_place A.view c.args.x.0 = c.ready_place-place.ensures.place ∙ ap (λ (a : AgentState). pair_place a.view c.args.x.0) (sym c.self.view_is) in
     let listed : IsListedIn A = subst IsListedIn (sym c.self.view_is) c.ready_place-place.ensures.listed in
@@ -73,7 +73,7 @@ placed c = c.ready_place-place.ensures.place ∙ ap (λ (a : AgentState). pair_p
 settling : (c : goal.After-queue_item) → IsSettling (the_view c.self.inside) c.args.x c.copy_from.new.self c.settle.new.self c.queue_item.new.outs.items
 settling c =
     let A : AgentState = the_view c.self.inside in
-    let I : Indexes = record { items = c.self.inside.items; edges = c.self.inside.edges.rows.items; starts = c.self.inside.edges.starts.items; components = c.self.inside.components; out_items = c.self.inside.out_items.items } in
+    let I : Indexes = record { items = c.self.inside.items; edges = c.self.inside.edges.rows.items; starts = c.self.inside.edges.starts.items; components = c.self.inside.components; out_items = c.self.inside.out_items.items; desk = length c.self.inside.desk.gross } in
     let k : ℕ = c.ready_place-place.result in
     let can : CanDraft A c.args.x = subst (λ (a : AgentState). CanDraft a c.args.x) (sym c.self.view_is) c.requires.can in
     let within : k < length A.view.pairs = omega (arith, placed c, own_within A.view c.args.x can.own) in
@@ -103,7 +103,7 @@ settling c =
 pub invariant_of-self : goal.invariant_of-self
 invariant_of-self c =
     let A : AgentState = the_view c.self.inside in
-    let I : Indexes = record { items = c.self.inside.items; edges = c.self.inside.edges.rows.items; starts = c.self.inside.edges.starts.items; components = c.self.inside.components; out_items = c.self.inside.out_items.items } in
+    let I : Indexes = record { items = c.self.inside.items; edges = c.self.inside.edges.rows.items; starts = c.self.inside.edges.starts.items; components = c.self.inside.components; out_items = c.self.inside.out_items.items; desk = length c.self.inside.desk.gross } in
     let P : ℕ → Type 0 = λ k. IsKept (after_settled A k c.copy_from.new.self c.settle.new.self c.queue_item.new.outs.items) I in
     subst P (sym (placed c)) (settled_kept A I c.args.x c.copy_from.new.self c.settle.new.self c.queue_item.new.outs.items c.self.invariant (settling c))
 
