@@ -1,10 +1,10 @@
 -- What the calls that read an agent say of each history that it shows.
 use Rattle.std.proofs.Common.{◌≡◌, ℕ, zero, suc, ◌<◌, ◌≤◌, ◌==◌, eqb, cond, not, ◌&&◌, Bool, true, false, Option, Some, None, option_map, List, [], ◌∷◌, ◌↔◌, inl, inr, length, get_or, map, position, refl, sym, ap, ◌∙◌, subst, arith}
 use Rattle.std.specs.Prelude.{IsTrue, option_and_then}
-use Rattle.std.specs.List.{Contains, find, list_all}
+use Rattle.std.specs.List.{Contains, count_by, slice_get, find, list_all}
 use Rattle.std.proofs.lemmas.Bool.{cases_Bool, cases_lt, eq-eqb, eqb-true, and_parts, and_from}
 use Rattle.std.proofs.lemmas.List.{get_or_default}
-use Rattle.std.proofs.lemmas.List.Elements.{Contains-get_or}
+use Rattle.std.proofs.lemmas.List.Elements.{All-contains, Contains-get_or}
 use Rattle.std.proofs.lemmas.List.Folds.{find_at}
 use Rattle.std.proofs.lemmas.List.Sums.{AllPass-from_list_all, list_all-from_AllPass, get_or-le-sum_by}
 use Rattle.std.proofs.lemmas.Option.{slice_get-get_or, slice_get_past}
@@ -15,6 +15,7 @@ use Rattle.mrp_view.specs.declared.view.IncomingItem.{IncomingItem}
 use Rattle.mrp_view.specs.declared.view.IncomingLane.{IncomingLane}
 use Rattle.mrp_view.specs.declared.view.OutgoingLane.{OutgoingLane}
 use Rattle.mrp_view.specs.declared.view.PlantPair.{PlantPair}
+use Rattle.mrp_view.specs.Seen.{IsIncomingLane}
 use Rattle.mrp_view.specs.View.{PlantRows}
 use Rattle.mrp_view.proofs.Once.{count_none}
 use Rattle.mrp_record.specs.declared.record.Record.{Record}
@@ -29,7 +30,7 @@ use Rattle.mrp_local.specs.Goods.{goods_of}
 use Rattle.mrp_agent.specs.State.{AgentState, incoming_at, outgoing_at, book_at, out_at, no_book, no_incoming, no_out, no_outgoing, no_pair, pair_place, plans_of, incoming_place}
 use Rattle.mrp_agent.specs.Shows.{Shows, BooksShow, book_item, form_of, is_done}
 use Rattle.mrp_agent.specs.Kept.{Indexes, IsKept}
-use Rattle.mrp_agent.specs.Reading.{HasDone, received, received_on}
+use Rattle.mrp_agent.specs.Reading.{HasDone, ReceivedFiguresAreCumulative, carried_by, incoming_of, received}
 use Rattle.mrp_agent.proofs.Looking.{place_at, place_found, place_is_only, place_known}
 
 -- ---- figures received
@@ -44,16 +45,35 @@ found_item n (i ∷ items) =
       | inr later ↦ rw later (found_item n items)
     ]
 
-figure_twice : (taken : List Record) (o : Option IncomingItem)
-    → option_map (λ (i : FormItem). cum i.opening i.item (contents taken)) (option_map (λ i. book.form_item (book_item i)) o) ≡ option_map (λ i. cum i.opening i.item.0 (contents taken)) o
-figure_twice taken None = refl
-figure_twice taken (Some i) = refl
+-- what is found passes
+found_passes : {X : Type 0} (p : X → Bool) (xs : List X) (x : X) → find p xs ≡ Some x → p x ≡ true
+found_passes p [] x e = absurd (cc e)
+found_passes {X} p (y ∷ xs) x e =
+    elim (cases_Bool (p y)) [
+      | inl here ↦
+          let some : Some y ≡ Some x = rw here at e in
+          let same : y ≡ x = cc some in
+          ap p (sym same) ∙ here
+      | inr later ↦ let rest : find p xs ≡ Some x = rw later at e in found_passes p xs x rest
+    ]
+
+-- what passes alone is found
+found_once : {X : Type 0} (p : X → Bool) (xs : List X) (x : X) → count_by p xs ≤ 1 → Contains xs x → p x ≡ true → find p xs ≡ Some x
+found_once {X} p xs x few (k, within, is) passes =
+    find_at p xs
+    ∙ ap (slice_get xs) (place_is_only p xs k x few within (ap p is ∙ passes))
+    ∙ slice_get-get_or xs k x within
+    ∙ ap (λ (z : X). Some z) is
+
+figure_twice : (records : List Record) (item : ItemNo) (o : Option IncomingItem) → ((i : IncomingItem) → o ≡ Some i → i.item.0 ≡ item.0)
+    → option_map (λ (i : FormItem). cum i.opening i.item (contents records)) (option_map (λ i. book.form_item (book_item i)) o) ≡ option_map (λ i. cum i.opening item.0 (contents records)) o
+figure_twice records item None same = refl
+figure_twice records item (Some i) same = ap (λ (n : ℕ). Some (cum i.opening n (contents records))) (same i refl)
 
 -- the lane at a place is the one that is found
-lane_found : (V : PlantRows) (l : LaneNo) → incoming_place V l.0 < length V.incoming → find (λ z. z.number.0 == l.0) V.incoming ≡ Some (incoming_at V (incoming_place V l.0))
+lane_found : (V : PlantRows) (l : LaneNo) → incoming_place V l.0 < length V.incoming → incoming_of V l ≡ Some (incoming_at V (incoming_place V l.0))
 lane_found V l within =
-    let p : IncomingLane → Bool = λ z. eqb z.number.0 l.0 in
-    find_at p V.incoming ∙ slice_get-get_or V.incoming (incoming_place V l.0) no_incoming within
+    find_at (λ (z : IncomingLane). eqb z.number.0 l.0) V.incoming ∙ slice_get-get_or V.incoming (incoming_place V l.0) no_incoming within
 
 -- what its book says
 pub figure_received : (A : AgentState) (taken : ℕ → List Record) (l : LaneNo) (item : ItemNo) (r : Option ℕ) → BooksShow A taken → incoming_place A.view l.0 < length A.view.incoming
@@ -61,15 +81,30 @@ pub figure_received : (A : AgentState) (taken : ℕ → List Record) (l : LaneNo
     → r ≡ received A.view taken l item
 figure_received A taken l item r books within said =
     let lane : IncomingLane = incoming_at A.view (incoming_place A.view l.0) in
-    let records : List Record = taken lane.number.0 in
-    said (form_of A.view lane) records (books (incoming_place A.view l.0) within)
-    ∙ ap (option_map (λ (i : FormItem). cum i.opening i.item (contents records))) (found_item item.0 lane.items)
-    ∙ figure_twice records (find (λ (i : IncomingItem). eqb i.item.0 item.0) lane.items)
-    ∙ sym (ap (option_and_then (received_on taken item)) (lane_found A.view l within))
+    let p : IncomingItem → Bool = λ i. eqb i.item.0 item.0 in
+    let number : lane.number.0 ≡ l.0 = eqb-true lane.number.0 l.0 (found_passes (λ (z : IncomingLane). eqb z.number.0 l.0) A.view.incoming lane (lane_found A.view l within)) in
+    let shows : book.Shows (form_of A.view lane) (book_at A (incoming_place A.view l.0)) (taken l.0) =
+    subst (λ (n : ℕ). book.Shows (form_of A.view lane) (book_at A (incoming_place A.view l.0)) (taken n)) number (books (incoming_place A.view l.0) within) in
+    said (form_of A.view lane) (taken l.0) shows
+    ∙ ap (option_map (λ (i : FormItem). cum i.opening i.item (contents (taken l.0)))) (found_item item.0 lane.items)
+    ∙ figure_twice (taken l.0) item (carried_by item lane) (λ i is. eqb-true i.item.0 item.0 (found_passes p lane.items i is))
+    ∙ sym (ap (λ (o : Option IncomingLane). option_map (λ (i : IncomingItem). cum i.opening item.0 (contents (taken l.0))) (option_and_then (carried_by item) o)) (lane_found A.view l within))
 
 -- no lane, no figure
-pub none_received : (V : PlantRows) (taken : ℕ → List Record) (l : LaneNo) (item : ItemNo) → find (λ z. z.number.0 == l.0) V.incoming ≡ None → None ≡ received V taken l item
-none_received V taken l item none = sym (ap (option_and_then (received_on taken item)) none)
+none_received : (V : PlantRows) (taken : ℕ → List Record) (l : LaneNo) (item : ItemNo) → incoming_of V l ≡ None → None ≡ received V taken l item
+none_received V taken l item none =
+    sym (ap (λ (o : Option IncomingLane). option_map (λ (i : IncomingItem). cum i.opening item.0 (contents (taken l.0))) (option_and_then (carried_by item) o)) none)
+
+-- of an item of a lane that comes in
+pub received_figures_are_cumulative : ReceivedFiguresAreCumulative
+received_figures_are_cumulative V view taken lane there i carries =
+    let is = All-contains (IsIncomingLane V) V.incoming lane view.incoming there in
+    let found : incoming_of V lane.number ≡ Some lane =
+    found_once (λ (z : IncomingLane). eqb z.number.0 lane.number.0) V.incoming lane (view.incoming_once lane.number.0) there (eq-eqb lane.number.0 lane.number.0 refl) in
+    let carried : carried_by i.item lane ≡ Some i =
+    found_once (λ (z : IncomingItem). eqb z.item.0 i.item.0) lane.items i (is.once i.item.0) carries (eq-eqb i.item.0 i.item.0 refl) in
+    let figure : IncomingItem → ℕ = λ z. cum z.opening i.item.0 (contents (taken lane.number.0)) in
+    ap (λ (o : Option IncomingLane). option_map figure (option_and_then (carried_by i.item) o)) found ∙ ap (option_map figure) carried
 
 -- as it is read at a place, and past the lanes
 pub figure_said : (A : AgentState) (taken : ℕ → List Record) (l : LaneNo) (item : ItemNo) (r : Option ℕ) (b : Figures) (k : ℕ) → BooksShow A taken

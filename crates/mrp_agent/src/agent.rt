@@ -99,7 +99,8 @@ impl Agent {
         requires seen { IsView view }
         requires openings { HasSmallOpenings view }
         ensures view { IfOk result (λ agent. agent.view ≡ view) }
-        ensures opens { IfOk result (λ agent. Shows agent opening_state.sent opening_state.taken opening_state.planned) }
+        ensures opens { IfOk result
+            (λ agent. Shows agent opening_state.sent opening_state.taken opening_state.planned) }
     {
         let items = ItemPlaces::of_pairs(alloc, view.pairs())?;
         let parents = parent_edges(alloc, &view, view.edges())?;

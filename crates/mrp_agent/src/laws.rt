@@ -1,6 +1,7 @@
 //! Laws of agents in a network. Each is the contract of a function that does nothing.
 
 ghost use Rattle.mrp_agent.specs.Laws.{NothingLegalIsLeft, PlannedPairsHaveThePlan, SentIsLegal, SentIsWithin64, ViewsCanBePlanned, DraftsAreThePlan, DraftsAreWithin};
+ghost use Rattle.mrp_agent.specs.Reading.{ReceivedFiguresAreCumulative};
 
 /// In a network without loops an agent that has taken legal beginnings keeps the network's plan of each
 /// planned pair.
@@ -33,4 +34,10 @@ pub fn nothing_legal_is_left()
 /// requires: the view says enough, and no figures begin above 10^15 pieces.
 pub fn what_a_plant_sees_is_enough()
     ensures { ViewsCanBePlanned }
+{}
+
+/// Of an item of a lane that comes in, what [`crate::Agent::cumulative`] answers is the lane's cumulative
+/// figure from the item's opening one on.
+pub fn received_figures_are_cumulative()
+    ensures { ReceivedFiguresAreCumulative }
 {}
