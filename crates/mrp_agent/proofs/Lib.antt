@@ -13,3 +13,5 @@ pub mod Settled
 pub mod DraftLaws
 pub mod Desks
 pub mod Marked
+pub mod Ready
+pub mod Shown
