@@ -15,3 +15,6 @@ pub mod Desks
 pub mod Marked
 pub mod Ready
 pub mod Shown
+pub mod Nothing
+pub mod Queued
+pub mod Replanned
