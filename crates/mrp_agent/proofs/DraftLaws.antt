@@ -35,7 +35,7 @@ small_sum : (n : ℕ) → n ≤ MOST → up_to_last n ≡ n
 small_sum n h = omega arith
 
 -- an amount of a row is within their sum
-in_row : (V : PlantRows) (amount : ℕ → ℕ) (t : ℕ) → t < V.horizon → amount t ≤ sum (local_row V amount)
+pub in_row : (V : PlantRows) (amount : ℕ → ℕ) (t : ℕ) → t < V.horizon → amount t ≤ sum (local_row V amount)
 in_row V amount t low =
     let inside : t < length (local_row V amount) = omega (arith, low, length-map-range_with_len amount 0 V.horizon) in
     let at : slice_index (local_row V amount) t ≡ amount t = get_or-map-range_with_len amount 0 V.horizon t t 0 low (omega arith) in

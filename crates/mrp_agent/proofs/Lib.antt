@@ -25,3 +25,8 @@ pub mod SettledState
 pub mod DraftLaws
 pub mod Desks
 pub mod Marked
+pub mod Ready
+pub mod Shown
+pub mod Nothing
+pub mod Queued
+pub mod Replanned

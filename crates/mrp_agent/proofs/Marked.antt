@@ -65,7 +65,7 @@ queue_size : (room : Bool) (o : OutFigures) (queue : List ℕ) → (if room then
 queue_size true o queue = refl
 queue_size false o queue = refl
 
-queued_size : (o : OutFigures) (place : Option ℕ) → (queued_at o place).size ≡ o.size
+pub queued_size : (o : OutFigures) (place : Option ℕ) → (queued_at o place).size ≡ o.size
 queued_size o None = refl
 queued_size o (Some place) = queue_size (nat_lt place o.size && nat_lt (length o.queue) o.size) o (o.queue ++ place ∷ [])
 

@@ -31,6 +31,7 @@ impl Agent {
         let Some(place) = self.view.place(x) else {
             unreachable!()
         };
+        let _ready = self.progress.ready_pairs();
         let can = self.progress.is_ready(place);
         if can {
             self.write_plan(x, place);
