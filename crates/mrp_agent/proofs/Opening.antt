@@ -239,13 +239,14 @@ lanes_once V view = λ k d within. record { once = (view.outgoing k d within).on
 
 pub indexes_made : (V : PlantRows) (I : Indexes) (parents : List ParentEdge) (joins : List Join) (n : ℕ) → n ≡ length V.pairs → I.items ≡ map (λ p. p.item) V.pairs → parents ≡ map (parent_edge V) V.edges
     → IsGrouped (λ e. e.component) n parents I.edges I.starts → joins ≡ joins_of V → I.components ≡ map (components_of joins) (range_with_len 0 n)
-    → I.out_items ≡ map (λ lane. map (λ i. i.item) lane.items) V.outgoing → AreIndexes V I
-indexes_made V I parents joins n size items are grouped joined components out = record {
+    → I.out_items ≡ map (λ lane. map (λ i. i.item) lane.items) V.outgoing → I.desk ≡ V.horizon → AreIndexes V I
+indexes_made V I parents joins n size items are grouped joined components out desk = record {
   items = items;
   edges = subst (λ (m : ℕ). IsGrouped (λ (e : ParentEdge). e.component) m (map (parent_edge V) V.edges) I.edges I.starts) size
       (subst (λ (z : List ParentEdge). IsGrouped (λ (e : ParentEdge). e.component) n z I.edges I.starts) are grouped);
   components = components ∙ ap (λ (z : List Join). map (components_of z) (range_with_len 0 n)) joined ∙ ap (λ (m : ℕ). map (components_of (joins_of V)) (range_with_len 0 m)) size;
   out_items = out;
+  desk = desk;
 }
 
 -- the books, sums and plans that are made are those of the opening

@@ -6,7 +6,7 @@ use Rattle.mrp_rows.specs.declared.numbers.ItemNo.{ItemNo}
 use Rattle.mrp_view.specs.declared.view.OutgoingLane.{OutgoingLane}
 use Rattle.mrp_cursor.specs.Cursor.{OutFigures}
 use Rattle.mrp_agent.specs.State.{no_out, no_outgoing}
-use Rattle.mrp_agent.specs.After.{AreSettled, queued_by, settled_out}
+use Rattle.mrp_agent.specs.After.{AreSettled, settled_out}
 
 -- those before a place are settled, and the others are as they were
 pub record SettledTo (lanes : List OutgoingLane) (item : ItemNo) (k : ℕ) (old new : List OutFigures) : Type 0 where

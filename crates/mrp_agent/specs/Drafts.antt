@@ -1,7 +1,6 @@
 -- What an agent drafts for a pair: the plan by the rows that it has.
 use Rattle.std.specs.Prelude.{ℕ, ◌+◌, List, map, Contains}
 use Rattle.mrp_lot.specs.One.{PlanRows, one, IsWithin}
-use Rattle.mrp_lot.specs.declared.params.PairParams.{PairParams}
 use Rattle.mrp_rows.specs.declared.numbers.PairNo.{PairNo}
 use Rattle.mrp_view.specs.Seen.{IsOwn}
 use Rattle.mrp_ready.specs.Chosen.{number_at}

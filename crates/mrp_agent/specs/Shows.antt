@@ -1,12 +1,10 @@
 -- Which sent lists, taken lists and planned pairs an agent shows. `sent` and `taken` have the records of
 -- each lane by the lane's number, `planned` says which pairs are planned, by the pair's number.
-use Rattle.std.specs.Prelude.{◌≡◌, ◌↔◌, ℕ, ◌+◌, ◌-◌, ◌<◌, ◌^◌, ◌==◌, ◌&&◌, not, min, Bool, List, length, map, sum_by, count_by, Contains}
+use Rattle.std.specs.Prelude.{◌≡◌, ◌↔◌, ℕ, ◌+◌, ◌-◌, ◌<◌, ◌^◌, ◌==◌, ◌&&◌, min, Bool, List, length, map, Contains}
 use Rattle.std.specs.List.{flat_map, list_all}
-use Rattle.mrp_rows.specs.declared.numbers.ItemNo.{ItemNo}
-use Rattle.mrp_net.specs.declared.lane.LaneKind.TheVariants.{Despatch, Schedule}
+use Rattle.mrp_net.specs.declared.lane.LaneKind.TheVariants.{Schedule}
 use Rattle.mrp_view.specs.declared.view.IncomingItem.{IncomingItem}
 use Rattle.mrp_view.specs.declared.view.IncomingLane.{IncomingLane}
-use Rattle.mrp_view.specs.declared.view.OutgoingLane.{OutgoingLane}
 use Rattle.mrp_view.specs.declared.view.PlantEdge.{PlantEdge}
 use Rattle.mrp_view.specs.declared.view.PlantPair.{PlantPair}
 use Rattle.mrp_view.specs.View.{PlantRows}

@@ -1,4 +1,4 @@
-use Rattle.std.proofs.Common.{◌≡◌, ◌↔◌, ℕ, Bool, List, subst}
+use Rattle.std.proofs.Common.{◌≡◌, ◌↔◌, ℕ, Bool, List, length, subst}
 use Rattle.std.specs.Prelude.{IsTrue}
 use Rattle.mrp_record.specs.declared.record.Record.{Record}
 use Rattle.mrp_agent.specs.Kept.{Indexes}

@@ -1,13 +1,11 @@
-use Rattle.std.proofs.Common.{◌≡◌, ℕ, ◌+◌, ◌<◌, ◌≤◌, ◌==◌, Some, List, length, position, slice_index, sym, ap, ◌∙◌, subst, arith}
+use Rattle.std.proofs.Common.{◌≡◌, length, sym, ap, ◌∙◌, subst}
 use Rattle.mrp_view.specs.declared.view.PlantPair.{PlantPair}
-use Rattle.mrp_view.specs.Seen.{IsOwn}
-use Rattle.mrp_agent.specs.Asking.{HasDraft}
 use Rattle.mrp_agent.specs.State.{AgentState, pair_place}
 use Rattle.mrp_agent.specs.Drafts.{CanDraft, drafted}
 use Rattle.mrp_agent.specs.Kept.{Indexes}
 use Rattle.mrp_agent.specs.contracts.agent.Agent.{the_view}
 use Rattle.mrp_agent.proofs.Drafts.{HasRead, can_draft_from, draft_is, pair_read, part_read, edges_read, edges_rise}
-use Rattle.mrp_agent.proofs.Owning.{own_found, own_known, own_place_is}
+use Rattle.mrp_agent.proofs.Owning.{own_found, own_place_is}
 use Rattle.mrp_agent.proofs.agent.Agent.draft.Goals as goal
 
 pub unreachable-requires : goal.unreachable-requires

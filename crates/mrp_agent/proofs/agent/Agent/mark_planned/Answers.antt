@@ -1,4 +1,4 @@
-use Rattle.std.proofs.Common.{◌≡◌, ℕ, ◌<◌, List, length, get_or, refl, sym, ap, ◌∙◌, subst, arith}
+use Rattle.std.proofs.Common.{◌≡◌, ◌<◌, length, get_or, refl, sym, subst, arith}
 use Rattle.mrp_ready.specs.Counts.{components_of}
 use Rattle.mrp_ready.specs.Progress.{IsFree}
 use Rattle.mrp_agent.specs.After.{PairSettled}

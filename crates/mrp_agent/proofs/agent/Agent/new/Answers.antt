@@ -85,7 +85,8 @@ invariant_of-result c =
     c.in_ok-edges.ensures
     (c.deref-3.ensures.value ∙ joins)
     c.in_ok-components.ensures
-    (c.in_ok-out_items.ensures ∙ ap (λ (z : List OutgoingLane). map (λ lane. map (λ i. i.item) lane.items) z) c.outgoing.ensures) in
+    (c.in_ok-out_items.ensures ∙ ap (λ (z : List OutgoingLane). map (λ lane. map (λ i. i.item) lane.items) z) c.outgoing.ensures)
+    (c.in_ok-desk.ensures ∙ c.horizon-2.ensures) in
     subst (λ (a : AgentState). IsKept a I) (sym opens) (opening_kept V c.in_ok-progress.progress c.in_ok-outs.outs.items c.requires.seen c.requires.openings first idle I indexes)
 
 pub returns-clause-opens : goal.returns-clause-opens
