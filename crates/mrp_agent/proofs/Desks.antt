@@ -1,17 +1,16 @@
 -- A draft is written among the plans.
-use Rattle.std.proofs.Common.{◌≡◌, ℕ, ◌+◌, ◌<◌, ◌≤◌, List, length, get_or, set, slice_index, sym, ap, ◌∙◌, subst, arith}
-use Rattle.std.specs.List.{All, range_with_len}
+use Rattle.std.proofs.Common.{◌≡◌, ℕ, ◌+◌, ◌<◌, List, length, get_or, set, sym, ap, ◌∙◌, subst}
 use Rattle.std.proofs.lemmas.List.{length-set}
 use Rattle.std.proofs.lemmas.List.Elements.{All-set}
 use Rattle.std.proofs.lemmas.List.FromFn.{length-map-range_with_len}
-use Rattle.mrp_lot.specs.One.{PlanRows, one, release_at}
+use Rattle.mrp_lot.specs.One.{PlanRows, release_at}
 use Rattle.mrp_lot.specs.OneLaws.{one-gross, one-release}
 use Rattle.mrp_lot.specs.declared.params.PairParams.{PairParams}
 use Rattle.mrp_rows.specs.declared.numbers.PairNo.{PairNo}
 use Rattle.mrp_local.specs.Local.{amount_at, asked_within}
 use Rattle.mrp_agent.specs.Drafts.{drafted, drafted_gross, drafted_incoming}
 use Rattle.mrp_agent.specs.Kept.{HasPeriods, Indexes, IsKept}
-use Rattle.mrp_agent.specs.State.{AgentState, no_plan, pair_of, plans_of}
+use Rattle.mrp_agent.specs.State.{AgentState, pair_of, plans_of}
 
 pub drafted_periods : (A : AgentState) (x : PairNo) → HasPeriods A.view (drafted A x)
 drafted_periods A x =

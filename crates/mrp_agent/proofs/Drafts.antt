@@ -1,12 +1,11 @@
 -- What an agent drafts from is what its state says.
-use Rattle.std.proofs.Common.{◌≡◌, ℕ, zero, suc, ◌+◌, ◌-◌, ◌*◌, ◌<◌, ◌≤◌, ◌==◌, eqb, cond, if◌then◌else◌, Bool, true, false, List, [], ◌∷◌, inl, inr, length, get_or, map, sum, sum_by, slice_index, slice_range, take, drop, refl, sym, ap, ◌∙◌, subst, arith}
-use Rattle.std.specs.List.{All, Contains, count_by, filter, position_or_len, range_with_len}
-use Rattle.std.proofs.lemmas.Bool.{cases_Bool, cases_eq, eq-eqb, eqb-true, ne_eqb}
+use Rattle.std.proofs.Common.{◌≡◌, ℕ, zero, suc, ◌+◌, ◌-◌, ◌*◌, ◌<◌, ◌≤◌, ◌==◌, eqb, cond, if◌then◌else◌, Bool, true, false, List, [], ◌∷◌, inl, inr, length, get_or, map, sum_by, slice_index, slice_range, take, drop, refl, sym, ap, ◌∙◌, subst, arith}
+use Rattle.std.specs.List.{All, filter, range_with_len}
+use Rattle.std.proofs.lemmas.Bool.{cases_eq, eq-eqb, eqb-true, ne_eqb}
 use Rattle.std.proofs.lemmas.List.FromFn.{fill_by_all, get_or-map-range_with_len, length-map-range_with_len}
 use Rattle.std.proofs.lemmas.List.{get_or-drop, get_or-take, get_or_default, length-drop, length-take-le}
 use Rattle.std.proofs.lemmas.List.Elements.{All-head, All-tail, All-filter, All-map}
-use Rattle.std.proofs.lemmas.List.Sums.{sum_by-cons, passes_at_first, get_or-le-sum_by}
-use Rattle.mrp_qty.specs.declared.quantity.TheConstants.{MOST}
+use Rattle.std.proofs.lemmas.List.Sums.{sum_by-cons, passes_at_first}
 use Rattle.mrp_lot.specs.One.{PlanRows, IsWithin, one}
 use Rattle.mrp_lot.specs.declared.params.PairParams.{PairParams}
 use Rattle.mrp_rows.specs.declared.numbers.PairNo.{PairNo}
@@ -15,7 +14,7 @@ use Rattle.mrp_view.specs.declared.view.PlantEdge.{PlantEdge}
 use Rattle.mrp_view.specs.declared.view.PlantPair.{PlantPair}
 use Rattle.mrp_view.specs.Seen.{IsView, IsOwn, IsPlantEdge}
 use Rattle.mrp_view.specs.View.{PlantRows}
-use Rattle.mrp_local.specs.Local.{amount_at, asked_within, local_row}
+use Rattle.mrp_local.specs.Local.{amount_at, asked_within}
 use Rattle.mrp_agent.specs.declared.edges.ParentEdge.{ParentEdge}
 use Rattle.mrp_agent.specs.State.{AgentState, pair_place, pair_of, plans_of, no_plan, no_pair}
 use Rattle.mrp_agent.specs.Asking.{asked_by, asked_on, CanAsk, HasDraft, grossed}

@@ -1,6 +1,6 @@
 -- A pair is counted as planned.
-use Rattle.std.proofs.Common.{◌≡◌, ℕ, zero, suc, ◌+◌, ◌<◌, ◌≤◌, ◌==◌, ◌&&◌, nat_lt, if◌then◌else◌, Bool, true, false, [], ◌∷◌, ◌++◌, Option, Some, None, List, length, get_or, map, set, slice_index, slice_get, refl, sym, ap, ◌∙◌, subst, arith}
-use Rattle.std.specs.List.{All, Contains, filter, range_with_len}
+use Rattle.std.proofs.Common.{◌≡◌, ℕ, ◌<◌, ◌≤◌, ◌==◌, ◌&&◌, nat_lt, if◌then◌else◌, Bool, true, false, [], ◌∷◌, ◌++◌, Option, Some, None, List, length, get_or, map, slice_index, slice_get, refl, sym, ap, ◌∙◌, subst, arith}
+use Rattle.std.specs.List.{All, filter}
 use Rattle.std.proofs.lemmas.List.{length-set, get_or_default}
 use Rattle.std.proofs.lemmas.List.Elements.{All-filter, All-map}
 use Rattle.std.proofs.lemmas.List.FromFn.{get_or-map-range_with_len, length-map-range_with_len}
@@ -12,16 +12,15 @@ use Rattle.mrp_view.specs.declared.view.OutgoingLane.{OutgoingLane}
 use Rattle.mrp_view.specs.declared.view.PlantEdge.{PlantEdge}
 use Rattle.mrp_view.specs.declared.view.PlantPair.{PlantPair}
 use Rattle.mrp_view.specs.Seen.{IsPlantEdge}
-use Rattle.mrp_view.specs.View.{PlantRows}
 use Rattle.mrp_cursor.specs.Cursor.{OutFigures}
 use Rattle.mrp_ready.specs.declared.join.Join.{Join}
 use Rattle.mrp_ready.specs.Counts.{components_of, open_blocks}
 use Rattle.mrp_ready.specs.Progress.{IsFree, Progress, times}
 use Rattle.mrp_ready.proofs.Counting.{components_wait}
-use Rattle.mrp_agent.specs.After.{AreSettled, PairSettled, place_of, queued_at, queued_by, settled_out}
+use Rattle.mrp_agent.specs.After.{AreSettled, PairSettled, place_of, queued_at, queued_by}
 use Rattle.mrp_agent.specs.Kept.{Indexes, IsKept}
 use Rattle.mrp_agent.specs.Shows.{awaited, join_of, joins_of}
-use Rattle.mrp_agent.specs.State.{AgentState, no_out, no_outgoing, no_pair, out_at, outgoing_at, pair_place}
+use Rattle.mrp_agent.specs.State.{AgentState, no_pair, out_at, outgoing_at}
 use Rattle.mrp_agent.proofs.Owning.{own_within}
 
 -- ---- the components of a pair

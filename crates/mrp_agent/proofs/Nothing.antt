@@ -1,13 +1,12 @@
 -- Nothing is missing for a pair that can be planned, and its draft is the plan by what has come.
-use Rattle.std.proofs.Common.{◌≡◌, ℕ, zero, suc, ◌+◌, ◌-◌, ◌*◌, ◌^◌, ◌<◌, ◌≤◌, ◌==◌, eqb, cond, min, if◌then◌else◌, Bool, true, false, List, inl, inr, length, get_or, map, set, sum, slice_index, refl, sym, ap, ◌∙◌, subst, arith}
-use Rattle.std.specs.List.{All, Contains, range_with_len}
-use Rattle.std.proofs.lemmas.Bool.{cases_eq, eq-eqb, eqb-true, both_ways}
+use Rattle.std.proofs.Common.{◌≡◌, ℕ, ◌+◌, ◌<◌, ◌≤◌, ◌==◌, if◌then◌else◌, Bool, true, false, List, length, get_or, map, refl, sym, ap, ◌∙◌, subst, arith}
+use Rattle.std.specs.List.{All, Contains}
+use Rattle.std.proofs.lemmas.Bool.{eq-eqb, eqb-true}
 use Rattle.std.proofs.lemmas.List.{get_or_default}
 use Rattle.std.proofs.lemmas.List.Elements.{Contains-get_or}
 use Rattle.std.proofs.lemmas.List.Sums.{passes_at_first}
 use Rattle.mrp_qty.specs.declared.quantity.TheConstants.{MOST}
-use Rattle.mrp_lot.specs.One.{PlanRows, IsWithin, one}
-use Rattle.mrp_lot.specs.declared.params.PairParams.{PairParams}
+use Rattle.mrp_lot.specs.One.{one}
 use Rattle.mrp_rows.specs.declared.numbers.ItemNo.{ItemNo}
 use Rattle.mrp_rows.specs.declared.numbers.PairNo.{PairNo}
 use Rattle.mrp_net.specs.declared.lane.LaneKind.TheVariants.{Schedule}
@@ -16,21 +15,21 @@ use Rattle.mrp_view.specs.declared.view.IncomingItem.{IncomingItem}
 use Rattle.mrp_view.specs.declared.view.IncomingLane.{IncomingLane}
 use Rattle.mrp_view.specs.declared.view.PlantEdge.{PlantEdge}
 use Rattle.mrp_view.specs.declared.view.PlantPair.{PlantPair}
-use Rattle.mrp_view.specs.Seen.{IsView, IsOwn, IsOwnOf, IsPlantEdge, IsIncomingItem, IsIncomingLane}
+use Rattle.mrp_view.specs.Seen.{IsView, IsOwn, IsIncomingItem}
 use Rattle.mrp_view.specs.View.{PlantRows}
 use Rattle.mrp_record.specs.declared.record.Record.{Record}
 use Rattle.mrp_record.specs.Entries.{contents, is_ended}
 use Rattle.mrp_ready.specs.declared.join.Join.{Join}
-use Rattle.mrp_ready.specs.Counts.{Awaited, open_blocks}
+use Rattle.mrp_ready.specs.Counts.{Awaited}
 use Rattle.mrp_ready.specs.Laws.{NothingIsOpen}
 use Rattle.mrp_ready.specs.Progress.{IsListed, is_planned}
 use Rattle.mrp_ready.proofs.Counting.{ready_where_nothing_is_open}
 use Rattle.mrp_events.specs.State.{changed}
-use Rattle.mrp_local.specs.Local.{amount_at, asked_within, booked_on, local_incoming, local_gross, local_plan, local_row, AwaitsNothing, Carries, HasBrought, IsPlannedLocally}
+use Rattle.mrp_local.specs.Local.{amount_at, asked_within, booked_on, local_incoming, local_gross, local_plan, local_row, AwaitsNothing, Carries, HasBrought}
 use Rattle.mrp_agent.specs.Drafts.{CanDraft, drafted}
-use Rattle.mrp_agent.specs.Kept.{HasRooms, Indexes, IsKept}
+use Rattle.mrp_agent.specs.Kept.{Indexes, IsKept}
 use Rattle.mrp_agent.specs.Shows.{Shows, awaited, awaited_on, block_awaited, join_of, joins_of, up_to_last}
-use Rattle.mrp_agent.specs.State.{AgentState, pair_of, pair_place, plans_of, no_pair, no_plan}
+use Rattle.mrp_agent.specs.State.{AgentState, pair_of, pair_place, plans_of, no_pair}
 use Rattle.mrp_agent.proofs.DraftLaws.{in_row}
 use Rattle.mrp_agent.proofs.Drafts.{map_same}
 use Rattle.mrp_agent.proofs.Looking.{only_place}
@@ -140,15 +139,15 @@ draft_is_local A p sent taken planned view there can shows =
     let incoming : local_row V came ≡ local_row V (local_incoming V taken p) =
     map_same came (local_incoming V taken p) 0 V.horizon
     (λ t h.
-        let low : t < V.horizon = omega arith in
-        uncut (came t) (local_incoming V taken p t) (shows.came p there t low) (omega (arith, in_row V came t low, can.within.total))) in
+    let low : t < V.horizon = omega arith in
+    uncut (came t) (local_incoming V taken p t) (shows.came p there t low) (omega (arith, in_row V came t low, can.within.total))) in
     let gross : local_row V asked ≡ local_row V (local_gross V taken (plans_of A) p) =
     map_same asked (local_gross V taken (plans_of A) p) 0 V.horizon
     (λ t h.
-        let low : t < V.horizon = omega arith in
-        let most : asked t ≤ MOST = omega (arith, in_row V asked t low, can.within.total) in
-        let called = uncut (amount_at V A.called p.number t) (amount_at V V.demands p.number t + booked_on Schedule V taken p.item t) (shows.called p there t low) (omega (arith, most)) in
-        omega (arith, called)) in
+    let low : t < V.horizon = omega arith in
+    let most : asked t ≤ MOST = omega (arith, in_row V asked t low, can.within.total) in
+    let called = uncut (amount_at V A.called p.number t) (amount_at V V.demands p.number t + booked_on Schedule V taken p.item t) (shows.called p there t low) (omega (arith, most)) in
+    omega (arith, called)) in
     ap (λ (q : PlantPair). one q.params (local_row V came) (local_row V asked)) (pair_is V view p there)
     ∙ ap (λ (row : List ℕ). one p.params row (local_row V asked)) incoming
     ∙ ap (λ (row : List ℕ). one p.params (local_row V (local_incoming V taken p)) row) gross

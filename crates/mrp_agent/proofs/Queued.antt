@@ -1,9 +1,9 @@
 -- What the cursors of lanes show after a pair is planned.
-use Rattle.std.proofs.Common.{◌≡◌, ◌↔◌, ℕ, zero, suc, ◌+◌, ◌-◌, ◌<◌, ◌≤◌, ◌==◌, eqb, Bool, true, false, Option, Some, None, List, [], ◌∷◌, ◌++◌, inl, inr, length, get_or, map, position, slice_index, refl, sym, ap, ◌∙◌, subst, arith}
-use Rattle.std.specs.List.{All, Contains}
+use Rattle.std.proofs.Common.{◌≡◌, ◌↔◌, ℕ, zero, suc, ◌-◌, ◌<◌, eqb, Bool, true, false, Option, Some, None, List, [], ◌∷◌, inl, inr, length, get_or, map, slice_index, refl, sym, ap, ◌∙◌, subst, arith}
+use Rattle.std.specs.List.{Contains}
 use Rattle.std.proofs.lemmas.Bool.{cases_eq, both_ways, eq-eqb, eqb-true}
 use Rattle.std.proofs.lemmas.List.{get_or-map, length-map}
-use Rattle.std.proofs.lemmas.List.Elements.{Contains-append_left, Contains-append_right, Contains-append_cases, Contains-get_or}
+use Rattle.std.proofs.lemmas.List.Elements.{Contains-append_left, Contains-append_right, Contains-append_cases}
 use Rattle.std.proofs.lemmas.List.Quantifiers.{position-Some}
 use Rattle.mrp_lot.specs.One.{PlanRows}
 use Rattle.mrp_rows.specs.declared.numbers.ItemNo.{ItemNo}
@@ -17,7 +17,6 @@ use Rattle.mrp_view.specs.Seen.{IsView, IsOwn, IsOwnOf, IsOutgoingLane, IsSchedu
 use Rattle.mrp_view.specs.View.{PlantRows}
 use Rattle.mrp_record.specs.declared.record.Record.{Record}
 use Rattle.mrp_cursor.specs.Cursor.{OutFigures, Goods}
-use Rattle.mrp_cursor.specs.Next.{queued}
 use Rattle.mrp_cursor.specs.Shows.{ShowsSent}
 use Rattle.mrp_cursor.proofs.Queues.{queues_show, looks_at_queued}
 use Rattle.mrp_events.specs.State.{changed}
@@ -66,9 +65,9 @@ module _ (V : PlantRows) (view : IsView V) (lane : OutgoingLane) (is_lane : IsOu
   now_shows =
       looks_at_queued (goods_of V taken plans lane) (goods_of V taken others lane) old sent
       (λ j among.
-          let sendable = (queue j).0 among in
-          goods_same lane.kind V taken plans others lane.number.0 (load_at lane.items j)
-          (λ kind. let own = own_of kind j sendable.within in stay (load_at lane.items j).customer (own.0, own.1, own.2) (sendable.decided kind)))
+      let sendable = (queue j).0 among in
+      goods_same lane.kind V taken plans others lane.number.0 (load_at lane.items j)
+      (λ kind. let own = own_of kind j sendable.within in stay (load_at lane.items j).customer (own.0, own.1, own.2) (sendable.decided kind)))
       shows
 
   abbrev Now : ℕ → Bool
@@ -107,12 +106,12 @@ module _ (V : PlantRows) (view : IsView V) (lane : OutgoingLane) (is_lane : IsOu
   at_place kind None none =
       as_before
       (λ j within _ same.
-          let test : ItemNo → Bool = λ i. eqb i.0 p.item.0 in
-          let item : ItemNo = (load_at lane.items j).item in
-          let passes : test item ≡ true = eq-eqb item.0 p.item.0 (customer_item kind j within same) in
-          let among : Contains items item = (j, omega (arith, within, length-map lane.items (λ (i : Load). i.item)), get_or-map (λ (i : Load). i.item) lane.items j no_load item within) in
-          let found = place_known test items (place_found test items item among passes) in
-          cc (none, found))
+      let test : ItemNo → Bool = λ i. eqb i.0 p.item.0 in
+      let item : ItemNo = (load_at lane.items j).item in
+      let passes : test item ≡ true = eq-eqb item.0 p.item.0 (customer_item kind j within same) in
+      let among : Contains items item = (j, omega (arith, within, length-map lane.items (λ (i : Load). i.item)), get_or-map (λ (i : Load). i.item) lane.items j no_load item within) in
+      let found = place_known test items (place_found test items item among passes) in
+      cc (none, found))
   at_place kind (Some place) found =
       let test : ItemNo → Bool = λ i. eqb i.0 p.item.0 in
       let none : ItemNo = record { 0 = 0 } in

@@ -1,5 +1,5 @@
 -- A pair stands among those that can be planned where its place does.
-use Rattle.std.proofs.Common.{◌≡◌, ℕ, ◌+◌, ◌<◌, ◌≤◌, ◌==◌, Bool, true, List, length, get_or, map, slice_index, refl, sym, ap, ◌∙◌, subst, arith}
+use Rattle.std.proofs.Common.{◌≡◌, ℕ, ◌<◌, ◌==◌, List, length, get_or, slice_index, sym, ap, ◌∙◌, subst, arith}
 use Rattle.std.specs.List.{Contains}
 use Rattle.std.proofs.lemmas.Bool.{eq-eqb, eqb-true}
 use Rattle.std.proofs.lemmas.List.{get_or-map, get_or_default, length-map}
@@ -7,7 +7,6 @@ use Rattle.std.proofs.lemmas.List.Sums.{passes_at_first}
 use Rattle.mrp_rows.specs.declared.numbers.PairNo.{PairNo}
 use Rattle.mrp_view.specs.declared.view.PlantPair.{PlantPair}
 use Rattle.mrp_view.specs.Seen.{IsView, IsOwn}
-use Rattle.mrp_view.specs.View.{PlantRows}
 use Rattle.mrp_ready.specs.Chosen.{number_at}
 use Rattle.mrp_ready.specs.Progress.{IsListed}
 use Rattle.mrp_agent.specs.Drafts.{ready_numbers}
@@ -32,8 +31,7 @@ module _ (A : AgentState) (view : IsView A.view) (rooms : HasRooms A) where
 
   pub ready_there : (x : PairNo) → IsOwn A.view x → Contains A.progress.ready (pair_place A.view x.0) → Contains (ready_numbers A) x
   ready_there x own (k, within, is) =
-      let f : ℕ → PairNo = number_at A.progress.numbers in
-      (
+      let f : ℕ → PairNo = number_at A.progress.numbers in (
         k,
         omega (arith, within, length-map A.progress.ready f),
         get_or-map f A.progress.ready k (pair_place A.view x.0) x within ∙ ap f is ∙ number_of x own,

@@ -1,8 +1,8 @@
 -- The plans of an agent after one more pair is planned.
-use Rattle.std.proofs.Common.{◌≡◌, ◌↔◌, ℕ, ◌+◌, ◌*◌, ◌<◌, ◌≤◌, ◌==◌, eqb, cond, if◌then◌else◌, Bool, true, false, List, [], ◌∷◌, inl, inr, length, get_or, map, set, sum_by, slice_index, refl, sym, ap, ◌∙◌, subst, arith}
-use Rattle.std.specs.List.{All, Contains, range_with_len}
+use Rattle.std.proofs.Common.{◌≡◌, ℕ, ◌+◌, ◌*◌, ◌==◌, eqb, cond, if◌then◌else◌, Bool, true, false, List, [], ◌∷◌, inl, inr, set, sum_by, slice_index, refl, sym, ap, ◌∙◌, arith}
+use Rattle.std.specs.List.{All, Contains}
 use Rattle.std.proofs.lemmas.Bool.{cases_eq, cases_Bool, eqb-true}
-use Rattle.std.proofs.lemmas.List.{get_or-set_same, get_or-set_other, length-set}
+use Rattle.std.proofs.lemmas.List.{get_or-set_same, get_or-set_other}
 use Rattle.std.proofs.lemmas.List.Elements.{All-head, All-tail}
 use Rattle.std.proofs.lemmas.List.Sums.{sum_by-cons}
 use Rattle.mrp_lot.specs.One.{PlanRows, one}
@@ -10,14 +10,14 @@ use Rattle.mrp_rows.specs.declared.numbers.PairNo.{PairNo}
 use Rattle.mrp_net.specs.declared.lane.LaneKind.TheVariants.{Schedule}
 use Rattle.mrp_view.specs.declared.view.PlantEdge.{PlantEdge}
 use Rattle.mrp_view.specs.declared.view.PlantPair.{PlantPair}
-use Rattle.mrp_view.specs.Seen.{IsView, IsOwn, IsPlantEdge}
+use Rattle.mrp_view.specs.Seen.{IsOwn}
 use Rattle.mrp_view.specs.View.{PlantRows}
 use Rattle.mrp_record.specs.declared.record.Record.{Record}
 use Rattle.mrp_cursor.specs.Cursor.{OutFigures}
 use Rattle.mrp_ready.specs.Progress.{Progress, is_planned}
 use Rattle.mrp_events.specs.State.{changed}
-use Rattle.mrp_local.specs.Local.{amount_at, asked_within, booked_on, local_incoming, local_gross, local_plan, local_row, AwaitsNothing}
-use Rattle.mrp_agent.specs.State.{AgentState, pair_of, pair_place, plans_of, no_pair, no_plan}
+use Rattle.mrp_local.specs.Local.{amount_at, booked_on, local_incoming, local_gross, local_plan, local_row}
+use Rattle.mrp_agent.specs.State.{AgentState, pair_place, plans_of, no_plan}
 use Rattle.mrp_agent.specs.After.{after_settled}
 use Rattle.mrp_agent.specs.Kept.{HasRooms}
 use Rattle.mrp_agent.proofs.Drafts.{map_same, places_apart}

@@ -1,38 +1,29 @@
 -- What an agent shows after a pair is planned.
-use Rattle.std.proofs.Common.{◌≡◌, ◌↔◌, ℕ, ◌+◌, ◌-◌, ◌<◌, ◌≤◌, ◌==◌, eqb, cond, Bool, true, false, Option, Some, None, List, [], ◌∷◌, ◌++◌, inl, inr, length, get_or, map, set, slice_index, refl, sym, ap, ◌∙◌, subst, arith}
+use Rattle.std.proofs.Common.{◌≡◌, ◌↔◌, ℕ, ◌<◌, Bool, true, false, List, inl, inr, length, get_or, set, refl, sym, ap, ◌∙◌, subst}
 use Rattle.std.specs.List.{All, Contains}
 use Rattle.std.proofs.lemmas.Bool.{cases_eq, both_ways}
-use Rattle.std.proofs.lemmas.List.{get_or-set_same, get_or-set_other}
-use Rattle.std.proofs.lemmas.List.Elements.{Contains-append_left, Contains-append_right, Contains-append_cases, Contains-get_or}
-use Rattle.mrp_lot.specs.One.{PlanRows}
-use Rattle.mrp_rows.specs.declared.numbers.ItemNo.{ItemNo}
+use Rattle.std.proofs.lemmas.List.Elements.{Contains-get_or}
 use Rattle.mrp_rows.specs.declared.numbers.PairNo.{PairNo}
-use Rattle.mrp_net.specs.declared.lane.LaneKind.{LaneKind}
-use Rattle.mrp_net.specs.declared.lane.LaneKind.TheVariants.{Despatch, Schedule}
 use Rattle.mrp_view.specs.declared.view.OutgoingLane.{OutgoingLane}
-use Rattle.mrp_view.specs.declared.view.PlantEdge.{PlantEdge}
 use Rattle.mrp_view.specs.declared.view.PlantPair.{PlantPair}
-use Rattle.mrp_view.specs.Seen.{IsView, IsOwn}
-use Rattle.mrp_view.specs.View.{PlantRows}
+use Rattle.mrp_view.specs.Seen.{IsOwn}
 use Rattle.mrp_record.specs.declared.record.Record.{Record}
 use Rattle.mrp_cursor.specs.Cursor.{OutFigures}
 use Rattle.mrp_cursor.specs.Shows.{ShowsSent}
-use Rattle.mrp_ready.specs.Progress.{IsListed, Progress, is_planned}
+use Rattle.mrp_ready.specs.Progress.{IsListed, Progress}
 use Rattle.mrp_ready.specs.Counts.{open_blocks}
 use Rattle.mrp_events.specs.State.{changed}
 use Rattle.mrp_local.specs.Goods.{goods_of, IsSendable}
-use Rattle.mrp_local.specs.Local.{local_plan, AwaitsNothing, IsPlannedLocally, IsLocal}
+use Rattle.mrp_local.specs.Local.{AwaitsNothing, IsPlannedLocally, IsLocal}
 use Rattle.mrp_agent.specs.After.{after_settled, AreSettled, PairSettled, settled_out}
 use Rattle.mrp_agent.specs.Drafts.{CanDraft, drafted}
 use Rattle.mrp_agent.specs.Kept.{Indexes, IsKept}
 use Rattle.mrp_agent.specs.Marking.{IsMarked}
 use Rattle.mrp_agent.specs.Shows.{awaited, joins_of, OutShows, Shows}
-use Rattle.mrp_agent.specs.State.{AgentState, outgoing_at, out_at, pair_of, pair_place, plans_of, no_out, no_outgoing, no_plan}
-use Rattle.mrp_agent.proofs.Drafts.{places_apart}
-use Rattle.mrp_agent.proofs.Nothing.{awaits_nothing, draft_is_local, is_unplanned, more_planned, own_planned, pair_is, same_number}
-use Rattle.mrp_agent.proofs.Owning.{own_within}
-use Rattle.mrp_agent.proofs.Queued.{Shown, shown_now}
-use Rattle.mrp_agent.proofs.Sent.{changed_there, changed_elsewhere}
+use Rattle.mrp_agent.specs.State.{AgentState, outgoing_at, out_at, pair_of, pair_place, plans_of, no_out, no_outgoing}
+use Rattle.mrp_agent.proofs.Nothing.{awaits_nothing, draft_is_local, is_unplanned, more_planned, pair_is, same_number}
+use Rattle.mrp_agent.proofs.Queued.{shown_now}
+use Rattle.mrp_agent.proofs.Sent.{changed_elsewhere}
 use Rattle.mrp_agent.proofs.Replanned.{local_same, planned_after, plan_there, plan_elsewhere, SameParents}
 
 module _ (A : AgentState) (I : Indexes) (kept : IsKept A I) (p : PlantPair) (there : Contains A.view.pairs p) (can : CanDraft A p.number)
@@ -133,7 +124,7 @@ settling_shows A I x progress outs kept can listed settled queued sent taken pla
     let p : PlantPair = can.own.0 in
     let there : Contains A.view.pairs p = can.own.1 in
     let P : PairNo → Type 0 = λ y. CanDraft A y → PairSettled (joins_of A.view) (pair_place A.view y.0) A.progress progress → AreSettled A.view.outgoing (pair_of A.view y).item A.outs outs
-        → Shows (after_settled A (pair_place A.view y.0) (drafted A y) progress outs) sent taken (changed planned y.0 true) in
+    → Shows (after_settled A (pair_place A.view y.0) (drafted A y) progress outs) sent taken (changed planned y.0 true) in
     let own : P p.number = λ can settled queued.
     shows_after A I kept p there can listed sent taken planned shows progress outs settled (subst (λ (q : PlantPair). AreSettled A.view.outgoing q.item A.outs outs) (pair_is A.view kept.view p there) queued) in
     subst P can.own.2 own can settled queued

@@ -1,4 +1,4 @@
-use Rattle.std.proofs.Common.{◌≡◌, ℕ, ◌<◌, List, length, get_or, refl, sym, ap, ◌∙◌, subst, arith}
+use Rattle.std.proofs.Common.{◌≡◌, ◌<◌, length, get_or, refl, sym, subst, arith}
 use Rattle.mrp_ready.specs.Counts.{components_of}
 use Rattle.mrp_ready.specs.Progress.{IsFree}
 use Rattle.mrp_agent.specs.After.{PairSettled}
@@ -70,4 +70,3 @@ returns c =
     let new : AgentState = record A { progress = c.settle.new.self; outs = c.queue_item.new.outs.items } in
     let marked : IsMarked A c.args.place new = record { same = refl; settled = settled; queued = queued } in
     subst (λ (a : AgentState). IsMarked a c.args.place new) c.self.view_is marked
-

@@ -1,15 +1,11 @@
-use Rattle.std.proofs.Common.{◌≡◌, ℕ, ◌<◌, ◌==◌, Bool, true, IsTrue, Some, List, length, refl, sym, ap, ◌∙◌, subst, arith}
+use Rattle.std.proofs.Common.{◌≡◌, IsTrue, length, sym, ap, ◌∙◌, subst}
 use Rattle.std.specs.List.{Contains}
 use Rattle.std.proofs.lemmas.Bool.{OnTrue_from}
-use Rattle.mrp_record.specs.declared.record.Record.{Record}
-use Rattle.mrp_events.specs.State.{changed}
 use Rattle.mrp_ready.specs.Progress.{IsListed}
 use Rattle.mrp_view.specs.Seen.{IsOwn}
 use Rattle.mrp_agent.specs.State.{AgentState, pair_place}
-use Rattle.mrp_agent.specs.Drafts.{CanDraft, drafted, ready_numbers}
+use Rattle.mrp_agent.specs.Drafts.{CanDraft, ready_numbers}
 use Rattle.mrp_agent.specs.Kept.{Indexes, IsKept}
-use Rattle.mrp_agent.specs.Marking.{IsMarked}
-use Rattle.mrp_agent.specs.Shows.{Shows}
 use Rattle.mrp_agent.specs.contracts.agent.Agent.{the_view}
 use Rattle.mrp_agent.proofs.Owning.{own_found, own_place_is}
 use Rattle.mrp_agent.proofs.Ready.{ready_place, ready_there}
@@ -67,4 +63,3 @@ returns-else-can-clause-can c =
     let mine : Contains (ready_numbers A) c.args.x = subst (λ (a : AgentState). Contains (ready_numbers a) c.args.x) (sym c.self.view_is) h in
     c.is_ready-can.ensures.ready.1 (subst (Contains A.progress.ready) (sym at) (ready_place A c.self.invariant.view c.self.invariant.rooms c.args.x c.ready_pairs-ready.ensures.listed mine)) in
     (λ h. absurd (cc (h, c.if-can.false)), back)
-

@@ -1,4 +1,4 @@
-use Rattle.std.proofs.Common.{◌≡◌, ℕ, ◌+◌, ◌<◌, ◌≤◌, ◌==◌, Some, List, length, position, set, slice_index, sym, ap, ◌∙◌, subst, arith}
+use Rattle.std.proofs.Common.{◌≡◌, ◌<◌, length, set, sym, ap, ◌∙◌, subst, arith}
 use Rattle.mrp_lot.specs.One.{PlanRows}
 use Rattle.mrp_view.specs.declared.view.PlantPair.{PlantPair}
 use Rattle.mrp_agent.specs.State.{AgentState, pair_place}
@@ -111,4 +111,3 @@ returns c =
     let written : c.draft.new.self ≡ drafted A c.args.x = c.draft.ensures ∙ draft_is A c.args.x _ _ _ c.get-edges.result.now c.deref-3.result.now read c.self.invariant.view c.self.invariant.rooms can.own in
     ap (λ (z : PlanRows). record A { plans = set A.plans c.args.place z }) (c.copy_from.ensures ∙ c.plan.ensures ∙ written)
     ∙ ap (λ (a : AgentState). record a { plans = set a.plans c.args.place (drafted a c.args.x) }) c.self.view_is
-

@@ -1,4 +1,4 @@
-use Rattle.std.proofs.Common.{◌≡◌, length, ap, sym, ◌∙◌, arith}
+use Rattle.std.proofs.Common.{◌≡◌, length, ap, sym, ◌∙◌}
 use Rattle.mrp_lot.specs.One.{PlanRows}
 use Rattle.mrp_agent.proofs.Asked.{came_length, drafted_length}
 use Rattle.mrp_agent.proofs.desk.Desk.draft.Goals as goal
