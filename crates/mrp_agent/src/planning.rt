@@ -3,11 +3,11 @@ use crate::settling::queue_item;
 use mrp_net::PairNo;
 
 impl Agent {
-    ghost use Rattle.std.specs.Prelude.{◌≡◌, ◌↔◌, ℕ, Bool, true, List, Contains, IsTrue, slice_set};
+    ghost use Rattle.std.specs.Prelude.{◌≡◌, ◌↔◌, ◌+◌, ℕ, Bool, true, List, Contains, IsTrue, slice_set};
     ghost use Rattle.std.specs.Bool.{OnFalse, OnTrue};
     ghost use Rattle.mrp_lot.specs.One.{IsWithin};
     ghost use Rattle.mrp_record.specs.declared.record.Record.{Record};
-    ghost use Rattle.mrp_ready.specs.Progress.{IsFree};
+    ghost use Rattle.mrp_ready.specs.Progress.{IsFree, left_of};
     ghost use Rattle.mrp_view.specs.Seen.{IsOwn};
     ghost use Rattle.mrp_events.specs.State.{changed};
     ghost use Rattle.mrp_agent.specs.State.{pair_of, pair_place, plans_of};
@@ -26,6 +26,7 @@ impl Agent {
         ensures planned { OnTrue result ((sent taken : ℕ → List Record) (planned : ℕ → Bool) → Shows self.old sent taken planned
             → Shows self.new sent taken (changed planned x.0 true)) }
         ensures kept { OnTrue result (plans_of self.new x.0 ≡ drafted self.old x) }
+        ensures left { OnTrue result (left_of self.new.progress.planned + 1 ≡ left_of self.old.progress.planned) }
         ensures unchanged { OnFalse result (self.new ≡ self.old) }
     {
         let Some(place) = self.view.place(x) else {
