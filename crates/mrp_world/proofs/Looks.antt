@@ -137,3 +137,13 @@ pub still_if : {A : Type 0} (shows : Showing A) (N : Table) (plants : List A) (b
     → Acts shows N plants boxes event acted new_plants new_boxes → acted ≡ false → StandsStill shows N plants boxes event new_plants new_boxes
 still_if shows N plants boxes event true new_plants new_boxes acts e = absurd (cc)
 still_if shows N plants boxes event false new_plants new_boxes acts e = acts
+
+-- the same lists by other names
+pub acts_as : {A : Type 0} (shows : Showing A) (N : Table) (plants plants_too : List A) (boxes boxes_too : List Held) (event : Event) (acted : Bool) (new_plants new_plants_too : List A) (new_boxes new_boxes_too : List Held)
+    → plants ≡ plants_too → boxes ≡ boxes_too → new_plants_too ≡ new_plants → new_boxes_too ≡ new_boxes
+    → Acts shows N plants boxes event acted new_plants new_boxes → Acts shows N plants_too boxes_too event acted new_plants_too new_boxes_too
+acts_as {A} shows N plants plants_too boxes boxes_too event acted new_plants new_plants_too new_boxes new_boxes_too same_plants same_boxes then_plants then_boxes acts =
+    subst (λ (p : List A). Acts shows N p boxes_too event acted new_plants_too new_boxes_too) same_plants
+    (subst (λ (b : List Held). Acts shows N plants b event acted new_plants_too new_boxes_too) same_boxes
+    (subst (λ (p : List A). Acts shows N plants boxes event acted p new_boxes_too) (sym then_plants)
+    (subst (λ (b : List Held). Acts shows N plants boxes event acted new_plants b) (sym then_boxes) acts)))

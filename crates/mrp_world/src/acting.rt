@@ -109,3 +109,16 @@ pub(crate) fn act<P: Plant>(
         }
     }
 }
+
+/// Lets one event happen, if it is enabled.
+pub(crate) fn act_on<P: Plant>(
+    network: &Network,
+    plants: &mut Vec<P>,
+    boxes: &mut Vec<Mailbox>,
+    event: Event,
+) -> bool
+    requires shown { AreSomewhere P.shows network.now plants.old.items boxes.old.items }
+    ensures { Acts P.shows network.now plants.old.items boxes.old.items event result plants.new.items boxes.new.items }
+{
+    act(network, plants.as_mut_slice(), boxes.as_mut_slice(), event)
+}

@@ -9,11 +9,11 @@ mod acting;
 mod looking;
 mod mailbox;
 mod plant;
-// mod world;
+mod world;
 
 pub use mrp_book::{BookFault, LaneFigure};
 pub use mrp_events::Event;
 pub use mrp_net::{ItemNo, LaneNo, PairNo};
 pub use mrp_record::Record;
 pub use plant::Plant;
-// pub use world::{MOST_ROOM, World};
+pub use world::{MOST_ROOM, World};
