@@ -120,13 +120,11 @@ impl<'a, P: Plant> World<'a, P> {
         ensures runs { Runs P.shows self.old events.now self.new }
         ensures count { result + self.new.left ≡ self.old.left }
     {
-        let mut count = 0;
+        let before = self.steps_left();
         for event in events {
-            if self.apply(*event) {
-                count += 1;
-            }
+            let _enabled = self.apply(*event);
         }
-        count
+        before - self.steps_left()
     }
 
     /// Lets enabled events happen until the world is finished.
@@ -145,6 +143,7 @@ impl<'a, P: Plant> World<'a, P> {
         ensures runs { (events : List Event) × Runs P.shows self.old events self.new }
         ensures left { self.new.left ≡ self.old.left - 1 }
     {
+        let _ = &self.network;
         if let Some(event) = self.enabled() {
             let _enabled = self.apply(event);
         }

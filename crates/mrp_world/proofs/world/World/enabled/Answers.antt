@@ -1,20 +1,11 @@
-use Rattle.std.proofs.Common.{rules, ◌≡◌, ◌+◌, ℕ, ◌-◌, true, false, List, IfOk, IfSome, IfNone, MatchBool, ◌*◌, ◌<◌, ◌≤◌, length, ◌/◌, ◌%◌, Bool, nat_eq, nat_lt, [], ◌∷◌, ◌++◌, slice_index_or, slice_set, bit_and, bit_or, Fits, w8, w32, w64, Bor, MutBor}
-use Rattle.mrp_rows.specs.Table.{IsPair}
-use Rattle.mrp_net.specs.Plan.{plan_of, rows_at}
-use Rattle.mrp_events.specs.declared.event.Event.{Event}
-use Rattle.mrp_events.specs.Progress.{steps_left}
-use Rattle.mrp_events.specs.State.{State, Step, IsEnabled, IsFinished}
-use Rattle.mrp_world.specs.World.{Runs, WorldShows}
+use Rattle.mrp_world.proofs.Worlds as world
 use Rattle.mrp_world.proofs.world.World.enabled.Goals as goal
 
--- src/world.rt:78:5
 pub returns-clause-some : goal.returns-clause-some
-returns-clause-some g c = ?
+returns-clause-some g c = world.world_may _ _ _ _ _ _ _ _ _ _ c.as_slice.ensures.value c.as_slice-2.ensures.value c.self.view_is c.look.ensures.some
 
--- src/world.rt:78:5
 pub returns-clause-none : goal.returns-clause-none
-returns-clause-none g c = ?
+returns-clause-none g c = world.none_finished _ _ _ _ _ _ _ _ _ _ c.as_slice.ensures.value c.as_slice-2.ensures.value c.self.view_is c.self.invariant c.look.ensures.none
 
--- src/world.rt:78:5
 pub returns-clause-left : goal.returns-clause-left
-returns-clause-left g c = ?
+returns-clause-left g c = world.none_left _ _ _ _ _ _ _ _ _ _ c.as_slice.ensures.value c.as_slice-2.ensures.value c.self.view_is c.self.invariant c.look.ensures.none

@@ -1,16 +1,12 @@
-use Rattle.std.proofs.Common.{rules, ◌≡◌, ◌+◌, ℕ, ◌-◌, true, false, List, IfOk, IfSome, IfNone, MatchBool, ◌*◌, ◌<◌, ◌≤◌, length, ◌/◌, ◌%◌, Bool, nat_eq, nat_lt, [], ◌∷◌, ◌++◌, slice_index_or, slice_set, bit_and, bit_or, Fits, w8, w32, w64, Bor, MutBor}
-use Rattle.mrp_rows.specs.Table.{IsPair}
-use Rattle.mrp_net.specs.Plan.{plan_of, rows_at}
-use Rattle.mrp_events.specs.declared.event.Event.{Event}
-use Rattle.mrp_events.specs.Progress.{steps_left}
-use Rattle.mrp_events.specs.State.{State, Step, IsEnabled, IsFinished}
-use Rattle.mrp_world.specs.World.{Runs, WorldShows}
+use Rattle.std.proofs.Common.{subst, [], ◌∷◌}
+use Rattle.mrp_world.specs.World.{IsWorld}
+use Rattle.mrp_world.proofs.Worlds as world
 use Rattle.mrp_world.proofs.world.World.go_on.Goals as goal
 
--- src/world.rt:144:5
 pub returns-in-Some-clause-runs : goal.returns-in-Some-clause-runs
-returns-in-Some-clause-runs g c = ?
+returns-in-Some-clause-runs g c = let e = c.apply-enabled.ensures in
+    (c.in-Some.event ∷ [], world.runs_one _ _ _ _ _ e.leads e.nowhere e.unchanged e.network e.capacity)
 
--- src/world.rt:144:5
 pub returns-in-Some-clause-left : goal.returns-in-Some-clause-left
-returns-in-Some-clause-left g c = ?
+returns-in-Some-clause-left g c = let e = c.apply-enabled.ensures in
+    world.one_less _ _ _ _ c.apply-enabled.new.self (subst (IsWorld g.P.Plant.shows) c.self.view_is c.self.invariant) c.in-Some.ensures.some e.step e.nowhere

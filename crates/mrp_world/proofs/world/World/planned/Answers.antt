@@ -1,24 +1,22 @@
-use Rattle.std.proofs.Common.{rules, ◌≡◌, ◌+◌, ℕ, ◌-◌, true, false, List, IfOk, IfSome, IfNone, MatchBool, ◌*◌, ◌<◌, ◌≤◌, length, ◌/◌, ◌%◌, Bool, nat_eq, nat_lt, [], ◌∷◌, ◌++◌, slice_index_or, slice_set, bit_and, bit_or, Fits, w8, w32, w64, Bor, MutBor}
-use Rattle.mrp_rows.specs.Table.{IsPair}
+use Rattle.std.proofs.Common.{◌≡◌, Bor, true, false, ap, sym}
+use Rattle.mrp_rows.specs.declared.rows.PairRow.{PairRow}
+use Rattle.mrp_netting.specs.declared.plan.PairPlan.{PairPlan}
 use Rattle.mrp_net.specs.Plan.{plan_of, rows_at}
-use Rattle.mrp_events.specs.declared.event.Event.{Event}
-use Rattle.mrp_events.specs.Progress.{steps_left}
-use Rattle.mrp_events.specs.State.{State, Step, IsEnabled, IsFinished}
-use Rattle.mrp_world.specs.World.{Runs, WorldShows}
+use Rattle.mrp_world.proofs.Worlds as world
 use Rattle.mrp_world.proofs.world.World.planned.Goals as goal
 
--- src/world.rt:115:9
 pub planned-requires : goal.planned-requires
-planned-requires g c = ?
+planned-requires g c = record { pair = world.asked_has g.P.Plant.shows _ _ _ _ _ _ _ _ _
+  (record { same = c.self.view_is; is = c.self.invariant; pair = c.requires.pair; owner = ap (λ (row : PairRow). row.plant.0) (sym c.pair.ensures); at = c.index.ensures }) }
 
--- src/world.rt:108:5
 pub returns-clause-planned : goal.returns-clause-planned
-returns-clause-planned g c = ?
+returns-clause-planned g c = world.some_more _ _ _ (λ plan says. world.asked_says g.P.Plant.shows _ _ _ _ _ _ _ _ _ (λ N s. s.planned c.args.x.0 ≡ true)
+  (record { same = c.self.view_is; is = c.self.invariant; pair = c.requires.pair; owner = ap (λ (row : PairRow). row.plant.0) (sym c.pair.ensures); at = c.index.ensures }) says) c.planned.ensures.planned
 
--- src/world.rt:108:5
 pub returns-clause-plan : goal.returns-clause-plan
-returns-clause-plan g c = ?
+returns-clause-plan g c = world.some_more _ _ _ (λ (plan : Bor PairPlan) says. world.asked_always g.P.Plant.shows _ _ _ _ _ _ _ _ _ (λ N. plan.now ≡ rows_at (plan_of N) c.args.x.0)
+  (record { same = c.self.view_is; is = c.self.invariant; pair = c.requires.pair; owner = ap (λ (row : PairRow). row.plant.0) (sym c.pair.ensures); at = c.index.ensures }) says) c.planned.ensures.plan
 
--- src/world.rt:108:5
 pub returns-clause-none : goal.returns-clause-none
-returns-clause-none g c = ?
+returns-clause-none g c = world.none_more _ _ _ (world.asked_says g.P.Plant.shows _ _ _ _ _ _ _ _ _ (λ N s. s.planned c.args.x.0 ≡ false)
+  (record { same = c.self.view_is; is = c.self.invariant; pair = c.requires.pair; owner = ap (λ (row : PairRow). row.plant.0) (sym c.pair.ensures); at = c.index.ensures })) c.planned.ensures.none
