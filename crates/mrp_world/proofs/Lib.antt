@@ -1,3 +1,4 @@
 pub mod Steps
 pub mod Looks
 pub mod Worlds
+pub mod Makes

@@ -7,6 +7,7 @@
 
 mod acting;
 mod looking;
+mod making;
 mod mailbox;
 mod plant;
 mod world;
