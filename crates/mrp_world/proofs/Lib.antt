@@ -2,3 +2,4 @@ pub mod Steps
 pub mod Looks
 pub mod Worlds
 pub mod Makes
+pub mod Counts

@@ -6,6 +6,7 @@
 #![tactic(auto)]
 
 mod acting;
+mod counting;
 mod looking;
 mod making;
 mod mailbox;
