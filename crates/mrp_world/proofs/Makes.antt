@@ -52,3 +52,20 @@ pub plants_more : {A : Type 0} (shows : Showing A) (N : Table) (plants new : Lis
 plants_more {A} shows N plants new plant p size grown before here =
     subst (λ (xs : List A). (k : ℕ) (d : A) → k < length xs → shows N k opening_state (get_or xs k d)) (sym grown)
     (each_more (λ k z. shows N k opening_state z) plants plant before (subst (λ (q : ℕ). shows N q opening_state plant) (sym size) here))
+
+-- the same, where the network has another name
+pub world_opens_as : {A : Type 0} (shows : Showing A) (N M : Table) (capacity : ℕ) (plants : List A) (boxes : List Held) (left : ℕ)
+    → N ≡ M → IsSized M → PlantsShow shows M plants opening_state → BoxesHold M capacity boxes opening_state → left ≡ steps M
+    → WorldShows shows (record { network = N; capacity = capacity; plants = plants; boxes = boxes; left = left }) opening_state
+world_opens_as shows N M capacity plants boxes left e sized shown held counted =
+    subst (λ (K : Table). WorldShows shows (record { network = K; capacity = capacity; plants = plants; boxes = boxes; left = left }) opening_state) (sym e)
+    (world_opens shows M capacity plants boxes left sized shown held counted)
+
+pub is_world : {A : Type 0} (shows : Showing A) (N M : Table) (capacity : ℕ) (plants : List A) (boxes : List Held) (left : ℕ) → 1 ≤ capacity
+    → N ≡ M → IsSized M → PlantsShow shows M plants opening_state → BoxesHold M capacity boxes opening_state → left ≡ steps M
+    → IsWorld shows (record { network = N; capacity = capacity; plants = plants; boxes = boxes; left = left })
+is_world shows N M capacity plants boxes left holds e sized shown held counted = record {
+  holds = holds;
+  state = opening_state;
+  shown = world_opens_as shows N M capacity plants boxes left e sized shown held counted;
+}

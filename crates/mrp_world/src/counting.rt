@@ -1,5 +1,5 @@
 //! How many events a whole run of a network has.
-ghost use Rattle.std.specs.Prelude.{◌≡◌, ◌<◌, ◌≤◌, Contains, length, slice_index};
+ghost use Rattle.std.specs.Prelude.{◌≡◌, ◌<◌, ◌≤◌, Contains, IfOk, length, slice_index};
 ghost use Rattle.mrp_qty.specs.declared.quantity.TheConstants.{MOST};
 ghost use Rattle.mrp_rows.specs.Table.{IsPair, horizon};
 ghost use Rattle.mrp_net.specs.Lanes.{lanes, lane_at, lane_items};
@@ -11,12 +11,25 @@ ghost use Rattle.mrp_events.specs.Seen.{share_of};
 
 use mrp_loops::SizedNet;
 use mrp_net::{ItemNo, LaneKind, LaneNo, Network, SourceRow};
-use mrp_plan::Plan;
-use mrp_qty::Row;
+use mrp_plan::{Plan, plan_all};
+use mrp_qty::{Memory, Row};
+use std::alloc::Global;
 
 /// How many events a whole run of a network has: each pair is planned, and each record of each lane is
-/// sent and received. `plan` is the network's.
-pub(crate) fn steps(net: &SizedNet, plan: &Plan) -> u64
+/// sent and received. The network is planned for it once.
+///
+/// # Errors
+///
+/// [`Memory`] where room for the plan is refused.
+pub(crate) fn steps(alloc: Global, net: &SizedNet) -> Result<u64, Memory>
+    ensures { IfOk result (λ count. count ≡ steps net.now.network) }
+{
+    let plan = plan_all(alloc, net)?;
+    Ok(steps_by(net, &plan))
+}
+
+/// How many events a whole run of a network has, by its plan.
+fn steps_by(net: &SizedNet, plan: &Plan) -> u64
     requires fits { Fits net.now.network plan.now }
     requires plan { plan.now ≡ plan_of net.now.network }
     ensures { result ≡ steps net.now.network }

@@ -1,13 +1,19 @@
-ghost use Rattle.std.specs.Prelude.{◌≡◌, ◌+◌, ℕ, ◌-◌, true, false, List, IfOk, IfSome, IfNone, MatchBool};
+ghost use Rattle.std.specs.Prelude.{◌≡◌, ◌+◌, ℕ, ◌-◌, ◌≤◌, true, false, List, IfOk, IfSome, IfNone, MatchBool};
 ghost use Rattle.mrp_rows.specs.Table.{IsPair};
+ghost use Rattle.mrp_world.specs.declared.world.TheConstants.{MOST_ROOM};
 
 use crate::acting::act_on;
+use crate::counting::steps;
 use crate::looking::look;
 use crate::mailbox::Mailbox;
+use crate::making::{new_boxes, new_plants};
 use crate::plant::Plant;
 use mrp_events::Event;
+use mrp_loops::SizedNet;
 use mrp_net::{Network, PairNo};
 use mrp_netting::PairPlan;
+use mrp_qty::Memory;
+use std::alloc::Global;
 use std::marker::Model;
 
 /// The greatest capacity of a mailbox, in records.
@@ -48,9 +54,40 @@ impl<'a, P: Plant> Model for World<'a, P> {
 impl<'a, P: Plant> World<'a, P> {
     ghost use Rattle.mrp_net.specs.Plan.{plan_of, rows_at};
     ghost use Rattle.mrp_events.specs.declared.event.Event.{Event};
+    ghost use Rattle.mrp_events.specs.Loads.{steps as network_steps};
     ghost use Rattle.mrp_events.specs.Progress.{steps_left};
-    ghost use Rattle.mrp_events.specs.State.{State, Step, IsEnabled, IsFinished};
+    ghost use Rattle.mrp_events.specs.State.{State, Step, IsEnabled, IsFinished, opening_state};
     ghost use Rattle.mrp_world.specs.World.{Runs, WorldShows};
+
+    /// A world before the first event.
+    ///
+    /// A mailbox may hold `capacity` records, 1 to [`MOST_ROOM`], and has room for as many, or for the
+    /// longest text that its lane can have where that is less. The network is planned once, to count its
+    /// steps; that plan isn't kept.
+    ///
+    /// # Errors
+    ///
+    /// [`Memory`] where a growth is refused.
+    pub fn new(alloc: Global, net: &SizedNet<'a>, capacity: u64) -> Result<World<'a, P>, Memory>
+        requires capacity { (1 ≤ capacity) × (capacity ≤ MOST_ROOM) }
+        ensures network { IfOk result (λ world. world.network ≡ net.now.network) }
+        ensures capacity { IfOk result (λ world. world.capacity ≡ capacity) }
+        ensures opens { IfOk result (λ world. WorldShows P.shows world opening_state) }
+        ensures steps { IfOk result (λ world. world.left ≡ network_steps net.now.network) }
+    {
+        let network = net.network();
+        let left = steps(alloc, net)?;
+        let plants = new_plants(alloc, net)?;
+        let boxes = new_boxes(alloc, net, capacity)?;
+        Ok(World {
+            network,
+            capacity,
+            plants,
+            boxes,
+            left,
+            near: Place { lane: 0, plant: 0 },
+        })
+    }
 
     /// Lets an event happen, and answers whether it was enabled. Where it wasn't, nothing has changed.
     pub fn apply(&mut self, event: Event) -> bool

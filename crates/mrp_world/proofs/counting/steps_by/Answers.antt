@@ -5,7 +5,7 @@ use Rattle.std.proofs.lemmas.List.Sums.{sum_by_more, sum_by_more_le, sum_by-take
 use Rattle.mrp_loops.specs.Sized.{IsSized}
 use Rattle.mrp_net.specs.Lanes.{lanes}
 use Rattle.mrp_world.proofs.Counts as count
-use Rattle.mrp_world.proofs.counting.steps.Goals as goal
+use Rattle.mrp_world.proofs.counting.steps_by.Goals as goal
 
 pub loop-l-preserved : goal.loop-l-preserved
 loop-l-preserved c =
