@@ -3,3 +3,4 @@ pub mod Looks
 pub mod Worlds
 pub mod Makes
 pub mod Counts
+pub mod Pieces

@@ -1,6 +1,8 @@
 //! The mailbox of a lane: records wait in it in the order in which they were sent.
-ghost use Rattle.std.specs.Prelude.{◌≡◌, ◌<◌, ◌++◌, ◌==◌, [], ◌∷◌, length, nat_lt, not, IfOk, IfSome, IfNone, Some, slice_get, drop};
+ghost use Rattle.std.specs.Prelude.{◌≡◌, ◌<◌, ◌++◌, ◌^◌, [], ◌∷◌, length, nat_lt, IfOk, slice_get, drop};
+ghost use Rattle.mrp_record.specs.Entries.{contents, moved};
 
+use mrp_net::ItemNo;
 use mrp_qty::Memory;
 use mrp_record::Record;
 use std::alloc::Global;
@@ -27,8 +29,6 @@ impl Model for Mailbox {
 }
 
 impl Mailbox {
-    ghost use Rattle.mrp_world.specs.World.{};
-
     /// An empty mailbox with room for so many records.
     ///
     /// # Errors
@@ -70,10 +70,27 @@ impl Mailbox {
         let _taken = self.records.pop_front();
     }
 
-    /// The records, first in first out.
-    pub(crate) fn records(&self) -> &VecDeque<Record>
-        ensures { result.now.items ≡ self.now.records }
+    /// The pieces of an item's lines among the records.
+    pub(crate) fn pieces(&self, item: ItemNo) -> u64
+        requires { moved item.0 (contents self.now.records) < 2 ^ 64 }
+        ensures { result ≡ moved item.0 (contents self.now.records) }
     {
-        &self.records
+        let mut pieces = 0;
+        for at in 0..self.records.len() {
+            pieces += pieces_in(&self.records[at], item);
+        }
+        pieces
+    }
+}
+
+/// The pieces of a record, where it is a line of the item.
+fn pieces_in(entry: &Record, item: ItemNo) -> u64
+    ensures { result ≡ moved item.0 (contents (entry.now ∷ [])) }
+{
+    match *entry {
+        Record::Line {
+            item: of, quantity, ..
+        } if of.0 == item.0 => quantity,
+        _ => 0,
     }
 }
