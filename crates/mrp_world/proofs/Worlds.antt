@@ -1,6 +1,6 @@
 -- What events do to a world.
 use Rattle.std.proofs.Common.{◌≡◌, Option, None, Some, get_or, take, ℕ, ◌+◌, ◌-◌, ◌<◌, ◌≤◌, ◌==◌, Bool, true, false, List, [], ◌∷◌, ◌++◌, ◌⊎◌, inl, inr, length, refl, sym, ap, subst, ◌∙◌, arith}
-use Rattle.std.specs.Prelude.{MatchBool, IfSome, IfNone}
+use Rattle.std.specs.Prelude.{MatchBool, IfSome, IfNone, IfOk, Result, Ok, Err}
 use Rattle.std.proofs.lemmas.Bool.{cases_Bool, eqb-true, eq-eqb, false≢true}
 use Rattle.std.proofs.lemmas.List.{take_more}
 use Rattle.mrp_rows.specs.Table.{Table, IsPair}
@@ -237,3 +237,17 @@ pub asked_always : {A : Type 0} (shows : Showing A) (N : Table) (capacity : ℕ)
     → Asked shows N capacity plants boxes left w x p plant → AtMoments shows plant x (λ M s. Says M) → Says w.network
 asked_always {A} shows N capacity plants boxes left w x p plant Says asked says =
     asked_says shows N capacity plants boxes left w x p plant (λ M s. Says M) asked says asked.is.state (subst (λ (v : WorldState A). WorldShows shows v asked.is.state) asked.same asked.is.shown)
+
+-- ---- what plants and mailboxes say
+
+pub ok_more : {X E : Type 0} (r : Result X E) (P Q : X → Type 0) → ((x : X) → P x → Q x) → IfOk r P → IfOk r Q
+ok_more (Ok x) P Q f h = f x h
+ok_more (Err e) P Q f h = h
+
+-- what holds in each state that they show holds in each that the world shows
+pub world_says : {A : Type 0} (shows : Showing A) (N : Table) (capacity : ℕ) (plants plants_too : List A) (boxes boxes_too : List Held) (left : ℕ) (w : WorldState A) (Says : Table → State → Type 0)
+    → plants_too ≡ plants → boxes_too ≡ boxes → world N capacity plants boxes left ≡ w → ((capacity : ℕ) (s : State) → AreAt shows N capacity plants_too boxes_too s → Says N s)
+    → (s : State) → WorldShows shows w s → Says w.network s
+world_says {A} shows N capacity plants plants_too boxes boxes_too left w Says same_plants same_boxes e says =
+    subst (λ (v : WorldState A). (s : State) → WorldShows shows v s → Says v.network s) e
+    (λ s shown. says capacity s (subst (λ (p : List A). AreAt shows N capacity p boxes_too s) (sym same_plants) (subst (λ (b : List Held). AreAt shows N capacity plants b s) (sym same_boxes) shown.parts)))

@@ -1,2 +1,3 @@
 pub mod Moments
 pub mod World
+pub mod Figures

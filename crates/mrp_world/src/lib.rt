@@ -7,6 +7,7 @@
 
 mod acting;
 mod counting;
+mod figures;
 mod looking;
 mod making;
 mod mailbox;

@@ -4,10 +4,12 @@ ghost use Rattle.mrp_world.specs.declared.world.TheConstants.{MOST_ROOM};
 
 use crate::acting::act_on;
 use crate::counting::steps;
+use crate::figures::figures;
 use crate::looking::look;
 use crate::mailbox::Mailbox;
 use crate::making::{new_boxes, new_plants};
 use crate::plant::Plant;
+use mrp_book::LaneFigure;
 use mrp_events::Event;
 use mrp_loops::SizedNet;
 use mrp_net::{Network, PairNo};
@@ -57,6 +59,7 @@ impl<'a, P: Plant> World<'a, P> {
     ghost use Rattle.mrp_events.specs.Loads.{steps as network_steps};
     ghost use Rattle.mrp_events.specs.Progress.{steps_left};
     ghost use Rattle.mrp_events.specs.State.{State, Step, IsEnabled, IsFinished, opening_state};
+    ghost use Rattle.mrp_world.specs.Figures.{figures_of};
     ghost use Rattle.mrp_world.specs.World.{Runs, WorldShows};
 
     /// A world before the first event.
@@ -150,6 +153,18 @@ impl<'a, P: Plant> World<'a, P> {
     {
         let plant = self.network.pair(x).plant;
         self.plants[plant.0].planned(x)
+    }
+
+    /// The cumulative figures of each item of each lane, by lane, then lane item: where they begin, what has
+    /// been shipped, and what has been received, closed years added.
+    ///
+    /// # Errors
+    ///
+    /// [`Memory`] where a growth is refused.
+    pub fn figures(&self, alloc: Global) -> Result<Vec<LaneFigure>, Memory>
+        ensures { IfOk result (λ figures. (s : State) → WorldShows P.shows self.now s → figures.items ≡ figures_of self.now.network s) }
+    {
+        figures(alloc, self.network, self.plants.as_slice(), self.boxes.as_slice())
     }
 
     /// Lets the events happen one by one, and answers how many were enabled.
