@@ -4,3 +4,4 @@ pub mod Worlds
 pub mod Makes
 pub mod Counts
 pub mod Pieces
+pub mod Holding

@@ -251,3 +251,6 @@ pub world_says : {A : Type 0} (shows : Showing A) (N : Table) (capacity : ℕ) (
 world_says {A} shows N capacity plants plants_too boxes boxes_too left w Says same_plants same_boxes e says =
     subst (λ (v : WorldState A). (s : State) → WorldShows shows v s → Says v.network s) e
     (λ s shown. says capacity s (subst (λ (p : List A). AreAt shows N capacity p boxes_too s) (sym same_plants) (subst (λ (b : List Held). AreAt shows N capacity plants b s) (sym same_boxes) shown.parts)))
+
+pub shows_some : {A : Type 0} (shows : Showing A) (v w : WorldState A) → v ≡ w → IsWorld shows v → (s : State) × WorldShows shows w s
+shows_some {A} shows v w e is = (is.state, subst (λ (z : WorldState A). WorldShows shows z is.state) e is.shown)

@@ -1,3 +1,4 @@
 pub mod Moments
 pub mod World
 pub mod Figures
+pub mod Headline

@@ -8,6 +8,7 @@
 mod acting;
 mod counting;
 mod figures;
+pub mod laws;
 mod looking;
 mod making;
 mod mailbox;

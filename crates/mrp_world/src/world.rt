@@ -131,6 +131,7 @@ impl<'a, P: Plant> World<'a, P> {
 
     /// How many steps are left until each closing record is booked and each pair is planned.
     pub fn steps_left(&self) -> u64
+        ensures shows { (s : State) × WorldShows P.shows self.now s }
         ensures value { result ≡ self.now.left }
         ensures counted { (s : State) → WorldShows P.shows self.now s → result ≡ steps_left self.now.network s }
     {
