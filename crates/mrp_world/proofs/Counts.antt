@@ -89,9 +89,9 @@ pub called_by : (N : Table) (s : SourceRow) (table : List PlanRows) (rows : Plan
     → rows ≡ rows_at table s.pair.0 → release ≡ rows.release → AreRows rows → calls_by s release ≡ length (by_period (called_in N s) (horizon N))
 called_by N s table rows release fits is pair of_pair of_rows are =
     let size : length release ≡ horizon N =
-      ap length of_rows ∙ are.release_len ∙ ap (λ (r : PlanRows). length r.gross) of_pair ∙ periods_of N table s.pair.0 fits pair in
+    ap length of_rows ∙ are.release_len ∙ ap (λ (r : PlanRows). length r.gross) of_pair ∙ periods_of N table s.pair.0 fits pair in
     let same : release ≡ (rows_at (plan_of N) s.pair.0).release =
-      of_rows ∙ ap (λ (r : PlanRows). r.release) of_pair ∙ ap (λ (t : List PlanRows). (rows_at t s.pair.0).release) is in
+    of_rows ∙ ap (λ (r : PlanRows). r.release) of_pair ∙ ap (λ (t : List PlanRows). (rows_at t s.pair.0).release) is in
     subst (λ (n : ℕ). calls_by s release ≡ length (by_period (called_in N s) n)) size
     (ap (λ (row : List ℕ). length (by_period (λ t. share_of s.low s.high (slice_index row t)) (length release))) same)
 
@@ -105,8 +105,12 @@ within_sum f (y ∷ xs) x (inr there) = omega (arith, within_sum f xs x there, s
 pub block_is_short : (N : Table) → IsTable N → (l : ℕ) → l < length (lanes N) → (item : ItemNo) → Contains (lane_items N (lane_at N l)) item
     → block_length (load_of N (lane_at N l) item) ≤ 1000000000000000
 block_is_short N table l within item there =
-    omega (arith, text_is_short N table l within, sum_map block_length (load_of N (lane_at N l)) (lane_items N (lane_at N l)),
-      within_sum (λ (i : ItemNo). block_length (load_of N (lane_at N l) i)) (lane_items N (lane_at N l)) item (In-from_contains (lane_items N (lane_at N l)) item there))
+    omega (
+      arith,
+      text_is_short N table l within,
+      sum_map block_length (load_of N (lane_at N l)) (lane_items N (lane_at N l)),
+      within_sum (λ (i : ItemNo). block_length (load_of N (lane_at N l) i)) (lane_items N (lane_at N l)) item (In-from_contains (lane_items N (lane_at N l)) item there),
+    )
 
 abbrev new_start : Bool → ℕ
 new_start starts = if starts then 1 else 0

@@ -10,7 +10,6 @@ use Rattle.mrp_rows.specs.Table.{Table}
 use Rattle.mrp_net.specs.Lanes.{lanes, lane_at, lane_items, opening}
 use Rattle.mrp_record.specs.declared.record.Record.{Record}
 use Rattle.mrp_record.specs.Entries.{content, contents, entries_of, is_of, moved, quantity_of}
-
 use Rattle.mrp_book.specs.declared.figure.LaneFigure.{LaneFigure}
 use Rattle.mrp_events.specs.Laws.{cum_on}
 use Rattle.mrp_events.specs.State.{State}
@@ -40,9 +39,9 @@ pub pieces_so_far : (item : ℕ) (inside held : List Record) (at : ℕ) (r : Rec
     → pieces ≡ moved item (contents (take at held)) → more ≡ moved item (contents (r ∷ [])) → pieces + more ≡ moved item (contents (take (at + 1) held))
 pieces_so_far item inside held at r pieces more same within is so_far here =
     let next = subst (λ (xs : List Record). at < length xs → r ≡ get_or xs at r → moved item (contents (take (at + 1) xs)) ≡ moved item (contents (take at xs)) + moved item (contents (r ∷ []))) same
-      (λ h e. pieces_more item inside at r h ∙ ap (λ (z : Record). moved item (contents (take at inside)) + moved item (contents (z ∷ []))) (sym e)) in
+    (λ h e. pieces_more item inside at r h ∙ ap (λ (z : Record). moved item (contents (take at inside)) + moved item (contents (z ∷ []))) (sym e)) in
     let grown : moved item (contents (take (at + 1) held)) ≡ moved item (contents (take at held)) + moved item (contents (r ∷ [])) =
-      next (subst (λ (xs : List Record). at < length xs) same within) (subst (λ (xs : List Record). r ≡ get_or xs at r) same is) in
+    next (subst (λ (xs : List Record). at < length xs) same within) (subst (λ (xs : List Record). r ≡ get_or xs at r) same is) in
     omega (arith, grown, so_far, here)
 
 -- ---- figures
@@ -77,7 +76,7 @@ pub waiting_is_small : {A : Type 0} (shows : Showing A) (N : Table) (plants : Li
     → l < length (lanes N) → Contains (lane_items N (lane_at N l)) item → AreSomewhere shows N plants boxes → box ≡ get_or boxes l box → moved item.0 (contents box.records) ≤ 1000000000000000
 waiting_is_small shows N plants boxes l item box within there some is =
     let e : moved item.0 (contents box.records) ≡ moved item.0 (contents (box_at boxes l).records) =
-      ap (λ (b : Held). moved item.0 (contents b.records)) (box_read shows N plants boxes l item box within some is) in
+    ap (λ (b : Held). moved item.0 (contents b.records)) (box_read shows N plants boxes l item box within some is) in
     omega (arith, e, shipped_is shows N some.0 plants boxes some.1 l item some.2 within there, shipped_is_small shows N some.0 plants boxes some.1 l item some.2 within there)
 
 -- what the receiver says of an item
@@ -96,7 +95,7 @@ shipped_read : {A : Type 0} (shows : Showing A) (N : Table) (capacity : ℕ) (pl
     → AreAt shows N capacity plants boxes s → received + waiting ≡ cum_on N l item (s.sent l)
 shipped_read shows N capacity plants boxes s l item plant box p received waiting read says waits at =
     let e : moved item.0 (contents box.records) ≡ moved item.0 (contents (box_at boxes l).records) =
-      ap (λ (b : Held). moved item.0 (contents b.records)) (box_read shows N plants boxes l item box read.within read.some read.held) in
+    ap (λ (b : Held). moved item.0 (contents b.records)) (box_read shows N plants boxes l item box read.within read.some read.held) in
     omega (arith, e, waits, received_is shows N capacity plants boxes s l item plant box p received read says at, shipped_is shows N capacity plants boxes s l item at read.within read.there)
 
 pub shipped_fits : {A : Type 0} (shows : Showing A) (N : Table) (plants : List A) (boxes : List Held) (l : ℕ) (item : ItemNo) (plant : A) (box : Held) (p received waiting : ℕ)

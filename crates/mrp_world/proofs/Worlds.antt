@@ -86,10 +86,10 @@ runs_on shows u v w xs ys first second = record {
   network = second.network ∙ first.network;
   capacity = second.capacity ∙ first.capacity;
   runs = λ s shown.
-    let a = first.runs s shown in
-    let b = second.runs a.0 a.2 in
-    let more = subst (λ (N : Table). Run N u.capacity a.0 ys b.0) first.network (subst (λ (c : ℕ). Run v.network c a.0 ys b.0) first.capacity b.1) in
-    (b.0, run_append u.network u.capacity s a.0 b.0 xs ys a.1 more, b.2);
+      let a = first.runs s shown in
+      let b = second.runs a.0 a.2 in
+      let more = subst (λ (N : Table). Run N u.capacity a.0 ys b.0) first.network (subst (λ (c : ℕ). Run v.network c a.0 ys b.0) first.capacity b.1) in
+      (b.0, run_append u.network u.capacity s a.0 b.0 xs ys a.1 more, b.2);
 }
 
 pub runs_one : {A : Type 0} (shows : Showing A) (w : WorldState A) (event : Event) (new : WorldState A) (applied : Bool)
@@ -148,7 +148,7 @@ pub world_may : {A : Type 0} (shows : Showing A) (N : Table) (capacity : ℕ) (p
 world_may {A} shows N capacity plants plants_too boxes boxes_too left w found same_plants same_boxes e may =
     some_more found (λ event. MayLead shows N plants_too boxes_too event) (λ event. (s : State) → WorldShows shows w s → IsEnabled w.network w.capacity s event)
     (λ event lead. subst (λ (v : WorldState A). (s : State) → WorldShows shows v s → IsEnabled v.network v.capacity s event) e
-      (λ s shown. subst (λ (p : List A). MayLead shows N p boxes event) same_plants (subst (λ (b : List Held). MayLead shows N plants_too b event) same_boxes lead) capacity s shown.parts)) may
+    (λ s shown. subst (λ (p : List A). MayLead shows N p boxes event) same_plants (subst (λ (b : List Held). MayLead shows N plants_too b event) same_boxes lead) capacity s shown.parts)) may
 
 abbrev pub Rests : {A : Type 0} → Showing A → WorldState A → Type 0
 Rests shows w = AllRests shows w.network w.plants w.boxes
@@ -164,7 +164,7 @@ pub none_finished : {A : Type 0} (shows : Showing A) (N : Table) (capacity : ℕ
 none_finished {A} shows N capacity plants plants_too boxes boxes_too left w found same_plants same_boxes e is none =
     none_more found (AllRests shows N plants_too boxes_too) ((s : State) → WorldShows shows w s → IsFinished w.network s)
     (λ rests s shown. rests_finished shows w s (subst (λ (v : WorldState A). 1 ≤ v.capacity) e is.holds)
-      (world_rests shows N capacity plants plants_too boxes boxes_too left w same_plants same_boxes e rests) shown) none
+    (world_rests shows N capacity plants plants_too boxes boxes_too left w same_plants same_boxes e rests) shown) none
 
 pub none_left : {A : Type 0} (shows : Showing A) (N : Table) (capacity : ℕ) (plants plants_too : List A) (boxes boxes_too : List Held) (left : ℕ) (w : WorldState A) (found : Option Event)
     → plants_too ≡ plants → boxes_too ≡ boxes → world N capacity plants boxes left ≡ w → IsWorld shows (world N capacity plants boxes left) → IfNone found (AllRests shows N plants_too boxes_too)
@@ -217,9 +217,12 @@ asked_plant_at shows N capacity plants boxes left w x p plant asked s shown =
 
 pub asked_has : {A : Type 0} (shows : Showing A) (N : Table) (capacity : ℕ) (plants : List A) (boxes : List Held) (left : ℕ) (w : WorldState A) (x p : ℕ) (plant : A)
     → Asked shows N capacity plants boxes left w x p plant → Has shows plant x
-asked_has shows N capacity plants boxes left w x p plant asked =
-    (moment N capacity asked.is.state, p, asked_plant_at shows N capacity plants boxes left w x p plant asked asked.is.state asked.is.shown,
-      record { pair = own_pair shows N capacity plants boxes left w x p plant asked; plant = asked.owner })
+asked_has shows N capacity plants boxes left w x p plant asked = (
+  moment N capacity asked.is.state,
+  p,
+  asked_plant_at shows N capacity plants boxes left w x p plant asked asked.is.state asked.is.shown,
+  record { pair = own_pair shows N capacity plants boxes left w x p plant asked; plant = asked.owner },
+)
 
 -- what its plant says of the pair in each moment holds in each state that the world shows
 abbrev pub AtMoments : {A : Type 0} → Showing A → A → ℕ → (Table → State → Type 0) → Type 0
@@ -230,7 +233,7 @@ pub asked_says : {A : Type 0} (shows : Showing A) (N : Table) (capacity : ℕ) (
 asked_says {A} shows N capacity plants boxes left w x p plant Says asked says =
     subst (λ (v : WorldState A). (s : State) → WorldShows shows v s → Says v.network s) asked.same
     (λ s shown. says (moment N capacity s) p (asked_plant_at shows N capacity plants boxes left w x p plant asked s shown)
-      (record { pair = own_pair shows N capacity plants boxes left w x p plant asked; plant = asked.owner }))
+    (record { pair = own_pair shows N capacity plants boxes left w x p plant asked; plant = asked.owner }))
 
 -- also what doesn't depend on the state
 pub asked_always : {A : Type 0} (shows : Showing A) (N : Table) (capacity : ℕ) (plants : List A) (boxes : List Held) (left : ℕ) (w : WorldState A) (x p : ℕ) (plant : A) (Says : Table → Type 0)

@@ -10,8 +10,8 @@ mod counting;
 mod figures;
 pub mod laws;
 mod looking;
-mod making;
 mod mailbox;
+mod making;
 mod plant;
 mod world;
 

@@ -89,7 +89,9 @@ fn pieces_in(entry: &Record, item: ItemNo) -> u64
 {
     match *entry {
         Record::Line {
-            item: of, quantity, ..
+            item: of,
+            quantity,
+            ..
         } if of.0 == item.0 => quantity,
         _ => 0,
     }

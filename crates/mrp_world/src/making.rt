@@ -35,7 +35,11 @@ pub(crate) fn new_plants<P: Plant>(alloc: Global, net: &SizedNet<'_>) -> Result<
 /// # Errors
 ///
 /// [`Memory`] where a growth is refused.
-pub(crate) fn new_boxes(alloc: Global, net: &SizedNet<'_>, capacity: u64) -> Result<Vec<Mailbox>, Memory>
+pub(crate) fn new_boxes(
+    alloc: Global,
+    net: &SizedNet<'_>,
+    capacity: u64,
+) -> Result<Vec<Mailbox>, Memory>
     ensures { IfOk result (λ boxes. BoxesHold net.now.network capacity boxes.items opening_state) }
 {
     let network = net.network();

@@ -165,7 +165,12 @@ impl<'a, P: Plant> World<'a, P> {
     pub fn figures(&self, alloc: Global) -> Result<Vec<LaneFigure>, Memory>
         ensures { IfOk result (λ figures. (s : State) → WorldShows P.shows self.now s → figures.items ≡ figures_of self.now.network s) }
     {
-        figures(alloc, self.network, self.plants.as_slice(), self.boxes.as_slice())
+        figures(
+            alloc,
+            self.network,
+            self.plants.as_slice(),
+            self.boxes.as_slice(),
+        )
     }
 
     /// Lets the events happen one by one, and answers how many were enabled.

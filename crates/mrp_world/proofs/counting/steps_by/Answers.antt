@@ -16,8 +16,13 @@ pub overflow_add-records : goal.overflow_add-records
 overflow_add-records c =
     let N = c.network-network.result.now in
     let sized : IsSized N = subst IsSized (sym c.network-network.ensures.value) c.network-network.ensures.sized in
-    omega (arith, c.loop-l.invariant, c.text_length-records.ensures, count.texts_are_few N sized.table,
-      sum_by_more_le (count.text_of_lane N) (lanes N) c.loop-l.l count.no_lane (omega (arith, c.loop-l-test.true, c.lanes-l-end.ensures)))
+    omega (
+      arith,
+      c.loop-l.invariant,
+      c.text_length-records.ensures,
+      count.texts_are_few N sized.table,
+      sum_by_more_le (count.text_of_lane N) (lanes N) c.loop-l.l count.no_lane (omega (arith, c.loop-l-test.true, c.lanes-l-end.ensures)),
+    )
 
 pub overflow_mul-result : goal.overflow_mul-result
 overflow_mul-result c =

@@ -16,8 +16,14 @@ overflow_add-records c =
     let f : ItemNo → ℕ = λ item. block_length (load_of N lane item) in
     let items : List ItemNo = c.lane_items-item-items.result.now in
     let whole : sum_by f items + 1 ≡ count.text_of_lane N lane = ap (λ (xs : List ItemNo). sum_by f xs + 1) c.lane_items-item-items.ensures.value ∙ count.blocks_are_text N lane in
-    omega (arith, whole, count.text_is_short N c.requires.sized.table c.args.lane.0 c.requires.lane, c.loop-item.invariant, c.block_length-records.ensures,
-      sum_by_more_le f items c.loop-item.item-index (record { 0 = 0 }) c.loop-item-test.true)
+    omega (
+      arith,
+      whole,
+      count.text_is_short N c.requires.sized.table c.args.lane.0 c.requires.lane,
+      c.loop-item.invariant,
+      c.block_length-records.ensures,
+      sum_by_more_le f items c.loop-item.item-index (record { 0 = 0 }) c.loop-item-test.true,
+    )
 
 pub loop-item-preserved : goal.loop-item-preserved
 loop-item-preserved c =
