@@ -18,3 +18,4 @@ pub mod Shown
 pub mod Nothing
 pub mod Queued
 pub mod Replanned
+pub mod Staying

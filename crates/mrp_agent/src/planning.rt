@@ -29,6 +29,7 @@ impl Agent {
         ensures kept { OnTrue result (plans_of self.new x.0 ≡ drafted self.old x) }
         ensures left { OnTrue result (left_of self.new.progress.planned + 1 ≡ left_of self.old.progress.planned) }
         ensures others { OnTrue result ((y : PairNo) → Contains (ready_numbers self.old) y → (y.0 ≡ x.0 → ⊥) → Contains (ready_numbers self.new) y) }
+        ensures drafts { OnTrue result ((y : PairNo) → Contains (ready_numbers self.old) y → drafted self.new y ≡ drafted self.old y) }
         ensures unchanged { OnFalse result (self.new ≡ self.old) }
     {
         let Some(place) = self.view.place(x) else {
