@@ -30,3 +30,4 @@ pub mod Shown
 pub mod Nothing
 pub mod Queued
 pub mod Replanned
+pub mod Staying

@@ -1,5 +1,5 @@
 -- A pair stands among those that can be planned where its place does.
-use Rattle.std.proofs.Common.{◌≡◌, ℕ, ◌<◌, ◌==◌, List, length, get_or, slice_index, sym, ap, ◌∙◌, subst, arith}
+use Rattle.std.proofs.Common.{◌≡◌, ℕ, ◌<◌, ◌==◌, List, length, get_or, map, slice_index, sym, ap, ◌∙◌, subst, arith}
 use Rattle.std.specs.List.{Contains}
 use Rattle.std.proofs.lemmas.Bool.{eq-eqb, eqb-true}
 use Rattle.std.proofs.lemmas.List.{get_or-map, get_or_default, length-map}
@@ -8,7 +8,9 @@ use Rattle.mrp_rows.specs.declared.numbers.PairNo.{PairNo}
 use Rattle.mrp_view.specs.declared.view.PlantPair.{PlantPair}
 use Rattle.mrp_view.specs.Seen.{IsView, IsOwn}
 use Rattle.mrp_ready.specs.Chosen.{number_at}
-use Rattle.mrp_ready.specs.Progress.{IsListed}
+use Rattle.mrp_ready.specs.declared.join.Join.{Join}
+use Rattle.mrp_ready.specs.Progress.{IsListed, Progress}
+use Rattle.mrp_agent.specs.After.{PairSettled}
 use Rattle.mrp_agent.specs.Drafts.{ready_numbers}
 use Rattle.mrp_agent.specs.Kept.{HasRooms}
 use Rattle.mrp_agent.specs.State.{AgentState, no_pair, pair_place}
@@ -50,3 +52,24 @@ module _ (A : AgentState) (view : IsView A.view) (rooms : HasRooms A) where
       place_is_only (λ (p : PlantPair). p.number.0 == x.0) A.view.pairs y no_pair (view.numbers_once x.0) known
       (eq-eqb (get_or A.view.pairs y no_pair).number.0 x.0 (ap (λ (n : PairNo). n.0) number)) in
       subst (Contains A.progress.ready) (sym same) there
+
+-- after one pair is planned the others can be planned as before
+pub ready_stays : (A : AgentState) → IsView A.view → HasRooms A → (x : PairNo) → IsOwn A.view x → (joins : List Join) (new : Progress) → PairSettled joins (pair_place A.view x.0) A.progress new
+    → (y : PairNo) → Contains (ready_numbers A) y → (y.0 ≡ x.0 → ⊥) → Contains (map (number_at new.numbers) new.ready) y
+ready_stays A view rooms x own joins new settled y (k, within, is) other =
+    let f : ℕ → PairNo = number_at A.progress.numbers in
+    let g : ℕ → PairNo = number_at new.numbers in
+    let low : k < length A.progress.ready = omega (arith, within, length-map A.progress.ready f) in
+    let place : ℕ = slice_index A.progress.ready k in
+    let there : Contains A.progress.ready place = (k, low, get_or_default A.progress.ready k place 0 low) in
+    let number : f place ≡ y = sym (get_or-map f A.progress.ready k 0 y low) ∙ is in
+    let apart : place ≡ pair_place A.view x.0 → ⊥ = λ same.
+    other (ap (λ (n : PairNo). n.0) (sym number ∙ ap f same ∙ number_of A view rooms x own)) in
+    let stays = settled.others place there apart in (
+      stays.0,
+      omega (arith, stays.1, length-map new.ready g),
+      get_or-map g new.ready stays.0 place y stays.1
+          ∙ ap g stays.2
+          ∙ ap (λ (z : List PairNo). number_at z place) settled.numbers
+          ∙ number,
+    )

@@ -43,7 +43,7 @@ module _ (A : AgentState) (rooms : HasRooms A) (x : PairNo) (own : IsOwn A.view 
 pub record SameParents (V : PlantRows) (plans others : ℕ → PlanRows) (n : ℕ) (e : PlantEdge) : Type 0 where
   pub same : e.component.0 ≡ n → plans e.parent.0 ≡ others e.parent.0
 
-asked_same : (V : PlantRows) (plans others : ℕ → PlanRows) (n t : ℕ) (es : List PlantEdge) → All (SameParents V plans others n) es
+pub asked_same : (V : PlantRows) (plans others : ℕ → PlanRows) (n t : ℕ) (es : List PlantEdge) → All (SameParents V plans others n) es
     → sum_by (λ e. if e.component.0 == n then e.per * slice_index (plans e.parent.0).release t else 0) es
     ≡ sum_by (λ e. if e.component.0 == n then e.per * slice_index (others e.parent.0).release t else 0) es
 asked_same V plans others n t [] h = refl

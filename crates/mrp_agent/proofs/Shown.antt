@@ -16,7 +16,7 @@ use Rattle.mrp_events.specs.State.{changed}
 use Rattle.mrp_local.specs.Goods.{goods_of, IsSendable}
 use Rattle.mrp_local.specs.Local.{AwaitsNothing, IsPlannedLocally, IsLocal}
 use Rattle.mrp_agent.specs.After.{after_settled, AreSettled, PairSettled, settled_out}
-use Rattle.mrp_agent.specs.Drafts.{CanDraft, drafted}
+use Rattle.mrp_agent.specs.Drafts.{CanDraft, drafted, ready_numbers}
 use Rattle.mrp_agent.specs.Kept.{Indexes, IsKept}
 use Rattle.mrp_agent.specs.Marking.{IsMarked}
 use Rattle.mrp_agent.specs.Shows.{awaited, joins_of, OutShows, Shows}
@@ -24,6 +24,7 @@ use Rattle.mrp_agent.specs.State.{AgentState, outgoing_at, out_at, pair_of, pair
 use Rattle.mrp_agent.proofs.Nothing.{awaits_nothing, draft_is_local, is_unplanned, more_planned, pair_is, same_number}
 use Rattle.mrp_agent.proofs.Queued.{shown_now}
 use Rattle.mrp_agent.proofs.Sent.{changed_elsewhere}
+use Rattle.mrp_agent.proofs.Ready.{ready_stays}
 use Rattle.mrp_agent.proofs.Replanned.{local_same, planned_after, plan_there, plan_elsewhere, SameParents}
 
 module _ (A : AgentState) (I : Indexes) (kept : IsKept A I) (p : PlantPair) (there : Contains A.view.pairs p) (can : CanDraft A p.number)
@@ -142,3 +143,12 @@ planning_shows A B new I x place kept can listed at written marked sent taken pl
     subst (λ (k : ℕ). IsMarked (Written A x (pair_place A.view x.0)) k new) at (subst (λ (b : AgentState). IsMarked b place new) here marked) in
     subst (λ (a : AgentState). Shows a sent taken (changed planned x.0 true)) (sym now.same)
     (settling_shows A I x new.progress new.outs kept can listed now.settled now.queued sent taken planned shows)
+
+-- the other pairs that can be planned still can
+pub others_stay : (A B new : AgentState) (I : Indexes) (x : PairNo) (place : ℕ) → IsKept A I → IsOwn A.view x → place ≡ pair_place A.view x.0 → B ≡ record A { plans = set A.plans place (drafted A x) }
+    → IsMarked B place new
+    → (y : PairNo) → Contains (ready_numbers A) y → (y.0 ≡ x.0 → ⊥) → Contains (ready_numbers new) y
+others_stay A B new I x place kept own at written marked =
+    let now : IsMarked (Written A x place) place new = subst (λ (b : AgentState). IsMarked b place new) written marked in
+    let settled = subst (λ (k : ℕ). PairSettled (joins_of A.view) k A.progress new.progress) at now.settled in
+    ready_stays A kept.view kept.rooms x own (joins_of A.view) new.progress settled

@@ -6,6 +6,7 @@ impl Agent {
     ghost use Rattle.std.specs.Prelude.{◌≡◌, ◌↔◌, ◌+◌, ℕ, Bool, true, List, Contains, IsTrue, slice_set};
     ghost use Rattle.std.specs.Bool.{OnFalse, OnTrue};
     ghost use Rattle.mrp_lot.specs.One.{IsWithin};
+    ghost use Rattle.mrp_rows.specs.declared.numbers.PairNo.{PairNo};
     ghost use Rattle.mrp_record.specs.declared.record.Record.{Record};
     ghost use Rattle.mrp_ready.specs.Progress.{IsFree, left_of};
     ghost use Rattle.mrp_view.specs.Seen.{IsOwn};
@@ -27,6 +28,8 @@ impl Agent {
             → Shows self.new sent taken (changed planned x.0 true)) }
         ensures kept { OnTrue result (plans_of self.new x.0 ≡ drafted self.old x) }
         ensures left { OnTrue result (left_of self.new.progress.planned + 1 ≡ left_of self.old.progress.planned) }
+        ensures others { OnTrue result ((y : PairNo) → Contains (ready_numbers self.old) y → (y.0 ≡ x.0 → ⊥) → Contains (ready_numbers self.new) y) }
+        ensures drafts { OnTrue result ((y : PairNo) → Contains (ready_numbers self.old) y → drafted self.new y ≡ drafted self.old y) }
         ensures unchanged { OnFalse result (self.new ≡ self.old) }
     {
         let Some(place) = self.view.place(x) else {
