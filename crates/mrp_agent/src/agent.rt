@@ -177,6 +177,13 @@ impl Agent {
         }
     }
 
+    /// The plans of all pairs, in the order of the view's pairs. A pair that isn't planned has some plan.
+    pub fn into_plans(self) -> Vec<PairPlan>
+        ensures { result.items ≡ self.plans }
+    {
+        self.plans
+    }
+
     /// The cumulative figure received of an item over a lane, closed years added, in pieces; `None` where
     /// the lane doesn't come in, or doesn't have the item.
     pub fn cumulative(&self, lane: LaneNo, item: ItemNo) -> Option<Qty>
