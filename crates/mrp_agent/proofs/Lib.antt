@@ -13,15 +13,12 @@ pub mod Opening
 pub mod Reading
 pub mod Viewing
 pub mod Network
-pub mod Settled
 pub mod Arriving
 pub mod Bringing
 pub mod Ending
 pub mod Booked
 pub mod BookCalls
 pub mod Waiting
-pub mod SettledOuts
-pub mod SettledState
 pub mod DraftLaws
 pub mod Desks
 pub mod Marked

@@ -61,7 +61,7 @@ impl Agent {
     }
 
     /// Counts the pair at a place as planned, and lets the schedule lanes that have its item send it.
-    fn mark_planned(&mut self, place: usize)
+    pub(crate) fn mark_planned(&mut self, place: usize)
         requires ready { Contains self.old.progress.ready place }
         requires free { IsFree self.old.progress.waits self.old.progress.planned place }
         ensures { IsMarked self.old place self.new }

@@ -10,49 +10,33 @@ use mrp_rows::ItemNo;
 use mrp_view::OutgoingLane;
 
 impl Agent {
-    ghost use Rattle.std.specs.Prelude.{ℕ, ◌+◌, Bool, true, Contains, List};
+    ghost use Rattle.std.specs.Prelude.{ℕ, Bool, true, List, Contains, ◌+◌};
     ghost use Rattle.mrp_rows.specs.declared.numbers.PairNo.{PairNo};
+    ghost use Rattle.mrp_ready.specs.Progress.{left_of};
+    ghost use Rattle.mrp_agent.specs.State.{plans_of};
     ghost use Rattle.mrp_record.specs.declared.record.Record.{Record};
-    ghost use Rattle.mrp_ready.specs.Progress.{left_of, IsListed};
     ghost use Rattle.mrp_events.specs.State.{changed};
     ghost use Rattle.mrp_agent.specs.Drafts.{CanDraft, drafted, ready_numbers};
     ghost use Rattle.mrp_agent.specs.Shows.{Shows};
-    ghost use Rattle.mrp_agent.specs.State.{pair_place, plans_of};
 
     /// Keeps the plan of a pair that can be planned, as [`Agent::draft`] wrote it.
-    ///
-    /// The other pairs that can be planned stay so, with the same drafts.
     pub fn settle(&mut self, x: PairNo, plan: &PairPlan)
         requires can { CanDraft self.old x }
         requires draft { plan.now ≡ drafted self.old x }
         ensures view { self.new.view ≡ self.old.view }
+        ensures planned { (sent taken : ℕ → List Record) (planned : ℕ → Bool) → Shows self.old sent taken planned
+            → Shows self.new sent taken (changed planned x.0 true) }
         ensures kept { plans_of self.new x.0 ≡ plan.now }
         ensures left { left_of self.new.progress.planned + 1 ≡ left_of self.old.progress.planned }
         ensures others { (y : PairNo) → Contains (ready_numbers self.old) y → (y.0 ≡ x.0 → ⊥) → Contains (ready_numbers self.new) y }
-        ensures drafts { (y : PairNo) → Contains (ready_numbers self.old) y → (y.0 ≡ x.0 → ⊥) → drafted self.new y ≡ drafted self.old y }
-        ensures planned { (sent taken : ℕ → List Record) (planned : ℕ → Bool) → Shows self.old sent taken planned
-            → Shows self.new sent taken (changed planned x.0 true) }
+        ensures drafts { (y : PairNo) → Contains (ready_numbers self.old) y → drafted self.new y ≡ drafted self.old y }
     {
-        let place = self.ready_place(x);
-        self.plans[place].copy_from(plan);
-        self.progress.settle(place, self.components.of(place));
-        let item = self.view.pairs()[place].item;
-        queue_item(&mut self.outs, self.view.outgoing(), &self.out_items, item);
-    }
-
-    /// The place of a pair that can be planned.
-    fn ready_place(&self, x: PairNo) -> usize
-        requires { Contains (ready_numbers self.now) x }
-        ensures place { result ≡ pair_place self.now.view x.0 }
-        ensures ready { Contains self.now.progress.ready result }
-        ensures listed { IsListed self.now.progress.waits self.now.progress.planned self.now.progress.ready }
-    {
-        // Its contract says that each ready place is one of the plant's pairs.
-        let _ready = self.progress.ready_pairs();
         let Some(place) = self.view.place(x) else {
             unreachable!()
         };
-        place
+        let _ready = self.progress.ready_pairs();
+        self.plans[place].copy_from(plan);
+        self.mark_planned(place);
     }
 }
 
