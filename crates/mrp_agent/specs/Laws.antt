@@ -1,18 +1,25 @@
 -- Laws of agents in a network: what they plan is its plan, and what they send is what its lanes carry.
 use Rattle.std.specs.Prelude.{◌≡◌, ℕ, ◌<◌, Bool, true, List, [], ◌∷◌, ◌++◌, length}
+use Rattle.mrp_lot.specs.One.{IsWithin}
+use Rattle.mrp_rows.specs.declared.numbers.PairNo.{PairNo}
 use Rattle.mrp_rows.specs.Table.{Table, IsTable}
 use Rattle.mrp_net.specs.Lanes.{lane_at}
+use Rattle.mrp_view.specs.Seen.{IsView}
 use Rattle.mrp_view.specs.View.{plant_rows}
 use Rattle.mrp_loops.specs.Loop.{IsLoopFree}
 use Rattle.mrp_loops.specs.Sized.{IsSized}
 use Rattle.mrp_loops.specs.Within.{plan_at}
 use Rattle.mrp_record.specs.declared.record.Record.{Record}
+use Rattle.mrp_record.specs.Entries.{content}
 use Rattle.mrp_record.specs.Text.{IsBeginning}
 use Rattle.mrp_events.specs.Loads.{loads}
 use Rattle.mrp_events.specs.Local.{AreLegal}
-use Rattle.mrp_local.specs.Laws.{IsPairAt}
-use Rattle.mrp_agent.specs.State.{AgentState, outgoing_at, plans_of}
-use Rattle.mrp_agent.specs.Sending.{Continues, IsWithin64}
+use Rattle.mrp_events.specs.State.{IsDecided}
+use Rattle.mrp_local.specs.Laws.{IsPairAt, IsReadyAt}
+use Rattle.mrp_agent.specs.State.{AgentState, outgoing_at, plans_of, pair_of}
+use Rattle.mrp_agent.specs.Sending.{Continues, NothingContinues, IsWithin64}
+use Rattle.mrp_agent.specs.Kept.{HasSmallOpenings}
+use Rattle.mrp_agent.specs.Drafts.{drafted, drafted_gross, drafted_incoming}
 use Rattle.mrp_agent.specs.Shows.{Shows}
 
 -- an agent of a plant of the network, to which legal beginnings have come
@@ -28,6 +35,26 @@ PlannedPairsHaveThePlan =
     → (plant : ℕ) (A : AgentState) (sent taken : ℕ → List Record) (planned : ℕ → Bool) → WorksIn N plant A sent taken planned
     → (x : ℕ) → IsPairAt N plant x → planned x ≡ true → plans_of A x ≡ plan_at N x
 
+-- a pair as calls name it
+abbrev pub numbered : ℕ → PairNo
+numbered x = record { 0 = x }
+
+-- once nothing is missing for a pair, its rows in a sized network are together within 10^15
+abbrev pub DraftsAreWithin : Type 0
+DraftsAreWithin =
+    (N : Table) → IsSized N
+    → (plant : ℕ) (A : AgentState) (sent taken : ℕ → List Record) (planned : ℕ → Bool) → WorksIn N plant A sent taken planned
+    → (x : ℕ) → IsPairAt N plant x → IsReadyAt N plant taken planned x
+    → IsWithin (pair_of A.view (numbered x)).params (drafted_incoming A (numbered x)) (drafted_gross A (numbered x))
+
+-- and what it drafts by them is the network's plan of the pair
+abbrev pub DraftsAreThePlan : Type 0
+DraftsAreThePlan =
+    (N : Table) → IsSized N
+    → (plant : ℕ) (A : AgentState) (sent taken : ℕ → List Record) (planned : ℕ → Bool) → WorksIn N plant A sent taken planned
+    → (x : ℕ) → IsPairAt N plant x → IsReadyAt N plant taken planned x
+    → drafted A (numbered x) ≡ plan_at N x
+
 -- in a sized network the numbers and figures that it sends stay below 2^64
 abbrev pub SentIsWithin64 : Type 0
 SentIsWithin64 =
@@ -42,3 +69,17 @@ SentIsLegal =
     → (plant : ℕ) (A : AgentState) (sent taken : ℕ → List Record) (planned : ℕ → Bool) → WorksIn N plant A sent taken planned
     → (k : ℕ) → k < length A.view.outgoing → (r : Record) → Continues A sent taken k r
     → IsBeginning (loads N (lane_at N (outgoing_at A.view k).number.0)) (sent (outgoing_at A.view k).number.0 ++ r ∷ [])
+
+-- where no record of its goods continues what it sent, none that the events let be sent does: none that
+-- keeps the network's lane a legal beginning and is, on a schedule lane, of an item whose pair is planned
+abbrev pub NothingLegalIsLeft : Type 0
+NothingLegalIsLeft =
+    (N : Table) → IsSized N
+    → (plant : ℕ) (A : AgentState) (sent taken : ℕ → List Record) (planned : ℕ → Bool) → WorksIn N plant A sent taken planned
+    → (k : ℕ) → k < length A.view.outgoing → NothingContinues A sent taken k
+    → (r : Record) → IsDecided N planned (lane_at N (outgoing_at A.view k).number.0) (content r)
+    → IsBeginning (loads N (lane_at N (outgoing_at A.view k).number.0)) (sent (outgoing_at A.view k).number.0 ++ r ∷ []) → ⊥
+
+-- what a plant of a sized network sees is all that its agent needs to begin
+abbrev pub ViewsCanBePlanned : Type 0
+ViewsCanBePlanned = (N : Table) → IsSized N → (plant : ℕ) → IsView (plant_rows N plant) × HasSmallOpenings (plant_rows N plant)

@@ -1,4 +1,12 @@
 pub mod State
+pub mod Drafts
+pub mod Asking
 pub mod Shows
 pub mod Sending
+pub mod After
+pub mod Kept
+pub mod Making
+pub mod Sent
+pub mod Reading
 pub mod Laws
+pub mod Marking

@@ -1,12 +1,10 @@
 -- Which sent lists, taken lists and planned pairs an agent shows. `sent` and `taken` have the records of
 -- each lane by the lane's number, `planned` says which pairs are planned, by the pair's number.
-use Rattle.std.specs.Prelude.{◌≡◌, ◌↔◌, ℕ, ◌+◌, ◌-◌, ◌<◌, ◌^◌, ◌==◌, ◌&&◌, not, min, Bool, List, length, map, sum_by, count_by, Contains}
+use Rattle.std.specs.Prelude.{◌≡◌, ◌↔◌, ℕ, ◌+◌, ◌-◌, ◌<◌, ◌^◌, ◌==◌, ◌&&◌, min, Bool, List, length, map, Contains}
 use Rattle.std.specs.List.{flat_map, list_all}
-use Rattle.mrp_rows.specs.declared.numbers.PairNo.{PairNo}
-use Rattle.mrp_net.specs.declared.lane.LaneKind.TheVariants.{Despatch, Schedule}
+use Rattle.mrp_net.specs.declared.lane.LaneKind.TheVariants.{Schedule}
 use Rattle.mrp_view.specs.declared.view.IncomingItem.{IncomingItem}
 use Rattle.mrp_view.specs.declared.view.IncomingLane.{IncomingLane}
-use Rattle.mrp_view.specs.declared.view.OutgoingLane.{OutgoingLane}
 use Rattle.mrp_view.specs.declared.view.PlantEdge.{PlantEdge}
 use Rattle.mrp_view.specs.declared.view.PlantPair.{PlantPair}
 use Rattle.mrp_view.specs.View.{PlantRows}
@@ -16,7 +14,6 @@ use Rattle.mrp_record.specs.Form.{LaneForm}
 use Rattle.mrp_book.specs.declared.item.BookItem.{BookItem}
 use Rattle.mrp_book.specs.Figures as book
 use Rattle.mrp_cursor.specs.Shows.{ShowsSent}
-use Rattle.mrp_ready.specs.Chosen.{number_at}
 use Rattle.mrp_ready.specs.declared.join.Join.{Join}
 use Rattle.mrp_ready.specs.Counts.{Awaited, AreCounts, open_blocks}
 use Rattle.mrp_ready.specs.Progress.{is_planned, left_of}
@@ -101,7 +98,3 @@ pub record Shows (A : AgentState) (sent taken : ℕ → List Record) (planned : 
 -- all pairs are planned, and all lanes are closed, those that come in and those that go out
 abbrev pub is_done : AgentState → Bool
 is_done A = (left_of A.progress.planned == 0) && list_all (λ b. b.closed) A.books && list_all (λ o. o.closed) A.outs
-
--- the numbers of the pairs that can be planned
-abbrev pub ready_numbers : AgentState → List PairNo
-ready_numbers A = map (number_at A.progress.numbers) A.progress.ready

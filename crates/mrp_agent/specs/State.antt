@@ -1,9 +1,8 @@
 -- What the agent of a plant keeps, by places: a lane has a place among those that come in or among those
 -- that go out, and a pair one among the plant's pairs.
-use Rattle.std.specs.Prelude.{ℕ, ◌*◌, ◌+◌, ◌-◌, ◌^◌, ◌==◌, Bool, false, true, List, [], map, slice_index, slice_index_or, Option, None}
+use Rattle.std.specs.Prelude.{ℕ, ◌==◌, false, List, [], slice_index_or, None}
 use Rattle.std.specs.List.{position_or_len}
 use Rattle.mrp_lot.specs.One.{PlanRows}
-use Rattle.mrp_lot.specs.declared.params.PairParams.{PairParams}
 use Rattle.mrp_lot.specs.declared.rule.Rule.TheVariants.{LotForLot}
 use Rattle.mrp_rows.specs.declared.numbers.ItemNo.{ItemNo}
 use Rattle.mrp_rows.specs.declared.numbers.PairNo.{PairNo}

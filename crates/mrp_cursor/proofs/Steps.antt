@@ -16,7 +16,7 @@ use Rattle.mrp_cursor.specs.declared.remainder.Due.TheVariants.{Moving, Restarti
 use Rattle.mrp_cursor.specs.declared.remainder.NextLine.{NextLine}
 use Rattle.mrp_cursor.specs.declared.remainder.Remainder.{Remainder}
 use Rattle.mrp_cursor.specs.Cursor.{OutFigures, Goods, load_of, blocks}
-use Rattle.mrp_cursor.specs.Laws.{Agrees, IsBounded, IsQueued, MaySend, GivenContinues, StepsShow}
+use Rattle.mrp_cursor.specs.Laws.{Agrees, IsBounded, IsQueued, MaySend, GivenContinues, StepsKeepPlaces, StepsShow}
 use Rattle.mrp_cursor.specs.Next.{IsNext, IsRemainder, IsLeft, due, added, figure_said, record_due, next_record, stepped_by, stepped}
 use Rattle.mrp_cursor.specs.Shows.{ShowsSent, IsPart, figure_at, reset_at}
 use Rattle.mrp_cursor.proofs.Dues.{line_is_due, reset_is_due, end_is_due, reset_is_next}
@@ -261,16 +261,19 @@ same_places : (goods : ℕ → Goods) (o p : OutFigures) (loads : List Load) →
 same_places goods o p loads e d h =
     record { size = h.size ∙ e; queued = λ place there. h.queued place (subst (λ (z : List ℕ). Contains z place) (sym d) there) }
 
-size_stays : (o : OutFigures) (what : Due) → (o.size ≡ (stepped_by o what).size) × (o.queue ≡ (stepped_by o what).queue)
-size_stays o (Moving line) = (refl, refl)
-size_stays o Restarting = (refl, refl)
-size_stays o Ending = (refl, refl)
+kept_by : (o : OutFigures) (what : Due) → ((stepped_by o what).size ≡ o.size) × ((stepped_by o what).queue ≡ o.queue)
+kept_by o (Moving line) = (refl, refl)
+kept_by o Restarting = (refl, refl)
+kept_by o Ending = (refl, refl)
+
+pub steps_keep_places : StepsKeepPlaces
+steps_keep_places o None = (refl, refl)
+steps_keep_places o (Some left) = kept_by o (due o.anew left)
 
 agrees_after : (goods : ℕ → Goods) (o : OutFigures) (left : Option Remainder) (loads : List Load) → Agrees goods o loads → Agrees goods (stepped o left) loads
-agrees_after goods o None loads h = same_places goods o (stepped o None) loads refl refl h
-agrees_after goods o (Some left) loads h =
-    let same = size_stays o (due o.anew left) in
-    same_places goods o (stepped_by o (due o.anew left)) loads same.0 same.1 h
+agrees_after goods o left loads h =
+    let same = steps_keep_places o left in
+    same_places goods o (stepped o left) loads (sym same.0) (sym same.1) h
 
 pub given_continues : GivenContinues
 given_continues goods o sent left r h small rest is loads agrees = (

@@ -55,6 +55,12 @@ StepsShow =
     → ShowsSent goods o sent → IsBounded goods o → IsLeft goods o left → next_record o left ≡ Some r
     → ShowsSent goods (stepped o left) (sent ++ r ∷ [])
 
+-- a step changes neither the lane's size nor the queue
+abbrev pub StepsKeepPlaces : Type 0
+StepsKeepPlaces =
+    (o : OutFigures) (left : Option Remainder)
+    → ((stepped o left).size ≡ o.size) × ((stepped o left).queue ≡ o.queue)
+
 -- where no record is given none can be sent: no record that may be sent continues the list to a legal
 -- beginning of loads that agree
 abbrev pub NoneIsLeft : Type 0

@@ -1,6 +1,6 @@
 //! Laws of cursors. Each is the contract of a function that does nothing.
 
-ghost use Rattle.mrp_cursor.specs.Laws.{GivenContinues, StepsShow, NoneIsLeft, QueuesShow, QueuedArePlaces, LooksAtQueued};
+ghost use Rattle.mrp_cursor.specs.Laws.{GivenContinues, StepsShow, StepsKeepPlaces, NoneIsLeft, QueuesShow, QueuedArePlaces, LooksAtQueued};
 ghost use Rattle.mrp_cursor.specs.Laws.{ShownBegin, ClosedIsShown, ClosedShowsWhole, ShownAreShort, SmallAreBounded};
 
 /// The record that a cursor gives may be sent: it continues the shown list to a legal beginning.
@@ -8,9 +8,10 @@ pub fn given_continues()
     ensures { GivenContinues }
 {}
 
-/// After a step a cursor shows the list with the given record.
+/// After a step a cursor shows the list with the given record. Its queue stays as it was.
 pub fn steps_show()
-    ensures { StepsShow }
+    ensures shows { StepsShow }
+    ensures places { StepsKeepPlaces }
 {}
 
 /// Where a cursor gives no record, none can be sent.

@@ -1,0 +1,42 @@
+-- The next period in which there is something to call for.
+use Rattle.std.proofs.Common.{◌≡◌, ℕ, suc, ◌+◌, ◌-◌, ◌<◌, ◌≤◌, not, true, false, Option, Some, None, option_map, List, length, map, refl, sym, ap, ◌∙◌, arith}
+use Rattle.std.specs.List.{find, range_with_len}
+use Rattle.std.proofs.lemmas.Bool.{eq-eqb, ne_eqb}
+use Rattle.mrp_view.specs.declared.view.OutgoingItem.{OutgoingItem}
+use Rattle.mrp_events.specs.Loads.{delivery_in, has_pieces}
+use Rattle.mrp_cursor.specs.declared.remainder.NextLine.{NextLine}
+use Rattle.mrp_agent.specs.Sending.{next_called, called_by, call_line}
+
+abbrev found_in : (ℕ → ℕ) → ℕ → ℕ → Option NextLine
+found_in amount period n = option_map call_line (find has_pieces (map (delivery_in amount) (range_with_len period n)))
+
+found_here : (amount : ℕ → ℕ) (period n : ℕ) → 0 < amount period → found_in amount period (suc n) ≡ Some (record { period = period; quantity = amount period; after = period + 1 })
+found_here amount period n some =
+    let passes : has_pieces (delivery_in amount period) ≡ true = ap not (ne_eqb (amount period) 0 (λ e. omega arith)) in
+    rw passes refl
+
+found_later : (amount : ℕ → ℕ) (period n : ℕ) → amount period ≡ 0 → found_in amount period (suc n) ≡ found_in amount (period + 1) n
+found_later amount period n none =
+    let fails : has_pieces (delivery_in amount period) ≡ false = ap not (eq-eqb (amount period) 0 none) in
+    rw fails refl
+
+step : (release : List ℕ) (period : ℕ) → period < length release → length release - period ≡ suc (length release - (period + 1))
+step release period within = omega arith
+
+pub call_here : (release : List ℕ) (item : OutgoingItem) (period quantity : ℕ) → period < length release → quantity ≡ called_by release item period → 0 < quantity
+    → next_called release item period ≡ Some (record { period = period; quantity = quantity; after = period + 1 })
+call_here release item period quantity within is some =
+    ap (found_in (called_by release item) period) (step release period within)
+    ∙ found_here (called_by release item) period (length release - (period + 1)) (omega (arith, is, some))
+    ∙ ap (λ (q : ℕ). Some (record { period = period; quantity = q; after = period + 1 })) (sym is)
+
+pub call_later : (release : List ℕ) (item : OutgoingItem) (period : ℕ) → period < length release → called_by release item period ≡ 0
+    → next_called release item period ≡ next_called release item (period + 1)
+call_later release item period within none =
+    ap (found_in (called_by release item) period) (step release period within)
+    ∙ found_later (called_by release item) period (length release - (period + 1)) none
+
+pub no_call : (release : List ℕ) (item : OutgoingItem) (period : ℕ) → length release ≤ period → next_called release item period ≡ None
+no_call release item period past =
+    let none : length release - period ≡ 0 = omega arith in
+    ap (found_in (called_by release item) period) none

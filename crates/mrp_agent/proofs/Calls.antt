@@ -1,0 +1,109 @@
+-- What an agent's methods of sending know.
+use Rattle.std.proofs.Common.{◌≡◌, ℕ, ◌-◌, ◌<◌, ◌≤◌, Option, Some, None, IfSome, IfNone, List, length, get_or, set, sym, ap, ◌∙◌, subst, arith, rules}
+use Rattle.std.specs.List.{Contains}
+use Rattle.std.proofs.lemmas.List.{get_or_default}
+use Rattle.std.proofs.lemmas.List.Elements.{All-contains}
+use Rattle.mrp_lot.specs.One.{PlanRows}
+use Rattle.mrp_net.specs.declared.lane.LaneKind.{LaneKind}
+use Rattle.mrp_net.specs.declared.lane.LaneKind.TheVariants.{Schedule}
+use Rattle.mrp_view.specs.declared.view.OutgoingItem.{OutgoingItem}
+use Rattle.mrp_view.specs.declared.view.OutgoingLane.{OutgoingLane}
+use Rattle.mrp_view.specs.Loads.{bare, load_at, no_load}
+use Rattle.mrp_view.specs.Seen.{IsOwn, IsOutgoingItem, IsOutgoingLane, IsScheduleLane}
+use Rattle.mrp_record.specs.declared.record.Record.{Record}
+use Rattle.mrp_book.specs.Figures.{Figures}
+use Rattle.mrp_cursor.specs.declared.remainder.Remainder.{Remainder}
+use Rattle.mrp_cursor.specs.Cursor.{OutFigures}
+use Rattle.mrp_cursor.specs.Next.{next_record, stepped}
+use Rattle.mrp_agent.specs.State.{AgentState, book_at, incoming_at, incoming_place, out_at, pair_place, plans_of, no_out}
+use Rattle.mrp_agent.specs.After.{after_sent}
+use Rattle.mrp_agent.specs.Kept.{HasTaken, Indexes, IsKept, IsShowing}
+use Rattle.mrp_agent.specs.Sending.{AreShares, left_at, left_to_call, next_out, remainder, remainder_by}
+use Rattle.mrp_agent.specs.Sent.{GivenIsLegal, NoneCanBeSent, IsAppended}
+use Rattle.mrp_agent.specs.Shows.{form_of}
+use Rattle.mrp_agent.proofs.Leaving.{place_before}
+use Rattle.mrp_agent.proofs.Owning.{own_within}
+use Rattle.mrp_agent.proofs.Sent.{given_is_legal, none_can_be_sent, own_of, sent_shows, sent_kept}
+
+-- an element that was read
+pub read_is : {X : Type 0} (xs : List X) (k : ℕ) (x d : X) → x ≡ get_or xs k x → k < length xs → x ≡ get_or xs k d
+read_is xs k x d e within = e ∙ get_or_default xs k x d within
+
+pub showing_at : (A : AgentState) → HasTaken A → (k : ℕ) → k < length A.view.incoming → IsShowing (book_at A k)
+showing_at A has k within =
+    record { form = form_of A.view (incoming_at A.view k); records = has.taken (incoming_at A.view k).number.0; shows = has.books k within }
+
+-- ---- a schedule lane
+
+pub record CallFacts (A : AgentState) (lane : OutgoingLane) (j : ℕ) : Type 0 where
+  pub own : IsOwn A.view (load_at lane.items j).customer
+  pub customer : pair_place A.view (load_at lane.items j).customer.0 < length A.plans
+  pub before : incoming_place A.view (lane.number.0 - 1) < length A.view.incoming
+  pub book : incoming_place A.view (lane.number.0 - 1) < length A.books
+  pub showing : IsShowing (book_at A (incoming_place A.view (lane.number.0 - 1)))
+  pub shares : AreShares (bare (load_at lane.items j))
+  pub after : 1 ≤ lane.number.0
+
+pub call_facts : (A : AgentState) {I : Indexes} → IsKept A I → (lane : OutgoingLane) → Contains A.view.outgoing lane → lane.kind ≡ Schedule → (j : ℕ) → j < length lane.items → CallFacts A lane j
+call_facts A kept lane there kind j within =
+    let sched = All-contains (λ (z : OutgoingLane). z.kind ≡ Schedule → IsScheduleLane A.view z) A.view.outgoing lane kept.view.schedules there kind in
+    let out = All-contains (IsOutgoingLane A.view) A.view.outgoing lane kept.view.outgoing there in
+    let item : IsOutgoingItem A.view (load_at lane.items j) = out.items j no_load within in
+    let own = own_of A lane j sched within in
+    let at = place_before A kept.taken.taken kept.view kept.taken.books lane sched in
+    record {
+      own = own;
+      customer = omega (arith, own_within A.view (load_at lane.items j).customer own, kept.rooms.plans);
+      before = at.0;
+      book = omega (arith, at.0, kept.rooms.books);
+      showing = showing_at A kept.taken (incoming_place A.view (lane.number.0 - 1)) at.0;
+      shares = record { rises = omega (arith, item.rises); ends = omega (arith, item.ends) };
+      after = sched.after;
+    }
+
+pub call_is : (A : AgentState) (lane : OutgoingLane) (j mark : ℕ) (item : OutgoingItem) (b : Figures) (plan : PlanRows) (r : Remainder) → lane.kind ≡ Schedule
+    → item ≡ bare (load_at lane.items j) → b ≡ book_at A (incoming_place A.view (lane.number.0 - 1)) → plan ≡ plans_of A (load_at lane.items j).customer.0
+    → r ≡ left_to_call b plan.release item mark → r ≡ remainder A lane mark j
+call_is A lane j mark item b plan r kind i e p is =
+    is
+    ∙ ap (λ (z : OutgoingItem). left_to_call b plan.release z mark) i
+    ∙ ap (λ (z : Figures). left_to_call z plan.release (bare (load_at lane.items j)) mark) e
+    ∙ ap (λ (z : PlanRows). left_to_call (book_at A (incoming_place A.view (lane.number.0 - 1))) z.release (bare (load_at lane.items j)) mark) p
+    ∙ ap (λ (z : LaneKind). remainder_by z A lane (load_at lane.items j) mark) (sym kind)
+
+-- ---- promises
+
+pub given_legal : (A : AgentState) {I : Indexes} → IsKept A I → (k : ℕ) → k < length A.view.outgoing → (o : Option Record) → o ≡ next_out A k → IfSome o (λ r. GivenIsLegal A k r)
+given_legal A kept k within None e = search rules
+given_legal A kept k within (Some r) e =
+    λ sent taken planned shows bounded. given_is_legal A kept.view kept.rooms sent taken planned shows k within r bounded (sym e)
+
+pub none_legal : (A : AgentState) {I : Indexes} → IsKept A I → (k : ℕ) → k < length A.view.outgoing → (o : Option Record) → o ≡ next_out A k → IfNone o (NoneCanBeSent A k)
+none_legal A kept k within None e = λ sent taken planned shows. none_can_be_sent A kept.view kept.rooms sent taken planned shows k within (sym e)
+none_legal A kept k within (Some r) e = search rules
+
+pub appended : (A B : AgentState) {I : Indexes} → IsKept A I → (k : ℕ) → k < length A.view.outgoing → B ≡ after_sent A k → (r : Record) → next_out A k ≡ Some r → IsAppended A B k r
+appended A B kept k within is r given =
+    let P : AgentState → Type 0 = λ z. IsAppended A z k r in
+    subst P (sym is) (λ sent taken planned shows bounded. sent_shows A kept.view kept.rooms sent taken planned shows k within r bounded given)
+
+-- the cursors after a step
+pub stepped_outs : (A : AgentState) (k j : ℕ) (o new : OutFigures) (left : Option Remainder) → k ≡ j → j < length A.outs → o ≡ get_or A.outs k o → left ≡ left_at A k → new ≡ stepped o left
+    → set A.outs k new ≡ set A.outs j (stepped (out_at A j) (left_at A j))
+stepped_outs A k j o new left same within is e s =
+    let inside : k < length A.outs = omega arith in
+    let is' : o ≡ out_at A k = read_is A.outs k o no_out is inside in
+    let step : new ≡ stepped (out_at A k) (left_at A k) = s ∙ ap (λ (z : OutFigures). stepped z left) is' ∙ ap (λ (z : Option Remainder). stepped (out_at A k) z) e in
+    ap (λ (z : OutFigures). set A.outs k z) step ∙ ap (λ (z : ℕ). set A.outs z (stepped (out_at A z) (left_at A z))) same
+
+pub kept_outs : (A : AgentState) {I : Indexes} (k : ℕ) (outs : List OutFigures) → k < length A.view.outgoing → IsKept A I → outs ≡ set A.outs k (stepped (out_at A k) (left_at A k)) → IsKept (record A { outs = outs }) I
+kept_outs A {I} k outs within kept is =
+    let P : List OutFigures → Type 0 = λ z. IsKept (record A { outs = z }) I in
+    subst P (sym is) (sent_kept A I k within kept)
+
+-- the record that is given
+pub next_is : (A : AgentState) (k j : ℕ) (o : OutFigures) (left : Option Remainder) (r : Option Record) → k ≡ j → j < length A.outs → o ≡ get_or A.outs k o → left ≡ left_at A k → r ≡ next_record o left → r ≡ next_out A j
+next_is A k j o left r same within is e s =
+    let inside : k < length A.outs = omega arith in
+    let is' : o ≡ out_at A k = read_is A.outs k o no_out is inside in
+    s ∙ ap (λ (z : OutFigures). next_record z left) is' ∙ ap (λ (z : Option Remainder). next_record (out_at A k) z) e ∙ ap (next_out A) same

@@ -1,0 +1,132 @@
+-- What an agent drafts for a pair for which nothing is missing is the network's plan of it.
+use Rattle.std.proofs.Common.{◌≡◌, ℕ, ◌+◌, ◌<◌, ◌≤◌, ◌==◌, Bool, List, length, get_or, sum, slice_index, refl, sym, ap, ◌∙◌, subst, arith}
+use Rattle.std.specs.List.{Contains, filter, range_with_len}
+use Rattle.std.proofs.lemmas.Bool.{eqb-true}
+use Rattle.std.proofs.lemmas.List.{get_or-map, length-map}
+use Rattle.std.proofs.lemmas.List.FromFn.{get_or-map-range_with_len, length-map-range_with_len}
+use Rattle.std.proofs.lemmas.List.Sums.{get_or-le-sum_by, passes_at_first}
+use Rattle.mrp_qty.specs.declared.quantity.TheConstants.{MOST}
+use Rattle.mrp_lot.specs.One.{PlanRows, IsWithin, one}
+use Rattle.mrp_rows.specs.Table.{Table}
+use Rattle.mrp_net.specs.declared.lane.LaneKind.TheVariants.{Schedule}
+use Rattle.mrp_net.proofs.Members.{Contains-from_in}
+use Rattle.mrp_view.specs.declared.view.PlantPair.{PlantPair}
+use Rattle.mrp_view.specs.Seen.{IsOwn}
+use Rattle.mrp_view.specs.View.{PlantRows, is_of_plant, plant_pair, plant_pairs, plant_rows}
+use Rattle.mrp_loops.specs.Sized.{IsSized}
+use Rattle.mrp_record.specs.declared.record.Record.{Record}
+use Rattle.mrp_local.specs.Laws.{IsPairAt, IsReadyAt, PlansLocally}
+use Rattle.mrp_local.specs.Local.{amount_at, asked_within, booked_on, local_incoming, local_gross, local_row, IsLocal}
+use Rattle.mrp_local.proofs.Planned as network
+use Rattle.mrp_local.proofs.Seeing.{sees_pair}
+use Rattle.mrp_agent.specs.State.{AgentState, pair_of, pair_place, plans_of, no_pair}
+use Rattle.mrp_agent.specs.Shows.{up_to_last}
+use Rattle.mrp_agent.specs.Laws.{WorksIn, DraftsAreThePlan, DraftsAreWithin, numbered}
+use Rattle.mrp_agent.proofs.Drafts.{map_same}
+use Rattle.mrp_agent.proofs.Owning.{own_within}
+
+-- ---- small sums
+
+small_sum : (n : ℕ) → n ≤ MOST → up_to_last n ≡ n
+small_sum n h = omega arith
+
+-- an amount of a row is within their sum
+pub in_row : (V : PlantRows) (amount : ℕ → ℕ) (t : ℕ) → t < V.horizon → amount t ≤ sum (local_row V amount)
+in_row V amount t low =
+    let inside : t < length (local_row V amount) = omega (arith, low, length-map-range_with_len amount 0 V.horizon) in
+    let at : slice_index (local_row V amount) t ≡ amount t = get_or-map-range_with_len amount 0 V.horizon t t 0 low (omega arith) in
+    omega (arith, at, get_or-le-sum_by (λ (n : ℕ). n) (local_row V amount) t 0 inside)
+
+-- ---- the pair
+
+module _ (N : Table) (plant x : ℕ) (at : IsPairAt N plant x) where
+  own_pair : IsOwn (plant_rows N plant) (numbered x)
+  own_pair = (plant_pair N x, Contains-from_in (plant_pairs N plant) (plant_pair N x) (sees_pair N plant x at), refl)
+
+  pair_is : pair_of (plant_rows N plant) (numbered x) ≡ plant_pair N x
+  pair_is =
+      let numbers : List ℕ = filter (is_of_plant N plant) (range_with_len 0 (length N.pairs)) in
+      let place : ℕ = pair_place (plant_rows N plant) x in
+      let within : place < length (plant_pairs N plant) = own_within (plant_rows N plant) (numbered x) own_pair in
+      let known : get_or (plant_pairs N plant) place no_pair ≡ plant_pair N (get_or numbers place 0) =
+      get_or-map (plant_pair N) numbers place 0 no_pair (omega (arith, within, length-map numbers (plant_pair N))) in
+      let found : (get_or (plant_pairs N plant) place no_pair).number.0 ≡ x =
+      eqb-true (get_or (plant_pairs N plant) place no_pair).number.0 x (passes_at_first (λ (p : PlantPair). p.number.0 == x) (plant_pairs N plant) no_pair within) in
+      let same : get_or numbers place 0 ≡ x = sym (ap (λ (p : PlantPair). p.number.0) known) ∙ found in
+      known ∙ ap (plant_pair N) same
+
+-- ---- its rows
+
+module _ (V : PlantRows) (taken : ℕ → List Record) (plans : ℕ → PlanRows) (came called : List ℕ) (p : PlantPair)
+    (small : IsWithin p.params (local_row V (local_incoming V taken p)) (local_row V (local_gross V taken plans p)))
+    (comes : (t : ℕ) → t < V.horizon → amount_at V came p.number t ≡ up_to_last (local_incoming V taken p t))
+    (is_called : (t : ℕ) → t < V.horizon → amount_at V called p.number t ≡ up_to_last (amount_at V V.demands p.number t + booked_on Schedule V taken p.item t)) where
+  incoming_is : local_row V (λ t. amount_at V came p.number t) ≡ local_row V (local_incoming V taken p)
+  incoming_is =
+      map_same (λ (t : ℕ). amount_at V came p.number t) (local_incoming V taken p) 0 V.horizon
+      (λ t h.
+      let low : t < V.horizon = omega arith in
+      comes t low ∙ small_sum (local_incoming V taken p t) (omega (arith, in_row V (local_incoming V taken p) t low, small.total)))
+
+  gross_is : local_row V (λ t. amount_at V called p.number t + asked_within V plans p.number t) ≡ local_row V (local_gross V taken plans p)
+  gross_is =
+      map_same (λ (t : ℕ). amount_at V called p.number t + asked_within V plans p.number t) (local_gross V taken plans p) 0 V.horizon
+      (λ t h.
+      let low : t < V.horizon = omega arith in
+      let most : local_gross V taken plans p t ≤ MOST = omega (arith, in_row V (local_gross V taken plans p) t low, small.total) in
+      let sum_is = small_sum (amount_at V V.demands p.number t + booked_on Schedule V taken p.item t) (omega (arith, most)) in
+      omega (arith, is_called t low, sum_is))
+
+-- ---- the laws
+
+plans_locally : (N : Table) (plant : ℕ) (A : AgentState) (sent taken : ℕ → List Record) (planned : ℕ → Bool) → WorksIn N plant A sent taken planned
+    → PlansLocally N plant taken planned (plans_of A)
+plans_locally N plant A sent taken planned w =
+    record { legal = w.legal; local = subst (λ (V : PlantRows). IsLocal V taken planned (plans_of A)) w.view w.shows.local }
+
+-- the rows that it drafts from
+abbrev RowsAre : Table → (ℕ → List Record) → (ℕ → PlanRows) → List ℕ → List ℕ → ℕ → PlantRows → PlantRows → Type 0
+RowsAre N taken plans came called x R V =
+    (pair_of V (numbered x) ≡ plant_pair N x)
+    × (local_row V (λ t. amount_at V came (numbered x) t) ≡ local_row R (local_incoming R taken (plant_pair N x)))
+    × (local_row V (λ t. amount_at V called (numbered x) t + asked_within V plans (numbered x) t) ≡ local_row R (local_gross R taken plans (plant_pair N x)))
+
+rows_are : (N : Table) → IsSized N → (plant : ℕ) (A : AgentState) (sent taken : ℕ → List Record) (planned : ℕ → Bool) → WorksIn N plant A sent taken planned
+    → (x : ℕ) → IsPairAt N plant x → IsReadyAt N plant taken planned x
+    → RowsAre N taken (plans_of A) A.came A.called x (plant_rows N plant) A.view
+rows_are N sized plant A sent taken planned w x at ready =
+    let R : PlantRows = plant_rows N plant in
+    let p : PlantPair = plant_pair N x in
+    let small = network.drafts_are_within N sized plant taken planned (plans_of A) (plans_locally N plant A sent taken planned w) x at ready in
+    let there : Contains A.view.pairs p = subst (λ (V : PlantRows). Contains V.pairs p) (sym w.view) (Contains-from_in (plant_pairs N plant) p (sees_pair N plant x at)) in
+    let comes = subst (λ (V : PlantRows). (t : ℕ) → t < V.horizon → amount_at V A.came p.number t ≡ up_to_last (local_incoming V taken p t)) w.view (w.shows.came p there) in
+    let is_called =
+    subst (λ (V : PlantRows). (t : ℕ) → t < V.horizon → amount_at V A.called p.number t ≡ up_to_last (amount_at V V.demands p.number t + booked_on Schedule V taken p.item t)) w.view (w.shows.called p there) in
+    subst (RowsAre N taken (plans_of A) A.came A.called x R) (sym w.view)
+    (pair_is N plant x at, incoming_is R taken (plans_of A) A.came A.called p small comes is_called, gross_is R taken (plans_of A) A.came A.called p small comes is_called)
+
+pub drafts_are_within : DraftsAreWithin
+drafts_are_within N sized plant A sent taken planned w x at ready =
+    let R : PlantRows = plant_rows N plant in
+    let p : PlantPair = plant_pair N x in
+    let rows = rows_are N sized plant A sent taken planned w x at ready in
+    let small = network.drafts_are_within N sized plant taken planned (plans_of A) (plans_locally N plant A sent taken planned w) x at ready in
+    let V : PlantRows = A.view in
+    let incoming : List ℕ = local_row V (λ t. amount_at V A.came (numbered x) t) in
+    let gross : List ℕ = local_row V (λ t. amount_at V A.called (numbered x) t + asked_within V (plans_of A) (numbered x) t) in
+    subst (λ (q : PlantPair). IsWithin q.params incoming gross) (sym rows.0)
+    (subst (λ (z : List ℕ). IsWithin p.params z gross) (sym rows.1)
+    (subst (λ (z : List ℕ). IsWithin p.params (local_row R (local_incoming R taken p)) z) (sym rows.2) small))
+
+pub drafts_are_the_plan : DraftsAreThePlan
+drafts_are_the_plan N sized plant A sent taken planned w x at ready =
+    let R : PlantRows = plant_rows N plant in
+    let p : PlantPair = plant_pair N x in
+    let rows = rows_are N sized plant A sent taken planned w x at ready in
+    let V : PlantRows = A.view in
+    let incoming : List ℕ = local_row V (λ t. amount_at V A.came (numbered x) t) in
+    let gross : List ℕ = local_row V (λ t. amount_at V A.called (numbered x) t + asked_within V (plans_of A) (numbered x) t) in
+    ap (λ (q : PlantPair). one q.params incoming gross) rows.0
+    ∙ ap (λ (z : List ℕ). one p.params z gross) rows.1
+    ∙ ap (λ (z : List ℕ). one p.params (local_row R (local_incoming R taken p)) z) rows.2
+    ∙ (network.drafts_are_the_plan N sized.table sized.loop_free plant taken planned (plans_of A) (plans_locally N plant A sent taken planned w) x at ready).plan

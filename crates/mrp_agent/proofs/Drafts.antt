@@ -1,0 +1,221 @@
+-- What an agent drafts from is what its state says.
+use Rattle.std.proofs.Common.{◌≡◌, ℕ, zero, suc, ◌+◌, ◌-◌, ◌*◌, ◌<◌, ◌≤◌, ◌==◌, eqb, cond, if◌then◌else◌, Bool, true, false, List, [], ◌∷◌, inl, inr, length, get_or, map, sum_by, slice_index, slice_range, take, drop, refl, sym, ap, ◌∙◌, subst, arith}
+use Rattle.std.specs.List.{All, filter, range_with_len}
+use Rattle.std.proofs.lemmas.Bool.{cases_eq, eq-eqb, eqb-true, ne_eqb}
+use Rattle.std.proofs.lemmas.List.FromFn.{fill_by_all, get_or-map-range_with_len, length-map-range_with_len}
+use Rattle.std.proofs.lemmas.List.{get_or-drop, get_or-take, get_or_default, length-drop, length-take-le}
+use Rattle.std.proofs.lemmas.List.Elements.{All-head, All-tail, All-filter, All-map}
+use Rattle.std.proofs.lemmas.List.Sums.{sum_by-cons, passes_at_first}
+use Rattle.mrp_lot.specs.One.{PlanRows, IsWithin, one}
+use Rattle.mrp_lot.specs.declared.params.PairParams.{PairParams}
+use Rattle.mrp_rows.specs.declared.numbers.PairNo.{PairNo}
+use Rattle.mrp_group.proofs.Kept.{groups_are_slices}
+use Rattle.mrp_view.specs.declared.view.PlantEdge.{PlantEdge}
+use Rattle.mrp_view.specs.declared.view.PlantPair.{PlantPair}
+use Rattle.mrp_view.specs.Seen.{IsView, IsOwn, IsPlantEdge}
+use Rattle.mrp_view.specs.View.{PlantRows}
+use Rattle.mrp_local.specs.Local.{amount_at, asked_within}
+use Rattle.mrp_agent.specs.declared.edges.ParentEdge.{ParentEdge}
+use Rattle.mrp_agent.specs.State.{AgentState, pair_place, pair_of, plans_of, no_plan, no_pair}
+use Rattle.mrp_agent.specs.Asking.{asked_by, asked_on, CanAsk, HasDraft, grossed}
+use Rattle.mrp_agent.specs.Drafts.{drafted, drafted_incoming, drafted_gross, CanDraft}
+use Rattle.mrp_agent.specs.Kept.{Indexes, AreIndexes, parent_edge, HasRooms}
+use Rattle.mrp_agent.proofs.Owning.{own_within}
+
+-- ---- slices
+
+-- a part of a list, number by number
+pub part_is : (xs : List ℕ) (a n : ℕ) → a + n ≤ length xs → slice_range xs a (a + n) ≡ map (λ t. slice_index xs (a + t)) (range_with_len 0 n)
+part_is xs a n within =
+    let count : a + n - a ≡ n = omega arith in
+    let size : length (take n (drop a xs)) ≡ n = length-take-le n (drop a xs) (omega (arith, within, length-drop a xs)) in
+    let each : (t : ℕ) → t < n → slice_index (take n (drop a xs)) t ≡ slice_index xs (a + t) = λ t low. get_or-take n (drop a xs) t 0 low ∙ get_or-drop a xs t 0 in
+    ap (λ (k : ℕ). take k (drop a xs)) count ∙ fill_by_all (λ (t : ℕ). slice_index xs (a + t)) (take n (drop a xs)) n 0 size each
+
+pub row_within : (place pairs periods : ℕ) → place < pairs → place * periods + periods ≤ pairs * periods
+row_within place pairs periods within =
+    let least : place + 1 ≤ pairs = omega arith in
+    grind (arith, mul_le place pairs periods within)
+  where
+    mul_le : (place pairs periods : ℕ) → place < pairs → (place + 1) * periods ≤ pairs * periods
+    mul_le place zero periods h = absurd (omega arith)
+    mul_le zero (suc pairs) periods h = omega arith
+    mul_le (suc place) (suc pairs) periods h = omega (arith, mul_le place pairs periods (omega arith))
+
+-- ---- the parents
+
+-- two of the plant's pairs stand at one place where they have one number
+pub places_apart : (V : PlantRows) (x y : PairNo) → IsOwn V x → IsOwn V y → pair_place V x.0 ≡ pair_place V y.0 → x.0 ≡ y.0
+places_apart V x y own_x own_y same =
+    let at : (z : PairNo) → IsOwn V z → (get_or V.pairs (pair_place V z.0) no_pair).number.0 ≡ z.0 = λ z own.
+    eqb-true (get_or V.pairs (pair_place V z.0) no_pair).number.0 z.0 (passes_at_first (λ (p : PlantPair). eqb p.number.0 z.0) V.pairs no_pair (own_within V z own)) in
+    sym (at x own_x) ∙ ap (λ (k : ℕ). (get_or V.pairs k no_pair).number.0) same ∙ at y own_y
+
+same_component : (V : PlantRows) (x : PairNo) (e : PlantEdge) → IsOwn V x → IsPlantEdge V e → (pair_place V e.component.0 == pair_place V x.0) ≡ (e.component.0 == x.0)
+same_component V x e own is =
+    elim (cases_eq e.component.0 x.0) as (λ _. eqb (pair_place V e.component.0) (pair_place V x.0) ≡ eqb e.component.0 x.0) [
+      | inl same ↦ eq-eqb (pair_place V e.component.0) (pair_place V x.0) (ap (pair_place V) same) ∙ sym (eq-eqb e.component.0 x.0 same)
+      | inr other ↦
+          ne_eqb (pair_place V e.component.0) (pair_place V x.0) (λ e'. other (places_apart V e.component x is.component own e'))
+          ∙ sym (ne_eqb e.component.0 x.0 other)
+    ]
+
+-- what the edges by places ask is what the plant's edges do
+pub asked_is : (A : AgentState) (x : PairNo) → IsOwn A.view x → (t : ℕ) (es : List PlantEdge) → All (IsPlantEdge A.view) es
+    → asked_by A.plans (filter (λ e. e.component == pair_place A.view x.0) (map (parent_edge A.view) es)) t
+    ≡ sum_by (λ e. if e.component.0 == x.0 then e.per * slice_index (plans_of A e.parent.0).release t else 0) es
+asked_is A x own t [] h = refl
+asked_is A x own t (e ∷ es) h =
+    let V : PlantRows = A.view in
+    let test : Bool = pair_place V e.component.0 == pair_place V x.0 in
+    let asks : PlantEdge → ℕ = λ e. e.per * slice_index (plans_of A e.parent.0).release t in
+    let here : test ≡ (e.component.0 == x.0) = same_component V x e own (All-head (IsPlantEdge V) e es h) in
+    let later = asked_is A x own t es (All-tail (IsPlantEdge V) e es h) in
+    let all = sum_by-cons (λ (e : PlantEdge). if e.component.0 == x.0 then asks e else 0) e es in
+    let F : Bool → Type 0 = λ b. asked_by A.plans (cond b (parent_edge V e ∷ filter (λ e. e.component == pair_place V x.0) (map (parent_edge V) es)) (filter (λ e. e.component == pair_place V x.0) (map (parent_edge V) es))) t
+    ≡ cond b (asks e) 0 + sum_by (λ e. if e.component.0 == x.0 then asks e else 0) es in
+    let by : (b : Bool) → F b = λ b. elim b as F [
+      | true ↦
+          let one = sum_by-cons (asked_on A.plans t) (parent_edge V e) (filter (λ e. e.component == pair_place V x.0) (map (parent_edge V) es)) in
+          omega (arith, one, later)
+      | false ↦ omega (arith, later)
+    ] in
+    by test ∙ ap (λ (b : Bool). cond b (asks e) 0 + sum_by (λ e. if e.component.0 == x.0 then asks e else 0) es) here ∙ sym all
+
+-- ---- rows
+
+pub map_same : (f g : ℕ → ℕ) (a n : ℕ) → ((t : ℕ) → t < a + n → f t ≡ g t) → map f (range_with_len a n) ≡ map g (range_with_len a n)
+map_same f g a zero same = refl
+map_same f g a (suc n) same =
+    let later = map_same f g (a + 1) n (λ t h. same t (omega arith)) in
+    ap (λ (z : ℕ). z ∷ map f (range_with_len (a + 1) n)) (same a (omega arith)) ∙ ap (λ (z : List ℕ). g a ∷ z) later
+
+abbrev pub edges_at : PlantRows → ℕ → List ParentEdge
+edges_at V place = filter (λ e. e.component == place) (map (parent_edge V) V.edges)
+
+module _ (A : AgentState) (view : IsView A.view) (rooms : HasRooms A) (x : PairNo) (own : IsOwn A.view x) where
+  abbrev Part : List ℕ → List ℕ
+  Part amounts = slice_range amounts (pair_place A.view x.0 * A.view.horizon) (pair_place A.view x.0 * A.view.horizon + A.view.horizon)
+
+  bound : pair_place A.view x.0 * A.view.horizon + A.view.horizon ≤ length A.view.pairs * A.view.horizon
+  bound = row_within (pair_place A.view x.0) (length A.view.pairs) A.view.horizon (own_within A.view x own)
+
+  pub came_is : Part A.came ≡ drafted_incoming A x
+  came_is = part_is A.came (pair_place A.view x.0 * A.view.horizon) A.view.horizon (omega (arith, bound, rooms.came))
+
+  called_is : Part A.called ≡ map (λ t. slice_index A.called (pair_place A.view x.0 * A.view.horizon + t)) (range_with_len 0 A.view.horizon)
+  called_is = part_is A.called (pair_place A.view x.0 * A.view.horizon) A.view.horizon (omega (arith, bound, rooms.called))
+
+  called_length : length (Part A.called) ≡ A.view.horizon
+  called_length =
+      ap length called_is
+      ∙ length-map-range_with_len (λ (t : ℕ). slice_index A.called (pair_place A.view x.0 * A.view.horizon + t)) 0 A.view.horizon
+
+  called_at : (t : ℕ) → t < A.view.horizon → slice_index (Part A.called) t ≡ slice_index A.called (pair_place A.view x.0 * A.view.horizon + t)
+  called_at t within =
+      let f : ℕ → ℕ = λ t. slice_index A.called (pair_place A.view x.0 * A.view.horizon + t) in
+      ap (λ (z : List ℕ). slice_index z t) called_is ∙ get_or-map-range_with_len f 0 A.view.horizon t t 0 within (omega arith)
+
+  pub gross_is : grossed (Part A.called) (edges_at A.view (pair_place A.view x.0)) A.plans ≡ drafted_gross A x
+  gross_is =
+      let f : ℕ → ℕ = λ t. slice_index (Part A.called) t + asked_by A.plans (edges_at A.view (pair_place A.view x.0)) t in
+      let g : ℕ → ℕ = λ t. amount_at A.view A.called x t + asked_within A.view (plans_of A) x t in
+      ap (λ (n : ℕ). map f (range_with_len 0 n)) called_length
+      ∙ map_same f g 0 A.view.horizon
+      (λ t h.
+      let lower : t < A.view.horizon = omega arith in
+      ap (λ (n : ℕ). n + asked_by A.plans (edges_at A.view (pair_place A.view x.0)) t) (called_at t lower)
+      ∙ ap (λ (n : ℕ). amount_at A.view A.called x t + n) (asked_is A x own t A.view.edges view.edges))
+
+  can_ask : (e : PlantEdge) → IsPlantEdge A.view e → CanAsk A.plans (length (Part A.called)) (parent_edge A.view e)
+  can_ask e is =
+      let within : pair_place A.view e.parent.0 < length A.plans = omega (arith, own_within A.view e.parent is.parent, rooms.plans) in
+      record { known = within; periods_are = (rooms.periods (pair_place A.view e.parent.0) no_plan within).gross ∙ sym called_length }
+
+  pub has_draft : IsWithin (pair_of A.view x).params (drafted_incoming A x) (drafted_gross A x)
+      → HasDraft (pair_of A.view x).params (Part A.came) (Part A.called) (edges_at A.view (pair_place A.view x.0)) A.plans
+  has_draft within = record {
+    within =
+        subst (λ (z : List ℕ). IsWithin (pair_of A.view x).params z (grossed (Part A.called) (edges_at A.view (pair_place A.view x.0)) A.plans)) (sym came_is)
+        (subst (λ (z : List ℕ). IsWithin (pair_of A.view x).params (drafted_incoming A x) z) (sym gross_is) within);
+    edges_are =
+        All-filter (λ (e : ParentEdge). e.component == pair_place A.view x.0) (CanAsk A.plans (length (Part A.called))) (map (parent_edge A.view) A.view.edges)
+        (All-map (CanAsk A.plans (length (Part A.called))) (parent_edge A.view) A.view.edges (λ k d h. can_ask (get_or A.view.edges k d) (view.edges k d h)));
+  }
+
+  pub drafted_is : one (pair_of A.view x).params (Part A.came) (grossed (Part A.called) (edges_at A.view (pair_place A.view x.0)) A.plans) ≡ drafted A x
+  drafted_is =
+      ap (λ (z : List ℕ). one (pair_of A.view x).params z (grossed (Part A.called) (edges_at A.view (pair_place A.view x.0)) A.plans)) came_is
+      ∙ ap (λ (z : List ℕ). one (pair_of A.view x).params (drafted_incoming A x) z) gross_is
+
+-- ---- what a call reads
+
+-- the pair at a place
+pub pair_read : (V : PlantRows) (x : PairNo) (pairs : List PlantPair) (place : ℕ) (d : PlantPair) → IsOwn V x → pairs ≡ V.pairs → place ≡ pair_place V x.0
+    → get_or pairs place d ≡ pair_of V x
+pair_read V x pairs place d own is at =
+    ap (λ (z : List PlantPair). get_or z place d) is
+    ∙ ap (λ (k : ℕ). get_or V.pairs k d) at
+    ∙ get_or_default V.pairs (pair_place V x.0) d no_pair (own_within V x own)
+
+-- the part of a list that a pair has
+pub part_read : (xs ys : List ℕ) (place at periods horizon : ℕ) → ys ≡ xs → at ≡ place → periods ≡ horizon
+    → slice_range ys (at * periods) (at * periods + periods) ≡ slice_range xs (place * horizon) (place * horizon + horizon)
+part_read xs ys place at periods horizon is here same =
+    ap (λ (z : List ℕ). slice_range z (at * periods) (at * periods + periods)) is
+    ∙ ap (λ (k : ℕ). slice_range xs (k * periods) (k * periods + periods)) here
+    ∙ ap (λ (n : ℕ). slice_range xs (place * n) (place * n + n)) same
+
+-- the edges of a component
+pub edges_read : (V : PlantRows) (I : Indexes) (x : PairNo) (edges : List ParentEdge) (place : ℕ) → AreIndexes V I → IsOwn V x → place ≡ pair_place V x.0
+    → edges ≡ slice_range I.edges (slice_index I.starts place) (slice_index I.starts (place + 1))
+    → edges ≡ edges_at V (pair_place V x.0)
+edges_read V I x edges place indexes own at is =
+    is
+    ∙ ap (λ (k : ℕ). slice_range I.edges (slice_index I.starts k) (slice_index I.starts (k + 1))) at
+    ∙ indexes.edges.slices (pair_place V x.0) (own_within V x own)
+
+-- where they stand
+pub edges_rise : (V : PlantRows) (I : Indexes) (x : PairNo) (place : ℕ) → AreIndexes V I → IsOwn V x → place ≡ pair_place V x.0
+    → (slice_index I.starts place ≤ slice_index I.starts (place + 1)) × (slice_index I.starts (place + 1) ≤ length I.edges)
+edges_rise V I x place indexes own at =
+    let within : place < length V.pairs = omega (arith, own_within V x own, at) in
+    let key : ParentEdge → ℕ = λ e. e.component in
+    let found = groups_are_slices ParentEdge key (length V.pairs) (map (parent_edge V) V.edges) I.edges I.starts indexes.edges place within in
+    (found.0, found.1)
+
+-- a call that read the pair's parameters, its parts and its edges
+pub record HasRead (A : AgentState) (x : PairNo) (params : PairParams) (came called : List ℕ) (edges : List ParentEdge) (plans : List PlanRows) : Type 0 where
+  pub params_are : params ≡ (pair_of A.view x).params
+  pub came_are : came ≡ slice_range A.came (pair_place A.view x.0 * A.view.horizon) (pair_place A.view x.0 * A.view.horizon + A.view.horizon)
+  pub called_are : called ≡ slice_range A.called (pair_place A.view x.0 * A.view.horizon) (pair_place A.view x.0 * A.view.horizon + A.view.horizon)
+  pub edges_are : edges ≡ edges_at A.view (pair_place A.view x.0)
+  pub plans_are : plans ≡ A.plans
+
+pub can_draft_from : (A : AgentState) (x : PairNo) (params : PairParams) (came called : List ℕ) (edges : List ParentEdge) (plans : List PlanRows) → HasRead A x params came called edges plans
+    → IsView A.view → HasRooms A → CanDraft A x → HasDraft params came called edges plans
+can_draft_from A x params came called edges plans read view rooms can =
+    subst (λ (z : PairParams). HasDraft z came called edges plans) (sym read.params_are)
+    (subst (λ (z : List ℕ). HasDraft (pair_of A.view x).params z called edges plans) (sym read.came_are)
+    (subst (λ (z : List ℕ). HasDraft (pair_of A.view x).params (Part A view rooms x can.own A.came) z edges plans) (sym read.called_are)
+    (subst (λ (z : List ParentEdge). HasDraft (pair_of A.view x).params (Part A view rooms x can.own A.came) (Part A view rooms x can.own A.called) z plans) (sym read.edges_are)
+    (subst (λ (z : List PlanRows). HasDraft (pair_of A.view x).params (Part A view rooms x can.own A.came) (Part A view rooms x can.own A.called) (edges_at A.view (pair_place A.view x.0)) z) (sym read.plans_are)
+    (has_draft A view rooms x can.own can.within)))))
+
+pub draft_is : (A : AgentState) (x : PairNo) (params : PairParams) (came called : List ℕ) (edges : List ParentEdge) (plans : List PlanRows) → HasRead A x params came called edges plans
+    → IsView A.view → HasRooms A → IsOwn A.view x → one params came (grossed called edges plans) ≡ drafted A x
+draft_is A x params came called edges plans read view rooms own =
+    ap (λ (z : PairParams). one z came (grossed called edges plans)) read.params_are
+    ∙ ap (λ (z : List ℕ). one (pair_of A.view x).params z (grossed called edges plans)) read.came_are
+    ∙ ap (λ (z : List ℕ). one (pair_of A.view x).params (Part A view rooms x own A.came) (grossed z edges plans)) read.called_are
+    ∙ ap (λ (z : List ParentEdge). one (pair_of A.view x).params (Part A view rooms x own A.came) (grossed (Part A view rooms x own A.called) z plans)) read.edges_are
+    ∙ ap (λ (z : List PlanRows). one (pair_of A.view x).params (Part A view rooms x own A.came) (grossed (Part A view rooms x own A.called) (edges_at A.view (pair_place A.view x.0)) z)) read.plans_are
+    ∙ drafted_is A view rooms x own
+
+-- the part of a list that a pair has ends within it
+pub part_bound : (V : PlantRows) (x : PairNo) (amounts xs : List ℕ) (at periods : ℕ) → IsOwn V x → length amounts ≡ length V.pairs * V.horizon → xs ≡ amounts → at ≡ pair_place V x.0
+    → periods ≡ V.horizon → at * periods + periods ≤ length xs
+part_bound V x amounts xs at periods own size is here same =
+    let most : pair_place V x.0 * V.horizon + V.horizon ≤ length V.pairs * V.horizon = row_within (pair_place V x.0) (length V.pairs) V.horizon (own_within V x own) in
+    let left : at * periods + periods ≡ pair_place V x.0 * V.horizon + V.horizon = ap (λ (k : ℕ). k * periods + periods) here ∙ ap (λ (n : ℕ). pair_place V x.0 * n + n) same in
+    omega (arith, most, left, size, ap length is)

@@ -1,0 +1,106 @@
+-- A pair is counted as planned.
+use Rattle.std.proofs.Common.{◌≡◌, ℕ, ◌<◌, ◌≤◌, ◌==◌, ◌&&◌, nat_lt, if◌then◌else◌, Bool, true, false, [], ◌∷◌, ◌++◌, Option, Some, None, List, length, get_or, map, slice_index, slice_get, refl, sym, ap, ◌∙◌, subst, arith}
+use Rattle.std.specs.List.{All, filter}
+use Rattle.std.proofs.lemmas.List.{length-set, get_or_default}
+use Rattle.std.proofs.lemmas.List.Elements.{All-filter, All-map}
+use Rattle.std.proofs.lemmas.List.FromFn.{get_or-map-range_with_len, length-map-range_with_len}
+use Rattle.std.proofs.lemmas.Option.{get_or_from_slice_get}
+use Rattle.mrp_rows.specs.declared.numbers.ItemNo.{ItemNo}
+use Rattle.mrp_net.specs.declared.lane.LaneKind.{LaneKind}
+use Rattle.mrp_net.specs.declared.lane.LaneKind.TheVariants.{Despatch, Schedule}
+use Rattle.mrp_view.specs.declared.view.OutgoingLane.{OutgoingLane}
+use Rattle.mrp_view.specs.declared.view.PlantEdge.{PlantEdge}
+use Rattle.mrp_view.specs.declared.view.PlantPair.{PlantPair}
+use Rattle.mrp_view.specs.Seen.{IsPlantEdge}
+use Rattle.mrp_cursor.specs.Cursor.{OutFigures}
+use Rattle.mrp_ready.specs.declared.join.Join.{Join}
+use Rattle.mrp_ready.specs.Counts.{components_of, open_blocks}
+use Rattle.mrp_ready.specs.Progress.{IsFree, Progress, times}
+use Rattle.mrp_ready.proofs.Counting.{components_wait}
+use Rattle.mrp_agent.specs.After.{AreSettled, PairSettled, place_of, queued_at, queued_by}
+use Rattle.mrp_agent.specs.Kept.{Indexes, IsKept}
+use Rattle.mrp_agent.specs.Shows.{awaited, join_of, joins_of}
+use Rattle.mrp_agent.specs.State.{AgentState, no_pair, out_at, outgoing_at}
+use Rattle.mrp_agent.proofs.Owning.{own_within}
+
+-- ---- the components of a pair
+
+module _ (A : AgentState) (I : Indexes) (kept : IsKept A I) (place : ℕ) (free : IsFree A.progress.waits A.progress.planned place) where
+  within : place < length A.view.pairs
+  within = omega (arith, free.known, kept.rooms.waits)
+
+  components_length : length I.components ≡ length A.view.pairs
+  components_length = ap length kept.indexes.components ∙ length-map-range_with_len (components_of (joins_of A.view)) 0 (length A.view.pairs)
+
+  pub components_known : place < length I.components
+  components_known = omega (arith, within, components_length)
+
+  pub components_are : (components : List ℕ) → slice_get I.components place ≡ Some components → components ≡ components_of (joins_of A.view) place
+  components_are components found =
+      let f : ℕ → List ℕ = components_of (joins_of A.view) in
+      let there : get_or I.components place components ≡ f place =
+      ap (λ (z : List (List ℕ)). get_or z place components) kept.indexes.components
+      ∙ get_or-map-range_with_len f 0 (length A.view.pairs) place place components within (omega arith) in
+      sym (get_or_from_slice_get I.components place components components found) ∙ there
+
+  pub components_within : (components : List ℕ) → components ≡ components_of (joins_of A.view) place → All (λ y. y < length A.progress.waits) components
+  components_within components is =
+      let P : ℕ → Type 0 = λ y. y < length A.progress.waits in
+      let each : (e : PlantEdge) → IsPlantEdge A.view e → P (join_of A.view e).component = λ e edge. omega (arith, own_within A.view e.component edge.component, kept.rooms.waits) in
+      let joins : All (λ (j : Join). P j.component) (joins_of A.view) =
+      All-map (λ (j : Join). P j.component) (join_of A.view) A.view.edges (λ k d h. each (get_or A.view.edges k d) (kept.view.edges k d h)) in
+      subst (All P) (sym is)
+      (All-map P (λ (j : Join). j.component) (filter (λ j. j.demander == place) (joins_of A.view)) (All-filter (λ (j : Join). j.demander == place) (λ (j : Join). P j.component) (joins_of A.view) joins))
+
+  pub components_are_waiting : (components : List ℕ) → components ≡ components_of (joins_of A.view) place
+      → (y : ℕ) → y < length A.progress.waits → times y components ≤ slice_index A.progress.waits y
+  components_are_waiting components is y low =
+      subst (λ (z : List ℕ). times y z ≤ slice_index A.progress.waits y) (sym is)
+      (components_wait A.progress.waits (joins_of A.view) A.progress.planned (open_blocks (awaited A.view kept.taken.taken)) kept.taken.waits place free.unplanned y low)
+
+-- ---- the cursors
+
+queue_size : (room : Bool) (o : OutFigures) (queue : List ℕ) → (if room then record o { queue = queue } else o).size ≡ o.size
+queue_size true o queue = refl
+queue_size false o queue = refl
+
+pub queued_size : (o : OutFigures) (place : Option ℕ) → (queued_at o place).size ≡ o.size
+queued_size o None = refl
+queued_size o (Some place) = queue_size (nat_lt place o.size && nat_lt (length o.queue) o.size) o (o.queue ++ place ∷ [])
+
+settled_size : (kind : LaneKind) (items : List ItemNo) (o : OutFigures) (item : ItemNo) → (queued_by kind items o item).size ≡ o.size
+settled_size Despatch items o item = refl
+settled_size Schedule items o item = queued_size o (place_of items item)
+
+-- ---- what is kept
+
+pub kept_marked : (A : AgentState) (I : Indexes) (place : ℕ) (item : ItemNo) (progress : Progress) (outs : List OutFigures) → IsKept A I → PairSettled (joins_of A.view) place A.progress progress
+    → AreSettled A.view.outgoing item A.outs outs → IsKept (record A { progress = progress; outs = outs }) I
+kept_marked A I place item progress outs kept settled queued = record {
+  view = kept.view;
+  indexes = kept.indexes;
+  rooms = record {
+    books = kept.rooms.books;
+    came = kept.rooms.came;
+    called = kept.rooms.called;
+    plans = kept.rooms.plans;
+    periods = kept.rooms.periods;
+    numbers = settled.numbers ∙ kept.rooms.numbers;
+    waits = settled.size ∙ kept.rooms.waits;
+    planned = ap length settled.planned ∙ length-set A.progress.planned place true ∙ kept.rooms.planned;
+    outs = queued.size ∙ kept.rooms.outs;
+    sizes = λ k low.
+        let lane : OutgoingLane = outgoing_at A.view k in
+        ap (λ (o : OutFigures). o.size) (queued.each k low)
+        ∙ settled_size lane.kind (map (λ i. i.item) lane.items) (out_at A k) item
+        ∙ kept.rooms.sizes k low;
+  };
+  taken = record { taken = kept.taken.taken; books = kept.taken.books; waits = settled.counts (open_blocks (awaited A.view kept.taken.taken)) kept.taken.waits };
+}
+
+-- the item whose pair was settled, and the lanes
+pub same_queued : (A : AgentState) (place : ℕ) (lanes : List OutgoingLane) (pairs : List PlantPair) (d : PlantPair) (old new : List OutFigures) → lanes ≡ A.view.outgoing → pairs ≡ A.view.pairs
+    → place < length A.view.pairs → AreSettled lanes (get_or pairs place d).item old new → AreSettled A.view.outgoing (get_or A.view.pairs place no_pair).item old new
+same_queued A place lanes pairs d old new lanes_are pairs_are low queued =
+    let same : get_or pairs place d ≡ get_or A.view.pairs place no_pair = ap (λ (z : List PlantPair). get_or z place d) pairs_are ∙ get_or_default A.view.pairs place d no_pair low in
+    subst (λ (q : PlantPair). AreSettled A.view.outgoing q.item old new) same (subst (λ (z : List OutgoingLane). AreSettled z (get_or pairs place d).item old new) lanes_are queued)

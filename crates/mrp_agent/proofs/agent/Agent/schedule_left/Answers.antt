@@ -1,0 +1,70 @@
+use Rattle.std.proofs.Common.{◌≡◌, ℕ, ◌<◌, ◌-◌, ◌==◌, Some, List, length, get_or, position, sym, ap, ◌∙◌, subst, arith}
+use Rattle.std.specs.List.{Contains, position_or_len}
+use Rattle.mrp_view.specs.declared.view.IncomingLane.{IncomingLane}
+use Rattle.mrp_view.specs.declared.view.OutgoingItem.{OutgoingItem}
+use Rattle.mrp_view.specs.declared.view.PlantPair.{PlantPair}
+use Rattle.mrp_view.specs.Loads.{load_at}
+use Rattle.mrp_agent.specs.State.{AgentState, book_at, incoming_place, pair_place, plans_of, no_book, no_plan}
+use Rattle.mrp_agent.specs.Kept.{IsShowing}
+use Rattle.mrp_agent.specs.Sending.{AreShares, remainder}
+use Rattle.mrp_agent.specs.contracts.agent.Agent.{the_view}
+use Rattle.mrp_agent.proofs.Calls.{CallFacts, call_facts, call_is, read_is}
+use Rattle.mrp_agent.proofs.Owning.{own_found}
+use Rattle.mrp_agent.proofs.agent.Agent.schedule_left.Goals as goal
+
+pub unreachable-requires : goal.unreachable-requires
+unreachable-requires c =
+    let A : AgentState = the_view c.self.inside in
+    let there : Contains A.view.outgoing c.args.lane.now = subst (λ (a : AgentState). Contains a.view.outgoing c.args.lane.now) (sym c.self.view_is) c.requires.lane in
+    let facts : CallFacts A c.args.lane.now c.args.place = call_facts A c.self.invariant c.args.lane.now there c.requires.schedule c.args.place c.requires.place in
+    let at = ap (λ (i : OutgoingItem). position (λ (p : PlantPair). p.number.0 == i.customer.0) A.view.pairs) c.get-item.ensures ∙ own_found A.view (load_at c.args.lane.now.items c.args.place).customer facts.own in
+    c.in_default.not-Some _ (c.place.ensures ∙ at)
+
+pub index-requires : goal.index-requires
+index-requires c =
+    let A : AgentState = the_view c.self.inside in
+    let there : Contains A.view.outgoing c.args.lane.now = subst (λ (a : AgentState). Contains a.view.outgoing c.args.lane.now) (sym c.self.view_is) c.requires.lane in
+    let facts : CallFacts A c.args.lane.now c.args.place = call_facts A c.self.invariant c.args.lane.now there c.requires.schedule c.args.place c.requires.place in
+    let at : c.incoming_place-before.result ≡ incoming_place A.view (c.args.lane.now.number.0 - 1) =
+    c.incoming_place-before.ensures ∙ ap (λ (z : List IncomingLane). position_or_len (λ (l : IncomingLane). l.number.0 == c.args.lane.now.number.0 - 1) z) c.incoming.ensures in
+    omega (arith, facts.book, at)
+
+pub left_to_call-requires-clause-book : goal.left_to_call-requires-clause-book
+left_to_call-requires-clause-book c =
+    let A : AgentState = the_view c.self.inside in
+    let there : Contains A.view.outgoing c.args.lane.now = subst (λ (a : AgentState). Contains a.view.outgoing c.args.lane.now) (sym c.self.view_is) c.requires.lane in
+    let facts : CallFacts A c.args.lane.now c.args.place = call_facts A c.self.invariant c.args.lane.now there c.requires.schedule c.args.place c.requires.place in
+    let k : ℕ = incoming_place A.view (c.args.lane.now.number.0 - 1) in
+    let at : c.incoming_place-before.result ≡ k =
+    c.incoming_place-before.ensures ∙ ap (λ (z : List IncomingLane). position_or_len (λ (l : IncomingLane). l.number.0 == c.args.lane.now.number.0 - 1) z) c.incoming.ensures in
+    let inside : c.incoming_place-before.result < length A.books = omega (arith, facts.book, at) in
+    let is : c.index.result.now ≡ book_at A k = read_is A.books c.incoming_place-before.result c.index.result.now no_book c.index.ensures inside ∙ ap (book_at A) at in
+    subst IsShowing (sym is) facts.showing
+
+pub left_to_call-requires-clause-shares : goal.left_to_call-requires-clause-shares
+left_to_call-requires-clause-shares c =
+    let A : AgentState = the_view c.self.inside in
+    let there : Contains A.view.outgoing c.args.lane.now = subst (λ (a : AgentState). Contains a.view.outgoing c.args.lane.now) (sym c.self.view_is) c.requires.lane in
+    let facts : CallFacts A c.args.lane.now c.args.place = call_facts A c.self.invariant c.args.lane.now there c.requires.schedule c.args.place c.requires.place in
+    subst AreShares (sym c.get-item.ensures) facts.shares
+
+pub returns : goal.returns
+returns c =
+    let A : AgentState = the_view c.self.inside in
+    let there : Contains A.view.outgoing c.args.lane.now = subst (λ (a : AgentState). Contains a.view.outgoing c.args.lane.now) (sym c.self.view_is) c.requires.lane in
+    let facts : CallFacts A c.args.lane.now c.args.place = call_facts A c.self.invariant c.args.lane.now there c.requires.schedule c.args.place c.requires.place in
+    let k : ℕ = incoming_place A.view (c.args.lane.now.number.0 - 1) in
+    let at : c.incoming_place-before.result ≡ k =
+    c.incoming_place-before.ensures ∙ ap (λ (z : List IncomingLane). position_or_len (λ (l : IncomingLane). l.number.0 == c.args.lane.now.number.0 - 1) z) c.incoming.ensures in
+    let inside : c.incoming_place-before.result < length A.books = omega (arith, facts.book, at) in
+    let is : c.index.result.now ≡ book_at A k = read_is A.books c.incoming_place-before.result c.index.result.now no_book c.index.ensures inside ∙ ap (book_at A) at in
+    let place = pair_place A.view (load_at c.args.lane.now.items c.args.place).customer.0 in
+    let found : c.place.result ≡ Some place =
+    c.place.ensures ∙ ap (λ (i : OutgoingItem). position (λ (p : PlantPair). p.number.0 == i.customer.0) A.view.pairs) c.get-item.ensures ∙ own_found A.view (load_at c.args.lane.now.items c.args.place).customer facts.own in
+    let same : Some c.in-Some.customer ≡ Some place = sym c.in-Some.is ∙ found in
+    let here : c.in-Some.customer ≡ place = cc same in
+    let within : c.in-Some.customer < length A.plans = omega (arith, facts.customer, here) in
+    let plan : c.index-2.result.now ≡ plans_of A (load_at c.args.lane.now.items c.args.place).customer.0 =
+    read_is A.plans c.in-Some.customer c.index-2.result.now no_plan c.index-2.ensures within ∙ ap (λ (n : ℕ). get_or A.plans n no_plan) here in
+    call_is A c.args.lane.now c.args.place c.args.mark c.get-item.result c.index.result.now c.index-2.result.now c.left_to_call.result c.requires.schedule c.get-item.ensures is plan c.left_to_call.ensures
+    ∙ ap (λ (a : AgentState). remainder a c.args.lane.now c.args.mark c.args.place) c.self.view_is

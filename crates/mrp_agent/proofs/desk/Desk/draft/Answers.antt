@@ -1,0 +1,19 @@
+use Rattle.std.proofs.Common.{◌≡◌, length, ap, sym, ◌∙◌}
+use Rattle.mrp_lot.specs.One.{PlanRows}
+use Rattle.mrp_agent.proofs.Asked.{came_length, drafted_length}
+use Rattle.mrp_agent.proofs.desk.Desk.draft.Goals as goal
+
+pub draft_from-requires-clause-incoming : goal.draft_from-requires-clause-incoming
+draft_from-requires-clause-incoming c =
+    let same = came_length c.args.params.now c.args.came.now c.args.called.now c.args.edges.now c.args.plans.now c.requires.draft.within in
+    let seen : length c.self.inside.plan.gross ≡ length c.args.self.now.gross = ap (λ (z : PlanRows). length z.gross) c.self.view_is in
+    c.self.invariant.0 ∙ seen ∙ c.requires.periods ∙ sym same
+
+pub invariant_of-self : goal.invariant_of-self
+invariant_of-self c =
+    let after = drafted_length c.args.params.now c.args.came.now c.args.called.now c.args.edges.now c.args.plans.now c.draft_from.new.into c.draft_from.ensures.plan in
+    let seen : length c.self.inside.plan.gross ≡ length c.args.self.now.gross = ap (λ (z : PlanRows). length z.gross) c.self.view_is in
+    let same = c.requires.periods ∙ sym after in (
+      c.draft_from.ensures.incoming ∙ c.self.invariant.0 ∙ seen ∙ same,
+      c.draft_from.ensures.gross ∙ c.self.invariant.1 ∙ seen ∙ same,
+    )

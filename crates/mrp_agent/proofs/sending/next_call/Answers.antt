@@ -1,0 +1,14 @@
+use Rattle.std.proofs.Common.{◌≡◌, ℕ, sym, ap, ◌∙◌, arith, []}
+use Rattle.mrp_view.specs.Loads.{load}
+use Rattle.mrp_local.specs.Goods.{share}
+use Rattle.mrp_agent.specs.Sending.{called_by}
+use Rattle.mrp_agent.proofs.Calling.{call_later}
+use Rattle.mrp_agent.proofs.sending.next_call.Goals as goal
+
+pub loop-period-preserved : goal.loop-period-preserved
+loop-period-preserved c =
+    let zero : c.share-quantity.result ≡ 0 = omega (arith, c.if-quantity-gt0.false) in
+    let none : called_by c.args.release.now c.args.item.now c.loop-period.period ≡ 0 =
+    ap (λ (q : ℕ). share (load c.args.item.now []) q) (sym c.get.ensures) ∙ sym c.share-quantity.ensures ∙ zero in
+    c.loop-period.invariant
+    ∙ call_later c.args.release.now c.args.item.now c.loop-period.period (omega (arith, c.loop-period-test.true, c.len-period-end.ensures.value)) none

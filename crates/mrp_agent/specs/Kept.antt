@@ -1,0 +1,89 @@
+-- What stays true of an agent, and its indexes.
+use Rattle.std.specs.Prelude.{◌≡◌, ℕ, ◌*◌, ◌<◌, ◌≤◌, ◌==◌, List, length, map, count_by, All}
+use Rattle.std.specs.List.{range_with_len}
+use Rattle.mrp_lot.specs.One.{PlanRows}
+use Rattle.mrp_rows.specs.declared.numbers.ItemNo.{ItemNo}
+use Rattle.mrp_group.specs.Groups.{IsGrouped}
+use Rattle.mrp_view.specs.declared.view.IncomingLane.{IncomingLane}
+use Rattle.mrp_view.specs.declared.view.OutgoingLane.{OutgoingLane}
+use Rattle.mrp_view.specs.declared.view.PlantEdge.{PlantEdge}
+use Rattle.mrp_view.specs.Seen.{IsView}
+use Rattle.mrp_view.specs.View.{PlantRows}
+use Rattle.mrp_qty.specs.declared.quantity.TheConstants.{MOST}
+use Rattle.mrp_record.specs.declared.record.Record.{Record}
+use Rattle.mrp_record.specs.Form.{LaneForm}
+use Rattle.mrp_book.specs.Figures as book
+use Rattle.mrp_book.specs.Figures.{Figures}
+use Rattle.mrp_ready.specs.Counts.{components_of}
+use Rattle.mrp_agent.specs.declared.edges.ParentEdge.{ParentEdge}
+use Rattle.mrp_agent.specs.State.{AgentState, outgoing_at, out_at, pair_place}
+use Rattle.mrp_agent.specs.Shows.{BooksShow, Awaits, joins_of}
+
+-- an edge of the plant by places
+abbrev pub parent_edge : PlantRows → PlantEdge → ParentEdge
+parent_edge V e = record { component = pair_place V e.component.0; parent = pair_place V e.parent.0; per = e.per }
+
+-- The indexes: the items of the pairs by place, the edges in groups by their components, the places of
+-- the components that go into each pair, and the items of each lane that goes out. With them stands how
+-- many periods the desk has on which plans are drafted.
+pub record Indexes : Type 0 where
+  pub items : List ItemNo
+  pub edges : List ParentEdge
+  pub starts : List ℕ
+  pub components : List (List ℕ)
+  pub out_items : List (List ItemNo)
+  pub desk : ℕ
+
+pub record AreIndexes (V : PlantRows) (I : Indexes) : Type 0 where
+  pub items : I.items ≡ map (λ p. p.item) V.pairs
+  pub edges : IsGrouped (λ e. e.component) (length V.pairs) (map (parent_edge V) V.edges) I.edges I.starts
+  pub components : I.components ≡ map (components_of (joins_of V)) (range_with_len 0 (length V.pairs))
+  pub out_items : I.out_items ≡ map (λ lane. map (λ i. i.item) lane.items) V.outgoing
+  pub desk : I.desk ≡ V.horizon
+
+-- a plan has a row's amount for each period
+pub record HasPeriods (V : PlantRows) (plan : PlanRows) : Type 0 where
+  pub gross : length plan.gross ≡ V.horizon
+  pub release : length plan.release ≡ V.horizon
+
+-- it has what it keeps of each lane and pair
+pub record HasRooms (A : AgentState) : Type 0 where
+  pub books : length A.books ≡ length A.view.incoming
+  pub came : length A.came ≡ length A.view.pairs * A.view.horizon
+  pub called : length A.called ≡ length A.view.pairs * A.view.horizon
+  pub plans : length A.plans ≡ length A.view.pairs
+  pub periods : All (HasPeriods A.view) A.plans
+  pub numbers : A.progress.numbers ≡ map (λ p. p.number) A.view.pairs
+  pub waits : length A.progress.waits ≡ length A.view.pairs
+  pub planned : length A.progress.planned ≡ length A.view.pairs
+  pub outs : length A.outs ≡ length A.view.outgoing
+  pub sizes : (k : ℕ) → k < length A.view.outgoing → (out_at A k).size ≡ length (outgoing_at A.view k).items
+
+-- a book shows some list
+pub record IsShowing (b : Figures) : Type 0 where
+  pub form : LaneForm
+  pub records : List Record
+  pub shows : book.Shows form b records
+
+-- its books show some lists, and it waits for what has not come
+pub record HasTaken (A : AgentState) : Type 0 where
+  pub taken : ℕ → List Record
+  pub books : BooksShow A taken
+  pub waits : Awaits A taken
+
+pub record IsKept (A : AgentState) (I : Indexes) : Type 0 where
+  pub view : IsView A.view
+  pub indexes : AreIndexes A.view I
+  pub rooms : HasRooms A
+  pub taken : HasTaken A
+
+-- the figures of the lanes that come in begin at 10^15 pieces at most
+abbrev pub HasSmallItems : IncomingLane → Type 0
+HasSmallItems lane = All (λ i. i.opening ≤ MOST) lane.items
+
+abbrev pub HasSmallOpenings : PlantRows → Type 0
+HasSmallOpenings V = All HasSmallItems V.incoming
+
+-- a lane has each item once
+pub record HasItemsOnce (lane : OutgoingLane) : Type 0 where
+  pub once : (item : ℕ) → count_by (λ i. i.item.0 == item) lane.items ≤ 1

@@ -1,0 +1,43 @@
+-- What an agent is made of.
+use Rattle.std.specs.Prelude.{◌≡◌, ℕ, ◌<◌, List, [], length, map, slice_index_or}
+use Rattle.std.specs.List.{flat_map, range_with_len}
+use Rattle.mrp_net.specs.declared.lane.LaneKind.{LaneKind}
+use Rattle.mrp_net.specs.declared.lane.LaneKind.TheVariants.{Despatch, Schedule}
+use Rattle.mrp_view.specs.declared.view.IncomingItem.{IncomingItem}
+use Rattle.mrp_view.specs.declared.view.IncomingLane.{IncomingLane}
+use Rattle.mrp_view.specs.declared.view.OutgoingLane.{OutgoingLane}
+use Rattle.mrp_view.specs.View.{PlantRows}
+use Rattle.mrp_book.specs.Figures as book
+use Rattle.mrp_book.specs.Figures.{Figures}
+use Rattle.mrp_cursor.specs.Cursor.{OutFigures, Goods}
+use Rattle.mrp_cursor.specs.Shows.{ShowsSent}
+use Rattle.mrp_agent.specs.State.{pair_place, no_out, no_outgoing}
+use Rattle.mrp_agent.specs.Shows.{form_of}
+
+-- the book of each lane, before its first record
+abbrev pub new_figures : PlantRows → IncomingLane → Figures
+new_figures V lane = book.figures (form_of V lane) []
+
+-- the places of the pairs that await the blocks of the lanes that come in
+abbrev pub place_awaited : PlantRows → IncomingItem → ℕ
+place_awaited V i = pair_place V i.pair.0
+
+abbrev pub awaited_places : PlantRows → List ℕ
+awaited_places V = flat_map (λ lane. map (place_awaited V) lane.items) V.incoming
+
+-- the cursor of a lane before its first record: all that is shipped may be sent, and nothing yet of what is called for
+abbrev pub idle_queue : LaneKind → ℕ → List ℕ
+idle_queue Despatch size = range_with_len 0 size
+idle_queue Schedule size = []
+
+pub record IsIdle (kind : LaneKind) (size : ℕ) (o : OutFigures) : Type 0 where
+  pub shows : (goods : ℕ → Goods) → ShowsSent goods o []
+  pub size_is : o.size ≡ size
+  pub queue : o.queue ≡ idle_queue kind size
+
+abbrev pub IsIdleLane : OutgoingLane → OutFigures → Type 0
+IsIdleLane lane o = IsIdle lane.kind (length lane.items) o
+
+pub record AreIdle (lanes : List OutgoingLane) (outs : List OutFigures) : Type 0 where
+  pub size : length outs ≡ length lanes
+  pub idle : (k : ℕ) → k < length outs → IsIdleLane (slice_index_or lanes k no_outgoing) (slice_index_or outs k no_out)

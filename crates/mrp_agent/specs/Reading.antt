@@ -1,0 +1,39 @@
+-- What the calls that read an agent say of each history that it shows.
+use Rattle.std.specs.Prelude.{◌≡◌, ◌==◌, ℕ, Bool, true, List, find, option_map, option_and_then, Option, Some, Contains}
+use Rattle.mrp_rows.specs.declared.numbers.ItemNo.{ItemNo}
+use Rattle.mrp_net.specs.declared.lane.LaneNo.{LaneNo}
+use Rattle.mrp_view.specs.declared.view.IncomingItem.{IncomingItem}
+use Rattle.mrp_view.specs.declared.view.IncomingLane.{IncomingLane}
+use Rattle.mrp_view.specs.declared.view.OutgoingLane.{OutgoingLane}
+use Rattle.mrp_view.specs.declared.view.PlantPair.{PlantPair}
+use Rattle.mrp_view.specs.Seen.{IsView}
+use Rattle.mrp_view.specs.View.{PlantRows}
+use Rattle.mrp_record.specs.declared.record.Record.{Record}
+use Rattle.mrp_record.specs.Entries.{contents, cum, is_closed}
+
+-- the lane of a number that comes in, and the item that a lane carries
+abbrev pub incoming_of : PlantRows → LaneNo → Option IncomingLane
+incoming_of V lane = find (λ z. z.number.0 == lane.0) V.incoming
+
+abbrev pub carried_by : ItemNo → IncomingLane → Option IncomingItem
+carried_by item lane = find (λ i. i.item.0 == item.0) lane.items
+
+-- the cumulative figure received of an item over a lane, closed years added, where the lane comes in and
+-- carries the item
+abbrev pub received : PlantRows → (ℕ → List Record) → LaneNo → ItemNo → Option ℕ
+received V taken lane item =
+    option_map (λ i. cum i.opening item.0 (contents (taken lane.0))) (option_and_then (carried_by item) (incoming_of V lane))
+
+-- of an item of a lane that comes in it is the lane's figure from the opening one on
+abbrev pub ReceivedFiguresAreCumulative : Type 0
+ReceivedFiguresAreCumulative =
+    (V : PlantRows) → IsView V → (taken : ℕ → List Record) (lane : IncomingLane) → Contains V.incoming lane
+    → (i : IncomingItem) → Contains lane.items i
+    → received V taken lane.number i.item ≡ Some (cum i.opening i.item.0 (contents (taken lane.number.0)))
+
+-- the plant's work is done: each of its pairs is planned, and the closing record of each of its lanes was
+-- taken or sent
+pub record HasDone (V : PlantRows) (sent taken : ℕ → List Record) (planned : ℕ → Bool) : Type 0 where
+  pub pairs : (p : PlantPair) → Contains V.pairs p → planned p.number.0 ≡ true
+  pub incoming : (lane : IncomingLane) → Contains V.incoming lane → is_closed (contents (taken lane.number.0)) ≡ true
+  pub outgoing : (lane : OutgoingLane) → Contains V.outgoing lane → is_closed (contents (sent lane.number.0)) ≡ true

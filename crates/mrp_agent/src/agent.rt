@@ -1,0 +1,246 @@
+ghost use Rattle.std.specs.Prelude.{◌≡◌, All, IfOk, IfSome};
+ghost use Rattle.std.specs.List.{list_all};
+ghost use Rattle.mrp_agent.specs.Kept.{IsShowing};
+
+use crate::booking::incoming_place;
+use crate::desk::Desk;
+use crate::edges::{ByComponent, ParentEdge, joins, parent_edges};
+use crate::making::{blank_plans, copy_of, first_progress, idle_outs, new_books};
+use crate::places::{ItemPlaces, out_items};
+use mrp_book::Book;
+use mrp_cursor::OutCursor;
+use mrp_group::{Groups, group};
+use mrp_net::{ItemNo, LaneNo, PairNo};
+use mrp_netting::PairPlan;
+use mrp_qty::{Memory, Qty};
+use mrp_ready::{Components, Readiness};
+use mrp_view::PlantView;
+use std::alloc::Global;
+use std::marker::Model;
+
+/// The agent of one plant.
+///
+/// Its calls name a lane by the lane's number and a pair by the pair's. No call but [`Agent::new`]
+/// takes memory.
+#[derive(Drop)]
+pub struct Agent {
+    pub(crate) view: PlantView,
+    pub(crate) items: ItemPlaces,
+    pub(crate) edges: Groups<ParentEdge>,
+    pub(crate) components: Components,
+    pub(crate) out_items: Vec<ItemPlaces>,
+    pub(crate) books: Vec<Book>,
+    pub(crate) came: Vec<u64>,
+    pub(crate) called: Vec<u64>,
+    pub(crate) plans: Vec<PairPlan>,
+    pub(crate) progress: Readiness,
+    pub(crate) outs: Vec<OutCursor>,
+    pub(crate) desk: Desk,
+}
+
+impl Model for Agent {
+    ghost use Rattle.std.specs.Prelude.{length};
+    ghost use Rattle.mrp_agent.specs.State.{AgentState};
+    ghost use Rattle.mrp_agent.specs.Kept.{IsKept};
+
+    ghost Value = { AgentState };
+
+    ghost view = { λ a. record {
+      view = a.view;
+      books = a.books.items;
+      came = a.came.items;
+      called = a.called.items;
+      plans = a.plans.items;
+      progress = a.progress;
+      outs = a.outs.items;
+    } };
+
+    ghost invariant = { λ a.
+        IsKept (record {
+          view = a.view;
+          books = a.books.items;
+          came = a.came.items;
+          called = a.called.items;
+          plans = a.plans.items;
+          progress = a.progress;
+          outs = a.outs.items;
+        })
+        (record {
+          items = a.items;
+          edges = a.edges.rows.items;
+          starts = a.edges.starts.items;
+          components = a.components;
+          out_items = a.out_items.items;
+          desk = length a.desk.gross;
+        }) };
+}
+
+impl Agent {
+    ghost use Rattle.std.specs.Prelude.{◌↔◌, ℕ, Bool, IsSome, IsTrue, List, slice_get, ◌≢◌, AllPairs, Contains};
+    ghost use Rattle.mrp_events.specs.State.{opening_state};
+    ghost use Rattle.mrp_ready.specs.Progress.{is_planned, left_of};
+    ghost use Rattle.mrp_record.specs.declared.record.Record.{Record};
+    ghost use Rattle.mrp_view.specs.declared.view.PlantPair.{PlantPair};
+    ghost use Rattle.mrp_view.specs.Seen.{IsOwn, IsView};
+    ghost use Rattle.mrp_local.specs.Local.{CanBePlanned};
+    ghost use Rattle.mrp_agent.specs.Drafts.{ready_numbers};
+    ghost use Rattle.mrp_agent.specs.Kept.{HasSmallOpenings};
+    ghost use Rattle.mrp_agent.specs.Reading.{HasDone, received};
+    ghost use Rattle.mrp_agent.specs.Shows.{Shows, is_done};
+    ghost use Rattle.mrp_agent.specs.State.{pair_place, plans_of};
+
+    /// The agent of a plant that sees this: nothing has come, nothing was sent, and no pair is planned.
+    /// It takes all the room that its life needs.
+    ///
+    /// # Errors
+    ///
+    /// [`Memory`] where a growth is refused; the view is gone then.
+    pub fn new(alloc: Global, view: PlantView) -> Result<Agent, Memory>
+        requires seen { IsView view }
+        requires openings { HasSmallOpenings view }
+        ensures view { IfOk result (λ agent. agent.view ≡ view) }
+        ensures opens { IfOk result
+            (λ agent. Shows agent opening_state.sent opening_state.taken opening_state.planned) }
+    {
+        let items = ItemPlaces::of_pairs(alloc, view.pairs())?;
+        let parents = parent_edges(alloc, &view, view.edges())?;
+        let pairs = view.pairs().len();
+        let edges = group(alloc, &ByComponent, &parents, pairs)?;
+        let joins = joins(alloc, &parents)?;
+        let components = Components::new(alloc, &joins, pairs)?;
+        let out_items = out_items(alloc, view.outgoing())?;
+        let books = new_books(alloc, &view, view.incoming())?;
+        let came = copy_of(alloc, view.receipts())?;
+        let called = copy_of(alloc, view.demands())?;
+        let plans = blank_plans(alloc, view.horizon(), pairs)?;
+        let progress = first_progress(alloc, &view, &joins)?;
+        let outs = idle_outs(alloc, view.outgoing())?;
+        let desk = Desk::new(alloc, view.horizon())?;
+        Ok(Agent {
+            view,
+            items,
+            edges,
+            components,
+            out_items,
+            books,
+            came,
+            called,
+            plans,
+            progress,
+            outs,
+            desk,
+        })
+    }
+
+    /// What the plant sees.
+    pub fn view(&self) -> &PlantView
+        ensures { result.now ≡ self.now.view }
+    {
+        &self.view
+    }
+
+    /// The pairs that can be planned, each once.
+    pub fn ready_pairs(&self) -> &[PairNo]
+        ensures numbers { result.now ≡ ready_numbers self.now }
+        ensures own { All (IsOwn self.now.view) result.now }
+        ensures once { AllPairs (λ x y. x ≢ y) result.now }
+        ensures exact { (sent taken : ℕ → List Record) (planned : ℕ → Bool) → Shows self.now sent taken planned
+            → (p : PlantPair) → Contains self.now.view.pairs p → Contains result.now p.number ↔ CanBePlanned self.now.view taken planned p }
+    {
+        self.progress.ready_pairs()
+    }
+
+    /// A pair that can be planned, where there is one.
+    pub fn ready(&self) -> Option<PairNo>
+        ensures { result ≡ slice_get (ready_numbers self.now) 0 }
+    {
+        self.ready_pairs().first().copied()
+    }
+
+    /// How many pairs aren't planned.
+    pub fn left(&self) -> usize
+        ensures { result ≡ left_of self.now.progress.planned }
+    {
+        self.progress.left()
+    }
+
+    /// The plan of a pair, once it is planned; `None` where it isn't, or is another plant's.
+    pub fn planned(&self, x: PairNo) -> Option<&PairPlan>
+        ensures plan { IfSome result (λ plan. plan.now ≡ plans_of self.now x.0) }
+        ensures there { IsSome result ↔ IsTrue (is_planned self.now.progress.planned (pair_place self.now.view x.0)) }
+    {
+        let place = self.view.place(x)?;
+        if self.progress.planned(place) {
+            Some(&self.plans[place])
+        } else {
+            None
+        }
+    }
+
+    /// The plans of all pairs, in the order of the view's pairs. A pair that isn't planned has some plan.
+    pub fn into_plans(self) -> Vec<PairPlan>
+        ensures { result.items ≡ self.plans }
+    {
+        self.plans
+    }
+
+    /// The cumulative figure received of an item over a lane, closed years added, in pieces; `None` where
+    /// the lane doesn't come in, or doesn't have the item.
+    pub fn cumulative(&self, lane: LaneNo, item: ItemNo) -> Option<Qty>
+        ensures { (sent taken : ℕ → List Record) (planned : ℕ → Bool) → Shows self.now sent taken planned
+            → result ≡ received self.now.view taken lane item }
+    {
+        let place = incoming_place(self.view.incoming(), lane);
+        if place < self.books.len() {
+            self.books[place].cumulative(item)
+        } else {
+            None
+        }
+    }
+
+    /// Whether the plant's work is done: all pairs are planned, all lanes that come in are booked to the
+    /// end, and all that go out are sent to the end.
+    pub fn done(&self) -> bool
+        ensures exact { result ≡ is_done self.now }
+        ensures finished { (sent taken : ℕ → List Record) (planned : ℕ → Bool) → Shows self.now sent taken planned
+            → (IsTrue result ↔ HasDone self.now.view sent taken planned) }
+    {
+        let _ = &self.view;
+        self.is_done()
+    }
+
+    /// The same, by what is kept.
+    fn is_done(&self) -> bool
+        ensures { result ≡ is_done self.now }
+    {
+        self.left() == 0 && are_booked(&self.books) && are_sent(&self.outs)
+    }
+}
+
+/// Whether the closing record of each lane is booked.
+fn are_booked(books: &[Book]) -> bool
+    requires { All IsShowing books.now }
+    ensures { result ≡ list_all (λ b. b.closed) books.now }
+{
+    for book in books {
+        if !is_booked(book) {
+            return false;
+        }
+    }
+    true
+}
+
+/// Whether the closing record of a lane is booked.
+fn is_booked(book: &Book) -> bool
+    requires { IsShowing book.now }
+    ensures { result ≡ book.now.closed }
+{
+    book.closed()
+}
+
+/// Whether the closing record of each lane is sent.
+fn are_sent(outs: &[OutCursor]) -> bool
+    ensures { result ≡ list_all (λ o. o.closed) outs.now }
+{
+    outs.iter().all(|out| out.is_closed())
+}

@@ -1,0 +1,133 @@
+ghost use Rattle.std.specs.Prelude.{◌≡◌, ◌==◌, ◌*◌, ◌<◌, ◌≤◌, length, position, IfSome};
+ghost use Rattle.std.specs.List.{position_or_len};
+ghost use Rattle.mrp_agent.specs.After.{came_by, called_by, items_of, with_line, added_at, ended_place, BlockEnded, IsAwaited};
+
+use crate::Agent;
+use crate::places::ItemPlaces;
+use mrp_book::BookFault;
+use mrp_net::{LaneKind, LaneNo};
+use mrp_ready::Readiness;
+use mrp_record::Record;
+use mrp_view::{IncomingLane, PlantView};
+
+impl Agent {
+    ghost use Rattle.std.specs.Prelude.{ℕ, List, [], ◌∷◌, ◌++◌, Bool, Some, IfErr, OnErr, OnOk};
+    ghost use Rattle.mrp_record.specs.declared.record.Record.{Record};
+    ghost use Rattle.mrp_record.specs.Form.{IsInForm};
+    ghost use Rattle.mrp_book.specs.Faults.{first_fault};
+    ghost use Rattle.mrp_book.specs.Figures.{figures};
+    ghost use Rattle.mrp_events.specs.State.{changed};
+    ghost use Rattle.mrp_agent.specs.State.{incoming_place, incoming_at};
+    ghost use Rattle.mrp_agent.specs.Shows.{Shows, BooksShow, form_of};
+
+    /// Books the next record of a lane that comes in.
+    ///
+    /// # Errors
+    ///
+    /// The first fault of the lane's book; then nothing has changed.
+    pub fn book(&mut self, lane: LaneNo, entry: &Record) -> Result<(), BookFault>
+        requires incoming { incoming_place self.old.view lane.0 < length self.old.view.incoming }
+        ensures view { self.new.view ≡ self.old.view }
+        ensures booked { OnOk result ((sent taken : ℕ → List Record) (planned : ℕ → Bool) → Shows self.old sent taken planned
+            → Shows self.new sent (changed taken lane.0 (taken lane.0 ++ entry.now ∷ [])) planned) }
+        ensures refused { IfErr result (λ fault. (taken : ℕ → List Record) → BooksShow self.old taken
+            → (first_fault (figures (form_of self.old.view (incoming_at self.old.view (incoming_place self.old.view lane.0))) (taken lane.0)) entry.now ≡ Some fault)
+            × (IsInForm (form_of self.old.view (incoming_at self.old.view (incoming_place self.old.view lane.0))) (taken lane.0 ++ entry.now ∷ []) → ⊥)) }
+        ensures unchanged { OnErr result (self.new ≡ self.old) }
+    {
+        let k = incoming_place(self.view.incoming(), lane);
+        self.books[k].book(entry)?;
+        let kind = self.view.incoming()[k].kind;
+        add_entry(
+            &mut self.came,
+            &mut self.called,
+            &self.view,
+            &self.items,
+            kind,
+            entry,
+        );
+        end_block(&mut self.progress, &self.items, entry);
+        Ok(())
+    }
+}
+
+/// The place of a lane among those that come in, or how many these are.
+pub(crate) fn incoming_place(lanes: &[IncomingLane], lane: LaneNo) -> usize
+    ensures { result ≡ position_or_len (λ l. l.number.0 == lane.0) lanes.now }
+{
+    find_incoming(lanes, lane).unwrap_or(lanes.len())
+}
+
+/// The place of a lane among those that come in.
+fn find_incoming(lanes: &[IncomingLane], lane: LaneNo) -> Option<usize>
+    ensures { result ≡ position (λ l. l.number.0 == lane.0) lanes.now }
+{
+    lanes.iter().position(|known| known.number.0 == lane.0)
+}
+
+/// Adds the pieces of a line where they belong: on a despatch lane they come in, on a schedule lane they
+/// are called for.
+fn add_entry(
+    came: &mut Vec<u64>,
+    called: &mut Vec<u64>,
+    view: &PlantView,
+    items: &ItemPlaces,
+    kind: LaneKind,
+    entry: &Record,
+)
+    requires items { items.now ≡ items_of view.now }
+    requires came { length came.old.items ≡ length view.now.pairs * view.now.horizon }
+    requires called { length called.old.items ≡ length view.now.pairs * view.now.horizon }
+    ensures came { came.new.items ≡ came_by kind view.now came.old.items entry.now }
+    ensures called { called.new.items ≡ called_by kind view.now called.old.items entry.now }
+{
+    let periods = view.horizon().get() as usize;
+    match kind {
+        LaneKind::Despatch => add_line(came, items, periods, entry),
+        LaneKind::Schedule => add_line(called, items, periods, entry),
+    }
+}
+
+/// Adds the pieces of a line at its pair and period; another record adds nothing.
+fn add_line(amounts: &mut [u64], items: &ItemPlaces, periods: usize, entry: &Record)
+    requires room { length items.now * periods ≤ length amounts.old }
+    ensures { amounts.new ≡ with_line items.now periods amounts.old entry.now }
+{
+    let Record::Line {
+        item,
+        period,
+        quantity,
+        ..
+    } = *entry
+    else {
+        return;
+    };
+    let Some(place) = items.find(item) else {
+        return;
+    };
+    if period < periods as u64 {
+        add_at(amounts, place * periods + period as usize, quantity);
+    }
+}
+
+/// Adds pieces to an amount. A sum past 2^64 - 1 stays there.
+fn add_at(amounts: &mut [u64], at: usize, quantity: u64)
+    requires { at < length amounts.old }
+    ensures { amounts.new ≡ added_at amounts.old at quantity }
+{
+    amounts[at] = amounts[at].saturating_add(quantity);
+}
+
+/// Counts the block of an item as ended at the item's end.
+fn end_block(progress: &mut Readiness, items: &ItemPlaces, entry: &Record)
+    requires { IfSome (ended_place items.now entry.now) (λ y. IsAwaited progress.old y) }
+    ensures { BlockEnded (ended_place items.now entry.now) progress.old progress.new }
+{
+    let Record::ItemEnd { item, .. } = *entry else {
+        return;
+    };
+    let Some(place) = items.find(item) else {
+        return;
+    };
+    progress.arrive(place);
+}

@@ -1,0 +1,82 @@
+ghost use Rattle.std.specs.Prelude.{◌≡◌, IfOk, length};
+ghost use Rattle.mrp_lot.specs.One.{one};
+ghost use Rattle.mrp_agent.specs.Asking.{HasDraft, grossed};
+
+use crate::drafting::draft_from;
+use crate::edges::ParentEdge;
+use mrp_lot::PairParams;
+use mrp_netting::PairPlan;
+use mrp_qty::{Horizon, Memory, Row};
+use std::alloc::Global;
+use std::marker::Model;
+
+/// Rows to draft plans with, and the plan that was drafted last. Contracts see that plan.
+#[derive(Drop)]
+pub(crate) struct Desk {
+    incoming: Row,
+    gross: Row,
+    plan: PairPlan,
+}
+
+impl Model for Desk {
+    ghost use Rattle.std.specs.Prelude.{◌≡◌, length};
+    ghost use Rattle.mrp_lot.specs.One.{PlanRows};
+
+    ghost Value = { PlanRows };
+
+    ghost view = { λ d. d.plan };
+
+    ghost invariant = { λ d. (length d.incoming ≡ length d.plan.gross) × (length d.gross ≡ length d.plan.gross) };
+}
+
+impl Desk {
+    /// A desk for plans of so many periods.
+    ///
+    /// # Errors
+    ///
+    /// [`Memory`] where a growth is refused.
+    pub(crate) fn new(alloc: Global, horizon: Horizon) -> Result<Desk, Memory>
+        ensures { IfOk result (λ desk. length desk.gross ≡ horizon) }
+    {
+        let incoming = Row::zero(alloc, horizon)?;
+        let gross = Row::zero(alloc, horizon)?;
+        let plan = PairPlan::new(alloc, horizon)?;
+        Ok(Desk {
+            incoming,
+            gross,
+            plan,
+        })
+    }
+
+    /// Drafts the plan of a pair from what has come, what is called for, and the plans of its parents.
+    pub(crate) fn draft(
+        &mut self,
+        params: &PairParams,
+        came: &[u64],
+        called: &[u64],
+        edges: &[ParentEdge],
+        plans: &[PairPlan],
+    )
+        requires draft { HasDraft params.now came.now called.now edges.now plans.now }
+        requires periods { length self.old.gross ≡ length called.now }
+        ensures { self.new ≡ one params.now came.now (grossed called.now edges.now plans.now) }
+    {
+        draft_from(
+            params,
+            came,
+            called,
+            edges,
+            plans,
+            &mut self.incoming,
+            &mut self.gross,
+            &mut self.plan,
+        );
+    }
+
+    /// The plan that was drafted last.
+    pub(crate) fn plan(&self) -> &PairPlan
+        ensures { result.now ≡ self.now }
+    {
+        &self.plan
+    }
+}

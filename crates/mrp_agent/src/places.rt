@@ -1,0 +1,75 @@
+ghost use Rattle.std.specs.Prelude.{◌≡◌, All, IfOk, map};
+ghost use Rattle.mrp_agent.specs.Kept.{HasItemsOnce};
+
+use indexmap::IndexSet;
+use mrp_rows::ItemNo;
+use mrp_view::{OutgoingItems, OutgoingLane, PlantPair};
+use std::alloc::{AllocError, Global};
+use std::marker::Model;
+
+/// The places of items in a list that has each of them once. Contracts see the list.
+#[derive(Drop)]
+pub(crate) struct ItemPlaces {
+    items: IndexSet<ItemNo>,
+}
+
+impl Model for ItemPlaces {
+    ghost use Rattle.std.specs.Prelude.{List};
+    ghost use Rattle.mrp_rows.specs.declared.numbers.ItemNo.{ItemNo};
+
+    ghost Value = { List ItemNo };
+
+    ghost view = { λ p. p.items.keys };
+}
+
+impl ItemPlaces {
+    ghost use Rattle.std.specs.Prelude.{ℕ, ◌<◌, ◌≤◌, ◌==◌, count_by, length, IfSome};
+    ghost use Rattle.mrp_agent.specs.After.{place_of};
+
+    /// The place of an item.
+    pub(crate) fn find(&self, item: ItemNo) -> Option<usize>
+        ensures place { result ≡ place_of self.now item }
+        ensures within { IfSome result (λ place. place < length self.now) }
+    {
+        self.items.get_index_of(&item)
+    }
+
+    /// The items of a plant's pairs, which has each of them once.
+    pub(crate) fn of_pairs(alloc: Global, pairs: &[PlantPair]) -> Result<ItemPlaces, AllocError>
+        requires { (item : ℕ) → count_by (λ p. p.item.0 == item) pairs.now ≤ 1 }
+        ensures { IfOk result (λ places. places ≡ map (λ p. p.item) pairs.now) }
+    {
+        let mut items = IndexSet::new(alloc);
+        for pair in pairs {
+            items.insert(pair.item)?;
+        }
+        Ok(ItemPlaces { items })
+    }
+
+    /// The items of a lane, which has each of them once.
+    pub(crate) fn of_lane(alloc: Global, lane: &OutgoingItems) -> Result<ItemPlaces, AllocError>
+        requires { (item : ℕ) → count_by (λ i. i.item.0 == item) lane.now ≤ 1 }
+        ensures { IfOk result (λ places. places ≡ map (λ i. i.item) lane.now) }
+    {
+        let mut items = IndexSet::new(alloc);
+        for j in 0..lane.len() {
+            items.insert(lane.get(j).item)?;
+        }
+        Ok(ItemPlaces { items })
+    }
+}
+
+/// The items of each lane.
+pub(crate) fn out_items(
+    alloc: Global,
+    lanes: &[OutgoingLane],
+) -> Result<Vec<ItemPlaces>, AllocError>
+    requires { All HasItemsOnce lanes.now }
+    ensures { IfOk result (λ v. v.items ≡ map (λ lane. map (λ i. i.item) lane.items) lanes.now) }
+{
+    let mut places = Vec::new(alloc);
+    for lane in lanes {
+        places.push(ItemPlaces::of_lane(alloc, &lane.items)?)?;
+    }
+    Ok(places)
+}

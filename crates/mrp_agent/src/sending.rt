@@ -1,0 +1,189 @@
+ghost use Rattle.std.specs.Prelude.{◌≡◌, ◌==◌, ◌<◌, [], length, position};
+ghost use Rattle.std.specs.List.{position_or_len};
+ghost use Rattle.mrp_view.specs.Loads.{load, load_at};
+ghost use Rattle.mrp_local.specs.Goods.{share};
+ghost use Rattle.mrp_agent.specs.Sending.{next_shipment, next_called, left_to_ship, left_to_call, figure_in, AreShares};
+ghost use Rattle.mrp_agent.specs.Kept.{IsShowing};
+
+use crate::Agent;
+use crate::booking::incoming_place;
+use mrp_book::Book;
+use mrp_cursor::{NextLine, Remainder};
+use mrp_net::{LaneKind, LaneNo, Shipment};
+use mrp_netting::PairPlan;
+use mrp_qty::{Qty, Row};
+use mrp_record::Record;
+use mrp_rows::ItemNo;
+use mrp_view::{OutgoingItem, OutgoingItems, OutgoingLane};
+
+impl Agent {
+    ghost use Rattle.std.specs.Prelude.{IsSome, IfSome, IfNone, Contains, Some};
+    ghost use Rattle.mrp_net.specs.declared.lane.LaneKind.TheVariants.{Schedule};
+    ghost use Rattle.mrp_agent.specs.After.{after_sent};
+    ghost use Rattle.mrp_agent.specs.Sending.{next_out, left_at, remainder};
+    ghost use Rattle.mrp_agent.specs.Sent.{GivenIsLegal, NoneCanBeSent, IsAppended};
+    ghost use Rattle.mrp_record.specs.declared.record.Record.{Record};
+    ghost use Rattle.mrp_agent.specs.State.{outgoing_place};
+
+    /// The record that a lane that goes out is to be sent next, where there is one.
+    ///
+    /// A record that is given may be sent: it continues what was sent to a legal beginning of whatever
+    /// lane has these goods. Where none is given none can be sent.
+    pub fn next_out(&self, lane: LaneNo) -> Option<Record>
+        requires outgoing { outgoing_place self.now.view lane.0 < length self.now.view.outgoing }
+        ensures exact { result ≡ next_out self.now (outgoing_place self.now.view lane.0) }
+        ensures given { IfSome result (λ r. GivenIsLegal self.now (outgoing_place self.now.view lane.0) r) }
+        ensures none { IfNone result (NoneCanBeSent self.now (outgoing_place self.now.view lane.0)) }
+    {
+        let k = outgoing_place(self.view.outgoing(), lane);
+        self.outs[k].next_record(self.left_at(k))
+    }
+
+    /// Goes on after the record that [`Agent::next_out`] gives was sent on the lane.
+    pub fn sent(&mut self, lane: LaneNo)
+        requires outgoing { outgoing_place self.old.view lane.0 < length self.old.view.outgoing }
+        requires given { IsSome (next_out self.old (outgoing_place self.old.view lane.0)) }
+        ensures view { self.new.view ≡ self.old.view }
+        ensures exact { self.new ≡ after_sent self.old (outgoing_place self.old.view lane.0) }
+        ensures appended { (r : Record) → next_out self.old (outgoing_place self.old.view lane.0) ≡ Some r
+            → IsAppended self.old self.new (outgoing_place self.old.view lane.0) r }
+    {
+        let k = outgoing_place(self.view.outgoing(), lane);
+        let left = self.left_at(k);
+        self.outs[k].step(left);
+    }
+
+    /// What is left of the item at the head of a lane's queue.
+    fn left_at(&self, k: usize) -> Option<Remainder>
+        requires { k < length self.now.view.outgoing }
+        ensures { result ≡ left_at self.now k }
+    {
+        let place = self.outs[k].head()?;
+        let mark = self.outs[k].mark();
+        Some(self.left_of(&self.view.outgoing()[k], place, mark))
+    }
+
+    /// What is left of the item at a place of a lane that goes out, from a mark on.
+    fn left_of(&self, lane: &OutgoingLane, place: usize, mark: usize) -> Remainder
+        requires lane { Contains self.now.view.outgoing lane.now }
+        requires place { place < length lane.now.items }
+        ensures { result ≡ remainder self.now lane.now mark place }
+    {
+        match lane.kind {
+            LaneKind::Despatch => left_to_ship(&lane.items, place, mark),
+            LaneKind::Schedule => self.schedule_left(lane, place, mark),
+        }
+    }
+
+    /// What a schedule lane has left to call for of an item.
+    fn schedule_left(&self, lane: &OutgoingLane, place: usize, mark: usize) -> Remainder
+        requires lane { Contains self.now.view.outgoing lane.now }
+        requires schedule { lane.now.kind ≡ Schedule }
+        requires place { place < length lane.now.items }
+        ensures { result ≡ remainder self.now lane.now mark place }
+    {
+        let item = lane.items.get(place);
+        let Some(customer) = self.view.place(item.customer) else {
+            unreachable!()
+        };
+        let before = incoming_place(self.view.incoming(), LaneNo(lane.number.0 - 1));
+        left_to_call(&self.books[before], &self.plans[customer], &item, mark)
+    }
+}
+
+/// What a schedule lane has left to call for of an item, by the book of the despatch lane before it and
+/// the customer's plan.
+fn left_to_call(book: &Book, plan: &PairPlan, item: &OutgoingItem, mark: usize) -> Remainder
+    requires book { IsShowing book.now }
+    requires shares { AreShares item.now }
+    ensures { result ≡ left_to_call book.now plan.now.release item.now mark }
+{
+    Remainder {
+        item: item.item,
+        opening: figure_in(book, item.item),
+        reset: item.reset,
+        line: next_call(plan.release(), item, mark),
+    }
+}
+
+/// The cumulative figure of an item in a book, or 0 where the lane doesn't have it.
+fn figure_in(book: &Book, item: ItemNo) -> u64
+    requires { IsShowing book.now }
+    ensures { result ≡ figure_in book.now item.0 }
+{
+    match book.cumulative(item) {
+        Some(figure) => figure.get(),
+        None => 0,
+    }
+}
+
+/// The place of a lane among those that go out, or how many these are.
+fn outgoing_place(lanes: &[OutgoingLane], lane: LaneNo) -> usize
+    ensures { result ≡ position_or_len (λ l. l.number.0 == lane.0) lanes.now }
+{
+    find_outgoing(lanes, lane).unwrap_or(lanes.len())
+}
+
+/// The place of a lane among those that go out.
+fn find_outgoing(lanes: &[OutgoingLane], lane: LaneNo) -> Option<usize>
+    ensures { result ≡ position (λ l. l.number.0 == lane.0) lanes.now }
+{
+    lanes.iter().position(|known| known.number.0 == lane.0)
+}
+
+/// What a despatch lane has left to ship of an item.
+fn left_to_ship(items: &OutgoingItems, place: usize, mark: usize) -> Remainder
+    requires { place < length items.now }
+    ensures { result ≡ left_to_ship (load_at items.now place) mark }
+{
+    let item = items.get(place);
+    Remainder {
+        item: item.item,
+        opening: item.figure,
+        reset: item.reset,
+        line: next_shipment(items.shipments(place), mark),
+    }
+}
+
+/// The first shipment from a mark on.
+fn next_shipment(shipments: &[Shipment], mark: usize) -> Option<NextLine>
+    ensures { result ≡ next_shipment shipments.now mark }
+{
+    if mark < shipments.len() {
+        let shipment = shipments[mark];
+        Some(NextLine {
+            period: shipment.period as u64,
+            quantity: shipment.quantity.get(),
+            after: mark + 1,
+        })
+    } else {
+        None
+    }
+}
+
+/// The first period from a mark on in which a lane's share of a release is something.
+fn next_call(release: &Row, item: &OutgoingItem, mark: usize) -> Option<NextLine>
+    requires { AreShares item.now }
+    ensures { result ≡ next_called release.now item.now mark }
+{
+    for period in mark..release.len() {
+        let quantity = share(item, release.get(period));
+        if quantity > 0 {
+            return Some(NextLine {
+                period: period as u64,
+                quantity,
+                after: period + 1,
+            });
+        }
+    }
+    None
+}
+
+/// The share of a release that a lane's supplier is called for.
+fn share(item: &OutgoingItem, release: Qty) -> u64
+    requires { AreShares item.now }
+    ensures { result ≡ share (load item.now []) release }
+{
+    let pieces = release.get();
+    pieces * item.high / 1000 - pieces * item.low / 1000
+}

@@ -1,0 +1,7 @@
+pub mod Steps
+pub mod Looks
+pub mod Worlds
+pub mod Makes
+pub mod Counts
+pub mod Pieces
+pub mod Holding

@@ -1,0 +1,149 @@
+-- What is found where an event is looked for.
+use Rattle.std.proofs.Common.{◌≡◌, ℕ, ◌+◌, ◌<◌, ◌≤◌, Bool, true, false, List, [], ◌∷◌, ◌++◌, ◌⊎◌, inl, inr, length, get_or, drop, slice_get, Option, None, Some, refl, sym, ap, subst, ◌∙◌, arith}
+use Rattle.std.specs.Prelude.{IfNone}
+use Rattle.mrp_rows.specs.Table.{Table, IsPair}
+use Rattle.mrp_net.specs.Lanes.{lanes, lane_at}
+use Rattle.mrp_net.specs.Sums.{pair_at}
+use Rattle.mrp_record.specs.declared.record.Record.{Record}
+use Rattle.mrp_events.specs.declared.event.Event.{Event}
+use Rattle.mrp_events.specs.declared.event.Event.TheVariants.{Send, Receive, Plan}
+use Rattle.mrp_events.specs.State.{State, CanPlan, IsEnabled, after_send, after_take, after_plan}
+use Rattle.mrp_world.specs.Moments.{Moment, Showing, IsAt, IsOut, IsOwn, IsNext, Sends}
+use Rattle.mrp_world.specs.World.{Held, box_at, AreAt, AreSomewhere, Lead, LeadNowhere, MayLead, Acts, StandsStill, LaneRests, PlantRests, AllRests}
+use Rattle.mrp_world.proofs.Steps.{SendsNext, moment, plant_is_at, may_send, first_can, first_of, can_send, owner_within, full_leads_nowhere, none_leads_nowhere, empty_leads_nowhere}
+
+-- ---- the plant that is asked
+
+asked_at : {A : Type 0} (shows : Showing A) (N : Table) (capacity : ℕ) (plants : List A) (boxes : List Held) (s : State) → AreAt shows N capacity plants boxes s
+    → (p : ℕ) (plant : A) → plant ≡ get_or plants p plant → p < length N.plants → IsAt shows (moment N capacity s) p plant
+asked_at shows N capacity plants boxes s at p plant is known =
+    subst (λ z. IsAt shows (moment N capacity s) p z) (sym is) (plant_is_at shows N capacity plants boxes s at p plant known)
+
+pub may_ask : {A : Type 0} (shows : Showing A) (N : Table) (plants : List A) (boxes : List Held) (l p : ℕ) (plant : A) → AreSomewhere shows N plants boxes
+    → l < length (lanes N) → p < length N.plants → (lane_at N l).sender.0 ≡ p → plant ≡ get_or plants p plant → Sends shows plant l
+may_ask shows N plants boxes l p plant some within known e is =
+    subst (λ z. Sends shows z l) (sym is) (may_send shows N plants boxes l p plant some within known e)
+
+pub none_gives : {X : Type 0} (o : Option X) (P : Type 0) → IfNone o P → o ≡ None → P
+none_gives None P h e = h
+none_gives (Some x) P h e = absurd (cc)
+
+pub none_more : {X : Type 0} (o : Option X) (P Q : Type 0) → (P → Q) → IfNone o P → IfNone o Q
+none_more None P Q f h = f h
+none_more (Some x) P Q f h = h
+
+-- what holds so far holds with one more
+pub loop_more : (P : ℕ → Type 0) (from at : ℕ) → ((k : ℕ) → from ≤ k → k < at → P k) → P at → (k : ℕ) → from ≤ k → k < at + 1 → P k
+loop_more P from at before here k low less = elim (up_to k at less) [
+  | inl e ↦ subst P (sym e) here
+  | inr under ↦ before k low under
+]
+  where
+    up_to : (k at : ℕ) → k < at + 1 → (k ≡ at) ⊎ (k < at)
+    up_to k at h = grind arith
+
+-- ---- what may happen
+
+pub waiting_may : {A : Type 0} (shows : Showing A) (N : Table) (plants : List A) (boxes : List Held) (l : ℕ) (old : Held) (r : Record)
+    → l < length (lanes N) → old ≡ box_at boxes l → slice_get old.records 0 ≡ Some r → MayLead shows N plants boxes (Receive (record { 0 = l }))
+waiting_may shows N plants boxes l old r within same first_old capacity s at =
+    let first : (box_at boxes l).records ≡ r ∷ drop 1 (box_at boxes l).records = first_of (box_at boxes l).records r (ap (λ (b : Held). slice_get b.records 0) (sym same) ∙ first_old) in
+    (after_take s l r, (r, first_can N capacity boxes s l r (drop 1 (box_at boxes l).records) at.held within first, refl))
+
+pub next_may : {A : Type 0} (shows : Showing A) (N : Table) (plants : List A) (boxes : List Held) (l p : ℕ) (plant : A) (old : Held) (r : Record)
+    → l < length (lanes N) → p < length N.plants → (lane_at N l).sender.0 ≡ p → old ≡ box_at boxes l → length old.records < old.room
+    → plant ≡ get_or plants p plant → SendsNext shows plant l r → MayLead shows N plants boxes (Send (record { 0 = l }))
+next_may shows N plants boxes l p plant old r within known e same has is next capacity s at =
+    let room = subst (λ (b : Held). length b.records < b.room) same has in
+    let is_next = next (moment N capacity s) p (asked_at shows N capacity plants boxes s at p plant is known) (record { lane = within; plant = e }) in
+    (after_send s l r, (r, can_send N capacity boxes s l r at.held within is_next room, refl))
+
+pub ready_may : {A : Type 0} (shows : Showing A) (N : Table) (plants : List A) (boxes : List Held) (p x : ℕ) (plant : A)
+    → p < length plants → plant ≡ get_or plants p plant → ((m : Moment) (q : ℕ) → IsAt shows m q plant → CanPlan m.network m.state x) → MayLead shows N plants boxes (Plan (record { 0 = x }))
+ready_may shows N plants boxes p x plant within is can capacity s at =
+    (after_plan s x, (can (moment N capacity s) p (asked_at shows N capacity plants boxes s at p plant is (omega (arith, within, at.shown.all))), refl))
+
+-- ---- what rests
+
+pub full_rests : {A : Type 0} (shows : Showing A) (N : Table) (plants : List A) (boxes : List Held) (l : ℕ) (old : Held)
+    → l < length (lanes N) → old ≡ box_at boxes l → slice_get old.records 0 ≡ None → old.room ≤ length old.records → LaneRests shows N plants boxes l
+full_rests shows N plants boxes l old within same none full = record {
+  sends_nothing = full_leads_nowhere shows N plants boxes l old within same full;
+  receives_nothing = empty_leads_nowhere shows N plants boxes l old same none;
+}
+
+pub lane_rests : {A : Type 0} (shows : Showing A) (N : Table) (plants : List A) (boxes : List Held) (l p : ℕ) (plant : A) (old : Held)
+    → l < length (lanes N) → p < length N.plants → (lane_at N l).sender.0 ≡ p → old ≡ box_at boxes l → slice_get old.records 0 ≡ None
+    → plant ≡ get_or plants p plant → ((m : Moment) (q : ℕ) → IsAt shows m q plant → IsOut m.network q l → (r : Record) → ¬ IsNext m l r) → LaneRests shows N plants boxes l
+lane_rests shows N plants boxes l p plant old within known e same none is nothing = record {
+  sends_nothing = none_leads_nowhere shows N plants boxes l p plant within known e (λ m q at. nothing m q (subst (λ z. IsAt shows m q z) (sym is) at));
+  receives_nothing = empty_leads_nowhere shows N plants boxes l old same none;
+}
+
+pub plant_rests : {A : Type 0} (shows : Showing A) (N : Table) (plants : List A) (boxes : List Held) (p : ℕ) (plant : A)
+    → p < length plants → plant ≡ get_or plants p plant → ((m : Moment) (q x : ℕ) → IsAt shows m q plant → IsOwn m.network q x → ¬ CanPlan m.network m.state x) → PlantRests shows N plants boxes p
+plant_rests shows N plants boxes p plant within is cannot x own capacity s at enabled =
+    cannot (moment N capacity s) p x (asked_at shows N capacity plants boxes s at p plant is (omega (arith, within, at.shown.all))) own enabled.1.0
+
+-- ---- all of them rest
+
+pub beyond_send : {A : Type 0} (shows : Showing A) (N : Table) (plants : List A) (boxes : List Held) (l : ℕ) → length (lanes N) ≤ l → LeadNowhere shows N plants boxes (Send (record { 0 = l }))
+beyond_send shows N plants boxes l beyond capacity s at enabled = omega (arith, enabled.1.1.lane, beyond)
+
+pub beyond_receive : {A : Type 0} (shows : Showing A) (N : Table) (plants : List A) (boxes : List Held) (l : ℕ) → length (lanes N) ≤ l → LeadNowhere shows N plants boxes (Receive (record { 0 = l }))
+beyond_receive shows N plants boxes l beyond capacity s at enabled = omega (arith, enabled.1.1.lane, beyond)
+
+pub beyond_plan : {A : Type 0} (shows : Showing A) (N : Table) (plants : List A) (boxes : List Held) (x : ℕ) → length N.pairs ≤ x → LeadNowhere shows N plants boxes (Plan (record { 0 = x }))
+beyond_plan shows N plants boxes x beyond capacity s at enabled = omega (arith, enabled.1.0.pair, beyond)
+
+or_less : (l from : ℕ) → (l < from) ⊎ (from ≤ l)
+or_less l from = grind arith
+
+lane_among : {A : Type 0} (shows : Showing A) (N : Table) (plants : List A) (boxes : List Held) (from l : ℕ)
+    → ((k : ℕ) → from ≤ k → k < length (lanes N) → LaneRests shows N plants boxes k) → ((k : ℕ) → 0 ≤ k → k < from → LaneRests shows N plants boxes k)
+    → l < length (lanes N) → LaneRests shows N plants boxes l
+lane_among shows N plants boxes from l high low within = elim (or_less l from) [
+  | inl less ↦ low l (omega arith) less
+  | inr more ↦ high l more within
+]
+
+pub all_rests : {A : Type 0} (shows : Showing A) (N : Table) (plants : List A) (boxes : List Held) (from : ℕ)
+    → ((k : ℕ) → from ≤ k → k < length (lanes N) → LaneRests shows N plants boxes k) → ((k : ℕ) → 0 ≤ k → k < from → LaneRests shows N plants boxes k)
+    → ((p : ℕ) → 0 ≤ p → p < length plants → PlantRests shows N plants boxes p) → AllRests shows N plants boxes
+all_rests shows N plants boxes from high low each (Send l) capacity s at enabled =
+    (lane_among shows N plants boxes from l.0 high low enabled.1.1.lane).sends_nothing capacity s at enabled
+all_rests shows N plants boxes from high low each (Receive l) capacity s at enabled =
+    (lane_among shows N plants boxes from l.0 high low enabled.1.1.lane).receives_nothing capacity s at enabled
+all_rests shows N plants boxes from high low each (Plan x) capacity s at enabled =
+    let within = owner_within N at.sized x.0 enabled.1.0.pair in
+    each (pair_at N x.0).plant.0 (omega arith) (omega (arith, within, at.shown.all)) x.0 (record { pair = enabled.1.0.pair; plant = refl }) capacity s at enabled
+
+-- ---- whether an event has happened
+
+pub acts_by : {A : Type 0} (shows : Showing A) (N : Table) (plants : List A) (boxes : List Held) (event kind : Event) (acted : Bool) (new_plants : List A) (new_boxes : List Held)
+    → event ≡ kind → (acted ≡ true → Lead shows N plants boxes kind new_plants new_boxes) → (acted ≡ false → LeadNowhere shows N plants boxes kind)
+    → (acted ≡ false → new_plants ≡ plants) → (acted ≡ false → new_boxes ≡ boxes) → Acts shows N plants boxes event acted new_plants new_boxes
+acts_by shows N plants boxes event kind true new_plants new_boxes is leads nowhere same_plants same_boxes =
+    subst (λ (e : Event). Lead shows N plants boxes e new_plants new_boxes) (sym is) (leads refl)
+acts_by shows N plants boxes event kind false new_plants new_boxes is leads nowhere same_plants same_boxes =
+    record { nowhere = subst (λ (e : Event). LeadNowhere shows N plants boxes e) (sym is) (nowhere refl); same_plants = same_plants refl; same_boxes = same_boxes refl }
+
+pub leads_if : {A : Type 0} (shows : Showing A) (N : Table) (plants : List A) (boxes : List Held) (event : Event) (acted : Bool) (new_plants : List A) (new_boxes : List Held)
+    → Acts shows N plants boxes event acted new_plants new_boxes → acted ≡ true → Lead shows N plants boxes event new_plants new_boxes
+leads_if shows N plants boxes event true new_plants new_boxes acts e = acts
+leads_if shows N plants boxes event false new_plants new_boxes acts e = absurd (cc)
+
+pub still_if : {A : Type 0} (shows : Showing A) (N : Table) (plants : List A) (boxes : List Held) (event : Event) (acted : Bool) (new_plants : List A) (new_boxes : List Held)
+    → Acts shows N plants boxes event acted new_plants new_boxes → acted ≡ false → StandsStill shows N plants boxes event new_plants new_boxes
+still_if shows N plants boxes event true new_plants new_boxes acts e = absurd (cc)
+still_if shows N plants boxes event false new_plants new_boxes acts e = acts
+
+-- the same lists by other names
+pub acts_as : {A : Type 0} (shows : Showing A) (N : Table) (plants plants_too : List A) (boxes boxes_too : List Held) (event : Event) (acted : Bool) (new_plants new_plants_too : List A) (new_boxes new_boxes_too : List Held)
+    → plants ≡ plants_too → boxes ≡ boxes_too → new_plants_too ≡ new_plants → new_boxes_too ≡ new_boxes
+    → Acts shows N plants boxes event acted new_plants new_boxes → Acts shows N plants_too boxes_too event acted new_plants_too new_boxes_too
+acts_as {A} shows N plants plants_too boxes boxes_too event acted new_plants new_plants_too new_boxes new_boxes_too same_plants same_boxes then_plants then_boxes acts =
+    subst (λ (p : List A). Acts shows N p boxes_too event acted new_plants_too new_boxes_too) same_plants
+    (subst (λ (b : List Held). Acts shows N plants b event acted new_plants_too new_boxes_too) same_boxes
+    (subst (λ (p : List A). Acts shows N plants boxes event acted p new_boxes_too) (sym then_plants)
+    (subst (λ (b : List Held). Acts shows N plants boxes event acted new_plants b) (sym then_boxes) acts)))

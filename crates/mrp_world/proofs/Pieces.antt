@@ -1,0 +1,134 @@
+-- The pieces that wait in a mailbox, and the figures of its lane.
+use Rattle.std.proofs.Common.{◌≡◌, ℕ, ◌+◌, ◌<◌, ◌≤◌, List, [], ◌∷◌, ◌++◌, length, get_or, take, drop, map, refl, sym, ap, subst, ◌∙◌, arith, append_assoc, Contains}
+use Rattle.std.specs.List.{sum_by, filter, flat_map, range_with_len}
+use Rattle.mrp_net.proofs.Routing.{flat_map-range-more}
+use Rattle.std.proofs.lemmas.List.{take_more, take-append-drop, map-append, map_more}
+use Rattle.std.proofs.lemmas.List.Elements.{filter-append}
+use Rattle.std.proofs.lemmas.List.Sums.{sum_by-append}
+use Rattle.mrp_rows.specs.declared.numbers.ItemNo.{ItemNo}
+use Rattle.mrp_rows.specs.Table.{Table}
+use Rattle.mrp_net.specs.Lanes.{lanes, lane_at, lane_items, opening}
+use Rattle.mrp_record.specs.declared.record.Record.{Record}
+use Rattle.mrp_record.specs.Entries.{content, contents, entries_of, is_of, moved, quantity_of}
+use Rattle.mrp_book.specs.declared.figure.LaneFigure.{LaneFigure}
+use Rattle.mrp_events.specs.Laws.{cum_on}
+use Rattle.mrp_events.specs.State.{State}
+use Rattle.mrp_events.proofs.Ordering.{lanes_keep_order, nothing_is_lost}
+use Rattle.mrp_events.proofs.Small.{legal_cums_are_small}
+use Rattle.mrp_world.specs.Figures.{figure_at}
+use Rattle.mrp_world.specs.Moments.{Moment, Showing, IsAt, IsIn, Receives}
+use Rattle.mrp_world.specs.World.{Held, box_at, AreAt, AreSomewhere}
+use Rattle.mrp_world.proofs.Steps.{moment, plant_is_at, box_is, may_receive}
+
+moved_parts : (item : ℕ) (xs ys : List Record) → moved item (contents (xs ++ ys)) ≡ moved item (contents xs) + moved item (contents ys)
+moved_parts item xs ys =
+    ap (moved item) (map-append content xs ys)
+    ∙ ap (sum_by quantity_of) (filter-append (is_of item) (contents xs) (contents ys))
+    ∙ sum_by-append quantity_of (entries_of item (contents xs)) (entries_of item (contents ys))
+
+pub pieces_more : (item : ℕ) (records : List Record) (at : ℕ) (d : Record) → at < length records
+    → moved item (contents (take (at + 1) records)) ≡ moved item (contents (take at records)) + moved item (contents (get_or records at d ∷ []))
+pieces_more item records at d within =
+    ap (λ (xs : List Record). moved item (contents xs)) (take_more records at d within) ∙ moved_parts item (take at records) (get_or records at d ∷ [])
+
+pub pieces_within : (item : ℕ) (records : List Record) (n : ℕ) → moved item (contents (take n records)) ≤ moved item (contents records)
+pieces_within item records n =
+    omega (arith, moved_parts item (take n records) (drop n records), ap (λ (xs : List Record). moved item (contents xs)) (take-append-drop n records))
+
+pub pieces_so_far : (item : ℕ) (inside held : List Record) (at : ℕ) (r : Record) (pieces more : ℕ) → inside ≡ held → at < length inside → r ≡ get_or inside at r
+    → pieces ≡ moved item (contents (take at held)) → more ≡ moved item (contents (r ∷ [])) → pieces + more ≡ moved item (contents (take (at + 1) held))
+pieces_so_far item inside held at r pieces more same within is so_far here =
+    let next = subst (λ (xs : List Record). at < length xs → r ≡ get_or xs at r → moved item (contents (take (at + 1) xs)) ≡ moved item (contents (take at xs)) + moved item (contents (r ∷ []))) same
+    (λ h e. pieces_more item inside at r h ∙ ap (λ (z : Record). moved item (contents (take at inside)) + moved item (contents (z ∷ []))) (sym e)) in
+    let grown : moved item (contents (take (at + 1) held)) ≡ moved item (contents (take at held)) + moved item (contents (r ∷ [])) =
+    next (subst (λ (xs : List Record). at < length xs) same within) (subst (λ (xs : List Record). r ≡ get_or xs at r) same is) in
+    omega (arith, grown, so_far, here)
+
+-- ---- figures
+
+-- what has been shipped is what has been received and what waits
+pub shipped_is : {A : Type 0} (shows : Showing A) (N : Table) (capacity : ℕ) (plants : List A) (boxes : List Held) (s : State) (l : ℕ) (item : ItemNo)
+    → AreAt shows N capacity plants boxes s → l < length (lanes N) → Contains (lane_items N (lane_at N l)) item
+    → cum_on N l item (s.sent l) ≡ cum_on N l item (s.taken l) + moved item.0 (contents (box_at boxes l).records)
+shipped_is shows N capacity plants boxes s l item at within there =
+    nothing_is_lost N at.sized.table capacity s at.reached l within item there (box_at boxes l).records (at.held.each l within)
+
+pub shipped_is_small : {A : Type 0} (shows : Showing A) (N : Table) (capacity : ℕ) (plants : List A) (boxes : List Held) (s : State) (l : ℕ) (item : ItemNo)
+    → AreAt shows N capacity plants boxes s → l < length (lanes N) → Contains (lane_items N (lane_at N l)) item → cum_on N l item (s.sent l) ≤ 1000000000000000
+shipped_is_small shows N capacity plants boxes s l item at within there =
+    legal_cums_are_small N at.sized (lane_at N l) (s.sent l) (lanes_keep_order N capacity s at.reached l within).sent item there
+
+-- the mailbox and the receiver of a lane that are asked for an item
+pub record Read {A : Type 0} (shows : Showing A) (N : Table) (plants : List A) (boxes : List Held) (l : ℕ) (item : ItemNo) (plant : A) (box : Held) (p : ℕ) : Type 0 where
+  pub within : l < length (lanes N)
+  pub there : Contains (lane_items N (lane_at N l)) item
+  pub some : AreSomewhere shows N plants boxes
+  pub held : box ≡ get_or boxes l box
+  pub receiver : (lane_at N l).receiver.0 ≡ p
+  pub known : p < length N.plants
+  pub asked : plant ≡ get_or plants p plant
+
+pub box_read : {A : Type 0} (shows : Showing A) (N : Table) (plants : List A) (boxes : List Held) (l : ℕ) (item : ItemNo) (box : Held)
+    → l < length (lanes N) → AreSomewhere shows N plants boxes → box ≡ get_or boxes l box → box ≡ box_at boxes l
+box_read shows N plants boxes l item box within shown is = is ∙ box_is shows N plants boxes l box shown within
+
+pub waiting_is_small : {A : Type 0} (shows : Showing A) (N : Table) (plants : List A) (boxes : List Held) (l : ℕ) (item : ItemNo) (box : Held)
+    → l < length (lanes N) → Contains (lane_items N (lane_at N l)) item → AreSomewhere shows N plants boxes → box ≡ get_or boxes l box → moved item.0 (contents box.records) ≤ 1000000000000000
+waiting_is_small shows N plants boxes l item box within there some is =
+    let e : moved item.0 (contents box.records) ≡ moved item.0 (contents (box_at boxes l).records) =
+    ap (λ (b : Held). moved item.0 (contents b.records)) (box_read shows N plants boxes l item box within some is) in
+    omega (arith, e, shipped_is shows N some.0 plants boxes some.1 l item some.2 within there, shipped_is_small shows N some.0 plants boxes some.1 l item some.2 within there)
+
+-- what the receiver says of an item
+abbrev pub SaysReceived : {A : Type 0} → Showing A → A → ℕ → ItemNo → ℕ → Type 0
+SaysReceived shows plant l item received =
+    (m : Moment) (p : ℕ) → IsAt shows m p plant → IsIn m.network p l → Contains (lane_items m.network (lane_at m.network l)) item → received ≡ cum_on m.network l item (m.state.taken l)
+
+received_is : {A : Type 0} (shows : Showing A) (N : Table) (capacity : ℕ) (plants : List A) (boxes : List Held) (s : State) (l : ℕ) (item : ItemNo) (plant : A) (box : Held) (p received : ℕ)
+    → Read shows N plants boxes l item plant box p → SaysReceived shows plant l item received → AreAt shows N capacity plants boxes s → received ≡ cum_on N l item (s.taken l)
+received_is shows N capacity plants boxes s l item plant box p received read says at =
+    says (moment N capacity s) p (subst (λ z. IsAt shows (moment N capacity s) p z) (sym read.asked) (plant_is_at shows N capacity plants boxes s at p plant read.known))
+    (record { lane = read.within; plant = read.receiver }) read.there
+
+shipped_read : {A : Type 0} (shows : Showing A) (N : Table) (capacity : ℕ) (plants : List A) (boxes : List Held) (s : State) (l : ℕ) (item : ItemNo) (plant : A) (box : Held) (p received waiting : ℕ)
+    → Read shows N plants boxes l item plant box p → SaysReceived shows plant l item received → waiting ≡ moved item.0 (contents box.records)
+    → AreAt shows N capacity plants boxes s → received + waiting ≡ cum_on N l item (s.sent l)
+shipped_read shows N capacity plants boxes s l item plant box p received waiting read says waits at =
+    let e : moved item.0 (contents box.records) ≡ moved item.0 (contents (box_at boxes l).records) =
+    ap (λ (b : Held). moved item.0 (contents b.records)) (box_read shows N plants boxes l item box read.within read.some read.held) in
+    omega (arith, e, waits, received_is shows N capacity plants boxes s l item plant box p received read says at, shipped_is shows N capacity plants boxes s l item at read.within read.there)
+
+pub shipped_fits : {A : Type 0} (shows : Showing A) (N : Table) (plants : List A) (boxes : List Held) (l : ℕ) (item : ItemNo) (plant : A) (box : Held) (p received waiting : ℕ)
+    → Read shows N plants boxes l item plant box p → SaysReceived shows plant l item received → waiting ≡ moved item.0 (contents box.records) → received + waiting ≤ 1000000000000000
+shipped_fits shows N plants boxes l item plant box p received waiting read says waits =
+    let some = read.some in
+    omega (arith, shipped_read shows N some.0 plants boxes some.1 l item plant box p received waiting read says waits some.2, shipped_is_small shows N some.0 plants boxes some.1 l item some.2 read.within read.there)
+
+abbrev pub figure_record : ℕ → ItemNo → ℕ → ℕ → ℕ → LaneFigure
+figure_record l item opens ships received =
+    record { lane = record { 0 = l }; item = item; opening = opens; shipped = ships; received = received }
+
+pub figure_is : {A : Type 0} (shows : Showing A) (N : Table) (capacity : ℕ) (plants : List A) (boxes : List Held) (s : State) (l : ℕ) (item : ItemNo) (plant : A) (box : Held) (p received waiting opens ships : ℕ)
+    → Read shows N plants boxes l item plant box p → SaysReceived shows plant l item received → waiting ≡ moved item.0 (contents box.records) → opens ≡ opening N (lane_at N l) item
+    → ships ≡ received + waiting → AreAt shows N capacity plants boxes s
+    → figure_record l item opens ships received ≡ figure_at N s l item
+figure_is shows N capacity plants boxes s l item plant box p received waiting opens ships read says waits opened shipped at =
+    ap (λ (o : ℕ). figure_record l item o ships received) opened
+    ∙ ap (λ (n : ℕ). figure_record l item (opening N (lane_at N l) item) n received) (shipped ∙ shipped_read shows N capacity plants boxes s l item plant box p received waiting read says waits at)
+    ∙ ap (λ (n : ℕ). figure_record l item (opening N (lane_at N l) item) (cum_on N l item (s.sent l)) n) (received_is shows N capacity plants boxes s l item plant box p received read says at)
+
+pub may_be_asked : {A : Type 0} (shows : Showing A) (N : Table) (plants : List A) (boxes : List Held) (l : ℕ) (item : ItemNo) (plant : A) (box : Held) (p : ℕ)
+    → Read shows N plants boxes l item plant box p → Receives shows plant l
+may_be_asked shows N plants boxes l item plant box p read =
+    subst (λ z. Receives shows z l) (sym read.asked) (may_receive shows N plants boxes l p plant read.some read.within read.known read.receiver)
+
+-- ---- lists of figures
+
+pub figures_next : (F : ItemNo → LaneFigure) (old now new : List LaneFigure) (items : List ItemNo) (i : ℕ) (d : ItemNo) (figure : LaneFigure) → i < length items
+    → now ≡ old ++ map F (take i items) → new ≡ now ++ figure ∷ [] → figure ≡ F (get_or items i d) → new ≡ old ++ map F (take (i + 1) items)
+figures_next F old now new items i d figure within so_far pushed is =
+    pushed ∙ ap (λ (xs : List LaneFigure). xs ++ figure ∷ []) so_far ∙ append_assoc old (map F (take i items)) (figure ∷ [])
+    ∙ ap (λ (f : LaneFigure). old ++ (map F (take i items) ++ f ∷ [])) is ∙ ap (λ (xs : List LaneFigure). old ++ xs) (sym (map_more F items i d within))
+
+pub lanes_next : (F : ℕ → List LaneFigure) (now new : List LaneFigure) (l : ℕ) → now ≡ flat_map F (range_with_len 0 l) → new ≡ now ++ F l → new ≡ flat_map F (range_with_len 0 (l + 1))
+lanes_next F now new l so_far added = added ∙ ap (λ (xs : List LaneFigure). xs ++ F l) so_far ∙ sym (flat_map-range-more F l)

@@ -1,0 +1,259 @@
+-- What events do to a world.
+use Rattle.std.proofs.Common.{◌≡◌, Option, None, Some, get_or, take, ℕ, ◌+◌, ◌-◌, ◌<◌, ◌≤◌, ◌==◌, Bool, true, false, List, [], ◌∷◌, ◌++◌, ◌⊎◌, inl, inr, length, refl, sym, ap, subst, ◌∙◌, arith}
+use Rattle.std.specs.Prelude.{MatchBool, IfSome, IfNone, IfOk, Result, Ok, Err}
+use Rattle.std.proofs.lemmas.Bool.{cases_Bool, eqb-true, eq-eqb, false≢true}
+use Rattle.std.proofs.lemmas.List.{take_more}
+use Rattle.mrp_rows.specs.Table.{Table, IsPair}
+use Rattle.mrp_net.specs.Sums.{pair_at}
+use Rattle.mrp_events.specs.declared.event.Event.{Event}
+use Rattle.mrp_events.specs.State.{State, Step, Run, IsEnabled, IsFinished}
+use Rattle.mrp_events.specs.Progress.{steps_left}
+use Rattle.mrp_events.proofs.Counting.{events_are_steps, none_is_left_at_the_end}
+use Rattle.mrp_events.proofs.Finishing.{no_schedule_sticks}
+use Rattle.mrp_events.proofs.Keeping.{runs_go_on}
+use Rattle.mrp_world.specs.Moments.{Moment, Showing, IsAt, IsOwn, Has}
+use Rattle.mrp_world.proofs.Steps.{moment, plant_is_at, owner_known}
+use Rattle.mrp_world.specs.World.{Held, AreAt, AreSomewhere, Lead, LeadNowhere, AllRests, MayLead, WorldState, WorldShows, IsWorld, Runs}
+
+abbrev pub world : {A : Type 0} → Table → ℕ → List A → List Held → ℕ → WorldState A
+world N capacity plants boxes left = record { network = N; capacity = capacity; plants = plants; boxes = boxes; left = left }
+
+pub somewhere : {A : Type 0} (shows : Showing A) (w : WorldState A) → IsWorld shows w → AreSomewhere shows w.network w.plants w.boxes
+somewhere shows w is = (w.capacity, is.state, is.shown.parts)
+
+-- ---- one event
+
+-- what a world shows after an event
+pub record Leads {A : Type 0} (shows : Showing A) (w : WorldState A) (event : Event) (new : WorldState A) (s : State) : Type 0 where
+  pub next : State
+  pub step : Step w.network w.capacity s event next
+  pub shown : WorldShows shows new next
+  pub some : new.left + 1 ≡ w.left
+
+pub leads_to : {A : Type 0} (shows : Showing A) (N : Table) (capacity : ℕ) (plants : List A) (boxes : List Held) (left : ℕ) (event : Event) (new_plants : List A) (new_boxes : List Held) (s : State)
+    → Lead shows N plants boxes event new_plants new_boxes → WorldShows shows (world N capacity plants boxes left) s
+    → Leads shows (world N capacity plants boxes left) event (world N capacity new_plants new_boxes (left - 1)) s
+leads_to shows N capacity plants boxes left event new_plants new_boxes s leads shown =
+    let next = leads capacity s shown.parts in
+    let counted : left ≡ steps_left N s = shown.left in
+    let falls : steps_left N next.0 + 1 ≡ steps_left N s = events_are_steps N capacity s next.0 event shown.parts.reached next.1 in
+    record {
+      next = next.0;
+      step = next.1;
+      shown = record { parts = next.2; left = omega (arith, counted, falls) };
+      some = omega (arith, counted, falls);
+    }
+
+-- ---- the end
+
+pub finished_by : {A : Type 0} (shows : Showing A) (w : WorldState A) (s : State) → WorldShows shows w s → MatchBool (w.left == 0) (IsFinished w.network s) (¬ IsFinished w.network s)
+finished_by shows w s shown =
+    let P : Bool → Type 0 = λ (b : Bool). MatchBool b (IsFinished w.network s) (¬ IsFinished w.network s) in
+    let end = none_is_left_at_the_end w.network w.capacity s shown.parts.reached in
+    elim (cases_Bool (w.left == 0)) [
+      | inl t ↦ subst P (sym t) (end.0 (sym shown.left ∙ eqb-true w.left 0 t))
+      | inr f ↦ subst P (sym f) (λ is. false≢true (sym f ∙ eq-eqb w.left 0 (shown.left ∙ end.1 is)))
+    ]
+
+pub finished_at : {A : Type 0} (shows : Showing A) (w : WorldState A) (left : ℕ) → left ≡ w.left → (s : State) → WorldShows shows w s → MatchBool (left == 0) (IsFinished w.network s) (¬ IsFinished w.network s)
+finished_at shows w left e s shown = subst (λ (n : ℕ). MatchBool (n == 0) (IsFinished w.network s) (¬ IsFinished w.network s)) (sym e) (finished_by shows w s shown)
+
+pub none_left_is_finished : {A : Type 0} (shows : Showing A) (w : WorldState A) (s : State) → WorldShows shows w s → w.left ≡ 0 → IsFinished w.network s
+none_left_is_finished shows w s shown none = (none_is_left_at_the_end w.network w.capacity s shown.parts.reached).0 (sym shown.left ∙ none)
+
+pub rests_finished : {A : Type 0} (shows : Showing A) (w : WorldState A) (s : State) → 1 ≤ w.capacity → AllRests shows w.network w.plants w.boxes → WorldShows shows w s → IsFinished w.network s
+rests_finished shows w s holds rests shown =
+    elim (no_schedule_sticks w.network shown.parts.sized.table shown.parts.sized.loop_free w.capacity holds s shown.parts.reached) [
+      | inl finished ↦ finished
+      | inr one ↦ absurd (rests one.0 w.capacity s shown.parts one.1)
+    ]
+
+pub rests_left : {A : Type 0} (shows : Showing A) (w : WorldState A) → IsWorld shows w → AllRests shows w.network w.plants w.boxes → w.left ≡ 0
+rests_left shows w is rests =
+    is.shown.left ∙ (none_is_left_at_the_end w.network w.capacity is.state is.shown.parts.reached).1 (rests_finished shows w is.state is.holds rests is.shown)
+
+-- ---- lists of events
+
+pub run_append : (N : Table) (capacity : ℕ) (s t u : State) (xs ys : List Event) → Run N capacity s xs t → Run N capacity t ys u → Run N capacity s (xs ++ ys) u
+run_append N capacity s t u [] ys first after = subst (λ (z : State). Run N capacity z ys u) first after
+run_append N capacity s t u (x ∷ xs) ys first after = (first.0, first.1, run_append N capacity first.0 t u xs ys first.2 after)
+
+pub runs_none : {A : Type 0} (shows : Showing A) (w : WorldState A) → Runs shows w [] w
+runs_none shows w = record { network = refl; capacity = refl; runs = λ s shown. (s, refl, shown) }
+
+pub runs_on : {A : Type 0} (shows : Showing A) (u v w : WorldState A) (xs ys : List Event) → Runs shows u xs v → Runs shows v ys w → Runs shows u (xs ++ ys) w
+runs_on shows u v w xs ys first second = record {
+  network = second.network ∙ first.network;
+  capacity = second.capacity ∙ first.capacity;
+  runs = λ s shown.
+      let a = first.runs s shown in
+      let b = second.runs a.0 a.2 in
+      let more = subst (λ (N : Table). Run N u.capacity a.0 ys b.0) first.network (subst (λ (c : ℕ). Run v.network c a.0 ys b.0) first.capacity b.1) in
+      (b.0, run_append u.network u.capacity s a.0 b.0 xs ys a.1 more, b.2);
+}
+
+pub runs_one : {A : Type 0} (shows : Showing A) (w : WorldState A) (event : Event) (new : WorldState A) (applied : Bool)
+    → (applied ≡ true → (s : State) → WorldShows shows w s → (t : State) × Step w.network w.capacity s event t × WorldShows shows new t)
+    → (applied ≡ false → (s : State) → WorldShows shows w s → ¬ IsEnabled w.network w.capacity s event) → (applied ≡ false → new ≡ w)
+    → new.network ≡ w.network → new.capacity ≡ w.capacity → Runs shows w (event ∷ []) new
+runs_one shows w event new applied leads nowhere same network capacity = record {
+  network = network;
+  capacity = capacity;
+  runs = λ s shown. elim (cases_Bool applied) [
+    | inl t ↦ let next = leads t s shown in (next.0, (next.0, inl next.1, refl), next.2)
+    | inr f ↦ (s, (s, inr (nowhere f s shown, refl), refl), subst (λ v. WorldShows shows v s) (sym (same f)) shown)
+  ];
+}
+
+-- ---- one event, at the world's fields
+
+pub world_leads : {A : Type 0} (shows : Showing A) (N : Table) (capacity : ℕ) (plants : List A) (boxes : List Held) (left : ℕ) (event : Event) (new_plants : List A) (new_boxes : List Held) (w : WorldState A)
+    → world N capacity plants boxes left ≡ w → Lead shows N plants boxes event new_plants new_boxes → (s : State) → WorldShows shows w s
+    → (t : State) × Step w.network w.capacity s event t × WorldShows shows (world N capacity new_plants new_boxes (left - 1)) t
+world_leads shows N capacity plants boxes left event new_plants new_boxes w e leads =
+    subst (λ v. (s : State) → WorldShows shows v s → (t : State) × Step v.network v.capacity s event t × WorldShows shows (world N capacity new_plants new_boxes (left - 1)) t) e
+    (λ s shown. let x = leads_to shows N capacity plants boxes left event new_plants new_boxes s leads shown in (x.next, x.step, x.shown))
+
+pub world_nowhere : {A : Type 0} (shows : Showing A) (N : Table) (capacity : ℕ) (plants : List A) (boxes : List Held) (left : ℕ) (event : Event) (w : WorldState A)
+    → world N capacity plants boxes left ≡ w → LeadNowhere shows N plants boxes event → (s : State) → WorldShows shows w s → ¬ IsEnabled w.network w.capacity s event
+world_nowhere shows N capacity plants boxes left event w e nowhere =
+    subst (λ v. (s : State) → WorldShows shows v s → ¬ IsEnabled v.network v.capacity s event) e (λ s shown. nowhere capacity s shown.parts)
+
+pub world_after : {A : Type 0} (shows : Showing A) (N : Table) (capacity : ℕ) (plants : List A) (boxes : List Held) (left : ℕ) (event : Event) (new_plants : List A) (new_boxes : List Held)
+    → IsWorld shows (world N capacity plants boxes left) → Lead shows N plants boxes event new_plants new_boxes → IsWorld shows (world N capacity new_plants new_boxes (left - 1))
+world_after shows N capacity plants boxes left event new_plants new_boxes is leads =
+    let x = leads_to shows N capacity plants boxes left event new_plants new_boxes is.state leads is.shown in
+    record { holds = is.holds; state = x.next; shown = x.shown }
+
+pub some_left : {A : Type 0} (shows : Showing A) (N : Table) (capacity : ℕ) (plants : List A) (boxes : List Held) (left : ℕ) (event : Event) (new_plants : List A) (new_boxes : List Held)
+    → IsWorld shows (world N capacity plants boxes left) → Lead shows N plants boxes event new_plants new_boxes → 1 ≤ left
+some_left shows N capacity plants boxes left event new_plants new_boxes is leads =
+    let x = leads_to shows N capacity plants boxes left event new_plants new_boxes is.state leads is.shown in
+    let e : (left - 1) + 1 ≡ left = x.some in
+    omega (arith, e)
+
+-- ---- what is looked for
+
+pub some_more : {X : Type 0} (o : Option X) (P Q : X → Type 0) → ((x : X) → P x → Q x) → IfSome o P → IfSome o Q
+some_more None P Q f h = h
+some_more (Some x) P Q f h = f x h
+
+pub none_more : {X : Type 0} (o : Option X) (P Q : Type 0) → (P → Q) → IfNone o P → IfNone o Q
+none_more None P Q f h = f h
+none_more (Some x) P Q f h = h
+
+pub world_may : {A : Type 0} (shows : Showing A) (N : Table) (capacity : ℕ) (plants plants_too : List A) (boxes boxes_too : List Held) (left : ℕ) (w : WorldState A) (found : Option Event)
+    → plants_too ≡ plants → boxes_too ≡ boxes → world N capacity plants boxes left ≡ w → IfSome found (λ event. MayLead shows N plants_too boxes_too event)
+    → IfSome found (λ event. (s : State) → WorldShows shows w s → IsEnabled w.network w.capacity s event)
+world_may {A} shows N capacity plants plants_too boxes boxes_too left w found same_plants same_boxes e may =
+    some_more found (λ event. MayLead shows N plants_too boxes_too event) (λ event. (s : State) → WorldShows shows w s → IsEnabled w.network w.capacity s event)
+    (λ event lead. subst (λ (v : WorldState A). (s : State) → WorldShows shows v s → IsEnabled v.network v.capacity s event) e
+    (λ s shown. subst (λ (p : List A). MayLead shows N p boxes event) same_plants (subst (λ (b : List Held). MayLead shows N plants_too b event) same_boxes lead) capacity s shown.parts)) may
+
+abbrev pub Rests : {A : Type 0} → Showing A → WorldState A → Type 0
+Rests shows w = AllRests shows w.network w.plants w.boxes
+
+world_rests : {A : Type 0} (shows : Showing A) (N : Table) (capacity : ℕ) (plants plants_too : List A) (boxes boxes_too : List Held) (left : ℕ) (w : WorldState A)
+    → plants_too ≡ plants → boxes_too ≡ boxes → world N capacity plants boxes left ≡ w → AllRests shows N plants_too boxes_too → Rests shows w
+world_rests {A} shows N capacity plants plants_too boxes boxes_too left w same_plants same_boxes e rests =
+    subst (Rests shows) e (subst (λ (p : List A). AllRests shows N p boxes) same_plants (subst (λ (b : List Held). AllRests shows N plants_too b) same_boxes rests))
+
+pub none_finished : {A : Type 0} (shows : Showing A) (N : Table) (capacity : ℕ) (plants plants_too : List A) (boxes boxes_too : List Held) (left : ℕ) (w : WorldState A) (found : Option Event)
+    → plants_too ≡ plants → boxes_too ≡ boxes → world N capacity plants boxes left ≡ w → IsWorld shows (world N capacity plants boxes left) → IfNone found (AllRests shows N plants_too boxes_too)
+    → IfNone found ((s : State) → WorldShows shows w s → IsFinished w.network s)
+none_finished {A} shows N capacity plants plants_too boxes boxes_too left w found same_plants same_boxes e is none =
+    none_more found (AllRests shows N plants_too boxes_too) ((s : State) → WorldShows shows w s → IsFinished w.network s)
+    (λ rests s shown. rests_finished shows w s (subst (λ (v : WorldState A). 1 ≤ v.capacity) e is.holds)
+    (world_rests shows N capacity plants plants_too boxes boxes_too left w same_plants same_boxes e rests) shown) none
+
+pub none_left : {A : Type 0} (shows : Showing A) (N : Table) (capacity : ℕ) (plants plants_too : List A) (boxes boxes_too : List Held) (left : ℕ) (w : WorldState A) (found : Option Event)
+    → plants_too ≡ plants → boxes_too ≡ boxes → world N capacity plants boxes left ≡ w → IsWorld shows (world N capacity plants boxes left) → IfNone found (AllRests shows N plants_too boxes_too)
+    → IfNone found (w.left ≡ 0)
+none_left {A} shows N capacity plants plants_too boxes boxes_too left w found same_plants same_boxes e is none =
+    none_more found (AllRests shows N plants_too boxes_too) (w.left ≡ 0)
+    (λ rests. rests_left shows w (subst (IsWorld shows) e is) (world_rests shows N capacity plants plants_too boxes boxes_too left w same_plants same_boxes e rests)) none
+
+-- ---- how many steps are left after a call
+
+pub no_more_left : {A : Type 0} (w new : WorldState A) (applied : Bool) → (applied ≡ true → new.left + 1 ≡ w.left) → (applied ≡ false → new ≡ w) → new.left ≤ w.left
+no_more_left {A} w new applied step same = elim (cases_Bool applied) [
+  | inl t ↦ omega (arith, step t)
+  | inr f ↦ omega (arith, ap (λ (v : WorldState A). v.left) (same f))
+]
+
+pub one_less : {A : Type 0} (shows : Showing A) (w : WorldState A) (event : Event) (applied : Bool) (new : WorldState A) → IsWorld shows w
+    → ((s : State) → WorldShows shows w s → IsEnabled w.network w.capacity s event) → (applied ≡ true → new.left + 1 ≡ w.left)
+    → (applied ≡ false → (s : State) → WorldShows shows w s → ¬ IsEnabled w.network w.capacity s event) → new.left ≡ w.left - 1
+one_less shows w event applied new is enabled step nowhere = elim (cases_Bool applied) [
+  | inl t ↦ omega (arith, step t)
+  | inr f ↦ absurd (nowhere f is.state is.shown (enabled is.state is.shown))
+]
+
+pub runs_next : {A : Type 0} (shows : Showing A) (old w new : WorldState A) (events : List Event) (i : ℕ) (d : Event) → i < length events
+    → Runs shows old (take i events) w → Runs shows w (get_or events i d ∷ []) new → Runs shows old (take (i + 1) events) new
+runs_next shows old w new events i d within before one =
+    subst (λ (xs : List Event). Runs shows old xs new) (sym (take_more events i d within)) (runs_on shows old w new (take i events) (get_or events i d ∷ []) before one)
+
+-- ---- the plant of a pair
+
+-- the plant that is asked is the one that has the pair
+pub record Asked {A : Type 0} (shows : Showing A) (N : Table) (capacity : ℕ) (plants : List A) (boxes : List Held) (left : ℕ) (w : WorldState A) (x p : ℕ) (plant : A) : Type 0 where
+  pub same : world N capacity plants boxes left ≡ w
+  pub is : IsWorld shows (world N capacity plants boxes left)
+  pub pair : IsPair w.network x
+  pub owner : (pair_at N x).plant.0 ≡ p
+  pub at : plant ≡ get_or plants p plant
+
+own_pair : {A : Type 0} (shows : Showing A) (N : Table) (capacity : ℕ) (plants : List A) (boxes : List Held) (left : ℕ) (w : WorldState A) (x p : ℕ) (plant : A)
+    → Asked shows N capacity plants boxes left w x p plant → IsPair N x
+own_pair {A} shows N capacity plants boxes left w x p plant asked = subst (λ (v : WorldState A). IsPair v.network x) (sym asked.same) asked.pair
+
+asked_plant_at : {A : Type 0} (shows : Showing A) (N : Table) (capacity : ℕ) (plants : List A) (boxes : List Held) (left : ℕ) (w : WorldState A) (x p : ℕ) (plant : A)
+    → Asked shows N capacity plants boxes left w x p plant → (s : State) → WorldShows shows (world N capacity plants boxes left) s → IsAt shows (moment N capacity s) p plant
+asked_plant_at shows N capacity plants boxes left w x p plant asked s shown =
+    let pair = own_pair shows N capacity plants boxes left w x p plant asked in
+    let known = owner_known shows N plants boxes x p (capacity, s, shown.parts) pair asked.owner in
+    subst (λ z. IsAt shows (moment N capacity s) p z) (sym asked.at) (plant_is_at shows N capacity plants boxes s shown.parts p plant known)
+
+pub asked_has : {A : Type 0} (shows : Showing A) (N : Table) (capacity : ℕ) (plants : List A) (boxes : List Held) (left : ℕ) (w : WorldState A) (x p : ℕ) (plant : A)
+    → Asked shows N capacity plants boxes left w x p plant → Has shows plant x
+asked_has shows N capacity plants boxes left w x p plant asked = (
+  moment N capacity asked.is.state,
+  p,
+  asked_plant_at shows N capacity plants boxes left w x p plant asked asked.is.state asked.is.shown,
+  record { pair = own_pair shows N capacity plants boxes left w x p plant asked; plant = asked.owner },
+)
+
+-- what its plant says of the pair in each moment holds in each state that the world shows
+abbrev pub AtMoments : {A : Type 0} → Showing A → A → ℕ → (Table → State → Type 0) → Type 0
+AtMoments shows plant x Says = (m : Moment) (p : ℕ) → IsAt shows m p plant → IsOwn m.network p x → Says m.network m.state
+
+pub asked_says : {A : Type 0} (shows : Showing A) (N : Table) (capacity : ℕ) (plants : List A) (boxes : List Held) (left : ℕ) (w : WorldState A) (x p : ℕ) (plant : A) (Says : Table → State → Type 0)
+    → Asked shows N capacity plants boxes left w x p plant → AtMoments shows plant x Says → (s : State) → WorldShows shows w s → Says w.network s
+asked_says {A} shows N capacity plants boxes left w x p plant Says asked says =
+    subst (λ (v : WorldState A). (s : State) → WorldShows shows v s → Says v.network s) asked.same
+    (λ s shown. says (moment N capacity s) p (asked_plant_at shows N capacity plants boxes left w x p plant asked s shown)
+    (record { pair = own_pair shows N capacity plants boxes left w x p plant asked; plant = asked.owner }))
+
+-- also what doesn't depend on the state
+pub asked_always : {A : Type 0} (shows : Showing A) (N : Table) (capacity : ℕ) (plants : List A) (boxes : List Held) (left : ℕ) (w : WorldState A) (x p : ℕ) (plant : A) (Says : Table → Type 0)
+    → Asked shows N capacity plants boxes left w x p plant → AtMoments shows plant x (λ M s. Says M) → Says w.network
+asked_always {A} shows N capacity plants boxes left w x p plant Says asked says =
+    asked_says shows N capacity plants boxes left w x p plant (λ M s. Says M) asked says asked.is.state (subst (λ (v : WorldState A). WorldShows shows v asked.is.state) asked.same asked.is.shown)
+
+-- ---- what plants and mailboxes say
+
+pub ok_more : {X E : Type 0} (r : Result X E) (P Q : X → Type 0) → ((x : X) → P x → Q x) → IfOk r P → IfOk r Q
+ok_more (Ok x) P Q f h = f x h
+ok_more (Err e) P Q f h = h
+
+-- what holds in each state that they show holds in each that the world shows
+pub world_says : {A : Type 0} (shows : Showing A) (N : Table) (capacity : ℕ) (plants plants_too : List A) (boxes boxes_too : List Held) (left : ℕ) (w : WorldState A) (Says : Table → State → Type 0)
+    → plants_too ≡ plants → boxes_too ≡ boxes → world N capacity plants boxes left ≡ w → ((capacity : ℕ) (s : State) → AreAt shows N capacity plants_too boxes_too s → Says N s)
+    → (s : State) → WorldShows shows w s → Says w.network s
+world_says {A} shows N capacity plants plants_too boxes boxes_too left w Says same_plants same_boxes e says =
+    subst (λ (v : WorldState A). (s : State) → WorldShows shows v s → Says v.network s) e
+    (λ s shown. says capacity s (subst (λ (p : List A). AreAt shows N capacity p boxes_too s) (sym same_plants) (subst (λ (b : List Held). AreAt shows N capacity plants b s) (sym same_boxes) shown.parts)))
+
+pub shows_some : {A : Type 0} (shows : Showing A) (v w : WorldState A) → v ≡ w → IsWorld shows v → (s : State) × WorldShows shows w s
+shows_some {A} shows v w e is = (is.state, subst (λ (z : WorldState A). WorldShows shows z is.state) e is.shown)

@@ -1,0 +1,10 @@
+use Rattle.std.proofs.Common.{◌≡◌, Vec, Global}
+use Rattle.mrp_book.specs.declared.figure.LaneFigure.{LaneFigure}
+use Rattle.mrp_world.specs.Figures.{figures_of}
+use Rattle.mrp_world.proofs.Worlds as world
+use Rattle.mrp_world.proofs.world.World.figures.Goals as goal
+
+pub returns : goal.returns
+returns g c = world.ok_more _ _ _
+    (λ (figures : Vec LaneFigure Global) says. world.world_says g.P.Plant.shows _ _ _ _ _ _ _ _ (λ N s. figures.items ≡ figures_of N s) c.as_slice.ensures.value c.as_slice-2.ensures.value c.self.view_is says)
+    c.figures.ensures

@@ -1,0 +1,4 @@
+pub mod Moments
+pub mod World
+pub mod Figures
+pub mod Headline

@@ -1,0 +1,129 @@
+//! How many events a whole run of a network has.
+ghost use Rattle.std.specs.Prelude.{◌≡◌, ◌<◌, ◌≤◌, Contains, IfOk, length, slice_index};
+ghost use Rattle.mrp_qty.specs.declared.quantity.TheConstants.{MOST};
+ghost use Rattle.mrp_rows.specs.Table.{IsPair, horizon};
+ghost use Rattle.mrp_net.specs.Lanes.{lanes, lane_at, lane_items};
+ghost use Rattle.mrp_net.specs.Plan.{Fits, plan_of};
+ghost use Rattle.mrp_loops.specs.Sized.{IsSized};
+ghost use Rattle.mrp_record.specs.Text.{block_length, length_of_text};
+ghost use Rattle.mrp_events.specs.Loads.{by_period, called_in, load_of, loads, steps};
+ghost use Rattle.mrp_events.specs.Seen.{share_of};
+
+use mrp_loops::SizedNet;
+use mrp_net::{ItemNo, LaneKind, LaneNo, Network, SourceRow};
+use mrp_plan::{Plan, plan_all};
+use mrp_qty::{Memory, Row};
+use std::alloc::Global;
+
+/// How many events a whole run of a network has: each pair is planned, and each record of each lane is
+/// sent and received. The network is planned for it once.
+///
+/// # Errors
+///
+/// [`Memory`] where room for the plan is refused.
+pub(crate) fn steps(alloc: Global, net: &SizedNet) -> Result<u64, Memory>
+    ensures { IfOk result (λ count. count ≡ steps net.now.network) }
+{
+    let plan = plan_all(alloc, net)?;
+    Ok(steps_by(net, &plan))
+}
+
+/// How many events a whole run of a network has, by its plan.
+fn steps_by(net: &SizedNet, plan: &Plan) -> u64
+    requires fits { Fits net.now.network plan.now }
+    requires plan { plan.now ≡ plan_of net.now.network }
+    ensures { result ≡ steps net.now.network }
+{
+    let network = net.network();
+    let mut records = 0;
+    for l in 0..network.lanes() {
+        records += text_length(network, plan, LaneNo(l));
+    }
+    network.pairs() as u64 + 2 * records
+}
+
+/// How many records the text of a lane has.
+fn text_length(network: &Network, plan: &Plan, lane: LaneNo) -> u64
+    requires sized { IsSized network.now }
+    requires fits { Fits network.now plan.now }
+    requires plan { plan.now ≡ plan_of network.now }
+    requires lane { lane.0 < length (lanes network.now) }
+    ensures { result ≡ length_of_text (loads network.now (lane_at network.now lane.0)) }
+{
+    let mut records = 1;
+    for item in network.lane_items(lane) {
+        records += block_length(network, plan, lane, *item);
+    }
+    records
+}
+
+/// How many records an item's block has: its lines, a reset where its figures start anew, and its end.
+fn block_length(network: &Network, plan: &Plan, lane: LaneNo, item: ItemNo) -> u64
+    requires sized { IsSized network.now }
+    requires fits { Fits network.now plan.now }
+    requires plan { plan.now ≡ plan_of network.now }
+    requires lane { lane.0 < length (lanes network.now) }
+    requires item { Contains (lane_items network.now (lane_at network.now lane.0)) item }
+    ensures { result ≡ block_length (load_of network.now (lane_at network.now lane.0) item) }
+{
+    let lines = line_count(network, plan, lane, item);
+    match network.reset(lane, item) {
+        Some(_) => lines + 2,
+        None => lines + 1,
+    }
+}
+
+/// How many lines an item has on a lane: one for each shipment on its way, or for each period in which its
+/// source is called for something.
+fn line_count(network: &Network, plan: &Plan, lane: LaneNo, item: ItemNo) -> u64
+    requires sized { IsSized network.now }
+    requires fits { Fits network.now plan.now }
+    requires plan { plan.now ≡ plan_of network.now }
+    requires lane { lane.0 < length (lanes network.now) }
+    requires item { Contains (lane_items network.now (lane_at network.now lane.0)) item }
+    ensures { result ≡ length (load_of network.now (lane_at network.now lane.0) item).lines }
+{
+    match network.lane(lane).kind {
+        LaneKind::Despatch => network.shipments(lane, item).len() as u64,
+        LaneKind::Schedule => calls(network, plan, network.lane_source(lane, item)),
+    }
+}
+
+/// In how many periods a source is called for something by the plan.
+fn calls(network: &Network, plan: &Plan, source: SourceRow) -> u64
+    requires fits { Fits network.now plan.now }
+    requires plan { plan.now ≡ plan_of network.now }
+    requires pair { IsPair network.now source.pair.0 }
+    requires rises { source.low ≤ source.high }
+    requires ends { source.high ≤ 1000 }
+    ensures { result ≡ length (by_period (called_in network.now source) (horizon network.now)) }
+{
+    let of_pair = plan.pair(source.pair);
+    let _periods = of_pair.len();
+    calls_in(source, of_pair.release())
+}
+
+/// In how many periods a source is called for something.
+fn calls_in(source: SourceRow, release: &Row) -> u64
+    requires rises { source.low ≤ source.high }
+    requires ends { source.high ≤ 1000 }
+    ensures { result ≡ length (by_period (λ t. share_of source.low source.high (slice_index release.now t)) (length release.now)) }
+{
+    let mut calls = 0;
+    for period in 0..release.len() {
+        if share(source, release.get(period).get()) > 0 {
+            calls += 1;
+        }
+    }
+    calls
+}
+
+/// The share of a release of so many pieces that a source is called for.
+fn share(source: SourceRow, pieces: u64) -> u64
+    requires rises { source.low ≤ source.high }
+    requires ends { source.high ≤ 1000 }
+    requires within { pieces ≤ MOST }
+    ensures { result ≡ share_of source.low source.high pieces }
+{
+    pieces * source.high / 1000 - pieces * source.low / 1000
+}

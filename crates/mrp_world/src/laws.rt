@@ -1,0 +1,27 @@
+//! What every world says, whatever has happened in it. Each law is the contract of a function that does
+//! nothing.
+ghost use Rattle.mrp_events.specs.State.{State, IsFinished};
+ghost use Rattle.mrp_world.specs.Headline.{OrderIsKept, NothingIsLost, ClosedLanesAreWhole, PlansAreThePlan, IsComplete};
+ghost use Rattle.mrp_world.specs.World.{WorldShows};
+
+use crate::plant::Plant;
+use crate::world::World;
+
+/// The headline. A network without loops, any capacity, any list of events: a world always shows some state
+/// of the network's runs, and in each state that it shows
+///
+/// - each lane has booked its sender's records in order, at most once, none after closing;
+/// - cumulative shipped less cumulative received is the sum in the mailbox;
+/// - once a closing record is booked, every line of its lane was booked once, and a finished world has booked
+///   every line of every lane and planned every pair;
+/// - what plants have planned is the one plan of the whole network.
+pub fn headline<P: Plant>(world: &World<P>)
+    ensures shows { (s : State) × WorldShows P.shows world.now s }
+    ensures order { (s : State) → WorldShows P.shows world.now s → OrderIsKept world.now s }
+    ensures figures { (s : State) → WorldShows P.shows world.now s → NothingIsLost world.now s }
+    ensures closed { (s : State) → WorldShows P.shows world.now s → ClosedLanesAreWhole world.now s }
+    ensures finished { (s : State) → WorldShows P.shows world.now s → IsFinished world.now.network s → IsComplete world.now s }
+    ensures plans { (s : State) → WorldShows P.shows world.now s → PlansAreThePlan world.now s }
+{
+    let _left = world.steps_left();
+}

@@ -1,0 +1,233 @@
+ghost use Rattle.std.specs.Prelude.{◌≡◌, ◌+◌, ℕ, ◌-◌, ◌≤◌, true, false, List, IfOk, IfSome, IfNone, MatchBool};
+ghost use Rattle.mrp_rows.specs.Table.{IsPair};
+ghost use Rattle.mrp_world.specs.declared.world.TheConstants.{MOST_ROOM};
+
+use crate::acting::act_on;
+use crate::counting::steps;
+use crate::figures::figures;
+use crate::looking::look;
+use crate::mailbox::Mailbox;
+use crate::making::{new_boxes, new_plants};
+use crate::plant::Plant;
+use mrp_book::LaneFigure;
+use mrp_events::Event;
+use mrp_loops::SizedNet;
+use mrp_net::{Network, PairNo};
+use mrp_netting::PairPlan;
+use mrp_qty::Memory;
+use std::alloc::Global;
+use std::marker::Model;
+
+/// The greatest capacity of a mailbox, in records.
+pub const MOST_ROOM: u64 = 65_536;
+
+/// Where the last event happened: the next one is looked for from there on.
+#[derive(Clone, Copy)]
+struct Place {
+    lane: usize,
+    plant: usize,
+}
+
+/// All plants of a network with the mailboxes between them.
+///
+/// A world shows a state of the network's runs. It takes exactly the events that are enabled in it, and
+/// no call takes memory but [`World::new`] and [`World::figures`].
+#[derive(Drop)]
+pub struct World<'a, P: Plant> {
+    network: &'a Network,
+    capacity: u64,
+    plants: Vec<P>,
+    boxes: Vec<Mailbox>,
+    left: u64,
+    near: Place,
+}
+
+impl<'a, P: Plant> Model for World<'a, P> {
+    ghost use Rattle.std.specs.Prelude.{};
+    ghost use Rattle.mrp_world.specs.World.{WorldState, IsWorld};
+
+    ghost Value = { WorldState P };
+
+    ghost view = { λ w. record { network = w.network.now; capacity = w.capacity; plants = w.plants.items; boxes = w.boxes.items; left = w.left } };
+
+    ghost invariant = { λ w. IsWorld P.shows (record { network = w.network.now; capacity = w.capacity; plants = w.plants.items; boxes = w.boxes.items; left = w.left }) };
+}
+
+impl<'a, P: Plant> World<'a, P> {
+    ghost use Rattle.mrp_net.specs.Plan.{plan_of, rows_at};
+    ghost use Rattle.mrp_events.specs.declared.event.Event.{Event};
+    ghost use Rattle.mrp_events.specs.Loads.{steps as network_steps};
+    ghost use Rattle.mrp_events.specs.Progress.{steps_left};
+    ghost use Rattle.mrp_events.specs.State.{State, Step, IsEnabled, IsFinished, opening_state};
+    ghost use Rattle.mrp_world.specs.Figures.{figures_of};
+    ghost use Rattle.mrp_world.specs.World.{Runs, WorldShows};
+
+    /// A world before the first event.
+    ///
+    /// A mailbox may hold `capacity` records, 1 to [`MOST_ROOM`], and has room for as many, or for the
+    /// longest text that its lane can have where that is less. The network is planned once, to count its
+    /// steps; that plan isn't kept.
+    ///
+    /// # Errors
+    ///
+    /// [`Memory`] where a growth is refused.
+    pub fn new(alloc: Global, net: &SizedNet<'a>, capacity: u64) -> Result<World<'a, P>, Memory>
+        requires capacity { (1 ≤ capacity) × (capacity ≤ MOST_ROOM) }
+        ensures network { IfOk result (λ world. world.network ≡ net.now.network) }
+        ensures capacity { IfOk result (λ world. world.capacity ≡ capacity) }
+        ensures opens { IfOk result (λ world. WorldShows P.shows world opening_state) }
+        ensures steps { IfOk result (λ world. world.left ≡ network_steps net.now.network) }
+    {
+        let network = net.network();
+        let left = steps(alloc, net)?;
+        let plants = new_plants(alloc, net)?;
+        let boxes = new_boxes(alloc, net, capacity)?;
+        Ok(World {
+            network,
+            capacity,
+            plants,
+            boxes,
+            left,
+            near: Place { lane: 0, plant: 0 },
+        })
+    }
+
+    /// Lets an event happen, and answers whether it was enabled. Where it wasn't, nothing has changed.
+    pub fn apply(&mut self, event: Event) -> bool
+        ensures leads { result ≡ true → (s : State) → WorldShows P.shows self.old s
+            → (t : State) × Step self.old.network self.old.capacity s event t × WorldShows P.shows self.new t }
+        ensures nowhere { result ≡ false → (s : State) → WorldShows P.shows self.old s → ¬ IsEnabled self.old.network self.old.capacity s event }
+        ensures unchanged { result ≡ false → self.new ≡ self.old }
+        ensures network { self.new.network ≡ self.old.network }
+        ensures capacity { self.new.capacity ≡ self.old.capacity }
+        ensures step { result ≡ true → self.new.left + 1 ≡ self.old.left }
+    {
+        let acted = act_on(self.network, &mut self.plants, &mut self.boxes, event);
+        if !acted {
+            return false;
+        }
+        self.left -= 1;
+        self.near = near(self.network, event, self.near);
+        true
+    }
+
+    /// An event that is enabled, or `None` where the world is finished.
+    ///
+    /// It is looked for from where the last event happened, so that a run looks at a few lanes for each
+    /// event, and at all of them only where nothing more moves.
+    pub fn enabled(&self) -> Option<Event>
+        ensures some { IfSome result (λ event. (s : State) → WorldShows P.shows self.now s → IsEnabled self.now.network self.now.capacity s event) }
+        ensures none { IfNone result ((s : State) → WorldShows P.shows self.now s → IsFinished self.now.network s) }
+        ensures left { IfNone result (self.now.left ≡ 0) }
+    {
+        look(
+            self.network,
+            self.plants.as_slice(),
+            self.boxes.as_slice(),
+            self.near.lane,
+            self.near.plant,
+        )
+    }
+
+    /// How many steps are left until each closing record is booked and each pair is planned.
+    pub fn steps_left(&self) -> u64
+        ensures shows { (s : State) × WorldShows P.shows self.now s }
+        ensures value { result ≡ self.now.left }
+        ensures counted { (s : State) → WorldShows P.shows self.now s → result ≡ steps_left self.now.network s }
+    {
+        self.left
+    }
+
+    /// Whether the closing record of each lane is booked and each pair planned.
+    pub fn finished(&self) -> bool
+        ensures { (s : State) → WorldShows P.shows self.now s → MatchBool result (IsFinished self.now.network s) (¬ IsFinished self.now.network s) }
+    {
+        self.left == 0
+    }
+
+    /// The plan of a pair, once it is planned: that of the one plan of the whole network.
+    pub fn planned(&self, x: PairNo) -> Option<&PairPlan>
+        requires pair { IsPair self.now.network x.0 }
+        ensures planned { IfSome result (λ plan. (s : State) → WorldShows P.shows self.now s → s.planned x.0 ≡ true) }
+        ensures plan { IfSome result (λ plan. plan.now ≡ rows_at (plan_of self.now.network) x.0) }
+        ensures none { IfNone result ((s : State) → WorldShows P.shows self.now s → s.planned x.0 ≡ false) }
+    {
+        let plant = self.network.pair(x).plant;
+        self.plants[plant.0].planned(x)
+    }
+
+    /// The cumulative figures of each item of each lane, by lane, then lane item: where they begin, what has
+    /// been shipped, and what has been received, closed years added.
+    ///
+    /// # Errors
+    ///
+    /// [`Memory`] where a growth is refused.
+    pub fn figures(&self, alloc: Global) -> Result<Vec<LaneFigure>, Memory>
+        ensures { IfOk result (λ figures. (s : State) → WorldShows P.shows self.now s → figures.items ≡ figures_of self.now.network s) }
+    {
+        figures(
+            alloc,
+            self.network,
+            self.plants.as_slice(),
+            self.boxes.as_slice(),
+        )
+    }
+
+    /// Lets the events happen one by one, and answers how many were enabled.
+    pub fn run(&mut self, events: &[Event]) -> u64
+        ensures runs { Runs P.shows self.old events.now self.new }
+        ensures count { result + self.new.left ≡ self.old.left }
+    {
+        let before = self.steps_left();
+        for event in events {
+            let _enabled = self.apply(*event);
+        }
+        before - self.steps_left()
+    }
+
+    /// Lets enabled events happen until the world is finished.
+    pub fn drive(&mut self)
+        ensures runs { (events : List Event) × Runs P.shows self.old events self.new }
+        ensures finished { (t : State) → WorldShows P.shows self.new t → IsFinished self.new.network t }
+        ensures left { self.new.left ≡ 0 }
+    {
+        for _ in 0..self.left {
+            self.go_on();
+        }
+    }
+
+    /// Lets an enabled event happen, if there is one.
+    fn go_on(&mut self)
+        ensures runs { (events : List Event) × Runs P.shows self.old events self.new }
+        ensures left { self.new.left ≡ self.old.left - 1 }
+    {
+        let _ = &self.network;
+        if let Some(event) = self.enabled() {
+            let _enabled = self.apply(event);
+        }
+    }
+}
+
+/// Where an event happened.
+fn near(network: &Network, event: Event, before: Place) -> Place {
+    match event {
+        Event::Send(lane) | Event::Receive(lane) => {
+            if lane.0 >= network.lanes() {
+                return before;
+            }
+            Place {
+                lane: lane.0,
+                plant: network.lane(lane).receiver.0,
+            }
+        }
+        Event::Plan(x) => {
+            if x.0 >= network.pairs() {
+                return before;
+            }
+            Place {
+                lane: before.lane,
+                plant: network.pair(x).plant.0,
+            }
+        }
+    }
+}
