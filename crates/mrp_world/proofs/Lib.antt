@@ -5,3 +5,5 @@ pub mod Makes
 pub mod Counts
 pub mod Pieces
 pub mod Holding
+pub mod Gathers
+pub mod Giving
