@@ -5,3 +5,4 @@ pub mod Makes
 pub mod Counts
 pub mod Pieces
 pub mod Holding
+pub mod Lasting
