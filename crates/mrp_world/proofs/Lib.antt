@@ -6,3 +6,5 @@ pub mod Counts
 pub mod Pieces
 pub mod Holding
 pub mod Lasting
+pub mod Gathers
+pub mod Giving

@@ -8,6 +8,7 @@
 mod acting;
 mod counting;
 mod figures;
+mod gathering;
 pub mod laws;
 mod looking;
 mod mailbox;
