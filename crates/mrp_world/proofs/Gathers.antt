@@ -1,10 +1,10 @@
 -- How the plans of all plants are gathered.
-use Rattle.std.proofs.Common.{◌≡◌, ◌⊎◌, inl, inr, ℕ, ◌+◌, ◌-◌, ◌<◌, ◌≤◌, ◌==◌, Bool, true, false, cond, List, [], ◌∷◌, ◌++◌, length, get_or, set, take, map, reverse, Option, None, Some, Vec, Global, refl, sym, ap, subst, ◌∙◌, arith, append_assoc, length-append, add-one}
+use Rattle.std.proofs.Common.{◌≡◌, ◌⊎◌, inl, inr, ℕ, ◌+◌, ◌-◌, ◌<◌, ◌==◌, Bool, cond, List, [], ◌∷◌, ◌++◌, length, get_or, set, take, drop, map, reverse, Option, None, Some, Vec, Global, refl, sym, ap, subst, ◌∙◌, arith, append_assoc, length-append, add-one}
 use Rattle.std.specs.List.{range_with_len, filter}
 use Rattle.std.specs.Option.{option_to_list, MatchOption}
 use Rattle.std.specs.Vec.{vec_len}
 use Rattle.std.proofs.lemmas.Bool.{cases_Bool, eqb-true, eq-eqb, false≢true}
-use Rattle.std.proofs.lemmas.List.{map-append, take_more, take_all, reverse-append, reverse-reverse, length-set, get_or-set_same, get_or-set_other}
+use Rattle.std.proofs.lemmas.List.{map-append, take_at, take_more, take_all, length-reverse, reverse-append, reverse-reverse, length-set, get_or-set_same, get_or-set_other}
 use Rattle.std.proofs.lemmas.List.Elements.{filter-append}
 use Rattle.mrp_lot.specs.One.{PlanRows}
 use Rattle.mrp_netting.specs.declared.plan.PairPlan.{PairPlan}
@@ -68,16 +68,16 @@ pub have_after : (N : Table) (lists : List (Vec PairPlan Global)) (x at p : ℕ)
 have_after N lists x at p new have owner within place is = record {
   all = length-set lists at new ∙ have.all;
   each = λ k d h.
-    let size : length (set lists at new) ≡ length lists = length-set lists at new in
-    let inside : k < length lists = subst (λ (n : ℕ). k < n) size h in
-    let back : p ≡ length lists - 1 - at = omega (arith, place, within) in
-    subst (λ (n : ℕ). (get_or (set lists at new) k d).items ≡ plans_below N (n - 1 - k) x) (sym size)
-    (elim (is_or_not k at) [
-      | inl e ↦ subst (λ (z : ℕ). (get_or (set lists at new) z d).items ≡ plans_below N (length lists - 1 - z) x) (sym e)
-          (ap (λ (v : Vec PairPlan Global). v.items) (get_or-set_same lists at new d (omega (arith, place, within))) ∙ is ∙ ap (λ (z : ℕ). plans_below N z x) back)
-      | inr other ↦ ap (λ (v : Vec PairPlan Global). v.items) (get_or-set_other lists at k new d other) ∙ have.each k d inside
-          ∙ below_other N (length lists - 1 - k) x (λ e. other (omega (arith, e, owner, place, within, inside)))
-    ]);
+      let size : length (set lists at new) ≡ length lists = length-set lists at new in
+      let inside : k < length lists = subst (λ (n : ℕ). k < n) size h in
+      let back : p ≡ length lists - 1 - at = omega (arith, place, within) in
+      subst (λ (n : ℕ). (get_or (set lists at new) k d).items ≡ plans_below N (n - 1 - k) x) (sym size)
+      (elim (is_or_not k at) [
+        | inl e ↦ subst (λ (z : ℕ). (get_or (set lists at new) z d).items ≡ plans_below N (length lists - 1 - z) x) (sym e)
+            (ap (λ (v : Vec PairPlan Global). v.items) (get_or-set_same lists at new d (omega (arith, place, within))) ∙ is ∙ ap (λ (z : ℕ). plans_below N z x) back)
+        | inr other ↦ ap (λ (v : Vec PairPlan Global). v.items) (get_or-set_other lists at k new d other) ∙ have.each k d inside
+            ∙ below_other N (length lists - 1 - k) x (λ e. other (omega (arith, e, owner, place, within, inside)))
+      ]);
 }
 
 -- ---- from the last
@@ -86,7 +86,7 @@ pub last_next : (plan : List PlanRows) (now new : List PlanRows) (m : ℕ) → m
     → now ++ reverse (take (m + 1) plan) ≡ reverse plan → new ++ reverse (take m plan) ≡ reverse plan
 last_next plan now new m within pushed so_far =
     let front : reverse (take (m + 1) plan) ≡ rows_at plan m ∷ reverse (take m plan) =
-      ap reverse (take_more plan m no_rows within) ∙ reverse-append (take m plan) (rows_at plan m ∷ []) in
+    ap reverse (take_more plan m no_rows within) ∙ reverse-append (take m plan) (rows_at plan m ∷ []) in
     ap (λ (xs : List PlanRows). xs ++ reverse (take m plan)) pushed ∙ append_assoc now (rows_at plan m ∷ []) (reverse (take m plan))
     ∙ ap (λ (xs : List PlanRows). now ++ xs) (sym front) ∙ so_far
 
@@ -148,3 +148,11 @@ have_here N lists pairs done all within have = subst (λ (z : ℕ). HavePlans N 
 
 pub none_or_some : {X : Type 0} (o : Option X) (x : X) → o ≡ Some x → o ≡ None → ⊥
 none_or_some o x some none = absurd (cc)
+
+-- the plans from the last on, turned round in place
+pub turned_back : (N : Table) (pairs now turned : List PlanRows) (len : ℕ) → pairs ≡ reverse (plan_of N) → now ≡ pairs → turned ≡ reverse now → len ≡ length pairs
+    → take len (turned ++ drop (length turned) pairs) ≡ plan_of N
+turned_back N pairs now turned len from_last same turns size =
+    let plan : turned ≡ plan_of N = turns ∙ ap reverse (same ∙ from_last) ∙ reverse-reverse (plan_of N) in
+    let long : length turned ≡ len = ap length plan ∙ sym (ap length from_last ∙ length-reverse (plan_of N)) ∙ sym size in
+    take_at turned (drop (length turned) pairs) len long ∙ plan

@@ -5,5 +5,6 @@ pub mod Makes
 pub mod Counts
 pub mod Pieces
 pub mod Holding
+pub mod Lasting
 pub mod Gathers
 pub mod Giving

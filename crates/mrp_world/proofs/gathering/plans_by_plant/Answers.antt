@@ -1,4 +1,4 @@
-use Rattle.std.proofs.Common.{◌≡◌, ◌+◌, ◌-◌, ◌++◌, ◌<◌, ◌∷◌, [], Vec, Global, length, ap, sym, ◌∙◌, arith, length-append}
+use Rattle.std.proofs.Common.{◌<◌, Vec, Global, length, ap, ◌∙◌, arith}
 use Rattle.mrp_netting.specs.declared.plan.PairPlan.{PairPlan}
 use Rattle.mrp_world.proofs.Gathers as gather
 use Rattle.mrp_world.proofs.Giving as give
