@@ -5,3 +5,10 @@ pub mod Makes
 pub mod Counts
 pub mod Pieces
 pub mod Holding
+pub mod AgentPlaces
+pub mod Outcomes
+pub mod AgentWorks
+pub mod AgentSends
+pub mod AgentBooks
+pub mod AgentPlans
+pub mod AgentReads
