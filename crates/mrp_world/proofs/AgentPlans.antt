@@ -1,6 +1,8 @@
 -- An agent can plan what its plant can plan.
-use Rattle.std.proofs.Common.{◌≡◌, ◌↔◌, ℕ, Bool, true, false, List, [], ◌∷◌, Option, None, Some, slice_get, refl, sym, subst, Contains, All, arith}
-use Rattle.std.specs.Prelude.{IfSome, IfNone}
+use Rattle.std.proofs.Common.{◌≡◌, ◌↔◌, ℕ, Bool, true, false, List, [], ◌∷◌, Option, None, Some, slice_get, refl, sym, ◌∙◌, subst, Contains, All, arith}
+use Rattle.std.specs.Prelude.{IfSome, IfNone, IsTrue}
+use Rattle.std.specs.Bool.{OnTrue}
+use Rattle.std.proofs.lemmas.Bool.{false≢true}
 use Rattle.mrp_lot.specs.One.{IsWithin}
 use Rattle.mrp_rows.specs.declared.numbers.PairNo.{PairNo}
 use Rattle.mrp_rows.specs.Table.{Table}
@@ -8,7 +10,7 @@ use Rattle.mrp_view.specs.declared.view.PlantPair.{PlantPair}
 use Rattle.mrp_view.specs.Seen as seen
 use Rattle.mrp_view.specs.View.{PlantRows, plant_pair, plant_rows}
 use Rattle.mrp_record.specs.declared.record.Record.{Record}
-use Rattle.mrp_events.specs.State.{CanPlan}
+use Rattle.mrp_events.specs.State.{CanPlan, after_plan, changed}
 use Rattle.mrp_local.specs.Local.{CanBePlanned}
 use Rattle.mrp_local.proofs.Planned.{plannable_is_local}
 use Rattle.mrp_agent.specs.Drafts.{drafted_gross, drafted_incoming}
@@ -51,6 +53,33 @@ module _ (A : AgentState) (numbers : List PairNo) (exact : AreReady A numbers) w
 
 pub has_own : (A : AgentState) (x : PairNo) → Has ShowsAgent A x.0 → seen.IsOwn A.view x
 has_own A x (m, p, at, own) = own_seen A.view m.network p x at.shown.view own
+
+-- ---- what planning answers
+
+module _ (A : AgentState) (numbers ready : List PairNo) (same : numbers ≡ ready) (exact : AreReady A numbers) (x : PairNo) where
+  exact_ready : AreReady A ready
+  exact_ready = subst (AreReady A) same exact
+
+  pub plans_within : Has ShowsAgent A x.0 → Contains ready x → IsWithin (pair_of A.view x).params (drafted_incoming A x) (drafted_gross A x)
+  plans_within has listed = draft_within A ready exact_ready x has listed
+
+  pub planned_could : (b : Bool) → IsTrue b ↔ Contains ready x → b ≡ true
+      → (m : Moment) (p : ℕ) → IsAt ShowsAgent m p A → IsOwn m.network p x.0 → CanPlan m.network m.state x.0
+  planned_could b can is m p at own = listed_can A ready exact_ready m p x at own (can.0 is)
+
+  pub unplanned_could_not : (b : Bool) → IsTrue b ↔ Contains ready x → b ≡ false
+      → (m : Moment) (p : ℕ) → IsAt ShowsAgent m p A → IsOwn m.network p x.0 → ¬ CanPlan m.network m.state x.0
+  unplanned_could_not b can is m p at own = λ may. false≢true (sym is ∙ can.1 (can_listed A ready exact_ready m p x at own may))
+
+pub planned_shows : (A B : AgentState) (x : PairNo) (b : Bool) → B.view ≡ A.view
+    → OnTrue b ((sent taken : ℕ → List Record) (planned : ℕ → Bool) → Shows A sent taken planned → Shows B sent taken (changed planned x.0 true)) → b ≡ true
+    → (m : Moment) (p : ℕ) → IsAt ShowsAgent m p A → IsOwn m.network p x.0 → ShowsAgent m.network p (after_plan m.state x.0) B
+planned_shows A B x false same planned is = absurd (false≢true is)
+planned_shows A B x true same planned is = λ m p at own. record {
+  view = same ∙ at.shown.view;
+  enough = subst seen.IsView (sym same) at.shown.enough;
+  history = planned m.state.sent m.state.taken m.state.planned at.shown.history;
+}
 
 -- ---- the first of them
 
