@@ -8,3 +8,10 @@ pub mod Holding
 pub mod Lasting
 pub mod Gathers
 pub mod Giving
+pub mod AgentPlaces
+pub mod Outcomes
+pub mod AgentWorks
+pub mod AgentSends
+pub mod AgentBooks
+pub mod AgentPlans
+pub mod AgentReads

@@ -6,6 +6,7 @@
 #![tactic(auto)]
 
 mod acting;
+mod agents;
 mod counting;
 mod figures;
 mod gathering;
@@ -16,6 +17,7 @@ mod making;
 mod plant;
 mod world;
 
+pub use agents::Firm;
 pub use mrp_book::{BookFault, LaneFigure};
 pub use mrp_events::Event;
 pub use mrp_net::{ItemNo, LaneNo, PairNo};
