@@ -35,7 +35,7 @@ rising_is : (kind : LaneKind) → is_rising kind ≡ rises_on kind
 rising_is Despatch = refl
 rising_is Schedule = refl
 
-form_with : ℕ → Bool → List FormItem → LaneForm
+abbrev form_with : ℕ → Bool → List FormItem → LaneForm
 form_with periods rising items = record { rising = rising; horizon = periods; items = items }
 
 -- the form of a lane by what its receiver sees
