@@ -52,6 +52,10 @@ impl Plant for Agent {
         Agent::planned(self, x)
     }
 
+    fn into_plans(self) -> Vec<PairPlan> {
+        Agent::into_plans(self)
+    }
+
     fn received(&self, lane: LaneNo, item: ItemNo) -> Qty {
         self.cumulative(lane, item).unwrap_or(Qty::ZERO)
     }
