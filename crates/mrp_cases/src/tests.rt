@@ -9,4 +9,5 @@ mod networks;
 mod planning;
 mod quantities;
 mod reading;
+mod records;
 mod views;
