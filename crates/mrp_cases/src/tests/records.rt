@@ -1,40 +1,18 @@
 //! Records of lanes: their texts, read, booked and written again, whole and damaged.
 
-ghost use Rattle.std.specs.Prelude.{◌≡◌, ◌<◌, length, All};
-ghost use Rattle.mrp_net.specs.Lanes.{lanes};
-ghost use Rattle.mrp_report.specs.Lanes.{IsFigure};
+ghost use Rattle.std.specs.Prelude.{◌≡◌, All};
 ghost use Rattle.mrp_stream.specs.Rows.{HasRow};
 
-use mrp_book::{Book, BookFault, BookItem, LaneFigure};
-use mrp_net::{ItemNo, LaneKind, LaneNo, Network};
+use crate::tests::firms::{FIRM, RING, SPLIT, network_of};
+use mrp_book::{Book, BookFault, BookItem};
+use mrp_net::{ItemNo, LaneKind, Network};
 use mrp_qty::{Horizon, Qty};
 use mrp_record::Record;
-use mrp_report::lane_rows;
-use mrp_stream::{RecordFault, RecordFaultKind, read_records, write_record};
-use mrp_tables::read_tables_uncounted;
+use mrp_stream::{read_records, write_record};
 use std::alloc::Global;
-use std::io;
-use std::io::{ErrorKind, Read};
-
-/// Two plants: A takes X from B.
-const FIRM: &str = "run,2026-01-05,7,4,,,,\nplant,A,,,,,,\nplant,B,,,,,,\n\
-pair,A,X,from:B,lot,1,0,0\npair,B,X,buy,lot,0,0,0\ndemand,A,X,2,30,,,\nship,B,A,X,2,8,,\n\
-cum,B,A,X,100,,,\n";
-
-/// Two plants that take from each other: B takes X and W from A, and A takes Y from B.
-const RING: &str = "run,2026-01-05,7,1,,,,\nplant,A,,,,,,\nplant,B,,,,,,\n\
-pair,B,X,from:A,lot,0,0,0\npair,A,X,make,lot,0,0,0\npair,A,Y,from:B,lot,0,0,0\n\
-pair,B,Y,make,lot,0,0,0\npair,B,W,from:A,lot,0,0,0\npair,A,W,buy,lot,0,0,0\n\
-bill,A,X,Y,2,,,\nbill,B,Y,W,3,,,\ndemand,B,X,0,5,,,\n";
 
 /// What B has sent to A of the firm.
-const DESPATCHES: &str = "line,1,X,2,8,108\nend,2,X,1,108,\nclose,3,,,,\n";
-
-/// The network of a table.
-fn network_of(alloc: Global, table: &str) -> Option<Network> {
-    let tables = read_tables_uncounted(alloc, table.as_bytes()).ok()?;
-    Network::of(alloc, tables).ok()
-}
+pub(super) const DESPATCHES: &str = "line,1,X,2,8,108\nend,2,X,1,108,\nclose,3,,,,\n";
 
 /// The book of a lane of X over four periods.
 fn book_of(alloc: Global, kind: LaneKind, opening: u64, reset: Option<u64>) -> Option<Book> {
@@ -242,117 +220,193 @@ fn is_written(alloc: Global, network: &Network, records: &[Record], text: &str) 
     all && written.as_slice() == text.as_bytes()
 }
 
+/// Whether a book takes records and is closed by them, and that text is written of them.
+fn are_taken(
+    alloc: Global,
+    network: &Network,
+    book: &mut Book,
+    records: &[Record],
+    text: &str,
+) -> bool
+    requires { All (HasRow network.now) records.now }
+{
+    is_closed_by(book, records) && is_written(alloc, network, records, text)
+}
+
 /// Whether a book takes each record of a text and is closed, and the same text is written of them.
-fn is_taken(alloc: Global, network: &Network, book: Option<Book>, text: &str) -> bool {
-    let Some(mut book) = book else {
-        return false;
-    };
+fn is_taken(alloc: Global, network: &Network, book: &mut Book, text: &str) -> bool {
     match read_records(alloc, network, text.as_bytes()) {
-        Ok(records) => {
-            is_closed_by(&mut book, &records) && is_written(alloc, network, &records, text)
-        }
+        Ok(records) => are_taken(alloc, network, book, &records, text),
         Err(_) => false,
     }
 }
 
-/// A lane of the firm, and a text of its records.
+/// A lane of X, a text of its records, and the figures that it ends with.
 #[derive(Drop)]
-struct FirmLane<'t> {
+struct LaneText<'t> {
     kind: LaneKind,
     opening: u64,
     reset: Option<u64>,
     text: &'t str,
+    in_force: u64,
+    cumulative: u64,
 }
 
-/// Whether the text of each lane is taken and written again.
-fn lanes_are_taken(alloc: Global, network: &Network, lanes: &[FirmLane]) -> bool {
-    let mut all = true;
-    for lane in lanes {
-        let book = book_of(alloc, lane.kind, lane.opening, lane.reset);
-        all = is_taken(alloc, network, book, lane.text) && all;
-    }
-    all
-}
-
-/// Whether the text of each lane of the firm is taken and written again.
-fn firm_is_taken(alloc: Global, lanes: &[FirmLane]) -> bool {
-    match network_of(alloc, FIRM) {
-        Some(network) => lanes_are_taken(alloc, &network, lanes),
+/// Whether the text of a lane is taken and written again, and the book ends with its figures.
+fn is_lane_taken(alloc: Global, network: &Network, lane: &LaneText) -> bool {
+    match book_of(alloc, lane.kind, lane.opening, lane.reset) {
+        Some(mut book) => {
+            is_taken(alloc, network, &mut book, lane.text)
+                && has_figures(&book, lane.in_force, lane.cumulative)
+        }
         None => false,
     }
+}
+
+/// Whether the text of each lane of a table is taken and written again, and its book ends with its
+/// figures.
+fn lanes_are_taken(alloc: Global, table: &str, lanes: &[LaneText]) -> bool {
+    let Some(network) = network_of(alloc, table) else {
+        return false;
+    };
+    let mut all = true;
+    for lane in lanes {
+        all = is_lane_taken(alloc, &network, lane) && all;
+    }
+    all
 }
 
 #[test]
 fn texts_of_despatches(rt: HostRuntime) {
     let lanes = [
-        FirmLane {
+        LaneText {
             kind: LaneKind::Despatch,
             opening: 100,
             reset: None,
             text: DESPATCHES,
+            in_force: 108,
+            cumulative: 108,
         },
-        FirmLane {
+        LaneText {
             kind: LaneKind::Despatch,
             opening: 100,
             reset: Some(2),
             text: "reset,1,X,100,,\nline,2,X,2,8,8\nend,3,X,1,8,\nclose,4,,,,\n",
+            in_force: 8,
+            cumulative: 108,
         },
     ];
-    assert!(rt; firm_is_taken(rt.alloc(), &lanes));
+    assert!(rt; lanes_are_taken(rt.alloc(), FIRM, &lanes));
 }
 
 #[test]
 fn texts_of_schedules(rt: HostRuntime) {
     let lanes = [
-        FirmLane {
+        LaneText {
             kind: LaneKind::Schedule,
             opening: 108,
             reset: None,
             text: "line,1,X,1,22,130\nend,2,X,1,130,\nclose,3,,,,\n",
+            in_force: 130,
+            cumulative: 130,
         },
-        FirmLane {
+        LaneText {
             kind: LaneKind::Schedule,
             opening: 108,
             reset: Some(2),
             text: "line,1,X,1,22,130\nreset,2,X,130,,\nend,3,X,1,0,\nclose,4,,,,\n",
+            in_force: 0,
+            cumulative: 130,
         },
-        FirmLane {
+        LaneText {
             kind: LaneKind::Schedule,
             opening: 108,
             reset: Some(1),
             text: "reset,1,X,108,,\nline,2,X,1,22,22\nend,3,X,1,22,\nclose,4,,,,\n",
+            in_force: 22,
+            cumulative: 130,
         },
     ];
-    assert!(rt; firm_is_taken(rt.alloc(), &lanes));
+    assert!(rt; lanes_are_taken(rt.alloc(), FIRM, &lanes));
+}
+
+#[test]
+fn texts_of_two_suppliers(rt: HostRuntime) {
+    let lanes = [
+        LaneText {
+            kind: LaneKind::Despatch,
+            opening: 0,
+            reset: None,
+            text: "end,1,X,0,0,\nclose,2,,,,\n",
+            in_force: 0,
+            cumulative: 0,
+        },
+        LaneText {
+            kind: LaneKind::Schedule,
+            opening: 0,
+            reset: None,
+            text: "line,1,X,0,1,1\nend,2,X,1,1,\nclose,3,,,,\n",
+            in_force: 1,
+            cumulative: 1,
+        },
+        LaneText {
+            kind: LaneKind::Despatch,
+            opening: 0,
+            reset: None,
+            text: "line,1,X,0,5,5\nend,2,X,1,5,\nclose,3,,,,\n",
+            in_force: 5,
+            cumulative: 5,
+        },
+        LaneText {
+            kind: LaneKind::Schedule,
+            opening: 5,
+            reset: None,
+            text: "line,1,X,0,1,6\nend,2,X,1,6,\nclose,3,,,,\n",
+            in_force: 6,
+            cumulative: 6,
+        },
+    ];
+    assert!(rt; lanes_are_taken(rt.alloc(), SPLIT, &lanes));
+}
+
+/// Whether a text of a lane of the ring that carries Y is taken and written again.
+fn text_of_one_is_taken(alloc: Global, network: &Network, kind: LaneKind, text: &str) -> bool {
+    match book_of_one(alloc, kind) {
+        Some(mut book) => is_taken(alloc, network, &mut book, text),
+        None => false,
+    }
+}
+
+/// Whether a text of a lane of the ring that carries X and W is taken and written again.
+fn text_of_two_is_taken(alloc: Global, network: &Network, kind: LaneKind, text: &str) -> bool {
+    match book_of_two(alloc, kind) {
+        Some(mut book) => is_taken(alloc, network, &mut book, text),
+        None => false,
+    }
 }
 
 /// Whether each text of a lane of the ring that carries Y is taken and written again.
-fn texts_of_one_are_taken(alloc: Global, network: &Network, texts: &[(LaneKind, &str)]) -> bool {
+fn texts_of_one_are_taken(alloc: Global, texts: &[(LaneKind, &str)]) -> bool {
+    let Some(network) = network_of(alloc, RING) else {
+        return false;
+    };
     let mut all = true;
     for (kind, text) in texts {
-        all = is_taken(alloc, network, book_of_one(alloc, *kind), text) && all;
+        all = text_of_one_is_taken(alloc, &network, *kind, text) && all;
     }
     all
 }
 
 /// Whether each text of a lane of the ring that carries X and W is taken and written again.
-fn texts_of_two_are_taken(alloc: Global, network: &Network, texts: &[(LaneKind, &str)]) -> bool {
+fn texts_of_two_are_taken(alloc: Global, texts: &[(LaneKind, &str)]) -> bool {
+    let Some(network) = network_of(alloc, RING) else {
+        return false;
+    };
     let mut all = true;
     for (kind, text) in texts {
-        all = is_taken(alloc, network, book_of_two(alloc, *kind), text) && all;
+        all = text_of_two_is_taken(alloc, &network, *kind, text) && all;
     }
     all
-}
-
-/// Whether the texts of the ring's lanes are taken and written again.
-fn ring_is_taken(alloc: Global, of_one: &[(LaneKind, &str)], of_two: &[(LaneKind, &str)]) -> bool {
-    match network_of(alloc, RING) {
-        Some(network) => {
-            texts_of_one_are_taken(alloc, &network, of_one)
-                && texts_of_two_are_taken(alloc, &network, of_two)
-        }
-        None => false,
-    }
 }
 
 #[test]
@@ -364,7 +418,7 @@ fn texts_of_one_item(rt: HostRuntime) {
             "line,1,Y,0,10,10\nend,2,Y,1,10,\nclose,3,,,,\n",
         ),
     ];
-    assert!(rt; ring_is_taken(rt.alloc(), &texts, &[]));
+    assert!(rt; texts_of_one_are_taken(rt.alloc(), &texts));
 }
 
 #[test]
@@ -383,7 +437,7 @@ fn texts_of_two_items(rt: HostRuntime) {
             "line,1,X,0,5,5\nend,2,X,1,5,\nline,3,W,0,30,30\nend,4,W,1,30,\nclose,5,,,,\n",
         ),
     ];
-    assert!(rt; ring_is_taken(rt.alloc(), &[], &texts));
+    assert!(rt; texts_of_two_are_taken(rt.alloc(), &texts));
 }
 
 /// Whether a new book of B's despatches gives the records of a text those answers.
@@ -435,58 +489,6 @@ fn damaged_texts_of_good_rows(rt: HostRuntime) {
     assert!(rt; are_newly_answered(rt.alloc(), &rows));
 }
 
-/// Whether what is read of a reader is refused at that row for that fault.
-fn is_refused<R: Read + Drop>(
-    alloc: Global,
-    network: &Network,
-    reader: R,
-    row: u64,
-    kind: RecordFaultKind,
-) -> bool {
-    match read_records(alloc, network, reader) {
-        Ok(_) => false,
-        Err(fault) => fault == RecordFault { row, kind },
-    }
-}
-
-/// Whether each text is refused at that row for that fault.
-fn are_refused(alloc: Global, rows: &[(&str, u64, RecordFaultKind)]) -> bool {
-    let Some(network) = network_of(alloc, FIRM) else {
-        return false;
-    };
-    let mut all = true;
-    for (text, row, kind) in rows {
-        all = is_refused(alloc, &network, text.as_bytes(), *row, *kind) && all;
-    }
-    all
-}
-
-#[test]
-fn damaged_rows(rt: HostRuntime) {
-    let rows = [
-        ("close,3", 1, RecordFaultKind::FieldCount),
-        (
-            "line,1,X,2,8,108\nclose,3\n",
-            2,
-            RecordFaultKind::FieldCount,
-        ),
-        ("close,3,,,1,\n", 1, RecordFaultKind::FieldCount),
-        ("reset,1,X,100,0,\n", 1, RecordFaultKind::FieldCount),
-        ("clos,3,,,,\n", 1, RecordFaultKind::UnknownKind),
-        ("Line,01,X,2,8,108\n", 1, RecordFaultKind::UnknownKind),
-        ("line,01,X,2,8,108\n", 1, RecordFaultKind::BadNumber),
-        ("line,1,Q,2,8,10 8\n", 1, RecordFaultKind::BadNumber),
-        (
-            "line,1,X,2,8,12345678901234567\n",
-            1,
-            RecordFaultKind::BadNumber,
-        ),
-        ("line,1,Q,2,8,108\n", 1, RecordFaultKind::UnknownItem),
-        ("end,1,a name,0,0,\n", 1, RecordFaultKind::UnknownItem),
-    ];
-    assert!(rt; are_refused(rt.alloc(), &rows));
-}
-
 /// Whether a book takes so many lines of one piece each.
 fn takes_lines(book: &mut Book, count: u64) -> bool {
     let mut all = true;
@@ -529,121 +531,4 @@ fn takes_a_million_lines(alloc: Global) -> bool {
 #[test]
 fn a_million_lines(rt: HostRuntime) {
     assert!(rt; takes_a_million_lines(rt.alloc()));
-}
-
-/// Whether that text is the report of figures.
-fn is_report(alloc: Global, network: &Network, figures: &[LaneFigure], text: &str) -> bool
-    requires { All (IsFigure network.now) figures.now }
-{
-    let mut rows = Vec::new(alloc);
-    lane_rows(alloc, network, figures, &mut rows).is_ok() && rows.as_slice() == text.as_bytes()
-}
-
-/// Whether the figures of an item on the firm's two lanes are reported.
-fn are_reported(alloc: Global, network: &Network, item: ItemNo) -> bool
-    requires lanes { length (lanes network.now) ≡ 2 }
-    requires item { item.0 < length network.now.items }
-{
-    let figures = [
-        LaneFigure {
-            lane: LaneNo(0),
-            item,
-            opening: Qty::of(100),
-            shipped: Qty::of(108),
-            received: Qty::of(100),
-        },
-        LaneFigure {
-            lane: LaneNo(1),
-            item,
-            opening: Qty::of(108),
-            shipped: Qty::of(130),
-            received: Qty::of(130),
-        },
-    ];
-    let text = "lane,despatch,B,A,X,100,108,100,8\nlane,schedule,A,B,X,108,130,130,0\n";
-    is_report(alloc, network, &figures, text)
-}
-
-/// Whether the figures of X on the firm's two lanes are reported.
-fn figures_are_reported(alloc: Global, network: &Network) -> bool {
-    if network.lanes() != 2 {
-        return false;
-    }
-    match network.find_item("X") {
-        Some(item) => are_reported(alloc, network, item),
-        None => false,
-    }
-}
-
-/// Whether the figures of X on the firm's lanes are reported.
-fn firm_is_reported(alloc: Global) -> bool {
-    match network_of(alloc, FIRM) {
-        Some(network) => figures_are_reported(alloc, &network),
-        None => false,
-    }
-}
-
-#[test]
-fn figures_of_lanes(rt: HostRuntime) {
-    assert!(rt; firm_is_reported(rt.alloc()));
-}
-
-/// A reader of a text, seven bytes a call, whose call number `fails` fails.
-#[derive(Drop)]
-struct Failing<'t> {
-    left: &'t [u8],
-    call: usize,
-    fails: usize,
-}
-
-impl Read for Failing<'_> {
-    fn read(&mut self, buf: &mut [u8]) -> io::Result<usize> {
-        if self.call == self.fails {
-            return Err(io::Error::from(ErrorKind::Other));
-        }
-        self.call = self.call.saturating_add(1);
-        let count = 7usize.min(buf.len()).min(self.left.len());
-        buf[..count].copy_from_slice(&self.left[..count]);
-        self.left = &self.left[count..];
-        Ok(count)
-    }
-}
-
-/// Whether the reading of what B has sent fails in that row where that call of the reader fails.
-fn fails_in(alloc: Global, network: &Network, fails: usize, row: u64) -> bool {
-    let reader = Failing {
-        left: DESPATCHES.as_bytes(),
-        call: 0,
-        fails,
-    };
-    is_refused(alloc, network, reader, row, RecordFaultKind::ReadFault)
-}
-
-/// Whether the reading of what B has sent fails in each of those rows where that call fails.
-fn all_fail_in(alloc: Global, rows: &[(usize, u64)]) -> bool {
-    let Some(network) = network_of(alloc, FIRM) else {
-        return false;
-    };
-    let mut all = true;
-    for (fails, row) in rows {
-        all = fails_in(alloc, &network, *fails, *row) && all;
-    }
-    all
-}
-
-#[test]
-fn a_reader_that_fails(rt: HostRuntime) {
-    // 44 bytes, seven a read: the rows end in the third, the fifth and the seventh read, and a row is
-    // handed out once the read after its end came.
-    let rows = [
-        (0, 1),
-        (1, 1),
-        (2, 1),
-        (3, 1),
-        (4, 2),
-        (5, 2),
-        (6, 3),
-        (7, 3),
-    ];
-    assert!(rt; all_fail_in(rt.alloc(), &rows));
 }
