@@ -22,6 +22,10 @@ rows_of lead gross incoming order release available late = record {
   late = late_orders lead order late;
 }
 
+-- what is written from rows that are read is the plan's
+pub from_rows : {A : Type 0} (f : List ℕ → List ℕ → A) (incoming gross read asked : List ℕ) (written : A) → written ≡ f read asked → read ≡ incoming → asked ≡ gross → written ≡ f incoming gross
+from_rows {A} f incoming gross read asked written is i g = is ∙ ap (λ (xs : List ℕ). f xs asked) i ∙ ap (f incoming) g
+
 pub length-order_row : (pair : PairParams) (incoming gross order : List ℕ) → order ≡ order_row pair incoming gross → length order ≡ length gross
 length-order_row pair incoming gross order e = ap length e ∙ length-map-range_with_len (order_at pair incoming gross) 0 (length gross)
 
