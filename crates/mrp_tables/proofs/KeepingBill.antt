@@ -15,6 +15,7 @@ use Rattle.mrp_tables.specs.Grammar.{BillTerms, bill_fits, bill_of, bill_terms, 
 use Rattle.mrp_rows.specs.Names.{pair_named, plant_no}
 use Rattle.mrp_spell.proofs.Lists.{distinct_push}
 use Rattle.mrp_tables.proofs.KeepingLists.{position_there}
+use Rattle.mrp_tables.proofs.KeepingSame.{stays_once, stays_sourced}
 use Rattle.mrp_tables.proofs.KeepingSteps.{after, after_check, after_some, same_Ok}
 
 -- a pair that was found by its plant stands at that plant
@@ -86,26 +87,6 @@ pub bill_keeps : (N : Table) (row : List (List ℕ)) (b : BillRow) → IsOnce N 
 bill_keeps N row b once sourced is =
     let a = after (bill_terms row) (bill_fits N) b is in
     let says = fits N a.0 b a.2 in (
-      record {
-        plants = once.plants;
-        items = once.items;
-        pairs = once.pairs;
-        sources = once.sources;
-        bills = distinct_push is_same_bill N.bills b once.bills says.new;
-        cums = once.cums;
-        resets = once.resets;
-      },
-      record {
-        items = sourced.items;
-        order = sourced.order;
-        few = sourced.few;
-        supplies = sourced.supplies;
-        others = sourced.others;
-        parents = All-push (λ b. supply_at N b.parent.0 ≡ supply.Make) N.bills b sourced.parents says.made;
-        plants = All-push (λ b. plant_at N b.parent.0 ≡ plant_at N b.component.0) N.bills b sourced.plants says.plant;
-        ships = sourced.ships;
-        cums = sourced.cums;
-        resets = sourced.resets;
-        arrive = sourced.arrive;
-      },
+      stays_once N (with_bill N b) refl once once.plants (distinct_push is_same_bill N.bills b once.bills says.new) once.cums once.resets,
+      stays_sourced N (with_bill N b) refl sourced (All-push (λ b. supply_at N b.parent.0 ≡ supply.Make) N.bills b sourced.parents says.made) (All-push (λ b. plant_at N b.parent.0 ≡ plant_at N b.component.0) N.bills b sourced.plants says.plant) sourced.ships sourced.cums sourced.resets sourced.arrive,
     )

@@ -1,5 +1,5 @@
 -- Rows of one list more: plants, demands, receipts, and rows on what one plant ships to another.
-use Rattle.std.proofs.Common.{◌≡◌, ℕ, ◌==◌, ◌&&◌, true, false, not, List, [], Option, Some, None, is_some, length, ltb, option_map, Ok, ap, sym, ◌∙◌, subst, arith}
+use Rattle.std.proofs.Common.{◌≡◌, ℕ, ◌==◌, ◌&&◌, true, false, not, List, [], Option, Some, None, is_some, length, ltb, option_map, Ok, refl, ap, sym, ◌∙◌, subst, arith}
 use Rattle.std.specs.List.{list_any}
 use Rattle.std.proofs.lemmas.Bool.{not-true}
 use Rattle.std.proofs.lemmas.List.Elements.{All-push}
@@ -20,6 +20,7 @@ use Rattle.mrp_rows.specs.Names.{has_plant, pair_named, plant_no}
 use Rattle.mrp_rows.specs.Table.{rises_from, arrivals}
 use Rattle.mrp_spell.proofs.Lists.{distinct_push}
 use Rattle.mrp_tables.proofs.KeepingLists.{distinct_name, any-from_position}
+use Rattle.mrp_tables.proofs.KeepingSame.{stays_once, stays_sourced}
 use Rattle.mrp_tables.proofs.KeepingSteps.{after, after_check, after_some, same_Ok}
 
 -- ---- plants
@@ -35,66 +36,22 @@ new_plant N row name is =
 
 pub plant_keeps : (N : Table) (row : List (List ℕ)) (name : List ℕ) → IsOnce N → IsSourced N → plant_of N row ≡ Ok name → IsOnce (with_plant N name) × IsSourced (with_plant N name)
 plant_keeps N row name once sourced is = (
-  record {
-    plants = distinct_name N.plants name once.plants (new_plant N row name is);
-    items = once.items;
-    pairs = once.pairs;
-    sources = once.sources;
-    bills = once.bills;
-    cums = once.cums;
-    resets = once.resets;
-  },
-  record {
-    items = sourced.items;
-    order = sourced.order;
-    few = sourced.few;
-    supplies = sourced.supplies;
-    others = sourced.others;
-    parents = sourced.parents;
-    plants = sourced.plants;
-    ships = sourced.ships;
-    cums = sourced.cums;
-    resets = sourced.resets;
-    arrive = sourced.arrive;
-  },
+  stays_once N (with_plant N name) refl once (distinct_name N.plants name once.plants (new_plant N row name is)) once.bills once.cums once.resets,
+  stays_sourced N (with_plant N name) refl sourced sourced.parents sourced.plants sourced.ships sourced.cums sourced.resets sourced.arrive,
 )
 
 -- ---- demands and receipts
 
 pub demand_keeps : (N : Table) (x : DemandRow) → IsOnce N → IsSourced N → IsOnce (with_demand N x) × IsSourced (with_demand N x)
 demand_keeps N x once sourced = (
-  record { plants = once.plants; items = once.items; pairs = once.pairs; sources = once.sources; bills = once.bills; cums = once.cums; resets = once.resets },
-  record {
-    items = sourced.items;
-    order = sourced.order;
-    few = sourced.few;
-    supplies = sourced.supplies;
-    others = sourced.others;
-    parents = sourced.parents;
-    plants = sourced.plants;
-    ships = sourced.ships;
-    cums = sourced.cums;
-    resets = sourced.resets;
-    arrive = sourced.arrive;
-  },
+  stays_once N (with_demand N x) refl once once.plants once.bills once.cums once.resets,
+  stays_sourced N (with_demand N x) refl sourced sourced.parents sourced.plants sourced.ships sourced.cums sourced.resets sourced.arrive,
 )
 
 pub receipt_keeps : (N : Table) (x : ReceiptRow) → IsOnce N → IsSourced N → IsOnce (with_receipt N x) × IsSourced (with_receipt N x)
 receipt_keeps N x once sourced = (
-  record { plants = once.plants; items = once.items; pairs = once.pairs; sources = once.sources; bills = once.bills; cums = once.cums; resets = once.resets },
-  record {
-    items = sourced.items;
-    order = sourced.order;
-    few = sourced.few;
-    supplies = sourced.supplies;
-    others = sourced.others;
-    parents = sourced.parents;
-    plants = sourced.plants;
-    ships = sourced.ships;
-    cums = sourced.cums;
-    resets = sourced.resets;
-    arrive = sourced.arrive;
-  },
+  stays_once N (with_receipt N x) refl once once.plants once.bills once.cums once.resets,
+  stays_sourced N (with_receipt N x) refl sourced sourced.parents sourced.plants sourced.ships sourced.cums sourced.resets sourced.arrive,
 )
 
 -- ---- lanes
@@ -147,20 +104,8 @@ ship_lane N row x is =
 
 pub ship_keeps : (N : Table) (row : List (List ℕ)) (x : ShipRow) → IsOnce N → IsSourced N → N.resets ≡ [] → ship_of N row ≡ Ok x → IsOnce (with_ship N x) × IsSourced (with_ship N x)
 ship_keeps N row x once sourced none is = (
-  record { plants = once.plants; items = once.items; pairs = once.pairs; sources = once.sources; bills = once.bills; cums = once.cums; resets = once.resets },
-  record {
-    items = sourced.items;
-    order = sourced.order;
-    few = sourced.few;
-    supplies = sourced.supplies;
-    others = sourced.others;
-    parents = sourced.parents;
-    plants = sourced.plants;
-    ships = All-push (λ s. is_taken_from N s.pair.0 s.from.0 ≡ true) N.ships x sourced.ships (ship_lane N row x is);
-    cums = sourced.cums;
-    resets = sourced.resets;
-    arrive = λ k d lt. absurd (omega (arith, ap length none, lt));
-  },
+  stays_once N (with_ship N x) refl once once.plants once.bills once.cums once.resets,
+  stays_sourced N (with_ship N x) refl sourced sourced.parents sourced.plants (All-push (λ s. is_taken_from N s.pair.0 s.from.0 ≡ true) N.ships x sourced.ships (ship_lane N row x is)) sourced.cums sourced.resets (λ k d lt. absurd (omega (arith, ap length none, lt))),
 )
 
 -- ---- cumulative figures
@@ -193,28 +138,8 @@ cum_lane N row x is =
 pub cum_keeps : (N : Table) (row : List (List ℕ)) (x : CumRow) → IsOnce N → IsSourced N → cum_of N row ≡ Ok x → IsOnce (with_cum N x) × IsSourced (with_cum N x)
 cum_keeps N row x once sourced is =
     let says = cum_lane N row x is in (
-      record {
-        plants = once.plants;
-        items = once.items;
-        pairs = once.pairs;
-        sources = once.sources;
-        bills = once.bills;
-        cums = distinct_push is_same_cum N.cums x once.cums says.1;
-        resets = once.resets;
-      },
-      record {
-        items = sourced.items;
-        order = sourced.order;
-        few = sourced.few;
-        supplies = sourced.supplies;
-        others = sourced.others;
-        parents = sourced.parents;
-        plants = sourced.plants;
-        ships = sourced.ships;
-        cums = All-push (λ s. is_taken_from N s.pair.0 s.from.0 ≡ true) N.cums x sourced.cums says.0;
-        resets = sourced.resets;
-        arrive = sourced.arrive;
-      },
+      stays_once N (with_cum N x) refl once once.plants once.bills (distinct_push is_same_cum N.cums x once.cums says.1) once.resets,
+      stays_sourced N (with_cum N x) refl sourced sourced.parents sourced.plants sourced.ships (All-push (λ s. is_taken_from N s.pair.0 s.from.0 ≡ true) N.cums x sourced.cums says.0) sourced.resets sourced.arrive,
     )
 
 -- ---- new starts
@@ -249,26 +174,6 @@ reset_lane N row x is =
 pub reset_keeps : (N : Table) (row : List (List ℕ)) (x : ResetRow) → IsOnce N → IsSourced N → reset_of N row ≡ Ok x → IsOnce (with_reset N x) × IsSourced (with_reset N x)
 reset_keeps N row x once sourced is =
     let says = reset_lane N row x is in (
-      record {
-        plants = once.plants;
-        items = once.items;
-        pairs = once.pairs;
-        sources = once.sources;
-        bills = once.bills;
-        cums = once.cums;
-        resets = distinct_push is_same_reset N.resets x once.resets says.1;
-      },
-      record {
-        items = sourced.items;
-        order = sourced.order;
-        few = sourced.few;
-        supplies = sourced.supplies;
-        others = sourced.others;
-        parents = sourced.parents;
-        plants = sourced.plants;
-        ships = sourced.ships;
-        cums = sourced.cums;
-        resets = All-push (λ s. is_taken_from N s.pair.0 s.from.0 ≡ true) N.resets x sourced.resets says.0;
-        arrive = All-push (λ s. rises_from 0 (arrivals N s.from.0 s.pair.0) ≡ true) N.resets x sourced.arrive says.2;
-      },
+      stays_once N (with_reset N x) refl once once.plants once.bills once.cums (distinct_push is_same_reset N.resets x once.resets says.1),
+      stays_sourced N (with_reset N x) refl sourced sourced.parents sourced.plants sourced.ships sourced.cums (All-push (λ s. is_taken_from N s.pair.0 s.from.0 ≡ true) N.resets x sourced.resets says.0) (All-push (λ s. rises_from 0 (arrivals N s.from.0 s.pair.0) ≡ true) N.resets x sourced.arrive says.2),
     )

@@ -6,6 +6,7 @@ pub mod KeepingLists
 pub mod KeepingPair
 pub mod KeepingRead
 pub mod KeepingRows
+pub mod KeepingSame
 pub mod KeepingShares
 pub mod KeepingSteps
 pub mod Loop
