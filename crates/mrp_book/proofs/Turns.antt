@@ -12,7 +12,7 @@ use Rattle.mrp_book.specs.declared.item.ItemFigure.{ItemFigure}
 use Rattle.mrp_book.specs.After.{at_item, with_line, with_end, with_reset, IsBook, IsWithin}
 use Rattle.mrp_book.specs.Faults.{Test, first_of, number_tests, with_item, find_item, line_tests, end_tests, reset_tests, IsInTurn}
 use Rattle.mrp_book.specs.Figures.{Figures}
-use Rattle.mrp_book.proofs.Places.{first_of-ok, changed_at}
+use Rattle.mrp_book.proofs.Places.{first_of-ok, changed_at, shown_at}
 
 -- no test of a table holds
 abbrev pub NoneHolds : List Test → Type 0
@@ -65,12 +65,12 @@ pub record InTurn (mine book : Figures) (number item k : ℕ) (g : ItemFigure) :
   pub here : slice_get mine.items k ≡ Some g
   pub at : slice_get book.items k ≡ Some g
 
-pub in_turn : (mine book : Figures) (number item k : ℕ) (g : ItemFigure) → mine ≡ book → first_of (number_tests book number) ≡ None → IsInTurn (Ok k) book item → g ≡ get_or mine.items k g → InTurn mine book number item k g
-in_turn mine book number item k g same fresh turn read =
+pub item_in_turn : (mine book : Figures) (number item k : ℕ) (g : ItemFigure) → mine ≡ book → first_of (number_tests book number) ≡ None → IsInTurn (Ok k) book item → g ≡ get_or mine.items k g → InTurn mine book number item k g
+item_in_turn mine book number item k g same fresh turn read =
     let items : mine.items ≡ book.items = ap (λ (f : Figures). f.items) same in
     let inside : k < length mine.items = omega (arith, ap length items, turn.1) in
     let here : slice_get mine.items k ≡ Some g = slice_get_read mine.items (length mine.items) k g refl inside read in
-    record { same = same; fresh = fresh; turn = turn; inside = inside; here = here; at = subst (λ (z : List ItemFigure). slice_get z k ≡ Some g) items here }
+    record { same = same; fresh = fresh; turn = turn; inside = inside; here = here; at = shown_at mine book k g same turn.1 read }
 
 -- the figures after a record of an item
 abbrev pub advanced : Figures → Option ℕ → List ItemFigure → Figures
