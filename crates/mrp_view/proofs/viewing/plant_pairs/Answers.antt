@@ -11,21 +11,12 @@ use Rattle.mrp_view.proofs.viewing.plant_pairs.Goals as goal
 use Rattle.mrp_view.proofs.viewing.plant_pairs.Goals.{then-row-plant+in_ok-push, else-row-plant}
 
 pub loop-x-preserved : goal.loop-x-preserved
-loop-x-preserved c =
-    let N = c.args.network.now in
-    let x : ℕ = c.loop-x.x in
-    let row : PairRow = c.pair-row.result in
-    elim c.if-row-plant.branch [
-      | then-row-plant+in_ok-push w ↦
-          let made : PlantPair = record { number = record { 0 = x }; item = row.item; params = w.params.result } in
-          let is : made ≡ plant_pair N x = cc (w.params.ensures, c.pair-row.ensures) in
-          ap (λ z. z.items) w.pairs-is
-          ∙ w.in_ok-push.ensures.items
-          ∙ at_plant_pushed (plant_pair N) (pair_at N) (λ (z : PairRow). z.plant.0) c.args.plant.0 x c.loop-x.pairs.items row made c.pair-row.ensures w.if-row-plant.true c.loop-x.invariant is
-      | else-row-plant w ↦
-          ap (λ z. z.items) w.pairs-is
-          ∙ at_plant_passed (plant_pair N) (pair_at N) (λ (z : PairRow). z.plant.0) c.args.plant.0 x c.loop-x.pairs.items row c.pair-row.ensures w.if-row-plant.false c.loop-x.invariant
-    ]
+loop-x-preserved c = elim c.if-row-plant.branch [
+  | then-row-plant+in_ok-push w ↦
+      at_plant_pushed (plant_pair c.args.network.now) (pair_at c.args.network.now) (λ (z : PairRow). z.plant.0) c.args.plant.0 c.loop-x.x _ _ c.pair-row.result _ c.pair-row.ensures w.if-row-plant.true c.loop-x.invariant (ap (λ z. z.items) w.pairs-is ∙ w.in_ok-push.ensures.items) (cc (w.params.ensures, c.pair-row.ensures))
+  | else-row-plant w ↦
+      at_plant_passed (plant_pair c.args.network.now) (pair_at c.args.network.now) (λ (z : PairRow). z.plant.0) c.args.plant.0 c.loop-x.x _ _ c.pair-row.result c.pair-row.ensures w.if-row-plant.false c.loop-x.invariant (ap (λ z. z.items) w.pairs-is)
+]
 
 pub returns-clause-pairs : goal.returns-clause-pairs
 returns-clause-pairs c =
