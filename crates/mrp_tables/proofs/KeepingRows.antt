@@ -7,19 +7,20 @@ use Rattle.mrp_rows.specs.declared.numbers.PlantNo.{PlantNo}
 use Rattle.mrp_rows.specs.declared.numbers.PairNo.{PairNo}
 use Rattle.mrp_tables.specs.declared.lanes.NamedLane.{NamedLane}
 use Rattle.mrp_tables.specs.declared.lanes.KnownLane.{KnownLane}
-use Rattle.mrp_rows.specs.declared.rows.TheConstants.{MOST_OF_A_KIND, MOST_PLANTS}
+use Rattle.mrp_rows.specs.declared.rows.TheConstants.{MOST_PLANTS}
 use Rattle.mrp_rows.specs.declared.rows.CumRow.{CumRow}
 use Rattle.mrp_rows.specs.declared.rows.DemandRow.{DemandRow}
 use Rattle.mrp_rows.specs.declared.rows.ReceiptRow.{ReceiptRow}
 use Rattle.mrp_rows.specs.declared.rows.ResetRow.{ResetRow}
 use Rattle.mrp_rows.specs.declared.rows.ShipRow.{ShipRow}
-use Rattle.mrp_rows.specs.Table.{Table, horizon, IsOnce, IsSourced, is_taken_from, is_same_cum, is_same_reset}
+use Rattle.mrp_rows.specs.Table.{Table, IsOnce, IsSourced, is_taken_from, is_same_cum, is_same_reset}
 use Rattle.mrp_rows.specs.Growing.{with_plant, with_demand, with_receipt, with_ship, with_cum, with_reset}
-use Rattle.mrp_tables.specs.Grammar.{LaneTerms, cum_between, cum_of, cum_terms, has_cum, has_reset, known_lane, lane_named, plant_of, plant_terms, reset_between, reset_of, reset_terms, ship_of, ship_terms, source_named}
+use Rattle.mrp_tables.specs.Grammar.{LaneTerms, cum_between, cum_of, known_lane, lane_named, plant_of, plant_terms, reset_between, reset_of, ship_of, source_named}
 use Rattle.mrp_rows.specs.Names.{has_plant, pair_named, plant_no}
 use Rattle.mrp_rows.specs.Table.{rises_from, arrivals}
 use Rattle.mrp_spell.proofs.Lists.{distinct_push}
 use Rattle.mrp_tables.proofs.KeepingLists.{distinct_name, any-from_position}
+use Rattle.mrp_tables.proofs.KeepingParts.{cum_parts, reset_parts, ship_parts}
 use Rattle.mrp_tables.proofs.KeepingSame.{stays_once, stays_sourced}
 use Rattle.mrp_tables.proofs.KeepingSteps.{after, after_check, after_some, same_Ok}
 
@@ -94,13 +95,9 @@ taken N t lane on = taken_at N (plant_no N t.from) (pair_named N (plant_no N t.t
 -- ---- shipments
 
 ship_lane : (N : Table) (row : List (List ℕ)) (x : ShipRow) → ship_of N row ≡ Ok x → is_taken_from N x.pair.0 x.from.0 ≡ true
-unfolding ship_of
 ship_lane N row x is =
-    let a = after (ship_terms row (horizon N)) _ x is in
-    let b = after (known_lane (lane_named N a.0.0)) _ x a.2 in
-    let c = after_check (ltb (length N.ships) MOST_OF_A_KIND) _ _ x b.2 in
-    let same : record { from = b.0.from; pair = b.0.pair; period = a.0.1; quantity = a.0.2 } ≡ x = same_Ok _ x c.1 in
-    subst (λ (y : ShipRow). is_taken_from N y.pair.0 y.from.0 ≡ true) same (taken N a.0.0 b.0 (on_lane N (lane_named N a.0.0) b.0 b.1))
+    let p = ship_parts N row x is in
+    subst (λ (y : ShipRow). is_taken_from N y.pair.0 y.from.0 ≡ true) p.same (taken N p.terms.0 p.lane (on_lane N (lane_named N p.terms.0) p.lane p.known))
 
 pub ship_keeps : (N : Table) (row : List (List ℕ)) (x : ShipRow) → IsOnce N → IsSourced N → N.resets ≡ [] → ship_of N row ≡ Ok x → IsOnce (with_ship N x) × IsSourced (with_ship N x)
 ship_keeps N row x once sourced none is = (
@@ -121,18 +118,12 @@ new_cum N (Some f) (Some p) c fresh ef ep =
     ∙ ap (λ (y : PairNo). list_any (λ d. (d.from.0 == f.0) && (d.pair.0 == y.0)) N.cums) (sym sp) ∙ fresh
 
 cum_lane : (N : Table) (row : List (List ℕ)) (x : CumRow) → cum_of N row ≡ Ok x → (is_taken_from N x.pair.0 x.from.0 ≡ true) × (list_any (λ c. is_same_cum c x) N.cums ≡ false)
-unfolding cum_of
 cum_lane N row x is =
-    let a = after (cum_terms row) _ x is in
-    let l = lane_named N a.0.0 in
-    let z = after_check (not (has_cum N l)) _ _ x a.2 in
-    let b = after (known_lane l) _ x z.1 in
-    let c = after_check (ltb (length N.cums) MOST_OF_A_KIND) _ _ x b.2 in
-    let same : record { from = b.0.from; pair = b.0.pair; figure = a.0.1 } ≡ x = same_Ok _ x c.1 in
-    let on = on_lane N l b.0 b.1 in
-    let fresh : has_cum N l ≡ false = not-true (has_cum N l) z.0 in (
-      subst (λ (y : CumRow). is_taken_from N y.pair.0 y.from.0 ≡ true) same (taken N a.0.0 b.0 on),
-      new_cum N l.from l.pair x fresh (on.from ∙ ap (λ (y : CumRow). Some y.from) same) (on.pair ∙ ap (λ (y : CumRow). Some y.pair) same),
+    let p = cum_parts N row x is in
+    let l = lane_named N p.terms.0 in
+    let on = on_lane N l p.lane p.known in (
+      subst (λ (y : CumRow). is_taken_from N y.pair.0 y.from.0 ≡ true) p.same (taken N p.terms.0 p.lane on),
+      new_cum N l.from l.pair x p.new (on.from ∙ ap (λ (y : CumRow). Some y.from) p.same) (on.pair ∙ ap (λ (y : CumRow). Some y.pair) p.same),
     )
 
 pub cum_keeps : (N : Table) (row : List (List ℕ)) (x : CumRow) → IsOnce N → IsSourced N → cum_of N row ≡ Ok x → IsOnce (with_cum N x) × IsSourced (with_cum N x)
@@ -156,19 +147,13 @@ new_reset N (Some f) (Some p) c fresh ef ep =
 
 reset_lane : (N : Table) (row : List (List ℕ)) (x : ResetRow) → reset_of N row ≡ Ok x → (is_taken_from N x.pair.0 x.from.0 ≡ true) × (list_any (λ c. is_same_reset c x) N.resets ≡ false)
     × (rises_from 0 (arrivals N x.from.0 x.pair.0) ≡ true)
-unfolding reset_of
 reset_lane N row x is =
-    let a = after (reset_terms row (horizon N)) _ x is in
-    let l = lane_named N a.0.0 in
-    let z = after_check (not (has_reset N l)) _ _ x a.2 in
-    let b = after (known_lane l) _ x z.1 in
-    let c = after_check (rises_from 0 (arrivals N b.0.from.0 b.0.pair.0)) _ _ x b.2 in
-    let same : record { from = b.0.from; pair = b.0.pair; period = a.0.1 } ≡ x = same_Ok _ x c.1 in
-    let on = on_lane N l b.0 b.1 in
-    let fresh : has_reset N l ≡ false = not-true (has_reset N l) z.0 in (
-      subst (λ (y : ResetRow). is_taken_from N y.pair.0 y.from.0 ≡ true) same (taken N a.0.0 b.0 on),
-      new_reset N l.from l.pair x fresh (on.from ∙ ap (λ (y : ResetRow). Some y.from) same) (on.pair ∙ ap (λ (y : ResetRow). Some y.pair) same),
-      subst (λ (y : ResetRow). rises_from 0 (arrivals N y.from.0 y.pair.0) ≡ true) same c.0,
+    let p = reset_parts N row x is in
+    let l = lane_named N p.terms.0 in
+    let on = on_lane N l p.lane p.known in (
+      subst (λ (y : ResetRow). is_taken_from N y.pair.0 y.from.0 ≡ true) p.same (taken N p.terms.0 p.lane on),
+      new_reset N l.from l.pair x p.new (on.from ∙ ap (λ (y : ResetRow). Some y.from) p.same) (on.pair ∙ ap (λ (y : ResetRow). Some y.pair) p.same),
+      subst (λ (y : ResetRow). rises_from 0 (arrivals N y.from.0 y.pair.0) ≡ true) p.same p.rises,
     )
 
 pub reset_keeps : (N : Table) (row : List (List ℕ)) (x : ResetRow) → IsOnce N → IsSourced N → reset_of N row ≡ Ok x → IsOnce (with_reset N x) × IsSourced (with_reset N x)

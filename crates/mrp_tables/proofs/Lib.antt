@@ -4,6 +4,7 @@ pub mod Keeping
 pub mod KeepingBill
 pub mod KeepingLists
 pub mod KeepingPair
+pub mod KeepingParts
 pub mod KeepingRead
 pub mod KeepingRows
 pub mod KeepingSame
