@@ -1,6 +1,7 @@
 -- The rows that were written are the plan.
-use Rattle.std.proofs.Common.{◌≡◌, ℕ, ◌-◌, ◌≤◌, ◌==◌, if◌then◌else◌, List, length, slice_index, map, sum, ◌∙◌, ap, arith}
+use Rattle.std.proofs.Common.{◌≡◌, ℕ, ◌-◌, ◌≤◌, ◌==◌, ◌++◌, if◌then◌else◌, Bool, true, cond, List, [], length, slice_index, map, sum, ◌∙◌, ap, arith}
 use Rattle.std.specs.List.{range_with_len}
+use Rattle.std.proofs.lemmas.Bool.{cond-true}
 use Rattle.std.proofs.lemmas.List.FromFn.{length-map-range_with_len, get_or-map-range_with_len}
 use Rattle.std.proofs.lemmas.List.Sums.{sum-map}
 use Rattle.mrp_qty.specs.declared.quantity.TheConstants.{MOST}
@@ -62,3 +63,8 @@ pub copied : (lead : ℕ) (gross incoming order release available late : List �
     → gross2 ≡ gross → incoming2 ≡ incoming → order2 ≡ order → release2 ≡ release → available2 ≡ available → late2 ≡ late
     → rows_of lead gross2 incoming2 order2 release2 available2 late2 ≡ rows_of lead gross incoming order release available late
 copied lead gross incoming order release available late gross2 incoming2 order2 release2 available2 late2 g i o r a l = cc
+
+-- a list that was cleared takes over another, where it has room
+pub refilled : (took : Bool) (other slice cleared filled : List ℕ) → took ≡ true → slice ≡ other → cleared ≡ [] → filled ≡ cond took (cleared ++ slice) cleared → filled ≡ other
+refilled took other slice cleared filled ok same empty is =
+    is ∙ cond-true took (cleared ++ slice) cleared ok ∙ ap (λ (xs : List ℕ). xs ++ slice) empty ∙ same
