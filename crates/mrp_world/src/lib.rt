@@ -14,6 +14,7 @@ mod looking;
 mod mailbox;
 mod making;
 mod plant;
+mod stand_in;
 mod world;
 
 pub use mrp_book::{BookFault, LaneFigure};
@@ -21,4 +22,5 @@ pub use mrp_events::Event;
 pub use mrp_net::{ItemNo, LaneNo, PairNo};
 pub use mrp_record::Record;
 pub use plant::Plant;
+pub use stand_in::Firm;
 pub use world::{MOST_ROOM, World};
