@@ -20,6 +20,9 @@ use Rattle.mrp_events.specs.Loads.{load_of, loads}
 use Rattle.mrp_events.specs.State.{State, IsFinished, IsReached}
 use Rattle.mrp_events.proofs.Ordering.{lanes_keep_order, closed_lanes_are_whole, nothing_is_lost}
 use Rattle.mrp_events.proofs.Small.{loads_stand_once, load_is_there}
+use Rattle.mrp_world.specs.Moments.{Showing}
+use Rattle.mrp_world.specs.World.{WorldState, WorldShows, IsWorld}
+use Rattle.mrp_world.proofs.Worlds.{none_left_is_finished, shows_some}
 use Rattle.mrp_world.specs.Figures.{figure_at, figures_on, figures_of, IsLaneFigure, FiguresAreOfLanes, carried, last_figure, last_on, last_figures, FinishedFiguresAreLast}
 
 -- ---- lists
@@ -58,6 +61,12 @@ figures_are_of_lanes N table capacity s reached =
     let of = map_only (figure_at N s on.0) (lane_items N (lane_at N on.0)) figure on.2 in
     let within : on.0 < length (lanes N) = omega (arith, (range_only 0 (length (lanes N)) on.0 on.1).1) in
     subst (IsLaneFigure N) of.2 (figure_is_of_lane N table capacity s reached on.0 within of.0 (Contains-from_in (lane_items N (lane_at N on.0)) of.0 of.1)))
+
+pub shown_are_of_lanes : {A : Type 0} (shows : Showing A) (v w : WorldState A) → v ≡ w → IsWorld shows v → (figures : List LaneFigure)
+    → ((s : State) → WorldShows shows w s → figures ≡ figures_of w.network s) → All (IsLaneFigure w.network) figures
+shown_are_of_lanes shows v w same is figures says =
+    let some = shows_some shows v w same is in
+    subst (All (IsLaneFigure w.network)) (sym (says some.0 some.1)) (figures_are_of_lanes w.network some.1.parts.sized.table w.capacity some.0 some.1.parts.reached)
 
 -- ---- at the end
 
@@ -100,3 +109,10 @@ finished_figures_are_last N table capacity s reached finished =
     let within : l < length (lanes N) = omega (arith, (range_only 0 (length (lanes N)) l among).1) in
     map_same (figure_at N s l) (last_figure N l) (lane_items N (lane_at N l)) (λ item there.
     figure_is_last N table capacity s reached finished l within item (Contains-from_in (lane_items N (lane_at N l)) item there)))
+
+pub shown_are_last : {A : Type 0} (shows : Showing A) (v w : WorldState A) → v ≡ w → IsWorld shows v → (figures : List LaneFigure)
+    → ((s : State) → WorldShows shows w s → figures ≡ figures_of w.network s) → w.left ≡ 0 → figures ≡ last_figures w.network
+shown_are_last shows v w same is figures says none =
+    let some = shows_some shows v w same is in
+    let finished = none_left_is_finished shows w some.0 some.1 none in
+    says some.0 some.1 ∙ finished_figures_are_last w.network some.1.parts.sized.table w.capacity some.0 some.1.parts.reached finished

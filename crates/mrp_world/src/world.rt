@@ -1,4 +1,4 @@
-ghost use Rattle.std.specs.Prelude.{◌≡◌, ◌+◌, ℕ, ◌-◌, ◌≤◌, true, false, List, IfOk, IfSome, IfNone, MatchBool, IsTrue, ◌↔◌};
+ghost use Rattle.std.specs.Prelude.{◌≡◌, ◌+◌, ℕ, ◌-◌, ◌≤◌, true, false, All, List, IfOk, IfSome, IfNone, MatchBool, IsTrue, ◌↔◌};
 ghost use Rattle.mrp_rows.specs.Table.{IsPair};
 ghost use Rattle.mrp_world.specs.declared.world.TheConstants.{MOST_ROOM};
 
@@ -61,7 +61,7 @@ impl<'a, P: Plant> World<'a, P> {
     ghost use Rattle.mrp_events.specs.Loads.{steps as network_steps};
     ghost use Rattle.mrp_events.specs.Progress.{steps_left};
     ghost use Rattle.mrp_events.specs.State.{State, Step, IsEnabled, IsFinished, opening_state};
-    ghost use Rattle.mrp_world.specs.Figures.{figures_of};
+    ghost use Rattle.mrp_world.specs.Figures.{figures_of, last_figures, IsLaneFigure};
     ghost use Rattle.mrp_world.specs.World.{Runs, WorldShows};
 
     /// A world before the first event.
@@ -160,13 +160,16 @@ impl<'a, P: Plant> World<'a, P> {
     }
 
     /// The cumulative figures of each item of each lane, by lane, then lane item: where they begin, what has
-    /// been shipped, and what has been received, closed years added.
+    /// been shipped, and what has been received, closed years added. Those of a finished world are what the
+    /// rows alone say.
     ///
     /// # Errors
     ///
     /// [`Memory`] where a growth is refused.
     pub fn figures(&self, alloc: Global) -> Result<Vec<LaneFigure>, Memory>
-        ensures { IfOk result (λ figures. (s : State) → WorldShows P.shows self.now s → figures.items ≡ figures_of self.now.network s) }
+        ensures figures { IfOk result (λ figures. (s : State) → WorldShows P.shows self.now s → figures.items ≡ figures_of self.now.network s) }
+        ensures lanes { IfOk result (λ figures. All (IsLaneFigure self.now.network) figures.items) }
+        ensures last { IfOk result (λ figures. self.now.left ≡ 0 → figures.items ≡ last_figures self.now.network) }
     {
         figures(
             alloc,
