@@ -15,7 +15,6 @@ mod looking;
 mod mailbox;
 mod making;
 mod plant;
-mod stand_in;
 mod world;
 
 pub use agents::Firm;
@@ -24,5 +23,4 @@ pub use mrp_events::Event;
 pub use mrp_net::{ItemNo, LaneNo, PairNo};
 pub use mrp_record::Record;
 pub use plant::Plant;
-pub use stand_in::Firm;
 pub use world::{MOST_ROOM, World};
