@@ -1,20 +1,19 @@
 -- The lanes and pairs of a plant stand in what it sees, and no others do.
-use Rattle.std.proofs.Common.{◌≡◌, ℕ, ◌<◌, ◌==◌, List, length, get_or, refl, sym, ap, ◌∙◌, subst, arith, All, Contains}
-use Rattle.std.specs.List.{filter, range_with_len}
+use Rattle.std.proofs.Common.{◌≡◌, ℕ, ◌<◌, ◌==◌, List, length, refl, sym, ap, ◌∙◌, subst, arith, All, Contains}
+use Rattle.std.specs.List.{filter}
 use Rattle.std.proofs.lemmas.Bool.{eqb-true, eq-eqb}
-use Rattle.std.proofs.lemmas.List.Elements.{All-filter, All-map, All-contains, filter_passes}
+use Rattle.std.proofs.lemmas.List.Elements.{All-map, All-contains}
 use Rattle.std.proofs.lemmas.List.Sums.{passes_at_first}
-use Rattle.mrp_rows.specs.Table.{Table, IsPair}
+use Rattle.mrp_rows.specs.Table.{Table}
 use Rattle.mrp_rows.specs.declared.numbers.PairNo.{PairNo}
 use Rattle.mrp_net.specs.Lanes.{lanes, lane_at}
-use Rattle.mrp_net.specs.Sums.{pair_at}
 use Rattle.mrp_net.proofs.Members.{Contains-from_in, In-filter, In-map, In-range}
 use Rattle.mrp_view.specs.declared.view.IncomingLane.{IncomingLane}
 use Rattle.mrp_view.specs.declared.view.OutgoingLane.{OutgoingLane}
 use Rattle.mrp_view.specs.declared.view.PlantPair.{PlantPair}
 use Rattle.mrp_view.specs.Seen as seen
-use Rattle.mrp_view.specs.View.{PlantRows, is_of_plant, plant_pair, plant_pairs, comes_to, goes_from, lane_numbers, incoming_lane, incoming_lanes, outgoing_lane, outgoing_lanes, plant_rows}
-use Rattle.mrp_view.proofs.Seeing.{below, is_own}
+use Rattle.mrp_view.specs.View.{PlantRows, plant_pair, plant_pairs, comes_to, goes_from, lane_numbers, incoming_lane, incoming_lanes, outgoing_lane, outgoing_lanes, plant_rows}
+use Rattle.mrp_view.proofs.Seeing.{is_own}
 use Rattle.mrp_local.specs.Laws.{IsPairAt}
 use Rattle.mrp_local.proofs.Seeing.{sees_pair}
 use Rattle.mrp_agent.specs.State.{incoming_at, incoming_place, outgoing_at, outgoing_place, no_incoming, no_outgoing}

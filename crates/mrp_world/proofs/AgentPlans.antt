@@ -5,7 +5,6 @@ use Rattle.std.specs.Bool.{OnTrue}
 use Rattle.std.proofs.lemmas.Bool.{false≢true}
 use Rattle.mrp_lot.specs.One.{IsWithin}
 use Rattle.mrp_rows.specs.declared.numbers.PairNo.{PairNo}
-use Rattle.mrp_rows.specs.Table.{Table}
 use Rattle.mrp_view.specs.declared.view.PlantPair.{PlantPair}
 use Rattle.mrp_view.specs.Seen as seen
 use Rattle.mrp_view.specs.View.{PlantRows, plant_pair, plant_rows}

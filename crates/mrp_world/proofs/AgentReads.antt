@@ -1,5 +1,5 @@
 -- What an agent says of its plans and of what it has received.
-use Rattle.std.proofs.Common.{◌≡◌, ◌↔◌, ℕ, ◌⊎◌, inl, inr, Bool, true, false, List, length, map, Option, None, Some, unwrap_or, refl, sym, ap, ◌∙◌, subst, Contains}
+use Rattle.std.proofs.Common.{◌≡◌, ◌↔◌, ℕ, inl, inr, Bool, true, false, Option, None, Some, unwrap_or, refl, sym, ap, ◌∙◌, subst, Contains}
 use Rattle.std.specs.Prelude.{IfSome, IfNone, IsSome, IsTrue}
 use Rattle.std.proofs.lemmas.Bool.{cases_Bool}
 use Rattle.mrp_lot.specs.One.{PlanRows}
@@ -10,7 +10,7 @@ use Rattle.mrp_net.specs.declared.lane.LaneNo.{LaneNo}
 use Rattle.mrp_net.specs.Lanes.{lane_at, lane_items}
 use Rattle.mrp_net.specs.Plan.{plan_of, rows_at}
 use Rattle.mrp_net.proofs.Members.{Contains-from_in, In-from_contains, In-map}
-use Rattle.mrp_view.specs.View.{PlantRows, incoming_item, incoming_lane, incoming_lanes, plant_pair}
+use Rattle.mrp_view.specs.View.{PlantRows, incoming_item, incoming_lane, plant_pair}
 use Rattle.mrp_view.specs.declared.view.IncomingLane.{IncomingLane}
 use Rattle.mrp_events.specs.Laws.{cum_on}
 use Rattle.mrp_ready.specs.Progress.{is_planned}
@@ -69,7 +69,7 @@ received_is A l item m p at comes there =
     let lane : IncomingLane = incoming_lane N l.0 in
     let known : Contains A.view.incoming lane = subst (λ (V : PlantRows). Contains V.incoming lane) (sym at.shown.view) (in_there N p l.0 comes) in
     let carried = Contains-from_in lane.items (incoming_item N (lane_at N l.0) item)
-        (In-map (incoming_item N (lane_at N l.0)) (lane_items N (lane_at N l.0)) item (In-from_contains (lane_items N (lane_at N l.0)) item there)) in
+    (In-map (incoming_item N (lane_at N l.0)) (lane_items N (lane_at N l.0)) item (In-from_contains (lane_items N (lane_at N l.0)) item there)) in
     received_figures_are_cumulative A.view at.shown.enough m.state.taken lane known (incoming_item N (lane_at N l.0) item) carried
 
 pub figure_is : (o : Option ℕ) (n least : ℕ) → o ≡ Some n → unwrap_or o least ≡ n

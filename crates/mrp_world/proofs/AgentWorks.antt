@@ -1,14 +1,10 @@
 -- At each moment of a run an agent works in the network.
-use Rattle.std.proofs.Common.{◌≡◌, ℕ, ◌<◌, length, sym, subst}
-use Rattle.mrp_rows.specs.Table.{Table}
+use Rattle.std.proofs.Common.{ℕ, sym, subst}
 use Rattle.mrp_view.specs.Seen.{IsView}
-use Rattle.mrp_view.specs.View.{PlantRows, plant_rows}
-use Rattle.mrp_loops.specs.Sized.{IsSized}
-use Rattle.mrp_events.specs.State.{State, opening_state}
+use Rattle.mrp_view.specs.View.{PlantRows}
 use Rattle.mrp_events.proofs.Ordering.{lanes_keep_order}
 use Rattle.mrp_agent.specs.Kept.{HasSmallOpenings}
 use Rattle.mrp_agent.specs.Laws.{WorksIn}
-use Rattle.mrp_agent.specs.Shows.{Shows}
 use Rattle.mrp_agent.specs.State.{AgentState}
 use Rattle.mrp_agent.proofs.Viewing.{views_can_be_planned}
 use Rattle.mrp_world.specs.Agents.{ShowsAgent}

@@ -1,5 +1,4 @@
-use Rattle.std.proofs.Common.{◌≡◌, ℕ, is_some, Some, Option, ap, sym}
-use Rattle.mrp_record.specs.declared.record.Record.{Record}
+use Rattle.std.proofs.Common.{sym}
 use Rattle.mrp_world.proofs.AgentSends.{given_is_next, none_is_next, out_within, sent_shows}
 use Rattle.mrp_world.proofs.Outcomes.{if_none}
 use Rattle.mrp_world.proofs.agents.AgentPlant.send.Goals as goal
