@@ -35,7 +35,7 @@ refused old r f e form records s =
     differ f e = cc (e)
 
 -- what a book knows of an item is what each shown list gives
-shown : {A : Type 0} (f : ItemFigure → A) (form : LaneForm) (records : List Record) (book : Figures) (item : ℕ) (o : Option ItemFigure) → find_item book.items item ≡ o → Shows form book records
+pub shown : {A : Type 0} (f : ItemFigure → A) (form : LaneForm) (records : List Record) (book : Figures) (item : ℕ) (o : Option ItemFigure) → find_item book.items item ≡ o → Shows form book records
     → option_map f o ≡ option_map (λ i. f (figure_of (contents records) i)) (item_on form item)
 shown {A} f form records book item o e s =
     let all : o ≡ option_map (figure_of (contents records)) (item_on form item) =
