@@ -151,7 +151,7 @@ routes_within N is =
     mul-add-lt (pair_at N (get_or N.sources k d).pair.0).plant.0 (length N.plants) (get_or N.sources k d).plant.0 (length N.plants) (is.read.pairs (get_or N.sources k d).pair.0 no_pair row.pair).plant row.plant)
 
 -- the items of a lane are the table's
-lane_items_within : (N : Table) (lane : Lane) → IsTable N → All (λ item. item.0 < length N.items) (lane_items N lane)
+pub lane_items_within : (N : Table) (lane : Lane) → IsTable N → All (λ item. item.0 < length N.items) (lane_items N lane)
 lane_items_within N lane is =
     let test = λ (s : SourceRow). eqb (pair_at N s.pair.0).plant.0 (customer_of lane) && eqb s.plant.0 (supplier_of lane) in
     All-map (λ (item : ItemNo). item.0 < length N.items) (item_of N) (taken_over N (customer_of lane) (supplier_of lane))
