@@ -6,7 +6,6 @@ pub mod Counts
 pub mod Pieces
 pub mod Holding
 pub mod AgentPlaces
-pub mod Outcomes
 pub mod AgentWorks
 pub mod AgentSends
 pub mod AgentBooks
