@@ -1,4 +1,4 @@
-use Rattle.std.proofs.Common.{◌≡◌, ap}
+use Rattle.std.proofs.Common.{ap}
 use Rattle.mrp_world.proofs.Worlds as world
 use Rattle.mrp_world.proofs.world.World.finished.Goals as goal
 
