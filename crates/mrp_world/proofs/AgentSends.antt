@@ -132,3 +132,8 @@ pub none_next : (A : AgentState) (l : ℕ) (o : Option Record) → IfNone o (Non
     → IfNone o ((m : Moment) (p : ℕ) → IsAt ShowsAgent m p A → IsOut m.network p l → (r : Record) → ¬ IsNext m l r)
 none_next A l None none = none_is_next A l none
 none_next A l (Some r) none = tt
+
+-- what holds whatever is answered
+pub none_given : (o : Option Record) (P : Type 0) → P → IfNone o P
+none_given None P h = h
+none_given (Some r) P h = tt

@@ -9,7 +9,6 @@ pub mod Lasting
 pub mod Gathers
 pub mod Giving
 pub mod AgentPlaces
-pub mod Outcomes
 pub mod AgentWorks
 pub mod AgentSends
 pub mod AgentBooks
