@@ -1,8 +1,8 @@
 //! The text functions on worked tables: the bytes of each report, and the line and the status of
 //! each fault. The calls of the crates below are tried in `mrp_cases`.
 
-mod cums;
 mod damage;
+mod figures;
 mod firms;
 mod plans;
 mod refusals;

@@ -4,12 +4,12 @@ use super::{BICYCLE, cums, plan};
 use std::test::Fail;
 
 /// Two plants, A takes X from B: the table of `examples/firm_of_two.csv`.
-const FIRM_OF_TWO: &str = "run,2026-01-05,7,4,,,,\nplant,A,,,,,,\nplant,B,,,,,,\n\
+pub(crate) const FIRM_OF_TWO: &str = "run,2026-01-05,7,4,,,,\nplant,A,,,,,,\nplant,B,,,,,,\n\
 pair,A,X,from:B,lot,1,0,0\npair,B,X,buy,lot,0,0,0\ndemand,A,X,2,30,,,\nship,B,A,X,2,8,,\n\
 cum,B,A,X,100,,,\n";
 
 /// Its figures: `examples/firm_of_two.cums.csv`.
-const FIRM_OF_TWO_CUMS: &str =
+pub(crate) const FIRM_OF_TWO_CUMS: &str =
     "lane,despatch,B,A,X,100,108,108,0\nlane,schedule,A,B,X,108,130,130,0\n";
 
 /// The same where the figures start anew in period 2.
