@@ -39,8 +39,8 @@ gives A m p at done all =
     let size : length A.view.pairs ≡ length xs = ap (λ (z : List PlantPair). length z) pairs ∙ length-map xs (plant_pair N) in
     ext_get_or no_plan A.plans (own_plans N p) (all ∙ size ∙ sym (length-map xs (rows_at (plan_of N))))
     (λ k within.
-        let low : k < length A.view.pairs = omega (arith, within, all) in
-        let there : k < length xs = omega (arith, low, size) in
-        let number : (get_or A.view.pairs k no_pair).number.0 ≡ get_or xs k 0 =
-        ap (λ (z : List PlantPair). (get_or z k no_pair).number.0) pairs ∙ ap (λ (q : PlantPair). q.number.0) (get_or-map (plant_pair N) xs k 0 no_pair there) in
-        plan_given A m p at done k low ∙ ap (rows_at (plan_of N)) number ∙ sym (get_or-map (rows_at (plan_of N)) xs k 0 no_plan there))
+    let low : k < length A.view.pairs = omega (arith, within, all) in
+    let there : k < length xs = omega (arith, low, size) in
+    let number : (get_or A.view.pairs k no_pair).number.0 ≡ get_or xs k 0 =
+    ap (λ (z : List PlantPair). (get_or z k no_pair).number.0) pairs ∙ ap (λ (q : PlantPair). q.number.0) (get_or-map (plant_pair N) xs k 0 no_pair there) in
+    plan_given A m p at done k low ∙ ap (rows_at (plan_of N)) number ∙ sym (get_or-map (rows_at (plan_of N)) xs k 0 no_plan there))
