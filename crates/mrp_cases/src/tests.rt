@@ -2,6 +2,7 @@
 
 mod commands;
 mod dates;
+mod lanes;
 mod loops;
 mod lots;
 mod netting;
