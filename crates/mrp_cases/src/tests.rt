@@ -2,7 +2,6 @@
 
 mod commands;
 mod dates;
-mod lanes;
 mod loops;
 mod lots;
 mod netting;

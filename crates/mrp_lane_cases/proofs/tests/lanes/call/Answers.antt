@@ -4,8 +4,8 @@ use Rattle.mrp_rows.specs.declared.rows.SourceRow.{SourceRow}
 use Rattle.mrp_rows.specs.Table.{horizon}
 use Rattle.mrp_net.specs.Lanes.{lane_at}
 use Rattle.mrp_net.specs.Plan.{rows_at}
-use Rattle.mrp_cases.proofs.Feeding.{is_called}
-use Rattle.mrp_cases.proofs.tests.lanes.call.Goals as goal
+use Rattle.mrp_lane_cases.proofs.Feeding.{is_called}
+use Rattle.mrp_lane_cases.proofs.tests.lanes.call.Goals as goal
 
 pub pair-requires : goal.pair-requires
 pair-requires c =

@@ -2,8 +2,8 @@ use Rattle.std.proofs.Common.{ℕ, List, get_or, sym, subst}
 use Rattle.mrp_rows.specs.declared.numbers.ItemNo.{ItemNo}
 use Rattle.mrp_net.specs.Lanes.{lane_at}
 use Rattle.mrp_cursor.specs.Next.{IsRemainder}
-use Rattle.mrp_cases.specs.Feeding.{item_goods}
-use Rattle.mrp_cases.proofs.tests.lanes.left.Goals as goal
+use Rattle.mrp_lane_cases.specs.Feeding.{item_goods}
+use Rattle.mrp_lane_cases.proofs.tests.lanes.left.Goals as goal
 
 pub returns : goal.returns
 returns c =

@@ -37,7 +37,7 @@ use Rattle.mrp_cursor.proofs.Texts.{shown_begin}
 use Rattle.mrp_lane.specs.Ends.{End, IsNext}
 use Rattle.mrp_lane.specs.Views.{IsLegal}
 use Rattle.mrp_lane.proofs.Counting.{length_fits}
-use Rattle.mrp_cases.specs.Feeding.{amounts_from, lines_from, item_goods, item_at, goods, IsOver, Feeds}
+use Rattle.mrp_lane_cases.specs.Feeding.{amounts_from, lines_from, item_goods, item_at, goods, IsOver, Feeds}
 
 -- ---- lines
 

@@ -7,7 +7,7 @@ ghost use Rattle.mrp_net.specs.Plan.{Fits, plan_of};
 ghost use Rattle.mrp_net.specs.Sources.{source_on};
 ghost use Rattle.mrp_events.specs.Loads.{called_in};
 ghost use Rattle.mrp_cursor.specs.Next.{IsLeft, IsNext, IsRemainder};
-ghost use Rattle.mrp_cases.specs.Feeding.{despatches_from, calls_from, item_goods, goods, IsOver, Feeds};
+ghost use Rattle.mrp_lane_cases.specs.Feeding.{despatches_from, calls_from, item_goods, goods, IsOver, Feeds};
 
 use mrp_cursor::{NextLine, OutCursor, Remainder};
 use mrp_lane::{LaneNo, Reconciled, Record, SendEnd, TakeEnd, lane, reconcile};

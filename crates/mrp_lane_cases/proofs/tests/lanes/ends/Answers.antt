@@ -2,8 +2,8 @@ use Rattle.std.proofs.Common.{◌≡◌, ◌<◌, ℕ, length, ap, subst, ◌∙
 use Rattle.std.specs.List.{range_with_len}
 use Rattle.mrp_rows.specs.Table.{Table}
 use Rattle.mrp_net.specs.Lanes.{lanes, lane_at, lane_items}
-use Rattle.mrp_cases.proofs.Feeding.{begins}
-use Rattle.mrp_cases.proofs.tests.lanes.ends.Goals as goal
+use Rattle.mrp_lane_cases.proofs.Feeding.{begins}
+use Rattle.mrp_lane_cases.proofs.tests.lanes.ends.Goals as goal
 
 pub returns-clause-feeds : goal.returns-clause-feeds
 returns-clause-feeds c =

@@ -3,9 +3,9 @@ use Rattle.mrp_rows.specs.Table.{horizon}
 use Rattle.mrp_net.specs.Lanes.{lane_at}
 use Rattle.mrp_net.specs.Sources.{source_on}
 use Rattle.mrp_events.specs.Loads.{called_in}
-use Rattle.mrp_cases.specs.Feeding.{calls_from}
-use Rattle.mrp_cases.proofs.Feeding.{amount_there, amount_none}
-use Rattle.mrp_cases.proofs.tests.lanes.next_call.Goals as goal
+use Rattle.mrp_lane_cases.specs.Feeding.{calls_from}
+use Rattle.mrp_lane_cases.proofs.Feeding.{amount_there, amount_none}
+use Rattle.mrp_lane_cases.proofs.tests.lanes.next_call.Goals as goal
 
 pub returns-then-quantity-gt0 : goal.returns-then-quantity-gt0
 returns-then-quantity-gt0 c =

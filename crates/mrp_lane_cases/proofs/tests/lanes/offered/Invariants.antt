@@ -1,6 +1,6 @@
 use Rattle.std.specs.Prelude.{◌≡◌}
-use Rattle.mrp_cases.specs.Feeding.{Feeds}
-use Rattle.mrp_cases.proofs.tests.lanes.offered.Given as goal
+use Rattle.mrp_lane_cases.specs.Feeding.{Feeds}
+use Rattle.mrp_lane_cases.proofs.tests.lanes.offered.Given as goal
 
 abbrev pub invariant-loop : goal.invariant-loop
 invariant-loop g l = record {

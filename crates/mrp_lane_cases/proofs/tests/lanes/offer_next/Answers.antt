@@ -1,9 +1,9 @@
 use Rattle.std.proofs.Common.{ℕ, sym, subst, ◌∙◌}
 use Rattle.mrp_cursor.specs.Cursor.{OutFigures}
 use Rattle.mrp_cursor.specs.Next.{IsLeft}
-use Rattle.mrp_cases.specs.Feeding.{goods, Feeds}
-use Rattle.mrp_cases.proofs.Feeding.{may_be_offered, goes_on}
-use Rattle.mrp_cases.proofs.tests.lanes.offer_next.Goals as goal
+use Rattle.mrp_lane_cases.specs.Feeding.{goods, Feeds}
+use Rattle.mrp_lane_cases.proofs.Feeding.{may_be_offered, goes_on}
+use Rattle.mrp_lane_cases.proofs.tests.lanes.offer_next.Goals as goal
 
 pub offer-requires : goal.offer-requires
 offer-requires g c =
