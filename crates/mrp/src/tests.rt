@@ -2,13 +2,14 @@
 //! each fault. The calls of the crates below are tried in `mrp_cases`.
 
 mod damage;
+mod figures;
 mod firms;
 mod plans;
 mod refusals;
 mod shipping;
 mod streams;
 
-use mrp_text::{TextFault, check_text, drive_text, peg_text, status, write_fault};
+use mrp_text::{TextFault, check_text, cums_text, drive_text, peg_text, status, write_fault};
 use std::alloc::{AllocError, Global};
 
 /// The bicycle: one plant, two wheels to a bicycle.
@@ -71,5 +72,12 @@ pub(crate) fn pegs(
 ) -> Result<String, AllocError> {
     let mut written = Vec::new(alloc);
     let answer = peg_text(alloc, table.as_bytes(), &mut written, plant, item, period);
+    outcome(alloc, written, answer)
+}
+
+/// What `mrp cums` writes for the table, or its fault.
+pub(crate) fn cums(alloc: Global, table: &str) -> Result<String, AllocError> {
+    let mut written = Vec::new(alloc);
+    let answer = cums_text(alloc, table.as_bytes(), &mut written);
     outcome(alloc, written, answer)
 }

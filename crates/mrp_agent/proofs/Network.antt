@@ -20,7 +20,7 @@ use Rattle.mrp_agent.specs.Laws.{WorksIn, NothingLegalIsLeft, PlannedPairsHaveTh
 use Rattle.mrp_agent.specs.Sending.{goods_at}
 use Rattle.mrp_agent.proofs.Left.{decided_may_be_sent, lanes_are_seen}
 
-works : (N : Table) (plant : ℕ) (A : AgentState) (sent taken : ℕ → List Record) (planned : ℕ → Bool) → WorksIn N plant A sent taken planned → PlansLocally N plant taken planned (plans_of A)
+pub works : (N : Table) (plant : ℕ) (A : AgentState) (sent taken : ℕ → List Record) (planned : ℕ → Bool) → WorksIn N plant A sent taken planned → PlansLocally N plant taken planned (plans_of A)
 works N plant A sent taken planned w =
     record { legal = w.legal; local = subst (λ (V : PlantRows). IsLocal V taken planned (plans_of A)) w.view w.shows.local }
 
@@ -41,14 +41,14 @@ sent_is_within_64 N sized plant A sent taken planned w k within =
     (small k no_outgoing within).bounded (out_at A k) (sent (outgoing_at A.view k).number.0) (queues N plant A sent taken planned w k within) (w.shows.outs k within).shows
 
 -- it has what its lanes carry in the network
-has_goods : (N : Table) → IsSized N → (plant : ℕ) (A : AgentState) (sent taken : ℕ → List Record) (planned : ℕ → Bool) → WorksIn N plant A sent taken planned
+pub has_goods : (N : Table) → IsSized N → (plant : ℕ) (A : AgentState) (sent taken : ℕ → List Record) (planned : ℕ → Bool) → WorksIn N plant A sent taken planned
     → (k : ℕ) → k < length A.view.outgoing → HasGoods N planned (outgoing_at A.view k) (goods_at A taken k)
 has_goods N sized plant A sent taken planned w k within =
     let P : PlantRows → Type 0 = λ V. All (λ lane. HasGoods N planned lane (goods_of V taken (plans_of A) lane)) V.outgoing in
     let has : P A.view = subst P (sym w.view) (local_goods_are_the_loads N sized.table sized.loop_free plant taken planned (plans_of A) (works N plant A sent taken planned w)) in
     has k no_outgoing within
 
-agrees_at : (N : Table) → IsSized N → (plant : ℕ) (A : AgentState) (sent taken : ℕ → List Record) (planned : ℕ → Bool) → WorksIn N plant A sent taken planned
+pub agrees_at : (N : Table) → IsSized N → (plant : ℕ) (A : AgentState) (sent taken : ℕ → List Record) (planned : ℕ → Bool) → WorksIn N plant A sent taken planned
     → (k : ℕ) → k < length A.view.outgoing → Agrees (goods_at A taken k) (out_at A k) (loads N (lane_at N (outgoing_at A.view k).number.0))
 agrees_at N sized plant A sent taken planned w k within =
     local_goods_agree N planned (outgoing_at A.view k) (goods_at A taken k) (has_goods N sized plant A sent taken planned w k within) (out_at A k) (queues N plant A sent taken planned w k within)

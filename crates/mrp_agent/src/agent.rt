@@ -76,7 +76,7 @@ impl Model for Agent {
 }
 
 impl Agent {
-    ghost use Rattle.std.specs.Prelude.{◌↔◌, ℕ, Bool, IsSome, IsTrue, List, slice_get, ◌≢◌, AllPairs, Contains};
+    ghost use Rattle.std.specs.Prelude.{◌↔◌, ℕ, Bool, IsSome, IsTrue, List, slice_get, ◌≢◌, AllPairs, Contains, length};
     ghost use Rattle.mrp_events.specs.State.{opening_state};
     ghost use Rattle.mrp_ready.specs.Progress.{is_planned, left_of};
     ghost use Rattle.mrp_record.specs.declared.record.Record.{Record};
@@ -179,7 +179,8 @@ impl Agent {
 
     /// The plans of all pairs, in the order of the view's pairs. A pair that isn't planned has some plan.
     pub fn into_plans(self) -> Vec<PairPlan>
-        ensures { result.items ≡ self.plans }
+        ensures plans { result.items ≡ self.plans }
+        ensures all { length self.plans ≡ length self.view.pairs }
     {
         self.plans
     }

@@ -3,7 +3,7 @@ use Rattle.std.proofs.Common.{◌≡◌, ℕ, ◌<◌, ◌==◌, Bool, true, fal
 use Rattle.std.specs.Prelude.{slice_get, position}
 use Rattle.std.specs.List.{find, position_or_len}
 use Rattle.std.proofs.lemmas.Bool.{cases_Bool, ltb-true, ltb-false}
-use Rattle.std.proofs.lemmas.Option.{slice_get_past}
+use Rattle.std.proofs.lemmas.Option.{slice_get_past, slice_get_read}
 use Rattle.std.proofs.lemmas.List.Folds.{find_at}
 use Rattle.mrp_rows.specs.declared.numbers.ItemNo.{ItemNo}
 use Rattle.mrp_rows.specs.contracts.numbers.ItemNoPartialEq.TheImpl.{eq-value}
@@ -13,6 +13,7 @@ use Rattle.mrp_book.specs.declared.fault.BookFault.TheVariants as fault
 use Rattle.mrp_book.specs.declared.item.ItemFigure.{ItemFigure}
 use Rattle.mrp_book.specs.After.{at_item}
 use Rattle.mrp_book.specs.Faults.{Test, test, first_of, with_item, find_item, is_other_begun}
+use Rattle.mrp_book.specs.Figures.{Figures}
 
 -- a place that is looked for is inside the list or past its end
 abbrev place_at : ℕ → ℕ → Option ℕ
@@ -127,3 +128,10 @@ changed_at item change items k g e at =
               let far : 1 + position_or_len (λ (g : ItemFigure). g.item.0 == item) items ≡ suc k = rw other at e in
               rw other (ap (λ (z : List ItemFigure). x ∷ z) (by items k g (omega (arith, far)) at))
         ]
+
+-- the figures of an item as a book shows them
+pub shown_at : (mine book : Figures) (k : ℕ) (g : ItemFigure) → mine ≡ book → k < length book.items → g ≡ get_or mine.items k g → slice_get book.items k ≡ Some g
+shown_at mine book k g same within read =
+    let items : mine.items ≡ book.items = ap (λ (f : Figures). f.items) same in
+    let inside : k < length mine.items = omega (arith, ap length items, within) in
+    subst (λ (z : List ItemFigure). slice_get z k ≡ Some g) items (slice_get_read mine.items (length mine.items) k g refl inside read)

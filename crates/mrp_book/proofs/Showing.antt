@@ -1,7 +1,6 @@
 -- What a record that is booked or refused says of the lists that a book shows.
-use Rattle.std.proofs.Common.{◌≡◌, ℕ, ◌<◌, ◌==◌, length, arith, Some, None, Option, List, [], ◌∷◌, ◌++◌, refl, sym, ◌∙◌, ap, subst}
-use Rattle.std.specs.Prelude.{option_map, position, slice_get, slice_index_or, Result, Ok, Err, OnOk, IfErr}
-use Rattle.std.proofs.lemmas.Option.{slice_get_read}
+use Rattle.std.proofs.Common.{◌≡◌, ℕ, ◌<◌, ◌==◌, length, Some, None, Option, List, [], ◌∷◌, ◌++◌, refl, sym, ◌∙◌, ap}
+use Rattle.std.specs.Prelude.{option_map, position, slice_index_or, Result, Ok, Err, OnOk, IfErr}
 use Rattle.mrp_record.specs.declared.record.Record.{Record}
 use Rattle.mrp_record.specs.Entries.{contents}
 use Rattle.mrp_record.specs.Form.{FormItem, LaneForm, item_on, IsInForm}
@@ -13,7 +12,7 @@ use Rattle.mrp_book.specs.Figures.{Figures, figure_of, figures, Shows}
 use Rattle.mrp_book.proofs.Advancing.{figures_after}
 use Rattle.mrp_book.proofs.Deciding.{continues, find_figure, no_fault}
 use Rattle.mrp_book.proofs.Following.{in_form_push, in_form_last}
-use Rattle.mrp_book.proofs.Places.{found_figure, found_nowhere}
+use Rattle.mrp_book.proofs.Places.{found_figure, found_nowhere, shown_at}
 
 pub booked : (old new : Figures) (r : Record) → first_fault old r ≡ None → new ≡ after old r
     → (form : LaneForm) (records : List Record) → Shows form old records → Shows form new (records ++ r ∷ [])
@@ -47,15 +46,14 @@ shown {A} f form records book item o e s =
     twice None = refl
     twice (Some i) = refl
 
-pub found_none : (items : List ItemFigure) (item : ℕ) → None ≡ position (λ g. g.item.0 == item) items → find_item items item ≡ None
-found_none items item e = found_nowhere (λ (g : ItemFigure). g.item.0 == item) items (sym e)
+pub shown_none : {A : Type 0} (f : ItemFigure → A) (form : LaneForm) (records : List Record) (book : Figures) (item : ℕ) → None ≡ position (λ g. g.item.0 == item) book.items → Shows form book records
+    → None ≡ option_map (λ i. f (figure_of (contents records) i)) (item_on form item)
+shown_none f form records book item e s = shown f form records book item None (found_nowhere (λ (g : ItemFigure). g.item.0 == item) book.items (sym e)) s
 
-pub found_some : (now inside : List ItemFigure) (item k : ℕ) (g : ItemFigure) → inside ≡ now → Some k ≡ position (λ g. g.item.0 == item) now → k < length now → g ≡ slice_index_or inside k g
-    → find_item now item ≡ Some g
-found_some now inside item k g same e within is =
-    let here : k < length inside = omega (arith, ap length same, within) in
-    let at : slice_get now k ≡ Some g = subst (λ (z : List ItemFigure). slice_get z k ≡ Some g) same (slice_get_read inside (length inside) k g refl here is) in
-    found_figure now item k g (sym e) at
+pub shown_some : {A : Type 0} (f : ItemFigure → A) (form : LaneForm) (records : List Record) (mine book : Figures) (item k : ℕ) (g : ItemFigure) → mine ≡ book → Some k ≡ position (λ g. g.item.0 == item) book.items
+    → k < length book.items → g ≡ slice_index_or mine.items k g → Shows form book records → Some (f g) ≡ option_map (λ i. f (figure_of (contents records) i)) (item_on form item)
+shown_some f form records mine book item k g same e within is s =
+    shown f form records book item (Some g) (found_figure book.items item k g (sym e) (shown_at mine book k g same within is)) s
 
 pub books_booked : (old new : Figures) (r : Record) (result : Result (Unit {0}) BookFault) → Books old new r result
     → OnOk result ((form : LaneForm) (records : List Record) → Shows form old records → Shows form new (records ++ r ∷ []))

@@ -1,7 +1,7 @@
 -- What the checks of a record say of its first fault, and what booking it keeps.
-use Rattle.std.proofs.Common.{◌≡◌, ℕ, ◌+◌, ◌<◌, ◌≤◌, ◌==◌, Bool, true, false, cond, not, ◌||◌, Ok, Err, Some, None, Option, List, [], ◌∷◌, ◌++◌, ◌⊎◌, inl, inr, refl, sym, ◌∙◌, ap, subst, length, map, get_or, set, zero, suc, arith}
-use Rattle.std.specs.Prelude.{slice_get, position, nat_lt}
-use Rattle.std.specs.List.{All, find, list_all}
+use Rattle.std.proofs.Common.{◌≡◌, ℕ, ◌+◌, ◌<◌, ◌≤◌, ◌==◌, false, Ok, Some, None, Option, List, [], ◌∷◌, ◌++◌, inl, inr, refl, sym, ◌∙◌, ap, subst, length, map, get_or, set, zero, suc, arith}
+use Rattle.std.specs.Prelude.{slice_get, nat_lt}
+use Rattle.std.specs.List.{All}
 use Rattle.std.proofs.lemmas.Bool.{cases_Bool, not-false, eqb-true, ltb-false, or_parts}
 use Rattle.std.proofs.lemmas.List.Elements.{All-set, All-weaker, All-get_or}
 use Rattle.std.proofs.lemmas.Option.{get_or_from_slice_get, slice_get_read}
@@ -10,16 +10,9 @@ use Rattle.mrp_rows.specs.declared.numbers.ItemNo.{ItemNo}
 use Rattle.mrp_book.specs.declared.fault.BookFault.{BookFault}
 use Rattle.mrp_book.specs.declared.item.ItemFigure.{ItemFigure}
 use Rattle.mrp_book.specs.After.{at_item, with_line, with_end, with_reset, IsBook, IsWithin}
-use Rattle.mrp_book.specs.Faults.{Test, test, first_of, number_tests, with_item, find_item, is_other_begun, line_tests, end_tests, reset_tests, IsInTurn}
+use Rattle.mrp_book.specs.Faults.{Test, first_of, number_tests, with_item, find_item, line_tests, end_tests, reset_tests, IsInTurn}
 use Rattle.mrp_book.specs.Figures.{Figures}
-use Rattle.mrp_book.proofs.Places.{first_of-ok, changed_at}
-
--- the number is the next one and the item is in turn: the first fault is that of the record's own tests
-pub own_fault : (book : Figures) (number item place : ℕ) (tests : ItemFigure → List Test) (g : ItemFigure) (o : Option BookFault)
-    → first_of (number_tests book number) ≡ None → IsInTurn (Ok place) book item → slice_get book.items place ≡ Some g → first_of (tests g) ≡ o
-    → first_of (number_tests book number ++ with_item (find_item book.items item) book.begun item tests) ≡ o
-own_fault book number item place tests g o fresh turn at own =
-    first_of-ok (number_tests book number) (with_item (find_item book.items item) book.begun item tests) fresh ∙ turn.2 tests g at ∙ own
+use Rattle.mrp_book.proofs.Places.{first_of-ok, changed_at, shown_at}
 
 -- no test of a table holds
 abbrev pub NoneHolds : List Test → Type 0
@@ -38,12 +31,7 @@ none_holds (t ∷ ts) e =
           (other, none_holds ts later)
     ]
 
-pub number_is_next : (book : Figures) (number : ℕ) → first_of (number_tests book number) ≡ None → number ≡ book.next
-number_is_next book number e =
-    let none : NoneHolds (number_tests book number) = none_holds (number_tests book number) e in
-    omega (arith, ltb-false number book.next none.0, ltb-false book.next number none.1.0)
-
--- ---- what booking keeps
+-- ---- a book with one item changed
 
 names_kept : (items : List ItemFigure) (k : ℕ) (g h : ItemFigure) → slice_get items k ≡ Some g → h.item ≡ g.item → map (λ i. i.item) (set items k h) ≡ map (λ i. i.item) items
 names_kept [] k g h at same = refl
@@ -52,7 +40,7 @@ names_kept (x ∷ items) zero g h at same =
     ap (λ (n : ItemNo). n ∷ map (λ i. i.item) items) (same ∙ ap (λ (i : ItemFigure). i.item) (sym is))
 names_kept (x ∷ items) (suc k) g h at same = ap (λ (z : List ItemNo). x.item ∷ z) (names_kept items k g h at same)
 
-pub book_kept : (next : ℕ) (names : List ItemNo) (items : List ItemFigure) (k : ℕ) (g h : ItemFigure) → IsBook next names items → slice_get items k ≡ Some g → h.item ≡ g.item → next ≤ MOST
+book_kept : (next : ℕ) (names : List ItemNo) (items : List ItemFigure) (k : ℕ) (g h : ItemFigure) → IsBook next names items → slice_get items k ≡ Some g → h.item ≡ g.item → next ≤ MOST
     → IsWithin (next + 1) h → IsBook (next + 1) names (set items k h)
 book_kept next names items k g h kept at same small within =
     let wider : (i : ItemFigure) → IsWithin next i → IsWithin (next + 1) i = λ i w. record { figure = w.figure; lines = omega (arith, w.lines) } in
@@ -62,86 +50,91 @@ book_kept next names items k g h kept at same small within =
       within = All-set (IsWithin (next + 1)) items k h within (All-weaker (IsWithin next) (IsWithin (next + 1)) wider items kept.within);
     }
 
-pub within_at : (next : ℕ) (items : List ItemFigure) (k : ℕ) (g : ItemFigure) → k < length items → All (IsWithin next) items → slice_get items k ≡ Some g → IsWithin next g
+within_at : (next : ℕ) (items : List ItemFigure) (k : ℕ) (g : ItemFigure) → k < length items → All (IsWithin next) items → slice_get items k ≡ Some g → IsWithin next g
 within_at next items k g l all at =
     subst (IsWithin next) (get_or_from_slice_get items k g g at) (All-get_or (IsWithin next) items k g l all)
 
-pub line_kept : (next : ℕ) (names : List ItemNo) (items : List ItemFigure) (k : ℕ) (g h : ItemFigure) (rising : Bool) (horizon number period quantity cumulative : ℕ)
-    → IsBook next names items → k < length items → slice_get items k ≡ Some g → number ≡ next → h ≡ with_line period quantity g
-    → first_of (line_tests rising horizon number period quantity cumulative g) ≡ None → IsBook (next + 1) names (set items k h)
-line_kept next names items k g h rising horizon number period quantity cumulative kept inside at now is free =
-    let w = within_at next items k g inside kept.within at in
-    let tests = line_tests rising horizon number period quantity cumulative g in
-    let none : NoneHolds tests = none_holds tests free in
-    let figure : cumulative ≡ g.figure + quantity = eqb-true cumulative (g.figure + quantity) (not-false (cumulative == g.figure + quantity) none.1.1.0) in
-    let sizes = or_parts (nat_lt MOST number) (nat_lt MOST (cumulative + g.closed)) none.1.1.1.0 in
-    let small : number ≤ MOST = ltb-false MOST number sizes.0 in
-    let all : cumulative + g.closed ≤ MOST = ltb-false MOST (cumulative + g.closed) sizes.1 in
-    let within : IsWithin (next + 1) (with_line period quantity g) = record { figure = omega (arith, all, figure); lines = omega (arith, w.lines) } in
-    book_kept next names items k g h kept at (ap (λ (i : ItemFigure). i.item) is) (omega (arith, small, now)) (subst (IsWithin (next + 1)) (sym is) within)
+-- ---- a record of an item whose turn it is
 
-pub end_kept : (next : ℕ) (names : List ItemNo) (items : List ItemFigure) (k : ℕ) (g h : ItemFigure) (number lines cumulative : ℕ)
-    → IsBook next names items → k < length items → slice_get items k ≡ Some g → number ≡ next → h ≡ with_end g
-    → first_of (end_tests number lines cumulative g) ≡ None → IsBook (next + 1) names (set items k h)
-end_kept next names items k g h number lines cumulative kept inside at now is free =
-    let w = within_at next items k g inside kept.within at in
-    let none : NoneHolds (end_tests number lines cumulative g) = none_holds (end_tests number lines cumulative g) free in
-    let small : number ≤ MOST = ltb-false MOST number none.0 in
-    let within : IsWithin (next + 1) (with_end g) = record { figure = w.figure; lines = omega (arith, w.lines) } in
-    book_kept next names items k g h kept at (ap (λ (i : ItemFigure). i.item) is) (omega (arith, small, now)) (subst (IsWithin (next + 1)) (sym is) within)
+-- the number is the next one, and the figures of the item stand at its place, in the book and in what it shows
+pub record InTurn (mine book : Figures) (number item k : ℕ) (g : ItemFigure) : Type 0 where
+  pub same : mine ≡ book
+  pub fresh : first_of (number_tests book number) ≡ None
+  pub turn : IsInTurn (Ok k) book item
+  pub inside : k < length mine.items
+  pub here : slice_get mine.items k ≡ Some g
+  pub at : slice_get book.items k ≡ Some g
 
-pub reset_kept : (next : ℕ) (names : List ItemNo) (items : List ItemFigure) (k : ℕ) (g h : ItemFigure) (number closed : ℕ)
-    → IsBook next names items → k < length items → slice_get items k ≡ Some g → number ≡ next → h ≡ with_reset g
-    → first_of (reset_tests number closed g) ≡ None → IsBook (next + 1) names (set items k h)
-reset_kept next names items k g h number closed kept inside at now is free =
-    let w = within_at next items k g inside kept.within at in
-    let none : NoneHolds (reset_tests number closed g) = none_holds (reset_tests number closed g) free in
-    let small : number ≤ MOST = ltb-false MOST number none.0 in
-    let within : IsWithin (next + 1) (with_reset g) = record { figure = omega (arith, w.figure); lines = omega (arith, w.lines) } in
-    book_kept next names items k g h kept at (ap (λ (i : ItemFigure). i.item) is) (omega (arith, small, now)) (subst (IsWithin (next + 1)) (sym is) within)
-
--- the items after booking are those with one changed
-pub items_after : (items : List ItemFigure) (item k : ℕ) (g h : ItemFigure) (change : ItemFigure → ItemFigure) → position (λ i. i.item.0 == item) items ≡ Some k → slice_get items k ≡ Some g → h ≡ change g
-    → set items k h ≡ at_item item change items
-items_after items item k g h change e at is = ap (set items k) is ∙ changed_at item change items k g e at
-
--- ---- the figures of the item in turn
-
--- as they stand in the book and in what it shows
-pub record Found (mine yours : List ItemFigure) (k : ℕ) (g : ItemFigure) : Type 0 where
-  pub inside : k < length mine
-  pub here : slice_get mine k ≡ Some g
-  pub at : slice_get yours k ≡ Some g
-
-pub found : (mine yours : List ItemFigure) (k : ℕ) (g : ItemFigure) → mine ≡ yours → k < length yours → g ≡ get_or mine k g → Found mine yours k g
-found mine yours k g same within read =
-    let inside : k < length mine = omega (arith, ap length same, within) in
-    let here : slice_get mine k ≡ Some g = slice_get_read mine (length mine) k g refl inside read in
-    record { inside = inside; here = here; at = subst (λ (z : List ItemFigure). slice_get z k ≡ Some g) same here }
-
--- read again they are the same
-pub same_again : (items : List ItemFigure) (k : ℕ) (g h : ItemFigure) → slice_get items k ≡ Some g → k < length items → h ≡ get_or items k h → h ≡ g
-same_again items k g h here inside read =
-    let again : slice_get items k ≡ Some h = slice_get_read items (length items) k h refl inside read in
-    cc (here, again)
-
--- and with them changed the items are those after booking
-pub items_changed : (mine yours : List ItemFigure) (item k : ℕ) (g h : ItemFigure) (change : ItemFigure → ItemFigure) → mine ≡ yours → position (λ i. i.item.0 == item) yours ≡ Some k
-    → slice_get yours k ≡ Some g → h ≡ change g → set mine k h ≡ at_item item change yours
-items_changed mine yours item k g h change same e at is =
-    ap (λ (z : List ItemFigure). set z k h) same ∙ items_after yours item k g h change e at is
+pub item_in_turn : (mine book : Figures) (number item k : ℕ) (g : ItemFigure) → mine ≡ book → first_of (number_tests book number) ≡ None → IsInTurn (Ok k) book item → g ≡ get_or mine.items k g → InTurn mine book number item k g
+item_in_turn mine book number item k g same fresh turn read =
+    let items : mine.items ≡ book.items = ap (λ (f : Figures). f.items) same in
+    let inside : k < length mine.items = omega (arith, ap length items, turn.1) in
+    let here : slice_get mine.items k ≡ Some g = slice_get_read mine.items (length mine.items) k g refl inside read in
+    record { same = same; fresh = fresh; turn = turn; inside = inside; here = here; at = shown_at mine book k g same turn.1 read }
 
 -- the figures after a record of an item
 abbrev pub advanced : Figures → Option ℕ → List ItemFigure → Figures
 advanced f begun items = record f { next = f.next + 1; begun = begun; items = items }
 
-pub advanced_is : (f h : Figures) (begun : Option ℕ) (gs hs : List ItemFigure) → f ≡ h → gs ≡ hs → advanced f begun gs ≡ advanced h begun hs
-advanced_is f h begun gs hs e i = ap (λ (z : Figures). advanced z begun gs) e ∙ ap (λ (z : List ItemFigure). advanced h begun z) i
+module _ {mine book : Figures} {number item k : ℕ} {g : ItemFigure} (t : InTurn mine book number item k g) where
+  -- the first fault is that of the record's own tests
+  pub own_fault : (tests : ItemFigure → List Test) (o : Option BookFault) → first_of (tests g) ≡ o → first_of (number_tests book number ++ with_item (find_item book.items item) book.begun item tests) ≡ o
+  own_fault tests o own =
+      first_of-ok (number_tests book number) (with_item (find_item book.items item) book.begun item tests) t.fresh ∙ t.turn.2 tests g t.at ∙ own
 
--- the tests of a line by equal kinds and horizons
-pub same_line_tests : (r r' : Bool) (n n' number period quantity cumulative : ℕ) (g : ItemFigure) (o : Option BookFault) → r ≡ r' → n ≡ n'
-    → first_of (line_tests r n number period quantity cumulative g) ≡ o → first_of (line_tests r' n' number period quantity cumulative g) ≡ o
-same_line_tests r r' n n' number period quantity cumulative g o e f is =
-    ap (λ (b : Bool). first_of (line_tests b n' number period quantity cumulative g)) (sym e)
-    ∙ ap (λ (m : ℕ). first_of (line_tests r m number period quantity cumulative g)) (sym f)
-    ∙ is
+  -- the tests of a line by the kind and the horizon that the book shows
+  pub shown_line_tests : (horizon period quantity cumulative : ℕ) (o : Option BookFault) → horizon ≡ mine.horizon
+      → first_of (line_tests mine.rising horizon number period quantity cumulative g) ≡ o → first_of (line_tests book.rising book.horizon number period quantity cumulative g) ≡ o
+  shown_line_tests horizon period quantity cumulative o e is =
+      ap (λ (b : Figures). first_of (line_tests b.rising b.horizon number period quantity cumulative g)) (sym t.same)
+      ∙ ap (λ (m : ℕ). first_of (line_tests mine.rising m number period quantity cumulative g)) (sym e)
+      ∙ is
+
+  number_is_next : number ≡ mine.next
+  number_is_next =
+      let none : NoneHolds (number_tests book number) = none_holds (number_tests book number) t.fresh in
+      omega (arith, ltb-false number book.next none.0, ltb-false book.next number none.1.0, ap (λ (f : Figures). f.next) t.same)
+
+  -- what is read again and changed is the same item, changed
+  changed_is : (again h : ItemFigure) (change : ItemFigure → ItemFigure) → again ≡ get_or mine.items k again → h ≡ change again → h ≡ change g
+  changed_is again h change read is =
+      let second : slice_get mine.items k ≡ Some again = slice_get_read mine.items (length mine.items) k again refl t.inside read in
+      let one : again ≡ g = cc (t.here, second) in
+      is ∙ ap change one
+
+  -- the figures after it
+  pub booked : (again h : ItemFigure) (change : ItemFigure → ItemFigure) (begun : Option ℕ) → again ≡ get_or mine.items k again → h ≡ change again
+      → advanced mine begun (set mine.items k h) ≡ advanced book begun (at_item item change book.items)
+  booked again h change begun read is =
+      let items : set mine.items k h ≡ at_item item change book.items =
+      ap (λ (f : Figures). set f.items k h) t.same ∙ ap (set book.items k) (changed_is again h change read is) ∙ changed_at item change book.items k g t.turn.0 t.at in
+      ap (λ (f : Figures). advanced f begun (set mine.items k h)) t.same ∙ ap (λ (z : List ItemFigure). advanced book begun z) items
+
+  kept : (names : List ItemNo) (again h : ItemFigure) (change : ItemFigure → ItemFigure) → IsBook mine.next names mine.items → again ≡ get_or mine.items k again → h ≡ change again
+      → (change g).item ≡ g.item → number ≤ MOST → (IsWithin mine.next g → IsWithin (mine.next + 1) (change g)) → IsBook (mine.next + 1) names (set mine.items k h)
+  kept names again h change was read is same small within =
+      let changed : h ≡ change g = changed_is again h change read is in
+      let w : IsWithin (mine.next + 1) (change g) = within (within_at mine.next mine.items k g t.inside was.within t.here) in
+      book_kept mine.next names mine.items k g h was t.here (ap (λ (i : ItemFigure). i.item) changed ∙ same) (omega (arith, small, number_is_next)) (subst (IsWithin (mine.next + 1)) (sym changed) w)
+
+  pub line_kept : (names : List ItemNo) (again h : ItemFigure) (period quantity cumulative : ℕ) → IsBook mine.next names mine.items → again ≡ get_or mine.items k again → h ≡ with_line period quantity again
+      → first_of (line_tests book.rising book.horizon number period quantity cumulative g) ≡ None → IsBook (mine.next + 1) names (set mine.items k h)
+  line_kept names again h period quantity cumulative was read is free =
+      let tests = line_tests book.rising book.horizon number period quantity cumulative g in
+      let none : NoneHolds tests = none_holds tests free in
+      let figure : cumulative ≡ g.figure + quantity = eqb-true cumulative (g.figure + quantity) (not-false (cumulative == g.figure + quantity) none.1.1.0) in
+      let sizes = or_parts (nat_lt MOST number) (nat_lt MOST (cumulative + g.closed)) none.1.1.1.0 in
+      let all : cumulative + g.closed ≤ MOST = ltb-false MOST (cumulative + g.closed) sizes.1 in
+      kept names again h (with_line period quantity) was read is refl (ltb-false MOST number sizes.0) (λ w. record { figure = omega (arith, all, figure); lines = omega (arith, w.lines) })
+
+  pub end_kept : (names : List ItemNo) (again h : ItemFigure) (lines cumulative : ℕ) → IsBook mine.next names mine.items → again ≡ get_or mine.items k again → h ≡ with_end again
+      → first_of (end_tests number lines cumulative g) ≡ None → IsBook (mine.next + 1) names (set mine.items k h)
+  end_kept names again h lines cumulative was read is free =
+      let none : NoneHolds (end_tests number lines cumulative g) = none_holds (end_tests number lines cumulative g) free in
+      kept names again h with_end was read is refl (ltb-false MOST number none.0) (λ w. record { figure = w.figure; lines = omega (arith, w.lines) })
+
+  pub reset_kept : (names : List ItemNo) (again h : ItemFigure) (closed : ℕ) → IsBook mine.next names mine.items → again ≡ get_or mine.items k again → h ≡ with_reset again
+      → first_of (reset_tests number closed g) ≡ None → IsBook (mine.next + 1) names (set mine.items k h)
+  reset_kept names again h closed was read is free =
+      let none : NoneHolds (reset_tests number closed g) = none_holds (reset_tests number closed g) free in
+      kept names again h with_reset was read is refl (ltb-false MOST number none.0) (λ w. record { figure = omega (arith, w.figure); lines = omega (arith, w.lines) })

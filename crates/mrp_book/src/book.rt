@@ -89,13 +89,13 @@ impl Book {
     /// # Errors
     ///
     /// The first fault that holds; then nothing has changed.
-    pub fn book(&mut self, record: &Record) -> Result<(), BookFault>
-        ensures booked { OnOk result ((F : LaneForm) (records : List Record) → Shows F self.old records → Shows F self.new (records ++ «record».now ∷ [])) }
+    pub fn book(&mut self, entry: &Record) -> Result<(), BookFault>
+        ensures booked { OnOk result ((F : LaneForm) (records : List Record) → Shows F self.old records → Shows F self.new (records ++ entry.now ∷ [])) }
         ensures refused { IfErr result (λ fault. (F : LaneForm) (records : List Record) → Shows F self.old records
-            → (first_fault (figures F records) «record».now ≡ Some fault) × (IsInForm F (records ++ «record».now ∷ []) → ⊥)) }
+            → (first_fault (figures F records) entry.now ≡ Some fault) × (IsInForm F (records ++ entry.now ∷ []) → ⊥)) }
         ensures unchanged { OnErr result (self.new ≡ self.old) }
     {
-        self.book_exactly(*record)
+        self.book_exactly(*entry)
     }
 
     /// The cumulative figure of an item, closed years added, or `None` where it isn't on the lane.
@@ -156,10 +156,10 @@ impl Book {
     }
 
     /// Books a record where no fault holds.
-    fn book_exactly(&mut self, record: Record) -> Result<(), BookFault>
-        ensures { Books self.old self.new «record» result }
+    fn book_exactly(&mut self, entry: Record) -> Result<(), BookFault>
+        ensures { Books self.old self.new entry result }
     {
-        match record {
+        match entry {
             Record::Line {
                 number,
                 item,

@@ -2,6 +2,8 @@
 
 mod commands;
 mod dates;
+mod firms;
+mod lane_reports;
 mod loops;
 mod lots;
 mod netting;
@@ -9,4 +11,6 @@ mod networks;
 mod planning;
 mod quantities;
 mod reading;
+mod record_faults;
+mod records;
 mod views;

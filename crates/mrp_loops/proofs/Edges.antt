@@ -1,6 +1,6 @@
 -- The edges of a table, as the lists of a pair's demanders and suppliers have them.
-use Rattle.std.proofs.Common.{◌≡◌, ℕ, ◌==◌, ⊎_elim, length, map, refl, sym, subst, ◌∙◌, arith, count_by}
-use Rattle.std.specs.List.{filter, range_with_len}
+use Rattle.std.proofs.Common.{◌≡◌, ℕ, ◌<◌, ◌==◌, List, ⊎_elim, length, map, refl, sym, subst, ◌∙◌, arith, count_by}
+use Rattle.std.specs.List.{filter, flat_map, range_with_len}
 use Rattle.std.proofs.lemmas.Bool.{eq-eqb, eqb-true}
 use Rattle.mrp_rows.specs.Table.{Table, IsTable, IsPair, IsBillRow, IsSourceRow, source_pair}
 use Rattle.mrp_rows.specs.declared.rows.SourceRow.{SourceRow}
@@ -32,31 +32,31 @@ HasEdge-pairs N table y x h =
     let c = edge_pairs N table h.0 (In-from_contains (edges N) h.0 h.1) in
     (subst (λ (w : ℕ). IsPair N w) h.2 c.0, subst (λ (w : ℕ). IsPair N w) h.3 c.1)
 
+-- edges with one end at y, put in order of the other
+put_in : (by at : Edge → ℕ) (n y : ℕ) (es : List Edge) (e : Edge) → In es e → at e ≡ y → by e < n → In (flat_map (λ x. filter (λ w. by w == x) (filter (λ w. at w == y) es)) (range_with_len 0 n)) e
+put_in by at n y es e h p d =
+    let to = In-filter (λ (w : Edge). at w == y) es e h (eq-eqb (at e) y p) in
+    let group = In-filter (λ (w : Edge). by w == by e) (filter (λ (w : Edge). at w == y) es) e to (eq-eqb (by e) (by e) refl) in
+    In-flat_map (λ x. filter (λ (w : Edge). by w == x) (filter (λ (w : Edge). at w == y) es)) (range_with_len 0 n) (by e) e (In-range 0 n (by e) (omega arith) (omega arith)) group
+
+only_in : (by at : Edge → ℕ) (n y : ℕ) (es : List Edge) (e : Edge) → In (flat_map (λ x. filter (λ w. by w == x) (filter (λ w. at w == y) es)) (range_with_len 0 n)) e → In es e × (at e ≡ y)
+only_in by at n y es e h =
+    let c = flat_map_only (λ x. filter (λ (w : Edge). by w == x) (filter (λ (w : Edge). at w == y) es)) (range_with_len 0 n) e h in
+    let f = filter_only (λ (w : Edge). by w == c.0) (filter (λ (w : Edge). at w == y) es) e c.2 in
+    let g = filter_only (λ (w : Edge). at w == y) es e f.0 in
+    (g.0, eqb-true (at e) y g.1)
+
 pub demanders_have : (N : Table) (x : ℕ) (e : Edge) → In (edges N) e → e.pair.0 ≡ x → IsPair N e.demander.0 → In (demanders N x) e
-demanders_have N x e h p d =
-    let to = In-filter (λ (w : Edge). w.pair.0 == x) (edges N) e h (eq-eqb e.pair.0 x p) in
-    let by = In-filter (λ (w : Edge). w.demander.0 == e.demander.0) (filter (λ (w : Edge). w.pair.0 == x) (edges N)) e to (eq-eqb e.demander.0 e.demander.0 refl) in
-    In-flat_map (λ y. filter (λ (w : Edge). w.demander.0 == y) (filter (λ (w : Edge). w.pair.0 == x) (edges N))) (range_with_len 0 (length N.pairs)) e.demander.0 e (In-range 0 (length N.pairs) e.demander.0 (omega arith) (omega arith)) by
+demanders_have N x e h p d = put_in (λ w. w.demander.0) (λ w. w.pair.0) (length N.pairs) x (edges N) e h p d
 
 pub demanders_only : (N : Table) (x : ℕ) (e : Edge) → In (demanders N x) e → In (edges N) e × (e.pair.0 ≡ x)
-demanders_only N x e h =
-    let c = flat_map_only (λ y. filter (λ (w : Edge). w.demander.0 == y) (filter (λ (w : Edge). w.pair.0 == x) (edges N))) (range_with_len 0 (length N.pairs)) e h in
-    let f = filter_only (λ (w : Edge). w.demander.0 == c.0) (filter (λ (w : Edge). w.pair.0 == x) (edges N)) e c.2 in
-    let g = filter_only (λ (w : Edge). w.pair.0 == x) (edges N) e f.0 in
-    (g.0, eqb-true e.pair.0 x g.1)
+demanders_only N x e h = only_in (λ w. w.demander.0) (λ w. w.pair.0) (length N.pairs) x (edges N) e h
 
 pub suppliers_have : (N : Table) (y : ℕ) (e : Edge) → In (edges N) e → e.demander.0 ≡ y → IsPair N e.pair.0 → In (suppliers N y) e
-suppliers_have N y e h p d =
-    let by = In-filter (λ (w : Edge). w.demander.0 == y) (edges N) e h (eq-eqb e.demander.0 y p) in
-    let to = In-filter (λ (w : Edge). w.pair.0 == e.pair.0) (filter (λ (w : Edge). w.demander.0 == y) (edges N)) e by (eq-eqb e.pair.0 e.pair.0 refl) in
-    In-flat_map (λ x. filter (λ (w : Edge). w.pair.0 == x) (filter (λ (w : Edge). w.demander.0 == y) (edges N))) (range_with_len 0 (length N.pairs)) e.pair.0 e (In-range 0 (length N.pairs) e.pair.0 (omega arith) (omega arith)) to
+suppliers_have N y e h p d = put_in (λ w. w.pair.0) (λ w. w.demander.0) (length N.pairs) y (edges N) e h p d
 
 pub suppliers_only : (N : Table) (y : ℕ) (e : Edge) → In (suppliers N y) e → In (edges N) e × (e.demander.0 ≡ y)
-suppliers_only N y e h =
-    let c = flat_map_only (λ x. filter (λ (w : Edge). w.pair.0 == x) (filter (λ (w : Edge). w.demander.0 == y) (edges N))) (range_with_len 0 (length N.pairs)) e h in
-    let f = filter_only (λ (w : Edge). w.pair.0 == c.0) (filter (λ (w : Edge). w.demander.0 == y) (edges N)) e c.2 in
-    let g = filter_only (λ (w : Edge). w.demander.0 == y) (edges N) e f.0 in
-    (g.0, eqb-true e.demander.0 y g.1)
+suppliers_only N y e h = only_in (λ w. w.pair.0) (λ w. w.demander.0) (length N.pairs) y (edges N) e h
 
 -- the edges from y to x, counted at either end
 pub count_between : (N : Table) (y x : ℕ) → IsPair N y → IsPair N x → count_by (λ e. e.demander.0 == y) (demanders N x) ≡ count_by (λ e. e.pair.0 == x) (suppliers N y)

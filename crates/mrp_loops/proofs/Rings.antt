@@ -2,7 +2,7 @@
 use Rattle.std.proofs.Common.{◌≡◌, ◌≢◌, ℕ, ◌+◌, ◌<◌, ◌≤◌, ◌==◌, Bool, true, false, ⊎_elim, List, [], ◌∷◌, ◌++◌, map, reverse, length, get_or, set, take, drop, refl, sym, ap, subst, ◌∙◌, arith, All, IsPermutation}
 use Rattle.std.specs.List.{IsDistinct, AllPairs}
 use Rattle.std.proofs.lemmas.Bool.{ne_eqb, cases_eq, both_ways, eq-eqb}
-use Rattle.std.proofs.lemmas.List.{append-nil, append_assoc, map-append, reverse-append, take-append-drop, get_or-drop, get_or-map, length-map, length-drop, drop_more, get_or_default, take-map, drop-map, get_or-set_same, get_or-set_other, length_push}
+use Rattle.std.proofs.lemmas.List.{append-nil, append_assoc, map-append, reverse-append, take-append-drop, get_or-drop, get_or-map, length-map, length-drop, drop_more, get_or_default, get_or_read, take-map, drop-map, get_or-set_same, get_or-set_other, length_push}
 use Rattle.std.proofs.lemmas.List.Sorted.{IsPermutation-reverse, IsPermutation-append_comm, IsPermutation-trans, IsPermutation-map, All-permutation}
 use Rattle.std.proofs.lemmas.Map.Keys.{IsDistinct-from_apart, IsDistinct-IsPermutation, apart_from_distinct}
 use Rattle.mrp_rows.specs.Table.{Table, IsTable, IsPair}
@@ -150,6 +150,12 @@ seen_more N visited path x size at seen y pair = ⊎_elim
 pub climbs_more : (N : Table) (path : List PairNo) (x z : PairNo) → Climbs N x.0 (reverse path) → HasEdge N z.0 x.0 → Climbs N z.0 (reverse (path ++ x ∷ []))
 climbs_more N path x z climbs edge =
     subst (λ (q : List PairNo). Climbs N z.0 q) (sym (reverse-append path (x ∷ []))) (edge, climbs)
+
+-- a pair that isn't marked is not on the path
+pub not_seen : (N : Table) (path : List PairNo) (visited : List Bool) (x : PairNo) (mark : Bool) → length visited ≡ length N.pairs → ((y : ℕ) → IsPair N y → get_or visited y false ≡ is_in path y) → IsPair N x.0
+    → mark ≡ get_or visited x.0 mark → mark ≡ false → is_in path x.0 ≡ false
+not_seen N path visited x mark size seen pair read unmarked =
+    sym (seen x.0 pair) ∙ sym (get_or_read visited x.0 mark (omega (arith, size, pair)) read false) ∙ unmarked
 
 -- a path is shorter than the table while the walk comes to new pairs
 pub path_short : (N : Table) (path : List PairNo) (x : PairNo) → All (λ z. IsPair N z.0) path → IsPair N x.0 → IsApart path → is_in path x.0 ≡ false → length path < length N.pairs

@@ -329,6 +329,14 @@ module _ (N : Table) (next : ℕ) (y : PairNo) (queue : List PairNo) (left codes
   pub hand_read : (n : ℕ) → n ≡ get_or codes y.0 n → n ≡ slice_index codes y.0
   hand_read n read = get_or_read codes y.0 n (omega (arith, taken.counted.codes_size, hand_pair)) read 0
 
+  -- the invariant of the loop over its edges as the loop has it
+  pub hand_so_far : (code : ℕ) (es : List Edge) (i : ℕ) (q : List PairNo) (ls cs : List ℕ) → code ≡ get_or codes y.0 code → es ≡ suppliers N y.0
+      → IsPassing N (take next queue) y (code + 1) (take i es) (drop i es) q ls cs
+      → IsPassing N (take next queue) y (slice_index codes y.0 + 1) (take i (suppliers N y.0)) (drop i (suppliers N y.0)) q ls cs
+  hand_so_far code es i q ls cs read same p =
+      subst (λ (n : ℕ). IsPassing N (take next queue) y (n + 1) (take i (suppliers N y.0)) (drop i (suppliers N y.0)) q ls cs) (hand_read code read)
+      (subst (λ (zs : List Edge). IsPassing N (take next queue) y (code + 1) (take i zs) (drop i zs) q ls cs) same p)
+
   pub hand_begins : IsPassing N (take next queue) y (slice_index codes y.0 + 1) [] (suppliers N y.0) queue left codes
   hand_begins = passing_begins N (take next queue) (drop (next + 1) queue) y queue left codes (slice_index codes y.0 + 1) taken hand_front hand_pair hand_new
 

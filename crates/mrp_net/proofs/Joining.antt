@@ -1,5 +1,5 @@
 -- The edges join pairs of the table, however they are grouped.
-use Rattle.std.proofs.Common.{◌≡◌, ℕ, ◌+◌, ◌<◌, eqb, List, length, map, slice_index, slice_range, ap, ◌∙◌, arith}
+use Rattle.std.proofs.Common.{◌≡◌, ℕ, ◌+◌, ◌<◌, ◌≤◌, eqb, List, length, map, slice_index, slice_range, sym, subst, ap, ◌∙◌, arith}
 use Rattle.std.specs.List.{All, filter}
 use Rattle.std.proofs.lemmas.List.Elements.{All-append, All-map, All-filter}
 use Rattle.mrp_rows.specs.Table.{Table, IsTable, IsPair}
@@ -8,7 +8,7 @@ use Rattle.mrp_net.specs.Edges.{bill_edge, source_edge, edges, demanders, suppli
 use Rattle.mrp_group.specs.Groups.{sorted_by}
 use Rattle.mrp_net.specs.Built.{by_demander, by_pair, AreDemanders, AreSuppliers}
 use Rattle.mrp_group.proofs.Grouping.{before_key-all, length-sorted_by}
-use Rattle.mrp_group.proofs.Sorting.{filter-sorted_by, group-sorted_by, All-sorted_by}
+use Rattle.mrp_group.proofs.Sorting.{filter-sorted_by, group-sorted_by, All-sorted_by, IsGrouped-within}
 
 pub edges_join : (N : Table) → IsTable N → All (IsEdge N) (edges N)
 edges_join N is =
@@ -33,12 +33,12 @@ pub by_pair_length : (N : Table) → IsTable N → length (by_pair N) ≡ length
 by_pair_length N is = sorted_length N (λ e. e.pair.0) (by_demander N) (λ k d h. (by_demander_joins N (edges_join N is) k d h).pair)
 
 -- the slices of the two lists are the edges to a pair and those from it
-pub demanders_slice : (N : Table) (rows : List Edge) (starts : List ℕ) (x : ℕ) → AreDemanders N rows starts → IsPair N x → slice_range rows (slice_index starts x) (slice_index starts (x + 1)) ≡ demanders N x
+demanders_slice : (N : Table) (rows : List Edge) (starts : List ℕ) (x : ℕ) → AreDemanders N rows starts → IsPair N x → slice_range rows (slice_index starts x) (slice_index starts (x + 1)) ≡ demanders N x
 demanders_slice N rows starts x are h =
     are.slices x h
     ∙ filter-sorted_by (λ e. eqb e.pair.0 x) (λ e. e.demander.0) (length N.pairs) (edges N)
 
-pub suppliers_slice : (N : Table) (rows : List Edge) (starts : List ℕ) (y : ℕ) → AreSuppliers N rows starts → IsPair N y → slice_range rows (slice_index starts y) (slice_index starts (y + 1)) ≡ suppliers N y
+suppliers_slice : (N : Table) (rows : List Edge) (starts : List ℕ) (y : ℕ) → AreSuppliers N rows starts → IsPair N y → slice_range rows (slice_index starts y) (slice_index starts (y + 1)) ≡ suppliers N y
 suppliers_slice N rows starts y are h =
     are.slices y h
     ∙ filter-sorted_by (λ e. eqb e.demander.0 y) (λ e. e.pair.0) (length N.pairs) (by_demander N)
@@ -47,5 +47,27 @@ suppliers_slice N rows starts y are h =
 pub demanders_join : (N : Table) (x : ℕ) → All (IsEdge N) (edges N) → All (IsEdge N) (demanders N x)
 demanders_join N x all = All-sorted_by (IsEdge N) (λ e. e.demander.0) (length N.pairs) (filter (λ e. eqb e.pair.0 x) (edges N)) (All-filter (λ e. eqb e.pair.0 x) (IsEdge N) (edges N) all)
 
-pub suppliers_join : (N : Table) (y : ℕ) → All (IsEdge N) (edges N) → All (IsEdge N) (suppliers N y)
+suppliers_join : (N : Table) (y : ℕ) → All (IsEdge N) (edges N) → All (IsEdge N) (suppliers N y)
 suppliers_join N y all = All-sorted_by (IsEdge N) (λ e. e.pair.0) (length N.pairs) (filter (λ e. eqb e.demander.0 y) (edges N)) (All-filter (λ e. eqb e.demander.0 y) (IsEdge N) (edges N) all)
+
+-- ---- the edges of a pair as a network reads them
+
+pub record EdgesOf (M : Table) (rows : List Edge) (starts : List ℕ) (x : ℕ) (are : List Edge) : Type 0 where
+  pub rises : slice_index starts x ≤ slice_index starts (x + 1)
+  pub within : slice_index starts (x + 1) ≤ length rows
+  pub value : slice_range rows (slice_index starts x) (slice_index starts (x + 1)) ≡ are
+  pub edges : All (IsEdge M) are
+
+pub demanders_of : (N M : Table) (rows : List Edge) (starts : List ℕ) (x : ℕ) → N ≡ M → AreDemanders N rows starts → IsTable N → IsPair M x → EdgesOf M rows starts x (demanders M x)
+demanders_of N M rows starts x is are table pair =
+    let here : IsPair N x = subst (λ (z : Table). IsPair z x) (sym is) pair in
+    let ends = IsGrouped-within (λ e. e.pair.0) (length N.pairs) (by_demander N) rows starts x are here in
+    subst (λ (z : Table). EdgesOf z rows starts x (demanders z x)) is
+    (record { rises = ends.0; within = ends.1; value = demanders_slice N rows starts x are here; edges = demanders_join N x (edges_join N table) })
+
+pub suppliers_of : (N M : Table) (rows : List Edge) (starts : List ℕ) (x : ℕ) → N ≡ M → AreSuppliers N rows starts → IsTable N → IsPair M x → EdgesOf M rows starts x (suppliers M x)
+suppliers_of N M rows starts x is are table pair =
+    let here : IsPair N x = subst (λ (z : Table). IsPair z x) (sym is) pair in
+    let ends = IsGrouped-within (λ e. e.demander.0) (length N.pairs) (by_pair N) rows starts x are here in
+    subst (λ (z : Table). EdgesOf z rows starts x (suppliers z x)) is
+    (record { rises = ends.0; within = ends.1; value = suppliers_slice N rows starts x are here; edges = suppliers_join N x (edges_join N table) })

@@ -91,7 +91,7 @@ taken_group N customer supplier is h =
     ∙ ap (map (taken N)) (filter_same (λ s. eqb (taken N s).route (route_no N customer supplier)) (λ s. eqb (pair_at N s.pair.0).plant.0 customer && eqb s.plant.0 supplier) N.sources
     (λ k d lt. place_test (pair_at N (get_or N.sources k d).pair.0).plant.0 (get_or N.sources k d).plant.0 customer supplier (length N.plants) (is.read.sources k d lt).plant h))
 
-pub items_slice : (N : Table) (rows : List ItemNo) (starts : List ℕ) (customer supplier : ℕ) → IsTable N → AreItems N rows starts → customer < length N.plants → supplier < length N.plants → slice_range rows (slice_index starts (route_no N customer supplier)) (slice_index starts (route_no N customer supplier + 1)) ≡ map (item_of N) (taken_over N customer supplier)
+items_slice : (N : Table) (rows : List ItemNo) (starts : List ℕ) (customer supplier : ℕ) → IsTable N → AreItems N rows starts → customer < length N.plants → supplier < length N.plants → slice_range rows (slice_index starts (route_no N customer supplier)) (slice_index starts (route_no N customer supplier + 1)) ≡ map (item_of N) (taken_over N customer supplier)
 items_slice N rows starts customer supplier is are h g =
     ShowsGroups-slice (λ (t : Taken). t.item) (λ t. t.route) (length N.plants * length N.plants) (map (taken N) N.sources) rows starts (route_no N customer supplier) are (route_within N customer supplier h g)
     ∙ ap (map (λ (t : Taken). t.item)) (taken_group N customer supplier is g)
@@ -157,6 +157,26 @@ lane_items_within N lane is =
     All-map (λ (item : ItemNo). item.0 < length N.items) (item_of N) (taken_over N (customer_of lane) (supplier_of lane))
     (λ k d h. let row = All-filter test (IsSourceRow N) N.sources is.read.sources k d h in
     (is.read.pairs (get_or (taken_over N (customer_of lane) (supplier_of lane)) k d).pair.0 no_pair row.pair).item)
+
+-- the items of a lane as a network reads them
+pub record ItemsOf (M : Table) (rows : List ItemNo) (starts : List ℕ) (route : ℕ) (lane : Lane) : Type 0 where
+  pub rises : slice_index starts route ≤ slice_index starts (route + 1)
+  pub within : slice_index starts (route + 1) ≤ length rows
+  pub value : slice_range rows (slice_index starts route) (slice_index starts (route + 1)) ≡ lane_items M lane
+  pub items : All (λ item. item.0 < length M.items) (lane_items M lane)
+
+items_there : (N : Table) (rows : List ItemNo) (starts : List ℕ) (lane : Lane) → AreItems N rows starts → IsTable N → IsLane N lane → ItemsOf N rows starts (route_no N (customer_of lane) (supplier_of lane)) lane
+items_there N rows starts lane are table joins =
+    let route = route_no N (customer_of lane) (supplier_of lane) in
+    let ends = ShowsGroups-within (λ (t : Taken). t.item) (λ t. t.route) (length N.plants * length N.plants) (map (taken N) N.sources) rows starts route are (route_within N (customer_of lane) (supplier_of lane) joins.customer joins.supplier) in
+    record { rises = ends.0; within = ends.1; value = items_slice N rows starts (customer_of lane) (supplier_of lane) table are joins.customer joins.supplier; items = lane_items_within N lane table }
+
+pub items_of_lane : (N M : Table) (rows : List ItemNo) (starts : List ℕ) (lane at : Lane) (route : ℕ) → N ≡ M → AreItems N rows starts → IsTable N → IsLane M lane → lane ≡ at → route ≡ route_no M (customer_of lane) (supplier_of lane)
+    → ItemsOf M rows starts route at
+items_of_lane N M rows starts lane at route is are table joins same there =
+    subst (ItemsOf M rows starts route) same
+    (subst (λ (k : ℕ). ItemsOf M rows starts k lane) (sym there)
+    (items_there M rows starts lane (subst (λ (z : Table). AreItems z rows starts) is are) (subst IsTable is table) joins))
 
 -- where figures begin, by the kind of the lane
 pub opening_despatch : (N : Table) (lane : Lane) (item : ItemNo) → lane.kind ≡ Despatch → opening N lane item ≡ figure N (pair_on N lane item) (supplier_of lane)

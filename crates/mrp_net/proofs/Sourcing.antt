@@ -1,5 +1,5 @@
 -- The sources of a pair stand together, and each is found by its pair and plant.
-use Rattle.std.proofs.Common.{◌≡◌, ◌≢◌, ℕ, suc, zero, ◌+◌, ◌<◌, ◌≤◌, ◌&&◌, Bool, true, cond, eqb, ltb, List, [], ◌∷◌, inl, inr, length, get_or, slice_index, slice_range, map, replicate, refl, sym, ap, ◌∙◌, arith}
+use Rattle.std.proofs.Common.{◌≡◌, ◌≢◌, ℕ, suc, zero, ◌+◌, ◌<◌, ◌≤◌, ◌&&◌, Bool, true, cond, eqb, ltb, List, [], ◌∷◌, inl, inr, length, get_or, slice_index, slice_range, map, replicate, refl, sym, ap, ◌∙◌, arith, ◌^◌, subst}
 use Rattle.std.specs.List.{All, Contains, filter, sum_by}
 use Rattle.std.specs.List.Sorted.{IsNonDecreasingBy}
 use Rattle.std.proofs.lemmas.Bool.{cases_lt, cases_eq, eq-eqb, eqb-true, ne_eqb, and_from, and_parts, true≢false, false_from_ne_true}
@@ -177,34 +177,34 @@ item_is_taken N lane item is contains =
 sums_from_zero : (n k : ℕ) (before : List ℕ) → before ≡ replicate n 0 → k < n → get_or before k 0 ≡ 0
 sums_from_zero n k before zeros h = ap (λ (z : List ℕ). get_or z k 0) zeros ∙ get_or-replicate n k 0 0 h
 
-pub figures_built : (N : Table) (before after : List ℕ) → IsTable N → before ≡ replicate (length N.sources) 0 → length after ≡ length before → AddsTotals (λ (c : CumRow). source_no N c.pair.0 c.from.0) (λ c. c.figure) N.cums before after → AreSent N (figure N) after
-figures_built N before after is zeros same adds =
+sums_by_source : {R : Type 0} (source amount : R → ℕ) (sums : ℕ → ℕ → ℕ) (N : Table) (rows : List R) (before after : List ℕ) → before ≡ replicate (length N.sources) 0 → length after ≡ length before → AddsTotals source amount rows before after
+    → ((x p : ℕ) → is_taken_from N x p ≡ true → sum_by (λ r. cond (eqb (source r) (source_no N x p)) (amount r) 0) rows ≡ sums x p) → ((x p : ℕ) → sums x p ≤ 10 ^ 18) → AreSent N sums after
+sums_by_source source amount sums N rows before after zeros same adds are few =
     let room : length before ≡ length N.sources = ap length zeros ∙ length-replicate (length N.sources) 0 in
     record {
       size = same ∙ room;
       each = λ x p taken.
           let k : ℕ = source_no N x p in
           let within : k < length N.sources = source_within N x p taken in
-          let sum : sum_by (λ c. cond (eqb (source_no N c.pair.0 c.from.0) k) c.figure 0) N.cums ≡ figure N x p =
-          sum_by-same (λ c. cond (eqb (source_no N c.pair.0 c.from.0) k) c.figure 0) (λ c. cond (eqb c.pair.0 x && eqb c.from.0 p) c.figure 0) N.cums
-          (λ i d h. ap (λ (b : Bool). cond b (get_or N.cums i d).figure 0) (source_test N (get_or N.cums i d).pair.0 (get_or N.cums i d).from.0 x p taken)) in
-          omega (arith, adds k (omega arith), sums_from_zero (length N.sources) k before zeros within, sum, figure_within N is x p);
+          omega (arith, adds k (omega arith), sums_from_zero (length N.sources) k before zeros within, are x p taken, few x p);
     }
+
+pub figures_built : (N : Table) (before after : List ℕ) → IsTable N → before ≡ replicate (length N.sources) 0 → length after ≡ length before → AddsTotals (λ (c : CumRow). source_no N c.pair.0 c.from.0) (λ c. c.figure) N.cums before after → AreSent N (figure N) after
+figures_built N before after is zeros same adds =
+    sums_by_source (λ c. source_no N c.pair.0 c.from.0) (λ c. c.figure) (figure N) N N.cums before after zeros same adds
+    (λ x p taken. sum_by-same (λ c. cond (eqb (source_no N c.pair.0 c.from.0) (source_no N x p)) c.figure 0) (λ c. cond (eqb c.pair.0 x && eqb c.from.0 p) c.figure 0) N.cums
+    (λ i d h. ap (λ (b : Bool). cond b (get_or N.cums i d).figure 0) (source_test N (get_or N.cums i d).pair.0 (get_or N.cums i d).from.0 x p taken)))
+    (λ x p. let most = figure_within N is x p in omega arith)
 
 pub shipped_built : (N : Table) (before after : List ℕ) → IsTable N → before ≡ replicate (length N.sources) 0 → length after ≡ length before → AddsTotals (λ (t : Sent). t.source) (λ t. t.shipment.quantity) (map (sent N) N.ships) before after → AreSent N (shipped_from N) after
 shipped_built N before after is zeros same adds =
-    let room : length before ≡ length N.sources = ap length zeros ∙ length-replicate (length N.sources) 0 in
-    record {
-      size = same ∙ room;
-      each = λ x p taken.
-          let k : ℕ = source_no N x p in
-          let within : k < length N.sources = source_within N x p taken in
-          let by_source : sum_by (λ (t : Sent). cond (eqb t.source k) t.shipment.quantity 0) (map (sent N) N.ships) ≡ sum_by (λ s. cond (eqb (source_no N s.pair.0 s.from.0) k) s.quantity 0) N.ships = sum_map (λ (t : Sent). cond (eqb t.source k) t.shipment.quantity 0) (sent N) N.ships in
-          let sum : sum_by (λ s. cond (eqb (source_no N s.pair.0 s.from.0) k) s.quantity 0) N.ships ≡ shipped_from N x p =
-          sum_by-same (λ s. cond (eqb (source_no N s.pair.0 s.from.0) k) s.quantity 0) (λ s. cond (eqb s.pair.0 x && eqb s.from.0 p) s.quantity 0) N.ships
-          (λ i d h. ap (λ (b : Bool). cond b (get_or N.ships i d).quantity 0) (source_test N (get_or N.ships i d).pair.0 (get_or N.ships i d).from.0 x p taken)) in
-          omega (arith, adds k (omega arith), sums_from_zero (length N.sources) k before zeros within, by_source, sum, shipped_from_within N is x p);
-    }
+    sums_by_source (λ (t : Sent). t.source) (λ t. t.shipment.quantity) (shipped_from N) N (map (sent N) N.ships) before after zeros same adds
+    (λ x p taken. let by_source : sum_by (λ (t : Sent). cond (eqb t.source (source_no N x p)) t.shipment.quantity 0) (map (sent N) N.ships) ≡ sum_by (λ s. cond (eqb (source_no N s.pair.0 s.from.0) (source_no N x p)) s.quantity 0) N.ships =
+    sum_map (λ (t : Sent). cond (eqb t.source (source_no N x p)) t.shipment.quantity 0) (sent N) N.ships in
+    by_source
+    ∙ sum_by-same (λ s. cond (eqb (source_no N s.pair.0 s.from.0) (source_no N x p)) s.quantity 0) (λ s. cond (eqb s.pair.0 x && eqb s.from.0 p) s.quantity 0) N.ships
+    (λ i d h. ap (λ (b : Bool). cond b (get_or N.ships i d).quantity 0) (source_test N (get_or N.ships i d).pair.0 (get_or N.ships i d).from.0 x p taken)))
+    (shipped_from_within N is)
 
 -- the shipments of a source are a slice
 pub shipments_slice : (N : Table) (rows : List Shipment) (starts : List ℕ) (x p : ℕ) → AreShipments N rows starts → is_taken_from N x p ≡ true → slice_range rows (slice_index starts (source_no N x p)) (slice_index starts (source_no N x p + 1)) ≡ map shipment_of (ships_from N x p)
@@ -216,6 +216,7 @@ shipments_slice N rows starts x p are taken =
     (λ i d h. source_test N (get_or N.ships i d).pair.0 (get_or N.ships i d).from.0 x p taken))
 
 -- a read of an amount of a source
-pub sent_at : (N : Table) (amount : ℕ → ℕ → ℕ) (amounts : List ℕ) (at x p v : ℕ) → AreSent N amount amounts → at ≡ source_no N x p → is_taken_from N x p ≡ true → v ≡ get_or amounts at v → v ≡ amount x p
-sent_at N amount amounts at x p v are is taken read =
-    get_or_read amounts at v (omega (arith, are.size, is, source_within N x p taken)) read 0 ∙ ap (λ (z : ℕ). get_or amounts z 0) is ∙ are.each x p taken
+pub sent_at : (N M : Table) (sums : Table → ℕ → ℕ → ℕ) (amounts : List ℕ) (at x p v : ℕ) → N ≡ M → AreSent N (sums N) amounts → at ≡ source_no M x p → is_taken_from M x p ≡ true → v ≡ get_or amounts at v → v ≡ sums M x p
+sent_at N M sums amounts at x p v same are is taken read =
+    let there : AreSent M (sums M) amounts = subst (λ (z : Table). AreSent z (sums z) amounts) same are in
+    get_or_read amounts at v (omega (arith, there.size, is, source_within M x p taken)) read 0 ∙ ap (λ (z : ℕ). get_or amounts z 0) is ∙ there.each x p taken

@@ -1,9 +1,9 @@
 -- Sums of a table's rows are within 64 bits, so nothing is cut off them.
-use Rattle.std.proofs.Common.{◌≡◌, ℕ, ◌+◌, ◌*◌, ◌^◌, ◌<◌, ◌≤◌, ◌&&◌, Bool, true, false, cond, eqb, List, [], ◌∷◌, length, get_or, map, take, drop, replicate, refl, sym, ap, ◌∙◌, inl, inr, arith}
+use Rattle.std.proofs.Common.{◌≡◌, ℕ, ◌+◌, ◌-◌, ◌*◌, ◌^◌, ◌<◌, ◌≤◌, ◌&&◌, Bool, true, false, cond, eqb, List, [], ◌∷◌, ◌++◌, length, get_or, map, take, drop, replicate, refl, sym, subst, ap, ◌∙◌, inl, inr, arith}
 use Rattle.std.specs.List.{All, AllByRecursion, IsDistinct, sum_by}
 use Rattle.std.proofs.lemmas.Bool.{cond_both, cases_Bool, and_from, and_parts, eq-eqb, eqb-true, false_from_ne_true, true≢false}
 use Rattle.std.proofs.lemmas.Grind.{same_number_lists}
-use Rattle.std.proofs.lemmas.List.{get_or-replicate, get_or-map, get_or-take, get_or-drop, length-replicate, length-map, length-take-le, length-drop}
+use Rattle.std.proofs.lemmas.List.{get_or_read, take_at, get_or-replicate, get_or-map, get_or-take, get_or-drop, length-replicate, length-map, length-take-le, length-drop}
 use Rattle.std.proofs.lemmas.List.FromFn.{get_or-map-range_with_len, length-map-range_with_len}
 use Rattle.std.proofs.lemmas.List.Elements.{All-head, All-tail}
 use Rattle.std.proofs.lemmas.List.Sums.{sum_by-cons, sum_by-le}
@@ -17,7 +17,8 @@ use Rattle.mrp_rows.specs.declared.rows.ReceiptRow.{ReceiptRow}
 use Rattle.mrp_rows.specs.declared.rows.ShipRow.{ShipRow}
 use Rattle.mrp_rows.specs.declared.rows.CumRow.{CumRow}
 use Rattle.mrp_rows.specs.Table.{Table, IsTable, IsPair, horizon, is_same_cum}
-use Rattle.mrp_group.specs.Added.{AddsTotals, AddsAmounts}
+use Rattle.mrp_group.specs.Added.{AddsTotals, AddsAmounts, sum_in}
+use Rattle.mrp_group.proofs.Adding.{AddsAmounts-same}
 use Rattle.mrp_net.specs.Sums.{pair_at, no_pair, row_of, demand, demand_total, received, shipped, incoming}
 use Rattle.mrp_net.specs.Lanes.{figure, shipped_from}
 use Rattle.mrp_net.specs.Built.{AreTotals, ArePeriods, capped_supply}
@@ -41,11 +42,11 @@ pub shipped_within : (N : Table) → IsTable N → (x t : ℕ) → shipped N x t
 shipped_within N is x t = some_within (λ s. eqb s.pair.0 x && eqb s.period t) (λ s. s.quantity) N.ships (λ k d h. (is.read.ships k d h).quantity) is.read.limits.ships
 
 -- a pair and a period have a place
-pub place_within : (N : Table) (amounts : List ℕ) (x t : ℕ) → length amounts ≡ length N.pairs * horizon N → IsPair N x → t < horizon N → x * horizon N + t < length amounts
+place_within : (N : Table) (amounts : List ℕ) (x t : ℕ) → length amounts ≡ length N.pairs * horizon N → IsPair N x → t < horizon N → x * horizon N + t < length amounts
 place_within N amounts x t size h g = omega (arith, size, mul-add-lt x (horizon N) t (length N.pairs) h g, mul_comm (horizon N) (length N.pairs))
 
 -- the amounts of a pair are its row
-pub row_in_periods : (N : Table) (amount : ℕ → ℕ → ℕ) (amounts : List ℕ) (x : ℕ) → ArePeriods N amount amounts → IsPair N x → take (horizon N) (drop (x * horizon N) amounts) ≡ row_of N (amount x)
+row_in_periods : (N : Table) (amount : ℕ → ℕ → ℕ) (amounts : List ℕ) (x : ℕ) → ArePeriods N amount amounts → IsPair N x → take (horizon N) (drop (x * horizon N) amounts) ≡ row_of N (amount x)
 row_in_periods N amount amounts x are h =
     let end : x * horizon N + horizon N ≤ length amounts = omega (arith, are.size, mul-le-mul_left (horizon N) h) in
     let size : length (take (horizon N) (drop (x * horizon N) amounts)) ≡ horizon N = omega (arith, length-take-le (horizon N) (drop (x * horizon N) amounts), length-drop (x * horizon N) amounts) in
@@ -56,38 +57,52 @@ row_in_periods N amount amounts x are h =
     ∙ are.each x t h g
     ∙ sym (get_or-map-range_with_len (amount x) 0 (horizon N) t t 0 g (omega arith)))
 
-pub demand_built : (N : Table) (before after : List ℕ) → IsTable N → before ≡ replicate (length N.pairs * horizon N) 0 → length after ≡ length before → AddsAmounts (λ (d : DemandRow). d.pair.0) (λ d. d.period) (λ d. d.quantity) (horizon N) N.demands before after → ArePeriods N (demand N) after
-demand_built N before after is zeros same adds =
-    let room : length before ≡ length N.pairs * horizon N = ap length zeros ∙ length-replicate (length N.pairs * horizon N) 0 in
-    record {
-      size = same ∙ room;
-      each = λ x t h g.
-          let within = place_within N before x t room h g in
-          let was : get_or before (x * horizon N + t) 0 ≡ 0 = ap (λ (z : List ℕ). get_or z (x * horizon N + t) 0) zeros ∙ get_or-replicate (length N.pairs * horizon N) (x * horizon N + t) 0 0 (omega arith) in
-          omega (arith, adds x t g within, was, demand_within N is x t);
-    }
+-- a row of a list that was read, and one amount
+pub row_read : (N M : Table) (sums : Table → ℕ → ℕ → ℕ) (amounts read : List ℕ) (x n : ℕ) → N ≡ M → ArePeriods N (sums N) amounts → n ≡ horizon M → IsPair M x → read ≡ amounts
+    → take ((x + 1) * n - x * n) (drop (x * n) read) ≡ row_of M (sums M x)
+row_read N M sums amounts read x n is are periods pair same =
+    let long : (x + 1) * n - x * n ≡ n = omega arith in
+    let there : ArePeriods M (sums M) amounts = subst (λ (z : Table). ArePeriods z (sums z) amounts) is are in
+    ap (λ (z : List ℕ). take ((x + 1) * n - x * n) (drop (x * n) z)) same
+    ∙ ap (λ (z : ℕ). take z (drop (x * n) amounts)) long
+    ∙ ap (λ (z : ℕ). take z (drop (x * z) amounts)) periods
+    ∙ row_in_periods M (sums M) amounts x there pair
 
-pub received_built : (N : Table) (before after : List ℕ) → IsTable N → before ≡ replicate (length N.pairs * horizon N) 0 → length after ≡ length before → AddsAmounts (λ (r : ReceiptRow). r.pair.0) (λ r. r.period) (λ r. r.quantity) (horizon N) N.receipts before after → ArePeriods N (received N) after
-received_built N before after is zeros same adds =
-    let room : length before ≡ length N.pairs * horizon N = ap length zeros ∙ length-replicate (length N.pairs * horizon N) 0 in
-    record {
-      size = same ∙ room;
-      each = λ x t h g.
-          let within = place_within N before x t room h g in
-          let was : get_or before (x * horizon N + t) 0 ≡ 0 = ap (λ (z : List ℕ). get_or z (x * horizon N + t) 0) zeros ∙ get_or-replicate (length N.pairs * horizon N) (x * horizon N + t) 0 0 (omega arith) in
-          omega (arith, adds x t g within, was, received_within N is x t);
-    }
+pub amount_read : (N M : Table) (sums : Table → ℕ → ℕ → ℕ) (amounts : List ℕ) (x t n v : ℕ) → N ≡ M → ArePeriods N (sums N) amounts → n ≡ horizon M → IsPair M x → t < horizon M
+    → v ≡ get_or amounts (x * n + t) v → v ≡ sums M x t
+amount_read N M sums amounts x t n v is are periods pair period read =
+    let there : ArePeriods M (sums M) amounts = subst (λ (z : Table). ArePeriods z (sums z) amounts) is are in
+    let within : x * n + t < length amounts = subst (λ (z : ℕ). x * z + t < length amounts) (sym periods) (place_within M amounts x t there.size pair period) in
+    get_or_read amounts (x * n + t) v within read 0
+    ∙ ap (λ (z : ℕ). get_or amounts (x * z + t) 0) periods
+    ∙ there.each x t pair period
 
-pub incoming_built : (N : Table) (before between after : List ℕ) → IsTable N → before ≡ replicate (length N.pairs * horizon N) 0 → length between ≡ length before → length after ≡ length between → AddsAmounts (λ (r : ReceiptRow). r.pair.0) (λ r. r.period) (λ r. r.quantity) (horizon N) N.receipts before between → AddsAmounts (λ (s : ShipRow). s.pair.0) (λ s. s.period) (λ s. s.quantity) (horizon N) N.ships between after → ArePeriods N (incoming N) after
-incoming_built N before between after is zeros same again adds more =
-    let room : length before ≡ length N.pairs * horizon N = ap length zeros ∙ length-replicate (length N.pairs * horizon N) 0 in
-    record {
-      size = again ∙ same ∙ room;
+-- what is added to zeros, in a slice of a list that is put back, are the sums
+pub sums_built : {R : Type 0} (pair period amount : R → ℕ) (N : Table) (periods : ℕ) (read rows : List R) (first slice after : List ℕ) (n : ℕ)
+    → first ≡ replicate (length N.pairs * horizon N) 0 → periods ≡ horizon N → read ≡ rows → slice ≡ first → length after ≡ length slice → length after ≡ n
+    → AddsAmounts pair period amount periods read slice after → ((x t : ℕ) → sum_in pair period amount x t rows ≤ 10 ^ 18)
+    → ArePeriods N (λ x t. sum_in pair period amount x t rows) (take n (after ++ drop (length after) first))
+sums_built pair period amount N periods read rows first slice after n zeros width same_rows same long back adds few =
+    let room : length first ≡ length N.pairs * horizon N = ap length zeros ∙ length-replicate (length N.pairs * horizon N) 0 in
+    let added = AddsAmounts-same pair period amount periods (horizon N) read rows slice first after width same_rows same adds in
+    rw (take_at after (drop (length after) first) n back) (record {
+      size = long ∙ ap length same ∙ room;
       each = λ x t h g.
-          let within = place_within N before x t room h g in
-          let was : get_or before (x * horizon N + t) 0 ≡ 0 = ap (λ (z : List ℕ). get_or z (x * horizon N + t) 0) zeros ∙ get_or-replicate (length N.pairs * horizon N) (x * horizon N + t) 0 0 (omega arith) in
-          omega (arith, adds x t g within, more x t g (omega arith), was, received_within N is x t, shipped_within N is x t);
-    }
+          let within = place_within N first x t room h g in
+          let was : get_or first (x * horizon N + t) 0 ≡ 0 = ap (λ (z : List ℕ). get_or z (x * horizon N + t) 0) zeros ∙ get_or-replicate (length N.pairs * horizon N) (x * horizon N + t) 0 0 (omega arith) in
+          omega (arith, added x t g within, was, few x t);
+    })
+
+-- what is added to the receipts is what comes in
+pub incoming_built : (N : Table) (periods : ℕ) (read : List ShipRow) (first slice after : List ℕ) (n : ℕ)
+    → IsTable N → ArePeriods N (received N) first → periods ≡ horizon N → read ≡ N.ships → slice ≡ first → length after ≡ length slice → length after ≡ n
+    → AddsAmounts (λ (s : ShipRow). s.pair.0) (λ s. s.period) (λ s. s.quantity) periods read slice after → ArePeriods N (incoming N) (take n (after ++ drop (length after) first))
+incoming_built N periods read first slice after n is are width same_rows same long back adds =
+    let added = AddsAmounts-same (λ (s : ShipRow). s.pair.0) (λ s. s.period) (λ s. s.quantity) periods (horizon N) read N.ships slice first after width same_rows same adds in
+    rw (take_at after (drop (length after) first) n back) (record {
+      size = long ∙ ap length same ∙ are.size;
+      each = λ x t h g. omega (arith, added x t g (place_within N first x t are.size h g), are.each x t h g, received_within N is x t, shipped_within N is x t);
+    })
 
 pub demand_totals_built : (N : Table) (before after : List ℕ) → IsTable N → before ≡ replicate (length N.pairs) 0 → length after ≡ length before → AddsTotals (λ (d : DemandRow). d.pair.0) (λ d. d.quantity) N.demands before after → AreTotals N (demand_total N) after
 demand_totals_built N before after is zeros same adds =

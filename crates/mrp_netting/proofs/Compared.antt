@@ -1,5 +1,5 @@
 -- Rows and late orders that are compared with those of the plan.
-use Rattle.std.proofs.Common.{◌≡◌, ◌≢◌, ℕ, ◌+◌, ◌-◌, ◌<◌, ◌≤◌, ◌==◌, ◌++◌, if◌then◌else◌, List, [], ◌∷◌, Some, length, map, min, max, slice_index, slice_index_or, slice_get, take, cond, zero, suc, refl, sym, ap, ◌∙◌, ⊎_elim, arith, eq-eqb, ne_eqb, length-append}
+use Rattle.std.proofs.Common.{◌≡◌, ◌≢◌, ℕ, ◌+◌, ◌-◌, ◌<◌, ◌≤◌, ◌↔◌, ◌==◌, ◌++◌, if◌then◌else◌, List, [], ◌∷◌, Some, length, map, min, max, slice_index, slice_index_or, slice_get, take, cond, zero, suc, refl, sym, ap, ◌∙◌, ⊎_elim, arith, eq-eqb, ne_eqb, length-append}
 use Rattle.std.specs.List.{range_with_len}
 use Rattle.std.proofs.Math.Seq.{get_or-append_seam}
 use Rattle.std.proofs.lemmas.Bool.{cases_lt, cond-false, cond-true}
@@ -12,7 +12,7 @@ use Rattle.mrp_lot.specs.declared.params.PairParams.{PairParams}
 use Rattle.mrp_lot.specs.declared.params.Late.{Late}
 use Rattle.mrp_netting.specs.Plan.{AreOrders, order_row, available_row, released, release_row, is_late, late_periods, late_orders}
 use Rattle.mrp_netting.proofs.Lates.{late_orders-is, late_more, filter-range-more}
-use Rattle.mrp_netting.proofs.Plans.{rows_of, length-order_row, release_row-is, plan_is}
+use Rattle.mrp_netting.proofs.Plans.{rows_of, from_rows, length-order_row, release_row-is, plan_is}
 
 -- an amount of a row that is written for all periods
 pub row_reads : (f : ℕ → ℕ) (row : List ℕ) (n t : ℕ) → row ≡ map f (range_with_len 0 n) → t < n → slice_index row t ≡ f t
@@ -150,10 +150,18 @@ is_plan-lates pair rows is =
     ∙ late_orders-is pair rows.incoming rows.gross rows.order order)
 
 -- equal rows have the orders and balances of equal rows
-pub orders_along : (pair : PairParams) (incoming gross order available incoming2 gross2 order2 available2 : List ℕ)
+orders_along : (pair : PairParams) (incoming gross order available incoming2 gross2 order2 available2 : List ℕ)
     → incoming ≡ incoming2 → gross ≡ gross2 → order ≡ order2 → available ≡ available2
     → AreOrders pair incoming gross order available → AreOrders pair incoming2 gross2 order2 available2
 orders_along pair incoming gross order available incoming2 gross2 order2 available2 i g o a are = (
-  sym o ∙ are.0 ∙ ap (λ (r : List ℕ). order_row pair r gross) i ∙ ap (order_row pair incoming2) g,
-  sym a ∙ are.1 ∙ ap (λ (r : List ℕ). available_row pair r gross) i ∙ ap (available_row pair incoming2) g,
+  sym o ∙ from_rows (order_row pair) incoming2 gross2 incoming gross order are.0 i g,
+  sym a ∙ from_rows (available_row pair) incoming2 gross2 incoming gross available are.1 i g,
+)
+
+-- so the rows that are read have them where those of the plan do
+pub orders_read : (pair : PairParams) (rows : PlanRows) (incoming gross order available : List ℕ) → incoming ≡ rows.incoming → gross ≡ rows.gross → order ≡ rows.order → available ≡ rows.available
+    → AreOrders pair incoming gross order available ↔ AreOrders pair rows.incoming rows.gross rows.order rows.available
+orders_read pair rows incoming gross order available i g o a = (
+  orders_along pair incoming gross order available rows.incoming rows.gross rows.order rows.available i g o a,
+  orders_along pair rows.incoming rows.gross rows.order rows.available incoming gross order available (sym i) (sym g) (sym o) (sym a),
 )

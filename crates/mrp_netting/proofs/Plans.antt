@@ -1,6 +1,7 @@
 -- The rows that were written are the plan.
-use Rattle.std.proofs.Common.{◌≡◌, ℕ, ◌-◌, ◌≤◌, ◌==◌, if◌then◌else◌, List, length, slice_index, map, sum, ◌∙◌, ap, arith}
+use Rattle.std.proofs.Common.{◌≡◌, ℕ, ◌-◌, ◌≤◌, ◌==◌, ◌++◌, if◌then◌else◌, Bool, true, cond, List, [], length, slice_index, map, sum, ◌∙◌, ap, arith}
 use Rattle.std.specs.List.{range_with_len}
+use Rattle.std.proofs.lemmas.Bool.{cond-true}
 use Rattle.std.proofs.lemmas.List.FromFn.{length-map-range_with_len, get_or-map-range_with_len}
 use Rattle.std.proofs.lemmas.List.Sums.{sum-map}
 use Rattle.mrp_qty.specs.declared.quantity.TheConstants.{MOST}
@@ -21,6 +22,10 @@ rows_of lead gross incoming order release available late = record {
   available = available;
   late = late_orders lead order late;
 }
+
+-- what is written from rows that are read is the plan's
+pub from_rows : {A : Type 0} (f : List ℕ → List ℕ → A) (incoming gross read asked : List ℕ) (written : A) → written ≡ f read asked → read ≡ incoming → asked ≡ gross → written ≡ f incoming gross
+from_rows {A} f incoming gross read asked written is i g = is ∙ ap (λ (xs : List ℕ). f xs asked) i ∙ ap (f incoming) g
 
 pub length-order_row : (pair : PairParams) (incoming gross order : List ℕ) → order ≡ order_row pair incoming gross → length order ≡ length gross
 length-order_row pair incoming gross order e = ap length e ∙ length-map-range_with_len (order_at pair incoming gross) 0 (length gross)
@@ -58,3 +63,8 @@ pub copied : (lead : ℕ) (gross incoming order release available late : List �
     → gross2 ≡ gross → incoming2 ≡ incoming → order2 ≡ order → release2 ≡ release → available2 ≡ available → late2 ≡ late
     → rows_of lead gross2 incoming2 order2 release2 available2 late2 ≡ rows_of lead gross incoming order release available late
 copied lead gross incoming order release available late gross2 incoming2 order2 release2 available2 late2 g i o r a l = cc
+
+-- a list that was cleared takes over another, where it has room
+pub refilled : (took : Bool) (other slice cleared filled : List ℕ) → took ≡ true → slice ≡ other → cleared ≡ [] → filled ≡ cond took (cleared ++ slice) cleared → filled ≡ other
+refilled took other slice cleared filled ok same empty is =
+    is ∙ cond-true took (cleared ++ slice) cleared ok ∙ ap (λ (xs : List ℕ). xs ++ slice) empty ∙ same

@@ -1,13 +1,13 @@
 //! Whether the rows of a plan follow the rules, period by period. Nothing is written.
 
-ghost use Rattle.std.specs.Prelude.{◌≡◌, ◌≤◌, ◌<◌, ◌↔◌, IsTrue, Some, length, slice_get, suc, sum};
+ghost use Rattle.std.specs.Prelude.{◌≡◌, ◌≤◌, ◌<◌, ◌↔◌, IsTrue, Some, length, slice_get, sum};
 ghost use Rattle.mrp_qty.specs.declared.quantity.TheConstants.{MOST};
 ghost use Rattle.mrp_lot.specs.declared.rule.TheConstants.{LONGEST_LEAD};
-ghost use Rattle.mrp_lot.specs.One.{IsWithin, order_at, balance_before};
+ghost use Rattle.mrp_lot.specs.One.{IsWithin};
 ghost use Rattle.mrp_netting.specs.Plan.{AreOrders, released, release_row, late_orders, late_periods};
 
 use crate::PairPlan;
-use crate::netting::order_for;
+use crate::netting::order_and_balance;
 use mrp_lot::PairParams;
 use mrp_qty::Qty;
 
@@ -33,26 +33,6 @@ pub fn orders_follow(
         before = after;
     }
     true
-}
-
-/// The planned order receipt of period `t` and the balance after it, where `before` is the balance
-/// before it.
-fn order_and_balance(
-    params: &PairParams,
-    incoming: &[Qty],
-    gross: &[Qty],
-    before: Qty,
-    t: usize,
-) -> (Qty, Qty)
-    requires within { IsWithin params.now incoming.now gross.now }
-    requires period { t < length gross.now }
-    requires before { before ≡ balance_before params.now incoming.now gross.now t }
-    ensures order { result.0 ≡ order_at params.now incoming.now gross.now t }
-    ensures balance { result.1 ≡ balance_before params.now incoming.now gross.now (suc t) }
-{
-    let ordered = order_for(params, incoming, gross, before, t);
-    let had = before.get() + incoming[t].get() + ordered.get();
-    (ordered, Qty::of(had - gross[t].get()))
 }
 
 /// Whether each order is released a lead time before it is due, and in period 0 what should have

@@ -1,6 +1,6 @@
-ghost use Rattle.std.specs.Prelude.{◌≡◌, ◌+◌, ◌-◌, ◌<◌, ◌≤◌, min, length, slice_index};
+ghost use Rattle.std.specs.Prelude.{◌≡◌, ◌+◌, ◌-◌, ◌<◌, ◌≤◌, min, length, suc};
 ghost use Rattle.mrp_qty.specs.declared.quantity.TheConstants.{MOST};
-ghost use Rattle.mrp_lot.specs.One.{IsWithin, greatest_need, order_after, balance_before};
+ghost use Rattle.mrp_lot.specs.One.{IsWithin, greatest_need, order_at, order_after, balance_before};
 ghost use Rattle.mrp_netting.specs.Plan.{order_row, available_row};
 
 use mrp_lot::{PairParams, Rule, lot};
@@ -22,11 +22,31 @@ pub fn plan_orders(
 {
     let mut before = params.on_hand;
     for t in 0..gross.len() {
-        let ordered = order_for(params, incoming, gross, before, t);
-        before = balance_after(before, incoming[t], ordered, gross[t]);
+        let (ordered, after) = order_and_balance(params, incoming, gross, before, t);
         order.set(t, ordered);
-        available.set(t, before);
+        available.set(t, after);
+        before = after;
     }
+}
+
+/// The planned order receipt of period `t` and the balance after it, where `before` is the balance
+/// before it.
+pub(crate) fn order_and_balance(
+    params: &PairParams,
+    incoming: &[Qty],
+    gross: &[Qty],
+    before: Qty,
+    t: usize,
+) -> (Qty, Qty)
+    requires within { IsWithin params.now incoming.now gross.now }
+    requires period { t < length gross.now }
+    requires before { before ≡ balance_before params.now incoming.now gross.now t }
+    ensures order { result.0 ≡ order_at params.now incoming.now gross.now t }
+    ensures balance { result.1 ≡ balance_before params.now incoming.now gross.now (suc t) }
+{
+    let ordered = order_for(params, incoming, gross, before, t);
+    let after = balance_after(before, incoming[t], ordered, gross[t]);
+    (ordered, after)
 }
 
 /// The balance after a period: what was there, what comes in and what is ordered, less the gross
@@ -40,13 +60,7 @@ fn balance_after(before: Qty, receipt: Qty, ordered: Qty, gross: Qty) -> Qty
 }
 
 /// The planned order receipt of period `t`, where `before` is the balance before it.
-pub(crate) fn order_for(
-    params: &PairParams,
-    incoming: &[Qty],
-    gross: &[Qty],
-    before: Qty,
-    t: usize,
-) -> Qty
+fn order_for(params: &PairParams, incoming: &[Qty], gross: &[Qty], before: Qty, t: usize) -> Qty
     requires within { IsWithin params.now incoming.now gross.now }
     requires period { t < length gross.now }
     ensures { result ≡ order_after params.now incoming.now gross.now before t }

@@ -145,13 +145,7 @@ impl PairPlan {
     {
         let horizon = Horizon::new(self.gross.len() as u64).unwrap();
         let mut copy = PairPlan::new(alloc, horizon)?;
-        copy.gross.copy_from(&self.gross);
-        copy.incoming.copy_from(&self.incoming);
-        copy.order.copy_from(&self.order);
-        copy.release.copy_from(&self.release);
-        copy.available.copy_from(&self.available);
-        copy.lead = self.lead;
-        copy.late.extend_from_slice(self.late.as_slice())?;
+        copy.copy_from(self);
         Ok(copy)
     }
 

@@ -1,5 +1,5 @@
 -- What each row kept keeps.
-use Rattle.std.proofs.Common.{◌≡◌, ◌≤◌, ℕ, ltb, leb, true, List, Ok, refl, subst, arith}
+use Rattle.std.proofs.Common.{◌≡◌, ◌≤◌, ℕ, ltb, leb, true, List, Result, Ok, refl, subst, arith}
 use Rattle.std.proofs.lemmas.Bool.{and_parts}
 use Rattle.std.proofs.lemmas.Bool.Decides.{nat_tests}
 use Rattle.std.proofs.lemmas.List.Elements.{All-nil}
@@ -11,9 +11,10 @@ use Rattle.mrp_rows.specs.declared.rows.ResetRow.{ResetRow}
 use Rattle.mrp_rows.specs.declared.rows.ShipRow.{ShipRow}
 use Rattle.std.specs.Str.{bytes_eq}
 use Rattle.mrp_cal.specs.Calendar.{CalendarTerms, IsCalendar}
+use Rattle.mrp_tables.specs.declared.fault.TableFaultKind.{TableFaultKind}
 use Rattle.mrp_tables.specs.declared.kind.Kind.{Kind}
 use Rattle.mrp_tables.specs.declared.kind.Kind.TheVariants as kind
-use Rattle.mrp_tables.specs.Grammar.{bill_of, cum_of, demand_of, may_follow, place_of, plant_of, receipt_of, reset_of, ship_of}
+use Rattle.mrp_tables.specs.Grammar.{◌>>=◌, bill_of, cum_of, demand_of, may_follow, place_of, plant_of, receipt_of, reset_of, ship_of}
 use Rattle.mrp_rows.specs.Growing.{with_plant, with_bill, with_demand, with_receipt, with_ship, with_cum, with_reset}
 use Rattle.mrp_tables.specs.Reading.{empty_table, IsReadSoFar, kind_of_row, row_after, row_of_kind}
 use Rattle.mrp_rows.specs.Table.{Table, IsBillRow, IsCumRow, IsDemandRow, IsName, IsPairRow, IsReceiptRow, IsResetRow, IsShipRow, IsSourceRow, is_same_pair, is_same_source, is_same_bill, is_same_cum, is_same_reset}
@@ -64,32 +65,24 @@ module _ (N : Table) (last : Kind) (row : List (List ℕ)) (so_far : IsReadSoFar
       let kept = reset_keeps N row x so_far.once so_far.sourced is in
       record { read = reset_read N row x so_far.read kept.0 kept.1 is; once = kept.0; sourced = kept.1; items = so_far.items; sources = so_far.sources; resets = λ lt. absurd (omega arith) }
 
+-- what was read of a row makes the table with it
+made_keeps : {X : Type 0} (k : Kind) (read : Result X TableFaultKind) (made : X → Table) (M : Table) → ((x : X) → read ≡ Ok x → IsReadSoFar (made x) k) → (read >>= λ x. Ok (made x)) ≡ Ok M → IsReadSoFar M k
+made_keeps k read made M more is =
+    let a = after read (λ x. Ok (made x)) M is in
+    subst (λ (m : Table). IsReadSoFar m k) (same_Ok (made a.0) M a.2) (more a.0 a.1)
+
 -- one row more of each kind
 row_keeps : (k last : Kind) (N M : Table) (row : List (List ℕ)) → IsReadSoFar N last → place_of last ≤ place_of k → row_of_kind k N row ≡ Ok M → IsReadSoFar M k
 unfolding row_of_kind
 row_keeps kind.Run last N M row so_far before is = absurd (cc)
-row_keeps kind.Plant last N M row so_far before is =
-    let a = after (plant_of N row) (λ x. Ok (with_plant N x)) M is in
-    subst (λ (m : Table). IsReadSoFar m kind.Plant) (same_Ok (with_plant N a.0) M a.2) (plant_more N last row so_far a.0 before a.1)
+row_keeps kind.Plant last N M row so_far before is = made_keeps kind.Plant (plant_of N row) (with_plant N) M (λ x. plant_more N last row so_far x before) is
 row_keeps kind.Pair last N M row so_far before is = pair_keeps N M last row so_far before is
-row_keeps kind.Bill last N M row so_far before is =
-    let a = after (bill_of N row) (λ x. Ok (with_bill N x)) M is in
-    subst (λ (m : Table). IsReadSoFar m kind.Bill) (same_Ok (with_bill N a.0) M a.2) (bill_more N last row so_far a.0 before a.1)
-row_keeps kind.Demand last N M row so_far before is =
-    let a = after (demand_of N row) (λ x. Ok (with_demand N x)) M is in
-    subst (λ (m : Table). IsReadSoFar m kind.Demand) (same_Ok (with_demand N a.0) M a.2) (demand_more N last row so_far a.0 before a.1)
-row_keeps kind.Receipt last N M row so_far before is =
-    let a = after (receipt_of N row) (λ x. Ok (with_receipt N x)) M is in
-    subst (λ (m : Table). IsReadSoFar m kind.Receipt) (same_Ok (with_receipt N a.0) M a.2) (receipt_more N last row so_far a.0 before a.1)
-row_keeps kind.Ship last N M row so_far before is =
-    let a = after (ship_of N row) (λ x. Ok (with_ship N x)) M is in
-    subst (λ (m : Table). IsReadSoFar m kind.Ship) (same_Ok (with_ship N a.0) M a.2) (ship_more N last row so_far a.0 before a.1)
-row_keeps kind.Cum last N M row so_far before is =
-    let a = after (cum_of N row) (λ x. Ok (with_cum N x)) M is in
-    subst (λ (m : Table). IsReadSoFar m kind.Cum) (same_Ok (with_cum N a.0) M a.2) (cum_more N last row so_far a.0 before a.1)
-row_keeps kind.Reset last N M row so_far before is =
-    let a = after (reset_of N row) (λ x. Ok (with_reset N x)) M is in
-    subst (λ (m : Table). IsReadSoFar m kind.Reset) (same_Ok (with_reset N a.0) M a.2) (reset_more N last row so_far a.0 a.1)
+row_keeps kind.Bill last N M row so_far before is = made_keeps kind.Bill (bill_of N row) (with_bill N) M (λ x. bill_more N last row so_far x before) is
+row_keeps kind.Demand last N M row so_far before is = made_keeps kind.Demand (demand_of N row) (with_demand N) M (λ x. demand_more N last row so_far x before) is
+row_keeps kind.Receipt last N M row so_far before is = made_keeps kind.Receipt (receipt_of N row) (with_receipt N) M (λ x. receipt_more N last row so_far x before) is
+row_keeps kind.Ship last N M row so_far before is = made_keeps kind.Ship (ship_of N row) (with_ship N) M (λ x. ship_more N last row so_far x before) is
+row_keeps kind.Cum last N M row so_far before is = made_keeps kind.Cum (cum_of N row) (with_cum N) M (λ x. cum_more N last row so_far x before) is
+row_keeps kind.Reset last N M row so_far before is = made_keeps kind.Reset (reset_of N row) (with_reset N) M (λ x. reset_more N last row so_far x) is
 
 -- a table and the kind of its last row
 abbrev Kept : Table × Kind → Type 0

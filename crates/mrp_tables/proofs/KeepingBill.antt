@@ -1,21 +1,22 @@
 -- A bill row more: its parent is made at the plant of its component, and no other has both.
-use Rattle.std.proofs.Common.{◌≡◌, ℕ, ◌==◌, ◌&&◌, true, false, not, ltb, List, length, Option, Some, None, is_some, option_map, position, slice_get, unwrap_or, Ok, refl, ap, sym, ◌∙◌, subst}
+use Rattle.std.proofs.Common.{◌≡◌, ℕ, ◌==◌, ◌&&◌, true, false, List, Option, Some, None, option_map, position, slice_get, unwrap_or, Ok, refl, ap, sym, ◌∙◌, subst}
 use Rattle.std.specs.List.{list_any}
 use Rattle.std.specs.Str.{bytes_eq}
-use Rattle.std.proofs.lemmas.Bool.{not-true, and_parts, eqb-true}
+use Rattle.std.proofs.lemmas.Bool.{and_parts, eqb-true}
 use Rattle.std.proofs.lemmas.List.Elements.{All-push}
-use Rattle.mrp_rows.specs.declared.rows.TheConstants.{MOST_BILLS}
 use Rattle.mrp_rows.specs.declared.rows.BillRow.{BillRow}
 use Rattle.mrp_rows.specs.declared.rows.PairRow.{PairRow}
 use Rattle.mrp_rows.specs.declared.rows.Supply.{Supply}
 use Rattle.mrp_rows.specs.declared.rows.Supply.TheVariants as supply
 use Rattle.mrp_rows.specs.Table.{Table, IsOnce, IsSourced, is_same_bill, plant_at, supply_at}
 use Rattle.mrp_rows.specs.Growing.{with_bill}
-use Rattle.mrp_tables.specs.Grammar.{BillTerms, bill_fits, bill_of, bill_terms, has_bill, is_made, is_make}
+use Rattle.mrp_tables.specs.Grammar.{BillTerms, bill_fits, bill_of, bill_terms, has_bill, is_make}
 use Rattle.mrp_rows.specs.Names.{pair_named, plant_no}
 use Rattle.mrp_spell.proofs.Lists.{distinct_push}
 use Rattle.mrp_tables.proofs.KeepingLists.{position_there}
-use Rattle.mrp_tables.proofs.KeepingSteps.{after, after_check, after_some, same_Ok}
+use Rattle.mrp_tables.proofs.KeepingParts.{bill_parts}
+use Rattle.mrp_tables.proofs.KeepingSame.{stays_once, stays_sourced}
+use Rattle.mrp_tables.proofs.KeepingSteps.{after}
 
 -- a pair that was found by its plant stands at that plant
 pair_at_plant : (N : Table) (plant : Option ℕ) (item : List ℕ) (x : ℕ) → pair_named N plant item ≡ Some x → plant ≡ Some (plant_at N x)
@@ -62,23 +63,14 @@ new_bill N (Some a) (Some b) x y fresh ex ey =
     ∙ ap (λ z. list_any (λ c. (c.parent.0 == a) && (c.component.0 == z)) N.bills) (sym sb) ∙ fresh
 
 fits : (N : Table) (t : BillTerms) (b : BillRow) → bill_fits N t ≡ Ok b → Fitting N b
-unfolding bill_fits
 fits N t b is =
     let plant = plant_no N t.plant in
-    let parent = pair_named N plant t.parent in
-    let component = pair_named N plant t.component in
-    let h1 = after_check (not (has_bill N parent component)) _ _ b is in
-    let h2 = after_check (is_some plant) _ _ b h1.1 in
-    let h3 = after_some parent _ _ b h2.1 in
-    let h4 = after_some component _ _ b h3.2 in
-    let h5 = after_check (is_made N h3.0) _ _ b h4.2 in
-    let h6 = after_check (ltb (length N.bills) MOST_BILLS) _ _ b h5.1 in
-    let same : record { parent = record { 0 = h3.0 }; component = record { 0 = h4.0 }; per = t.per } ≡ b = same_Ok _ b h6.1 in
-    let px : plant ≡ Some (plant_at N h3.0) = pair_at_plant N plant t.parent h3.0 h3.1 in
-    let py : plant ≡ Some (plant_at N h4.0) = pair_at_plant N plant t.component h4.0 h4.1 in
-    subst (Fitting N) same (record {
-      new = new_bill N parent component h3.0 h4.0 (not-true (has_bill N parent component) h1.0) h3.1 h4.1;
-      made = made (slice_get N.pairs h3.0) h5.0;
+    let p = bill_parts N t b is in
+    let px : plant ≡ Some (plant_at N p.x) = pair_at_plant N plant t.parent p.x p.parent in
+    let py : plant ≡ Some (plant_at N p.y) = pair_at_plant N plant t.component p.y p.component in
+    subst (Fitting N) p.same (record {
+      new = new_bill N (pair_named N plant t.parent) (pair_named N plant t.component) p.x p.y p.new p.parent p.component;
+      made = made (slice_get N.pairs p.x) p.made;
       plant = cc;
     })
 
@@ -86,26 +78,6 @@ pub bill_keeps : (N : Table) (row : List (List ℕ)) (b : BillRow) → IsOnce N 
 bill_keeps N row b once sourced is =
     let a = after (bill_terms row) (bill_fits N) b is in
     let says = fits N a.0 b a.2 in (
-      record {
-        plants = once.plants;
-        items = once.items;
-        pairs = once.pairs;
-        sources = once.sources;
-        bills = distinct_push is_same_bill N.bills b once.bills says.new;
-        cums = once.cums;
-        resets = once.resets;
-      },
-      record {
-        items = sourced.items;
-        order = sourced.order;
-        few = sourced.few;
-        supplies = sourced.supplies;
-        others = sourced.others;
-        parents = All-push (λ b. supply_at N b.parent.0 ≡ supply.Make) N.bills b sourced.parents says.made;
-        plants = All-push (λ b. plant_at N b.parent.0 ≡ plant_at N b.component.0) N.bills b sourced.plants says.plant;
-        ships = sourced.ships;
-        cums = sourced.cums;
-        resets = sourced.resets;
-        arrive = sourced.arrive;
-      },
+      stays_once N (with_bill N b) refl once once.plants (distinct_push is_same_bill N.bills b once.bills says.new) once.cums once.resets,
+      stays_sourced N (with_bill N b) refl sourced (All-push (λ b. supply_at N b.parent.0 ≡ supply.Make) N.bills b sourced.parents says.made) (All-push (λ b. plant_at N b.parent.0 ≡ plant_at N b.component.0) N.bills b sourced.plants says.plant) sourced.ships sourced.cums sourced.resets sourced.arrive,
     )

@@ -4,12 +4,12 @@ use Rattle.std.specs.List.{All, IsDistinct, filter, list_all, list_any}
 use Rattle.std.specs.Str.{bytes_eq}
 use Rattle.std.proofs.lemmas.Bool.{and_left, and_parts, and_right, cases_lt, eq-eqb, ne_eqb, not-true}
 use Rattle.std.proofs.lemmas.List.{append-nil, length-append, length-map, length_push}
-use Rattle.std.proofs.lemmas.List.Elements.{All-append, All-cons, All-from_recursion, All-head, All-map, All-nil, All-push, All-tail, All-weaker, filter-append, recursion_from_All}
+use Rattle.std.proofs.lemmas.List.Elements.{All-append, All-cons, All-from_recursion, All-head, All-map, All-nil, All-tail, All-weaker, filter-append, recursion_from_All}
 use Rattle.std.proofs.lemmas.List.Folds.{list_any-append, list_any_none}
 use Rattle.std.proofs.lemmas.Map.Keys.{IsDistinct-cons, IsDistinct-head, IsDistinct-tail}
 use Rattle.std.proofs.lemmas.Slice.Eq.{bytes_eq-Decides}
 use Rattle.mrp_rows.specs.declared.numbers.PlantNo.{PlantNo}
-use Rattle.mrp_rows.specs.declared.rows.TheConstants.{MOST_PAIRS}
+use Rattle.mrp_rows.specs.declared.rows.TheConstants.{MOST_PAIRS, MOST_SOURCES}
 use Rattle.mrp_rows.specs.declared.rows.PairRow.{PairRow}
 use Rattle.mrp_rows.specs.declared.rows.SourceRow.{SourceRow}
 use Rattle.mrp_rows.specs.declared.rows.Supply.{Supply}
@@ -20,13 +20,13 @@ use Rattle.mrp_rows.specs.Names.{has_plant, pair_named, pair_of, plant_no}
 use Rattle.mrp_tables.specs.Grammar.{knows_sources, PairTerms, pair_fits, pair_row, pair_terms, pair_with, place_of, source_row, supply_kind, with_pair_terms}
 use Rattle.mrp_spell.specs.Supplies.{is_same_plant, IsShare, IsWholeSupply, named_sources}
 use Rattle.mrp_spell.specs.declared.supplies.TheConstants.{MOST_SOURCES_OF_PAIR}
-use Rattle.mrp_rows.specs.Table.{Table, HasSupply, is_item_of_pair, IsRead, IsOnce, IsPair, IsPairRow, IsSourced, IsSourceRow, is_same_pair, is_same_source, plant_at, sources_of_pair, supply_at}
+use Rattle.mrp_rows.specs.Table.{Table, HasSupply, is_item_of_pair, IsName, IsRead, IsOnce, IsPair, IsPairRow, IsSourced, IsSourceRow, is_same_pair, is_same_source, plant_at, sources_of_pair, supply_at}
 use Rattle.mrp_tables.specs.declared.kind.Kind.{Kind}
 use Rattle.mrp_tables.specs.declared.kind.Kind.TheVariants as kind
 use Rattle.mrp_tables.specs.Reading.{IsReadSoFar}
 use Rattle.mrp_spell.proofs.Lists.{All-from_any, distinct_append, distinct_push, IsDistinct-nil}
 use Rattle.mrp_tables.proofs.KeepingLists.{any-from_no_position, any-from_position, any_left, distinct_name, filter_everything, filter_nothing, get_last, get_left, names_at, ordered_append, position-from_any, position_last, position_there}
-use Rattle.mrp_rows.proofs.Grow.{bills_grow, cums_grow, demands_grow, Grows, length-add_item-le, names-add_item, pairs_grow, receipts_grow, resets_grow, ships_grow, sources_grow}
+use Rattle.mrp_rows.proofs.Grow.{Changes, Grows, length-add_item-le, name_added, one_more, read_grows, same_rows}
 use Rattle.mrp_tables.proofs.KeepingRead.{lt_test, plant_within}
 use Rattle.mrp_tables.proofs.KeepingShares.{named_few, named_shares, pair_terms_are, shares_are, SpellsPair}
 use Rattle.mrp_tables.proofs.KeepingSteps.{after, after_check, after_some, same_Ok}
@@ -326,7 +326,7 @@ module _ (N : Table) (plant : PlantNo) (t : PairTerms) (read : IsRead N) (once :
   more_sources = omega (arith, length-append N.sources new_rows, new_size)
 
   grows : Grows N M
-  grows = record { periods = refl; plants = omega arith; items = (length-add_item-le N.items t.item).0; pairs = omega (arith, more_pairs) }
+  grows = record { calendar = refl; plants = omega arith; items = (length-add_item-le N.items t.item).0; pairs = omega (arith, more_pairs) }
 
   row_in : IsPairRow M new_row
   row_in = record {
@@ -347,33 +347,13 @@ module _ (N : Table) (plant : PlantNo) (t : PairTerms) (read : IsRead N) (once :
       (λ k d lt. source_in (get_or (named_sources t.supply) k d) (named_shares t.supply says.supply k d lt) (fit.known k d lt))
 
   pair_read : length N.items ≤ length N.pairs → length N.sources ≤ MOST_SOURCES_OF_PAIR * length N.pairs → IsRead M
-  pair_read few_items few_sources = record {
-    calendar = read.calendar;
-    limits = record {
-      some_periods = read.limits.some_periods;
-      periods = read.limits.periods;
-      plants = read.limits.plants;
-      items = omega (arith, more_items, few_items, fit.room);
-      pairs = omega (arith, more_pairs, fit.room);
-      sources = omega (arith, more_sources, few_sources, fit.room);
-      bills = read.limits.bills;
-      demands = read.limits.demands;
-      receipts = read.limits.receipts;
-      ships = read.limits.ships;
-      cums = read.limits.cums;
-      resets = read.limits.resets;
-    };
-    plants = read.plants;
-    items = names-add_item N.items t.item read.items says.item;
-    pairs = All-push (IsPairRow M) N.pairs new_row (pairs_grow N M grows N.pairs read.pairs) row_in;
-    sources = All-append (IsSourceRow M) N.sources new_rows (sources_grow N M grows N.sources read.sources) sources_in;
-    bills = bills_grow N M grows N.bills read.bills;
-    demands = demands_grow N M grows N.demands read.demands;
-    receipts = receipts_grow N M grows N.receipts read.receipts;
-    ships = ships_grow N M grows N.ships read.ships;
-    cums = cums_grow N M grows N.cums read.cums;
-    resets = resets_grow N M grows N.resets read.resets;
-  }
+  pair_read few_items few_sources =
+      let sources : Changes (IsSourceRow M) MOST_SOURCES N.sources M.sources = record {
+        each = λ all. All-append (IsSourceRow M) N.sources new_rows all sources_in;
+        few = λ _. omega (arith, more_sources, few_sources, fit.room);
+      } in
+      let item : Changes IsName MOST_PAIRS N.items M.items = name_added N.items t.item says.item (omega (arith, few_items, fit.room)) in
+      read_grows N M read grows same_rows item (one_more new_row row_in fit.room) sources same_rows same_rows same_rows same_rows same_rows same_rows
 
 -- a pair row more stands after the run, the plants and other pairs
 pub pair_keeps : (N M : Table) (last : Kind) (row : List (List ℕ)) → IsReadSoFar N last → place_of last ≤ place_of kind.Pair → pair_row N row ≡ Ok M → IsReadSoFar M kind.Pair

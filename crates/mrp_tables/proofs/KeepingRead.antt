@@ -1,5 +1,5 @@
 -- A row more that fits is in range, and names what is there.
-use Rattle.std.proofs.Common.{◌≡◌, ◌≤◌, ◌<◌, ℕ, ◌-◌, ◌==◌, ◌&&◌, Bool, true, false, not, ltb, if◌then◌else◌, get_or, List, [], ◌∷◌, map, length, Option, Some, None, is_some, option_map, position, Result, Ok, Err, ok_or, refl, ap, ◌∙◌, subst, arith}
+use Rattle.std.proofs.Common.{◌≡◌, ◌≤◌, ◌<◌, ℕ, ◌-◌, ◌==◌, ◌&&◌, Bool, true, false, not, ltb, if◌then◌else◌, get_or, List, [], ◌∷◌, map, length, Option, Some, None, option_map, position, Result, Ok, Err, ok_or, refl, ap, ◌∙◌, subst, arith}
 use Rattle.std.specs.List.{All, IsDistinct}
 use Rattle.std.specs.Str.{bytes_eq}
 use Rattle.std.proofs.lemmas.Bool.Decides.{nat_tests}
@@ -19,17 +19,18 @@ use Rattle.mrp_rows.specs.declared.rows.ResetRow.{ResetRow}
 use Rattle.mrp_rows.specs.declared.rows.ShipRow.{ShipRow}
 use Rattle.mrp_rows.specs.Growing.{with_bill, with_cum, with_demand, with_plant, with_receipt, with_reset, with_ship}
 use Rattle.mrp_rows.specs.Names.{has_plant, pair_named, pair_of, plant_no}
-use Rattle.mrp_rows.specs.Table.{arrivals, horizon, IsBillRow, IsCumRow, IsDemandRow, IsName, IsOnce, IsRead, IsReceiptRow, IsResetRow, IsShipRow, is_same_reset, IsSourced, rises_from, Table}
+use Rattle.mrp_rows.specs.Table.{horizon, IsBillRow, IsCumRow, IsDemandRow, IsName, IsOnce, IsRead, IsReceiptRow, IsResetRow, IsShipRow, is_same_reset, IsSourced, Table}
 use Rattle.mrp_rows.proofs.Grow.{read-with_bill, read-with_cum, read-with_demand, read-with_plant, read-with_receipt, read-with_reset, read-with_ship}
 use Rattle.mrp_spell.specs.Spelling.{is_name, number_within}
 use Rattle.mrp_spell.proofs.Ranges.{within_range}
 use Rattle.mrp_tables.specs.declared.fault.TableFaultKind.{TableFaultKind}
 use Rattle.mrp_tables.specs.declared.fault.TableFaultKind.TheVariants as fault
 use Rattle.mrp_tables.specs.declared.lanes.KnownLane.{KnownLane}
-use Rattle.mrp_tables.specs.Grammar.{amount_terms, AmountTerms, bill_fits, bill_of, bill_terms, BillTerms, cum_of, cum_terms, demand_of, field, has_bill, has_cum, has_reset, is_made, known_lane, known_pair, lane_named, lane_terms, LaneTerms, name_of, plant_of, plant_terms, ranged, receipt_of, reset_of, reset_terms, ship_of, ship_terms}
+use Rattle.mrp_tables.specs.Grammar.{amount_terms, AmountTerms, bill_fits, bill_of, bill_terms, BillTerms, cum_of, cum_terms, demand_of, field, known_lane, known_pair, lane_named, lane_terms, LaneTerms, name_of, plant_of, plant_terms, ranged, receipt_of, reset_of, reset_terms, ship_of, ship_terms}
 use Rattle.mrp_tables.specs.Lists.{AreLanes, has_lane, is_same_lane, lane_of, reset_key_of}
 use Rattle.mrp_tables.proofs.Arrivals.{among_lanes, same_lane_laws}
 use Rattle.mrp_tables.proofs.KeepingLists.{position_there}
+use Rattle.mrp_tables.proofs.KeepingParts.{bill_parts, cum_parts, reset_parts, ship_parts}
 use Rattle.mrp_tables.proofs.KeepingRows.{on_lane}
 use Rattle.mrp_tables.proofs.KeepingSteps.{after, after_check, after_some, same_Ok}
 use Rattle.mrp_tables.proofs.Keys.{any_source}
@@ -112,20 +113,11 @@ per_is row t is =
     subst (λ (x : BillTerms). (1 ≤ x.per) × (x.per ≤ MOST_PER)) same (ranged_is (field row 4) 1 MOST_PER d.0 d.1)
 
 bill_within : (N : Table) (t : BillTerms) (b : BillRow) → (1 ≤ t.per) × (t.per ≤ MOST_PER) → bill_fits N t ≡ Ok b → IsBillRow N b × (length N.bills < MOST_BILLS)
-unfolding bill_fits
 bill_within N t b per is =
     let plant = plant_no N t.plant in
-    let parent = pair_named N plant t.parent in
-    let component = pair_named N plant t.component in
-    let h1 = after_check (not (has_bill N parent component)) _ _ b is in
-    let h2 = after_check (is_some plant) _ _ b h1.1 in
-    let h3 = after_some parent _ _ b h2.1 in
-    let h4 = after_some component _ _ b h3.2 in
-    let h5 = after_check (is_made N h3.0) _ _ b h4.2 in
-    let h6 = after_check (ltb (length N.bills) MOST_BILLS) _ _ b h5.1 in
-    let same : record { parent = record { 0 = h3.0 }; component = record { 0 = h4.0 }; per = t.per } ≡ b = same_Ok _ b h6.1 in (
-      subst (IsBillRow N) same (record { parent = pair_within N plant t.parent h3.0 h3.1; component = pair_within N plant t.component h4.0 h4.1; some = per.0; few = per.1 }),
-      lt_test (length N.bills) MOST_BILLS h6.0,
+    let p = bill_parts N t b is in (
+      subst (IsBillRow N) p.same (record { parent = pair_within N plant t.parent p.x p.parent; component = pair_within N plant t.component p.y p.component; some = per.0; few = per.1 }),
+      lt_test (length N.bills) MOST_BILLS p.room,
     )
 
 pub bill_read : (N : Table) (row : List (List ℕ)) (b : BillRow) → IsRead N → bill_of N row ≡ Ok b → IsRead (with_bill N b)
@@ -194,16 +186,12 @@ shipment_is N row t read is =
     subst (λ (x : LaneTerms × ℕ × ℕ). IsAmountOf N x.1 x.2) same (record { period = period_is N (field row 4) b.0 read b.1; some = few.0; few = few.1 })
 
 pub ship_read : (N : Table) (row : List (List ℕ)) (x : ShipRow) → IsRead N → ship_of N row ≡ Ok x → IsRead (with_ship N x)
-unfolding ship_of
 ship_read N row x read is =
-    let a = after (ship_terms row (horizon N)) _ x is in
-    let b = after (known_lane (lane_named N a.0.0)) _ x a.2 in
-    let c = after_check (ltb (length N.ships) MOST_OF_A_KIND) _ _ x b.2 in
-    let same : record { from = b.0.from; pair = b.0.pair; period = a.0.1; quantity = a.0.2 } ≡ x = same_Ok _ x c.1 in
-    let says = shipment_is N row a.0 read a.1 in
-    let lane = lane_within N a.0.0 b.0 b.1 in
-    let made : IsShipRow N x = subst (IsShipRow N) same (record { from = lane.0; pair = lane.1; period = says.period; some = says.some; quantity = says.few }) in
-    read-with_ship N x read made (lt_test (length N.ships) MOST_OF_A_KIND c.0)
+    let p = ship_parts N row x is in
+    let says = shipment_is N row p.terms read p.read in
+    let lane = lane_within N p.terms.0 p.lane p.known in
+    let made : IsShipRow N x = subst (IsShipRow N) p.same (record { from = lane.0; pair = lane.1; period = says.period; some = says.some; quantity = says.few }) in
+    read-with_ship N x read made (lt_test (length N.ships) MOST_OF_A_KIND p.room)
 
 figure_is : (row : List (List ℕ)) (t : LaneTerms × ℕ) → cum_terms row ≡ Ok t → t.1 ≤ MOST
 unfolding cum_terms
@@ -214,17 +202,11 @@ figure_is row t is =
     subst (λ (x : LaneTerms × ℕ). x.1 ≤ MOST) same (ranged_is (field row 4) 0 MOST b.0 b.1).1
 
 pub cum_read : (N : Table) (row : List (List ℕ)) (x : CumRow) → IsRead N → cum_of N row ≡ Ok x → IsRead (with_cum N x)
-unfolding cum_of
 cum_read N row x read is =
-    let a = after (cum_terms row) _ x is in
-    let l = lane_named N a.0.0 in
-    let z = after_check (not (has_cum N l)) _ _ x a.2 in
-    let b = after (known_lane l) _ x z.1 in
-    let c = after_check (ltb (length N.cums) MOST_OF_A_KIND) _ _ x b.2 in
-    let same : record { from = b.0.from; pair = b.0.pair; figure = a.0.1 } ≡ x = same_Ok _ x c.1 in
-    let lane = lane_within N a.0.0 b.0 b.1 in
-    let made : IsCumRow N x = subst (IsCumRow N) same (record { from = lane.0; pair = lane.1; figure = figure_is row a.0 a.1 }) in
-    read-with_cum N x read made (lt_test (length N.cums) MOST_OF_A_KIND c.0)
+    let p = cum_parts N row x is in
+    let lane = lane_within N p.terms.0 p.lane p.known in
+    let made : IsCumRow N x = subst (IsCumRow N) p.same (record { from = lane.0; pair = lane.1; figure = figure_is row p.terms p.read }) in
+    read-with_cum N x read made (lt_test (length N.cums) MOST_OF_A_KIND p.room)
 
 -- ---- new starts
 
@@ -259,14 +241,8 @@ start_is N row t read is =
     subst (λ (x : LaneTerms × ℕ). Falls N x.1) same (period_is N (field row 4) b.0 read b.1)
 
 pub reset_read : (N : Table) (row : List (List ℕ)) (x : ResetRow) → IsRead N → IsOnce (with_reset N x) → IsSourced (with_reset N x) → reset_of N row ≡ Ok x → IsRead (with_reset N x)
-unfolding reset_of
 reset_read N row x read once sourced is =
-    let a = after (reset_terms row (horizon N)) _ x is in
-    let l = lane_named N a.0.0 in
-    let z = after_check (not (has_reset N l)) _ _ x a.2 in
-    let b = after (known_lane l) _ x z.1 in
-    let c = after_check (rises_from 0 (arrivals N b.0.from.0 b.0.pair.0)) _ _ x b.2 in
-    let same : record { from = b.0.from; pair = b.0.pair; period = a.0.1 } ≡ x = same_Ok _ x c.1 in
-    let lane = lane_within N a.0.0 b.0 b.1 in
-    let made : IsResetRow N x = subst (IsResetRow N) same (record { from = lane.0; pair = lane.1; period = start_is N row a.0 read a.1 }) in
+    let p = reset_parts N row x is in
+    let lane = lane_within N p.terms.0 p.lane p.known in
+    let made : IsResetRow N x = subst (IsResetRow N) p.same (record { from = lane.0; pair = lane.1; period = start_is N row p.terms read p.read }) in
     read-with_reset N x read made (omega (arith, resets_few (with_reset N x) once sourced, length_push N.resets x, read.limits.sources))

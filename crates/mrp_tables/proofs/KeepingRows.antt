@@ -1,5 +1,5 @@
 -- Rows of one list more: plants, demands, receipts, and rows on what one plant ships to another.
-use Rattle.std.proofs.Common.{◌≡◌, ℕ, ◌==◌, ◌&&◌, true, false, not, List, [], Option, Some, None, is_some, length, ltb, option_map, Ok, ap, sym, ◌∙◌, subst, arith}
+use Rattle.std.proofs.Common.{◌≡◌, ℕ, ◌==◌, ◌&&◌, true, false, not, List, [], Option, Some, None, is_some, length, ltb, option_map, Ok, refl, ap, sym, ◌∙◌, subst, arith}
 use Rattle.std.specs.List.{list_any}
 use Rattle.std.proofs.lemmas.Bool.{not-true}
 use Rattle.std.proofs.lemmas.List.Elements.{All-push}
@@ -7,19 +7,21 @@ use Rattle.mrp_rows.specs.declared.numbers.PlantNo.{PlantNo}
 use Rattle.mrp_rows.specs.declared.numbers.PairNo.{PairNo}
 use Rattle.mrp_tables.specs.declared.lanes.NamedLane.{NamedLane}
 use Rattle.mrp_tables.specs.declared.lanes.KnownLane.{KnownLane}
-use Rattle.mrp_rows.specs.declared.rows.TheConstants.{MOST_OF_A_KIND, MOST_PLANTS}
+use Rattle.mrp_rows.specs.declared.rows.TheConstants.{MOST_PLANTS}
 use Rattle.mrp_rows.specs.declared.rows.CumRow.{CumRow}
 use Rattle.mrp_rows.specs.declared.rows.DemandRow.{DemandRow}
 use Rattle.mrp_rows.specs.declared.rows.ReceiptRow.{ReceiptRow}
 use Rattle.mrp_rows.specs.declared.rows.ResetRow.{ResetRow}
 use Rattle.mrp_rows.specs.declared.rows.ShipRow.{ShipRow}
-use Rattle.mrp_rows.specs.Table.{Table, horizon, IsOnce, IsSourced, is_taken_from, is_same_cum, is_same_reset}
+use Rattle.mrp_rows.specs.Table.{Table, IsOnce, IsSourced, is_taken_from, is_same_cum, is_same_reset}
 use Rattle.mrp_rows.specs.Growing.{with_plant, with_demand, with_receipt, with_ship, with_cum, with_reset}
-use Rattle.mrp_tables.specs.Grammar.{LaneTerms, cum_between, cum_of, cum_terms, has_cum, has_reset, known_lane, lane_named, plant_of, plant_terms, reset_between, reset_of, reset_terms, ship_of, ship_terms, source_named}
+use Rattle.mrp_tables.specs.Grammar.{LaneTerms, cum_between, cum_of, known_lane, lane_named, plant_of, plant_terms, reset_between, reset_of, ship_of, source_named}
 use Rattle.mrp_rows.specs.Names.{has_plant, pair_named, plant_no}
 use Rattle.mrp_rows.specs.Table.{rises_from, arrivals}
 use Rattle.mrp_spell.proofs.Lists.{distinct_push}
 use Rattle.mrp_tables.proofs.KeepingLists.{distinct_name, any-from_position}
+use Rattle.mrp_tables.proofs.KeepingParts.{cum_parts, reset_parts, ship_parts}
+use Rattle.mrp_tables.proofs.KeepingSame.{stays_once, stays_sourced}
 use Rattle.mrp_tables.proofs.KeepingSteps.{after, after_check, after_some, same_Ok}
 
 -- ---- plants
@@ -35,66 +37,22 @@ new_plant N row name is =
 
 pub plant_keeps : (N : Table) (row : List (List ℕ)) (name : List ℕ) → IsOnce N → IsSourced N → plant_of N row ≡ Ok name → IsOnce (with_plant N name) × IsSourced (with_plant N name)
 plant_keeps N row name once sourced is = (
-  record {
-    plants = distinct_name N.plants name once.plants (new_plant N row name is);
-    items = once.items;
-    pairs = once.pairs;
-    sources = once.sources;
-    bills = once.bills;
-    cums = once.cums;
-    resets = once.resets;
-  },
-  record {
-    items = sourced.items;
-    order = sourced.order;
-    few = sourced.few;
-    supplies = sourced.supplies;
-    others = sourced.others;
-    parents = sourced.parents;
-    plants = sourced.plants;
-    ships = sourced.ships;
-    cums = sourced.cums;
-    resets = sourced.resets;
-    arrive = sourced.arrive;
-  },
+  stays_once N (with_plant N name) refl once (distinct_name N.plants name once.plants (new_plant N row name is)) once.bills once.cums once.resets,
+  stays_sourced N (with_plant N name) refl sourced sourced.parents sourced.plants sourced.ships sourced.cums sourced.resets sourced.arrive,
 )
 
 -- ---- demands and receipts
 
 pub demand_keeps : (N : Table) (x : DemandRow) → IsOnce N → IsSourced N → IsOnce (with_demand N x) × IsSourced (with_demand N x)
 demand_keeps N x once sourced = (
-  record { plants = once.plants; items = once.items; pairs = once.pairs; sources = once.sources; bills = once.bills; cums = once.cums; resets = once.resets },
-  record {
-    items = sourced.items;
-    order = sourced.order;
-    few = sourced.few;
-    supplies = sourced.supplies;
-    others = sourced.others;
-    parents = sourced.parents;
-    plants = sourced.plants;
-    ships = sourced.ships;
-    cums = sourced.cums;
-    resets = sourced.resets;
-    arrive = sourced.arrive;
-  },
+  stays_once N (with_demand N x) refl once once.plants once.bills once.cums once.resets,
+  stays_sourced N (with_demand N x) refl sourced sourced.parents sourced.plants sourced.ships sourced.cums sourced.resets sourced.arrive,
 )
 
 pub receipt_keeps : (N : Table) (x : ReceiptRow) → IsOnce N → IsSourced N → IsOnce (with_receipt N x) × IsSourced (with_receipt N x)
 receipt_keeps N x once sourced = (
-  record { plants = once.plants; items = once.items; pairs = once.pairs; sources = once.sources; bills = once.bills; cums = once.cums; resets = once.resets },
-  record {
-    items = sourced.items;
-    order = sourced.order;
-    few = sourced.few;
-    supplies = sourced.supplies;
-    others = sourced.others;
-    parents = sourced.parents;
-    plants = sourced.plants;
-    ships = sourced.ships;
-    cums = sourced.cums;
-    resets = sourced.resets;
-    arrive = sourced.arrive;
-  },
+  stays_once N (with_receipt N x) refl once once.plants once.bills once.cums once.resets,
+  stays_sourced N (with_receipt N x) refl sourced sourced.parents sourced.plants sourced.ships sourced.cums sourced.resets sourced.arrive,
 )
 
 -- ---- lanes
@@ -137,30 +95,14 @@ taken N t lane on = taken_at N (plant_no N t.from) (pair_named N (plant_no N t.t
 -- ---- shipments
 
 ship_lane : (N : Table) (row : List (List ℕ)) (x : ShipRow) → ship_of N row ≡ Ok x → is_taken_from N x.pair.0 x.from.0 ≡ true
-unfolding ship_of
 ship_lane N row x is =
-    let a = after (ship_terms row (horizon N)) _ x is in
-    let b = after (known_lane (lane_named N a.0.0)) _ x a.2 in
-    let c = after_check (ltb (length N.ships) MOST_OF_A_KIND) _ _ x b.2 in
-    let same : record { from = b.0.from; pair = b.0.pair; period = a.0.1; quantity = a.0.2 } ≡ x = same_Ok _ x c.1 in
-    subst (λ (y : ShipRow). is_taken_from N y.pair.0 y.from.0 ≡ true) same (taken N a.0.0 b.0 (on_lane N (lane_named N a.0.0) b.0 b.1))
+    let p = ship_parts N row x is in
+    subst (λ (y : ShipRow). is_taken_from N y.pair.0 y.from.0 ≡ true) p.same (taken N p.terms.0 p.lane (on_lane N (lane_named N p.terms.0) p.lane p.known))
 
 pub ship_keeps : (N : Table) (row : List (List ℕ)) (x : ShipRow) → IsOnce N → IsSourced N → N.resets ≡ [] → ship_of N row ≡ Ok x → IsOnce (with_ship N x) × IsSourced (with_ship N x)
 ship_keeps N row x once sourced none is = (
-  record { plants = once.plants; items = once.items; pairs = once.pairs; sources = once.sources; bills = once.bills; cums = once.cums; resets = once.resets },
-  record {
-    items = sourced.items;
-    order = sourced.order;
-    few = sourced.few;
-    supplies = sourced.supplies;
-    others = sourced.others;
-    parents = sourced.parents;
-    plants = sourced.plants;
-    ships = All-push (λ s. is_taken_from N s.pair.0 s.from.0 ≡ true) N.ships x sourced.ships (ship_lane N row x is);
-    cums = sourced.cums;
-    resets = sourced.resets;
-    arrive = λ k d lt. absurd (omega (arith, ap length none, lt));
-  },
+  stays_once N (with_ship N x) refl once once.plants once.bills once.cums once.resets,
+  stays_sourced N (with_ship N x) refl sourced sourced.parents sourced.plants (All-push (λ s. is_taken_from N s.pair.0 s.from.0 ≡ true) N.ships x sourced.ships (ship_lane N row x is)) sourced.cums sourced.resets (λ k d lt. absurd (omega (arith, ap length none, lt))),
 )
 
 -- ---- cumulative figures
@@ -176,45 +118,19 @@ new_cum N (Some f) (Some p) c fresh ef ep =
     ∙ ap (λ (y : PairNo). list_any (λ d. (d.from.0 == f.0) && (d.pair.0 == y.0)) N.cums) (sym sp) ∙ fresh
 
 cum_lane : (N : Table) (row : List (List ℕ)) (x : CumRow) → cum_of N row ≡ Ok x → (is_taken_from N x.pair.0 x.from.0 ≡ true) × (list_any (λ c. is_same_cum c x) N.cums ≡ false)
-unfolding cum_of
 cum_lane N row x is =
-    let a = after (cum_terms row) _ x is in
-    let l = lane_named N a.0.0 in
-    let z = after_check (not (has_cum N l)) _ _ x a.2 in
-    let b = after (known_lane l) _ x z.1 in
-    let c = after_check (ltb (length N.cums) MOST_OF_A_KIND) _ _ x b.2 in
-    let same : record { from = b.0.from; pair = b.0.pair; figure = a.0.1 } ≡ x = same_Ok _ x c.1 in
-    let on = on_lane N l b.0 b.1 in
-    let fresh : has_cum N l ≡ false = not-true (has_cum N l) z.0 in (
-      subst (λ (y : CumRow). is_taken_from N y.pair.0 y.from.0 ≡ true) same (taken N a.0.0 b.0 on),
-      new_cum N l.from l.pair x fresh (on.from ∙ ap (λ (y : CumRow). Some y.from) same) (on.pair ∙ ap (λ (y : CumRow). Some y.pair) same),
+    let p = cum_parts N row x is in
+    let l = lane_named N p.terms.0 in
+    let on = on_lane N l p.lane p.known in (
+      subst (λ (y : CumRow). is_taken_from N y.pair.0 y.from.0 ≡ true) p.same (taken N p.terms.0 p.lane on),
+      new_cum N l.from l.pair x p.new (on.from ∙ ap (λ (y : CumRow). Some y.from) p.same) (on.pair ∙ ap (λ (y : CumRow). Some y.pair) p.same),
     )
 
 pub cum_keeps : (N : Table) (row : List (List ℕ)) (x : CumRow) → IsOnce N → IsSourced N → cum_of N row ≡ Ok x → IsOnce (with_cum N x) × IsSourced (with_cum N x)
 cum_keeps N row x once sourced is =
     let says = cum_lane N row x is in (
-      record {
-        plants = once.plants;
-        items = once.items;
-        pairs = once.pairs;
-        sources = once.sources;
-        bills = once.bills;
-        cums = distinct_push is_same_cum N.cums x once.cums says.1;
-        resets = once.resets;
-      },
-      record {
-        items = sourced.items;
-        order = sourced.order;
-        few = sourced.few;
-        supplies = sourced.supplies;
-        others = sourced.others;
-        parents = sourced.parents;
-        plants = sourced.plants;
-        ships = sourced.ships;
-        cums = All-push (λ s. is_taken_from N s.pair.0 s.from.0 ≡ true) N.cums x sourced.cums says.0;
-        resets = sourced.resets;
-        arrive = sourced.arrive;
-      },
+      stays_once N (with_cum N x) refl once once.plants once.bills (distinct_push is_same_cum N.cums x once.cums says.1) once.resets,
+      stays_sourced N (with_cum N x) refl sourced sourced.parents sourced.plants sourced.ships (All-push (λ s. is_taken_from N s.pair.0 s.from.0 ≡ true) N.cums x sourced.cums says.0) sourced.resets sourced.arrive,
     )
 
 -- ---- new starts
@@ -231,44 +147,18 @@ new_reset N (Some f) (Some p) c fresh ef ep =
 
 reset_lane : (N : Table) (row : List (List ℕ)) (x : ResetRow) → reset_of N row ≡ Ok x → (is_taken_from N x.pair.0 x.from.0 ≡ true) × (list_any (λ c. is_same_reset c x) N.resets ≡ false)
     × (rises_from 0 (arrivals N x.from.0 x.pair.0) ≡ true)
-unfolding reset_of
 reset_lane N row x is =
-    let a = after (reset_terms row (horizon N)) _ x is in
-    let l = lane_named N a.0.0 in
-    let z = after_check (not (has_reset N l)) _ _ x a.2 in
-    let b = after (known_lane l) _ x z.1 in
-    let c = after_check (rises_from 0 (arrivals N b.0.from.0 b.0.pair.0)) _ _ x b.2 in
-    let same : record { from = b.0.from; pair = b.0.pair; period = a.0.1 } ≡ x = same_Ok _ x c.1 in
-    let on = on_lane N l b.0 b.1 in
-    let fresh : has_reset N l ≡ false = not-true (has_reset N l) z.0 in (
-      subst (λ (y : ResetRow). is_taken_from N y.pair.0 y.from.0 ≡ true) same (taken N a.0.0 b.0 on),
-      new_reset N l.from l.pair x fresh (on.from ∙ ap (λ (y : ResetRow). Some y.from) same) (on.pair ∙ ap (λ (y : ResetRow). Some y.pair) same),
-      subst (λ (y : ResetRow). rises_from 0 (arrivals N y.from.0 y.pair.0) ≡ true) same c.0,
+    let p = reset_parts N row x is in
+    let l = lane_named N p.terms.0 in
+    let on = on_lane N l p.lane p.known in (
+      subst (λ (y : ResetRow). is_taken_from N y.pair.0 y.from.0 ≡ true) p.same (taken N p.terms.0 p.lane on),
+      new_reset N l.from l.pair x p.new (on.from ∙ ap (λ (y : ResetRow). Some y.from) p.same) (on.pair ∙ ap (λ (y : ResetRow). Some y.pair) p.same),
+      subst (λ (y : ResetRow). rises_from 0 (arrivals N y.from.0 y.pair.0) ≡ true) p.same p.rises,
     )
 
 pub reset_keeps : (N : Table) (row : List (List ℕ)) (x : ResetRow) → IsOnce N → IsSourced N → reset_of N row ≡ Ok x → IsOnce (with_reset N x) × IsSourced (with_reset N x)
 reset_keeps N row x once sourced is =
     let says = reset_lane N row x is in (
-      record {
-        plants = once.plants;
-        items = once.items;
-        pairs = once.pairs;
-        sources = once.sources;
-        bills = once.bills;
-        cums = once.cums;
-        resets = distinct_push is_same_reset N.resets x once.resets says.1;
-      },
-      record {
-        items = sourced.items;
-        order = sourced.order;
-        few = sourced.few;
-        supplies = sourced.supplies;
-        others = sourced.others;
-        parents = sourced.parents;
-        plants = sourced.plants;
-        ships = sourced.ships;
-        cums = sourced.cums;
-        resets = All-push (λ s. is_taken_from N s.pair.0 s.from.0 ≡ true) N.resets x sourced.resets says.0;
-        arrive = All-push (λ s. rises_from 0 (arrivals N s.from.0 s.pair.0) ≡ true) N.resets x sourced.arrive says.2;
-      },
+      stays_once N (with_reset N x) refl once once.plants once.bills once.cums (distinct_push is_same_reset N.resets x once.resets says.1),
+      stays_sourced N (with_reset N x) refl sourced sourced.parents sourced.plants sourced.ships sourced.cums (All-push (λ s. is_taken_from N s.pair.0 s.from.0 ≡ true) N.resets x sourced.resets says.0) (All-push (λ s. rises_from 0 (arrivals N s.from.0 s.pair.0) ≡ true) N.resets x sourced.arrive says.2),
     )

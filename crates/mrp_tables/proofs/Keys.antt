@@ -22,12 +22,24 @@ any_bill x y keys bills same =
     ap (list_any (bill.eq-value.it (record { parent = x; component = y }))) same
     ∙ list_any_keys bill_key_of _ (λ b. (b.parent.0 == x.0) && (b.component.0 == y.0)) (λ b. swap x.0 b.parent.0 y.0 b.component.0) bills
 
--- whether there is a cum row of a plant and a pair
+-- whether there is a row of a plant and a pair
+any_lane : {R : Type 0} (key : R → LaneKey) (f : PlantNo) (x : PairNo) (keys : List LaneKey) (rows : List R) → keys ≡ map key rows
+    → list_any (lane.eq-value.it (record { from = f; pair = x })) keys ≡ list_any (λ r. ((key r).from.0 == f.0) && ((key r).pair.0 == x.0)) rows
+any_lane key f x keys rows same =
+    ap (list_any (lane.eq-value.it (record { from = f; pair = x }))) same
+    ∙ list_any_keys key _ (λ r. ((key r).from.0 == f.0) && ((key r).pair.0 == x.0)) (λ r. swap f.0 (key r).from.0 x.0 (key r).pair.0) rows
+
 pub any_cum : (f : PlantNo) (x : PairNo) (keys : List LaneKey) (cums : List CumRow) → keys ≡ map cum_key_of cums
     → list_any (lane.eq-value.it (record { from = f; pair = x })) keys ≡ list_any (λ c. (c.from.0 == f.0) && (c.pair.0 == x.0)) cums
-any_cum f x keys cums same =
-    ap (list_any (lane.eq-value.it (record { from = f; pair = x }))) same
-    ∙ list_any_keys cum_key_of _ (λ c. (c.from.0 == f.0) && (c.pair.0 == x.0)) (λ c. swap f.0 c.from.0 x.0 c.pair.0) cums
+any_cum f x keys cums same = any_lane cum_key_of f x keys cums same
+
+pub any_source : (f : PlantNo) (x : PairNo) (keys : List LaneKey) (sources : List SourceRow) → keys ≡ map lane_of sources
+    → list_any (lane.eq-value.it (record { from = f; pair = x })) keys ≡ list_any (λ s. (s.plant.0 == f.0) && (s.pair.0 == x.0)) sources
+any_source f x keys sources same = any_lane lane_of f x keys sources same
+
+pub any_reset : (f : PlantNo) (x : PairNo) (keys : List LaneKey) (resets : List ResetRow) → keys ≡ map reset_key_of resets
+    → list_any (lane.eq-value.it (record { from = f; pair = x })) keys ≡ list_any (λ r. (r.from.0 == f.0) && (r.pair.0 == x.0)) resets
+any_reset f x keys resets same = any_lane reset_key_of f x keys resets same
 
 -- the place of a source
 pub place_of_source : (f : PlantNo) (x : PairNo) (keys : List LaneKey) (sources : List SourceRow) → keys ≡ map lane_of sources
@@ -35,17 +47,3 @@ pub place_of_source : (f : PlantNo) (x : PairNo) (keys : List LaneKey) (sources 
 place_of_source f x keys sources same =
     ap (position (lane.eq-value.it (record { from = f; pair = x }))) same
     ∙ position_keys lane_of _ (λ s. (s.plant.0 == f.0) && (s.pair.0 == x.0)) (λ s. swap f.0 s.plant.0 x.0 s.pair.0) sources
-
--- whether there is a source of a plant and a pair
-pub any_source : (f : PlantNo) (x : PairNo) (keys : List LaneKey) (sources : List SourceRow) → keys ≡ map lane_of sources
-    → list_any (lane.eq-value.it (record { from = f; pair = x })) keys ≡ list_any (λ s. (s.plant.0 == f.0) && (s.pair.0 == x.0)) sources
-any_source f x keys sources same =
-    ap (list_any (lane.eq-value.it (record { from = f; pair = x }))) same
-    ∙ list_any_keys lane_of _ (λ s. (s.plant.0 == f.0) && (s.pair.0 == x.0)) (λ s. swap f.0 s.plant.0 x.0 s.pair.0) sources
-
--- whether there is a reset row of a plant and a pair
-pub any_reset : (f : PlantNo) (x : PairNo) (keys : List LaneKey) (resets : List ResetRow) → keys ≡ map reset_key_of resets
-    → list_any (lane.eq-value.it (record { from = f; pair = x })) keys ≡ list_any (λ r. (r.from.0 == f.0) && (r.pair.0 == x.0)) resets
-any_reset f x keys resets same =
-    ap (list_any (lane.eq-value.it (record { from = f; pair = x }))) same
-    ∙ list_any_keys reset_key_of _ (λ r. (r.from.0 == f.0) && (r.pair.0 == x.0)) (λ r. swap f.0 r.from.0 x.0 r.pair.0) resets

@@ -4,8 +4,10 @@ pub mod Keeping
 pub mod KeepingBill
 pub mod KeepingLists
 pub mod KeepingPair
+pub mod KeepingParts
 pub mod KeepingRead
 pub mod KeepingRows
+pub mod KeepingSame
 pub mod KeepingShares
 pub mod KeepingSteps
 pub mod Loop

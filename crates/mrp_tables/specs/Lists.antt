@@ -87,19 +87,7 @@ pub record AddsRow (old new : Draft) : Type 0 where
   pub counted : new.rows ≡ old.rows
   pub count : row_count new.lists ≡ row_count old.lists + 1
 
--- one source more of the pair that was added last
-pub record AddsSource (old new : Draft) : Type 0 where
-  pub rows : IsRead new.lists
-  pub fits : Fits new.lists new.lane_keys.keys new.lanes.items
-  pub same : (row_count new.lists ≡ row_count old.lists) × (new.rows ≡ old.rows)
-  pub bills : (new.bill_keys.keys ≡ old.bill_keys.keys) × (new.lists.bills ≡ old.lists.bills)
-  pub cums : (new.cum_keys.keys ≡ old.cum_keys.keys) × (new.lists.cums ≡ old.lists.cums)
-  pub resets : (new.reset_keys.keys ≡ old.reset_keys.keys) × (new.lists.resets ≡ old.lists.resets)
-  pub lanes : AreLanes old.lane_keys.keys old.reset_keys.keys → AreLanes new.lane_keys.keys new.reset_keys.keys
-  pub pairs : length new.lists.pairs ≡ length old.lists.pairs
-  pub sources : length new.lists.sources ≡ length old.lists.sources + 1
-
--- so many sources more
+-- so many sources more of the pair that was added last
 pub record AddsSources (old new : Draft) (count : ℕ) : Type 0 where
   pub rows : IsRead new.lists
   pub fits : Fits new.lists new.lane_keys.keys new.lanes.items

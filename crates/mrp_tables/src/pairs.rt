@@ -22,7 +22,7 @@ impl Draft {
     ghost use Rattle.mrp_tables.specs.Drafts.{FitsPair, IsNewPair, with_sources};
     ghost use Rattle.mrp_rows.specs.Names.{has_plant};
     ghost use Rattle.mrp_tables.specs.Grammar.{knows_sources, pair_fits, pair_row, plant_of, plant_row, seen, source_row, Tells, with_pair_terms};
-    ghost use Rattle.mrp_tables.specs.Lists.{IsDraft, AddsRow, Fits, AddsSource, AddsSources};
+    ghost use Rattle.mrp_tables.specs.Lists.{IsDraft, AddsRow, Fits, AddsSources};
     ghost use Rattle.mrp_rows.specs.Table.{IsRead};
     ghost use Rattle.mrp_rows.specs.Growing.{with_source};
     ghost use Rattle.mrp_tables.specs.Spelled.{pair_view, IsSpelledPair};
@@ -181,7 +181,7 @@ impl Draft {
         requires room { length self.old.lists.sources < MOST_SOURCES_OF_PAIR * length self.old.lists.pairs }
         ensures memory { IfErr result (λ fault. fault ≡ Memory) }
         ensures table { OnOk result (self.new.lists ≡ with_source self.old.lists (source_row self.old.lists pair.0 (source_view source.now))) }
-        ensures adds { OnOk result (AddsSource self.old self.new) }
+        ensures adds { OnOk result (AddsSources self.old self.new 1) }
     {
         let Some(from) = self.lists.find_plant(source.plant) else {
             unreachable!();

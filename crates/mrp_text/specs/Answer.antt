@@ -2,22 +2,24 @@
 use Rattle.std.specs.Prelude.{ℕ, List, Result, Ok, Err}
 use Rattle.mrp_rows.specs.Table.{Table}
 use Rattle.mrp_words.specs.declared.words.Choice.{Choice}
-use Rattle.mrp_words.specs.declared.words.Choice.TheVariants.{Plan, Check, Peg}
+use Rattle.mrp_words.specs.declared.words.Choice.TheVariants.{Plan, Check, Peg, Cums}
 use Rattle.mrp_text.specs.declared.fault.TextFault.{TextFault}
 use Rattle.mrp_text.specs.Fault.{status_of}
-use Rattle.mrp_text.specs.Text.{IsPlanReport, IsCodeReport, IsPegReport, IsRefusal, IsPegRefusal}
+use Rattle.mrp_text.specs.Text.{IsPlanReport, IsCodeReport, IsPegReport, IsCumReport, IsRefusal, IsPegRefusal}
 
 -- the report that a choice asks for
 abbrev pub IsAnswer : Choice → Table → List ℕ → Type 0
 IsAnswer (Plan workers capacity single) = IsPlanReport
 IsAnswer Check = IsCodeReport
 IsAnswer (Peg plant item period) = IsPegReport plant.now item.now period
+IsAnswer Cums = IsCumReport
 
 -- what a refusal of the network says to a choice
 abbrev pub IsAnswerRefusal : Choice → Table → TextFault → Type 0
 IsAnswerRefusal (Plan workers capacity single) = IsRefusal
 IsAnswerRefusal Check = IsRefusal
 IsAnswerRefusal (Peg plant item period) = IsPegRefusal plant.now item.now period
+IsAnswerRefusal Cums = IsRefusal
 
 -- the status of the process: 0 where the work was done, else that of the fault
 abbrev pub exit_status_of : {U : Type 0} → Result U TextFault → ℕ

@@ -12,7 +12,9 @@ use Rattle.mrp_loops.specs.Sized.{IsSized}
 use Rattle.mrp_loops.specs.BoundFaults.{IsSupplyTooLarge, IsNeedTooLarge}
 use Rattle.mrp_plan.specs.Peg.{peg_terms}
 use Rattle.mrp_report.specs.Sending.{AppendsFront}
+use Rattle.mrp_report.specs.Lanes.{lane_text}
 use Rattle.mrp_report.specs.Report.{plan_text, late_text, peg_text, code_text}
+use Rattle.mrp_world.specs.Figures.{last_figures}
 use Rattle.mrp_text.specs.declared.fault.PairName.{PairName}
 use Rattle.mrp_text.specs.declared.fault.TextFault.{TextFault}
 use Rattle.mrp_text.specs.declared.fault.TextFault.TheVariants as fault
@@ -49,6 +51,10 @@ IsPegs N x period text =
 -- those of the pair of these names
 abbrev pub IsPegReport : List ℕ → List ℕ → ℕ → Table → List ℕ → Type 0
 IsPegReport plant item period N text = (x : ℕ) × IsNamed N x plant item × IsPegs N x period text
+
+-- the lane rows of the cumulative figures with which every run between the plants ends
+abbrev pub IsCumReport : Table → List ℕ → Type 0
+IsCumReport N text = IsPlannable N × (text ≡ lane_text N (last_figures N))
 
 -- what became of a text: all of it was written; a front, at a failed write; nothing or a front,
 -- where memory was refused; nothing, at every other fault

@@ -7,7 +7,7 @@ ghost use Rattle.mrp_text.specs.Fault.{IsBeforeWriting};
 ghost use Rattle.mrp_text.specs.Text.{Writes, OfTable, IsTextRefusal};
 
 use crate::fault::{TextFault, status};
-use crate::text::{check_text, drive_text, peg_text};
+use crate::text::{check_text, cums_text, drive_text, peg_text};
 use mrp_words::Choice;
 use std::alloc::Global;
 use std::io::{Read, Write};
@@ -36,6 +36,7 @@ pub fn answer<R: Read + Drop, W: Write>(
             item,
             period,
         } => peg_text(alloc, reader, writer, plant, item, period),
+        Choice::Cums => cums_text(alloc, reader, writer),
     }
 }
 

@@ -1,7 +1,8 @@
 //! The planner as a library: a table from any reader, a report to any writer.
 //!
-//! [`drive_text`] writes the plan, [`check_text`] the low-level codes, and [`peg_text`] what a gross
-//! requirement consists of; [`answer`] does the one of them that the words of a command line chose.
+//! [`drive_text`] writes the plan, [`check_text`] the low-level codes, [`peg_text`] what a gross
+//! requirement consists of, and [`cums_text`] the cumulative figures of the lanes between plants;
+//! [`answer`] does the one of them that the words of a command line chose.
 //! Where a text was not written whole, a [`TextFault`] says why: [`write_fault`] writes the line that
 //! reports it, and [`status`] and [`exit_status`] are the statuses with which a program ends.
 //!
@@ -10,10 +11,11 @@
 
 mod answers;
 mod fault;
+mod firm;
 mod lines;
 mod text;
 
 pub use answers::{answer, exit_status};
 pub use fault::{PairName, TextFault, status};
 pub use lines::write_fault;
-pub use text::{check_text, drive_text, peg_text};
+pub use text::{check_text, cums_text, drive_text, peg_text};

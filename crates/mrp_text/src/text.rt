@@ -7,15 +7,16 @@ ghost use Rattle.std.specs.Prelude.{◌≡◌, ◌≢◌, ◌≤◌, ◌<◌, ma
 ghost use Rattle.mrp_rows.specs.Table.{IsTable, IsPair, horizon};
 ghost use Rattle.mrp_loops.specs.Loop.{AreCodes, IsLoopFree};
 ghost use Rattle.mrp_text.specs.Fault.{IsBeforeWriting, IsLate};
-ghost use Rattle.mrp_text.specs.Text.{Writes, OfTable, IsTableOf, IsPlannable, IsPlanReport, IsCodeReport, IsPegReport, IsPegs, IsCalled, AreCalled};
+ghost use Rattle.mrp_text.specs.Text.{Writes, OfTable, IsTableOf, IsPlannable, IsPlanReport, IsCodeReport, IsPegReport, IsCumReport, IsPegs, IsCalled, AreCalled};
 ghost use Rattle.mrp_text.specs.Text.{IsLoopRefusal, IsBoundRefusal, IsRefusal, IsPegRefusal, IsReadRefusal, IsTextRefusal};
 ghost use Rattle.mrp_words.specs.declared.words.TheConstants.{MOST_CAPACITY};
 
 use crate::fault::{PairName, TextFault};
+use crate::firm::{driven_figures, driven_plan};
 use mrp_loops::{BoundFault, Levels, LoopFault, SizedNet, bound, check};
 use mrp_net::{Network, PairNo};
 use mrp_plan::{peg, plan_all};
-use mrp_report::{code_rows, late_rows, peg_rows, plan_rows};
+use mrp_report::{code_rows, lane_rows, late_rows, peg_rows, plan_rows};
 use mrp_tables::read_tables_uncounted;
 use mrp_words::MOST_CAPACITY;
 use std::alloc::Global;
@@ -51,9 +52,8 @@ pub fn drive_text<R: Read + Drop, W: Write>(
     ensures refusal { IfErr result (IsTextRefusal (R.remaining reader) IsRefusal) }
     ensures untouched { IfErr result (λ fault. IsBeforeWriting fault → writer.new ≡ writer.old) }
 {
-    let _ = capacity;
     let network = network_of(alloc, reader)?;
-    write_plan(alloc, &network, writer)
+    write_plan(alloc, &network, writer, capacity)
 }
 
 /// Reads a table and writes the low-level code of each pair.
@@ -99,6 +99,26 @@ pub fn peg_text<R: Read + Drop, W: Write>(
     write_pegs(alloc, &network, writer, plant, item, period)
 }
 
+/// Reads a table and writes the cumulative figures of the lanes between its plants, once all plants have
+/// planned: a row for each lane and each of its items.
+///
+/// # Errors
+///
+/// As [`TextFault`] says. After [`TextFault::WriteFault`] a front of the text is written, and nothing
+/// after every other fault.
+pub fn cums_text<R: Read + Drop, W: Write>(
+    alloc: Global,
+    reader: R,
+    writer: &mut W,
+) -> Result<(), TextFault>
+    ensures text { Writes (W.contents writer.old) (W.contents writer.new) result (λ text. OfTable (R.remaining reader) (λ N. IsCumReport N text)) }
+    ensures refusal { IfErr result (IsTextRefusal (R.remaining reader) IsRefusal) }
+    ensures untouched { IfErr result (λ fault. fault ≢ TextFault.WriteFault → writer.new ≡ writer.old) }
+{
+    let network = network_of(alloc, reader)?;
+    write_cums(alloc, &network, writer)
+}
+
 /// The network of the table.
 fn network_of<R: Read + Drop>(alloc: Global, reader: R) -> Result<Network, TextFault>
     ensures table { IfOk result IsTable }
@@ -116,23 +136,35 @@ fn network_of<R: Read + Drop>(alloc: Global, reader: R) -> Result<Network, TextF
 }
 
 /// Writes the plan rows and the late rows of a network.
-fn write_plan<W: Write>(alloc: Global, network: &Network, writer: &mut W) -> Result<(), TextFault>
+fn write_plan<W: Write>(
+    alloc: Global,
+    network: &Network,
+    writer: &mut W,
+    capacity: u64,
+) -> Result<(), TextFault>
+    requires capacity { (1 ≤ capacity) × (capacity ≤ MOST_CAPACITY) }
     ensures text { Writes (W.contents writer.old) (W.contents writer.new) result (IsPlanReport network.now) }
     ensures refusal { IfErr result (IsRefusal network.now) }
     ensures untouched { IfErr result (λ fault. IsBeforeWriting fault → writer.new ≡ writer.old) }
 {
     let levels = levels_of(alloc, network)?;
     let net = sized_of(alloc, network, &levels)?;
-    report_plan(alloc, &net, writer)
+    report_plan(alloc, &net, writer, capacity)
 }
 
 /// Writes the plan rows and the late rows of a sized network.
-fn report_plan<W: Write>(alloc: Global, net: &SizedNet<'_>, writer: &mut W) -> Result<(), TextFault>
-    requires { IsPlannable net.now.network }
+fn report_plan<W: Write>(
+    alloc: Global,
+    net: &SizedNet<'_>,
+    writer: &mut W,
+    capacity: u64,
+) -> Result<(), TextFault>
+    requires capacity { (1 ≤ capacity) × (capacity ≤ MOST_CAPACITY) }
+    requires plannable { IsPlannable net.now.network }
     ensures text { Writes (W.contents writer.old) (W.contents writer.new) result (IsPlanReport net.now.network) }
     ensures fault { IfErr result IsLate }
 {
-    let plan = plan_all(alloc, net)?;
+    let plan = driven_plan(alloc, net, capacity)?;
     plan_rows(alloc, net, &plan, writer)?;
     late_rows(alloc, net, &plan, writer)?;
     Ok(())
@@ -208,6 +240,29 @@ fn report_pegs<W: Write>(
     let plan = plan_all(alloc, net)?;
     let terms = peg(alloc, net, &plan, x, period)?;
     peg_rows(alloc, net, terms.as_slice(), writer)?;
+    Ok(())
+}
+
+/// Writes the lane rows of a network.
+fn write_cums<W: Write>(alloc: Global, network: &Network, writer: &mut W) -> Result<(), TextFault>
+    ensures text { Writes (W.contents writer.old) (W.contents writer.new) result (IsCumReport network.now) }
+    ensures refusal { IfErr result (IsRefusal network.now) }
+    ensures untouched { IfErr result (λ fault. fault ≢ TextFault.WriteFault → writer.new ≡ writer.old) }
+{
+    let levels = levels_of(alloc, network)?;
+    let net = sized_of(alloc, network, &levels)?;
+    report_cums(alloc, &net, writer)
+}
+
+/// Writes the lane rows of a sized network.
+fn report_cums<W: Write>(alloc: Global, net: &SizedNet<'_>, writer: &mut W) -> Result<(), TextFault>
+    requires { IsPlannable net.now.network }
+    ensures text { Writes (W.contents writer.old) (W.contents writer.new) result (IsCumReport net.now.network) }
+    ensures fault { IfErr result IsLate }
+    ensures untouched { IfErr result (λ fault. fault ≢ TextFault.WriteFault → writer.new ≡ writer.old) }
+{
+    let figures = driven_figures(alloc, net)?;
+    lane_rows(alloc, net.network(), figures.as_slice(), writer)?;
     Ok(())
 }
 

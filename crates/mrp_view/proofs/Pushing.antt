@@ -1,6 +1,7 @@
 -- The loops that make a plant's view: what passes a test is pushed, in order.
-use Rattle.std.proofs.Common.{◌≡◌, ℕ, ◌+◌, ◌<◌, Bool, true, false, cond, List, [], ◌∷◌, ◌++◌, length, get_or, map, take, sym, ap, ◌∙◌, add-one}
+use Rattle.std.proofs.Common.{◌≡◌, ◌≢◌, ◌==◌, ℕ, ◌+◌, ◌<◌, Bool, true, false, cond, List, [], ◌∷◌, ◌++◌, length, get_or, map, take, sym, ap, ◌∙◌, add-one}
 use Rattle.std.specs.List.{filter, flat_map, range_with_len}
+use Rattle.std.proofs.lemmas.Bool.{eq-eqb, ne_eqb}
 use Rattle.std.proofs.lemmas.List.{append-nil, append_assoc, map-append}
 use Rattle.std.proofs.lemmas.List.Elements.{filter-append, filter_more}
 use Rattle.mrp_rows.specs.Table.{Table, horizon}
@@ -21,12 +22,23 @@ range_more {Y} f p k b h =
     ∙ map-append f (filter p (range_with_len 0 k)) (filter p (k ∷ []))
     ∙ ap (λ (z : Bool). map f (filter p (range_with_len 0 k)) ++ map f (cond z (k ∷ []) [])) h
 
-pub range_pushed : {Y : Type 0} (f : ℕ → Y) (p : ℕ → Bool) (k : ℕ) (before : List Y) (y : Y) → p k ≡ true → before ≡ map f (filter p (range_with_len 0 k)) → y ≡ f k → before ++ y ∷ [] ≡ map f (filter p (range_with_len 0 (k + 1)))
+range_pushed : {Y : Type 0} (f : ℕ → Y) (p : ℕ → Bool) (k : ℕ) (before : List Y) (y : Y) → p k ≡ true → before ≡ map f (filter p (range_with_len 0 k)) → y ≡ f k → before ++ y ∷ [] ≡ map f (filter p (range_with_len 0 (k + 1)))
 range_pushed {Y} f p k before y passes was is =
     ap (λ (z : List Y). z ++ y ∷ []) was ∙ ap (λ (z : Y). map f (filter p (range_with_len 0 k)) ++ z ∷ []) is ∙ sym (range_more f p k true passes)
 
-pub range_passed : {Y : Type 0} (f : ℕ → Y) (p : ℕ → Bool) (k : ℕ) (before : List Y) → p k ≡ false → before ≡ map f (filter p (range_with_len 0 k)) → before ≡ map f (filter p (range_with_len 0 (k + 1)))
+range_passed : {Y : Type 0} (f : ℕ → Y) (p : ℕ → Bool) (k : ℕ) (before : List Y) → p k ≡ false → before ≡ map f (filter p (range_with_len 0 k)) → before ≡ map f (filter p (range_with_len 0 (k + 1)))
 range_passed f p k before fails was = was ∙ sym (append-nil (map f (filter p (range_with_len 0 k)))) ∙ sym (range_more f p k false fails)
+
+-- one that stands at the plant is pushed, and any other is passed
+pub at_plant_pushed : {X Y : Type 0} (f : ℕ → Y) (at : ℕ → X) (plant_of : X → ℕ) (plant k : ℕ) (before after : List Y) (x : X) (y : Y) → x ≡ at k → plant_of x ≡ plant
+    → before ≡ map f (filter (λ j. plant_of (at j) == plant) (range_with_len 0 k)) → after ≡ before ++ y ∷ [] → y ≡ f k → after ≡ map f (filter (λ j. plant_of (at j) == plant) (range_with_len 0 (k + 1)))
+at_plant_pushed f at plant_of plant k before after x y read here was new is =
+    new ∙ range_pushed f (λ j. plant_of (at j) == plant) k before y (eq-eqb (plant_of (at k)) plant (ap plant_of (sym read) ∙ here)) was is
+
+pub at_plant_passed : {X Y : Type 0} (f : ℕ → Y) (at : ℕ → X) (plant_of : X → ℕ) (plant k : ℕ) (before after : List Y) (x : X) → x ≡ at k → plant_of x ≢ plant
+    → before ≡ map f (filter (λ j. plant_of (at j) == plant) (range_with_len 0 k)) → after ≡ before → after ≡ map f (filter (λ j. plant_of (at j) == plant) (range_with_len 0 (k + 1)))
+at_plant_passed f at plant_of plant k before after x read apart was same =
+    same ∙ range_passed f (λ j. plant_of (at j) == plant) k before (ne_eqb (plant_of (at k)) plant (λ e. apart (ap plant_of read ∙ e))) was
 
 -- one element more of a list
 take_more_passing : {X Y : Type 0} (f : X → Y) (p : X → Bool) (xs : List X) (i : ℕ) (d : X) (b : Bool) → i < length xs → p (get_or xs i d) ≡ b → map f (filter p (take (i + 1) xs)) ≡ map f (filter p (take i xs)) ++ map f (cond b (get_or xs i d ∷ []) [])

@@ -1,3 +1,4 @@
 pub mod Numbers
 pub mod RowFacts
 pub mod CommandFacts
+pub mod Commands

@@ -174,7 +174,7 @@ fn capacity_option<'a>(alloc: Global) -> Arg<'a>
         .value_name("C")
         .value_parser(value_parser!(u64).range(1..MOST_CAPACITY as i64 + 1))
         .default_value("64")
-        .help("Records that wait between two plants, 1 to 65536; no effect yet")
+        .help("Records that wait between two plants at most, 1 to 65536")
 }
 
 /// `--single`.

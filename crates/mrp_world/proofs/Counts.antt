@@ -1,10 +1,10 @@
 -- How the records of a network's lanes are counted.
-use Rattle.std.proofs.Common.{◌≡◌, ◌⊎◌, inl, inr, ℕ, ◌+◌, ◌-◌, ◌*◌, ◌<◌, ◌≤◌, ◌==◌, not, Bool, true, false, cond, List, [], ◌∷◌, ◌++◌, length, get_or, map, refl, sym, ap, subst, ◌∙◌, arith, length-append, Contains, All, slice_index}
+use Rattle.std.proofs.Common.{◌≡◌, inl, inr, ℕ, ◌+◌, ◌*◌, ◌<◌, ◌≤◌, ◌==◌, not, Bool, true, false, cond, List, [], ◌∷◌, ◌++◌, length, ap, subst, ◌∙◌, arith, length-append, Contains, slice_index}
 use Rattle.std.proofs.lemmas.Bool.{cases_Bool, eqb-true, eq-eqb}
 use Rattle.std.proofs.lemmas.List.FromFn.{filter_of_map_range_with_len_more, length-map-range_with_len}
 use Rattle.std.proofs.lemmas.List.Sums.{get_or-le-sum_by, sum_by-cons}
 use Rattle.std.specs.Prelude.{if◌then◌else◌, is_some}
-use Rattle.std.specs.List.{sum_by, range_with_len, filter}
+use Rattle.std.specs.List.{sum_by}
 use Rattle.mrp_lot.specs.One as rule
 use Rattle.mrp_lot.specs.One.{PlanRows}
 use Rattle.mrp_rows.specs.declared.numbers.ItemNo.{ItemNo}
@@ -17,13 +17,11 @@ use Rattle.mrp_netting.specs.Plan.{AreRows}
 use Rattle.mrp_rows.specs.declared.rows.SourceRow.{SourceRow}
 use Rattle.mrp_events.specs.Seen.{share_of}
 use Rattle.mrp_net.specs.Sources.{source_on}
-use Rattle.mrp_net.specs.Sums.{row_of}
 use Rattle.mrp_net.proofs.Behind.{items_have_sources}
 use Rattle.mrp_net.proofs.Members.{In, In-from_contains, All-in}
 use Rattle.mrp_net.proofs.Sharing.{sum_map}
 use Rattle.mrp_record.specs.Text.{Load, block_length, length_of_text}
-use Rattle.mrp_record.specs.Entries.{Delivery}
-use Rattle.mrp_events.specs.Loads.{by_period, called_in, delivery_in, has_pieces, load_of, loads, steps}
+use Rattle.mrp_events.specs.Loads.{by_period, called_in, delivery_in, has_pieces, load_of, loads}
 use Rattle.mrp_events.proofs.Small.{steps_are_few}
 
 -- ---- periods with pieces

@@ -5,3 +5,13 @@ pub mod Makes
 pub mod Counts
 pub mod Pieces
 pub mod Holding
+pub mod Lasting
+pub mod Gathers
+pub mod Giving
+pub mod AgentPlaces
+pub mod AgentWorks
+pub mod AgentSends
+pub mod AgentBooks
+pub mod AgentPlans
+pub mod AgentReads
+pub mod AgentGives

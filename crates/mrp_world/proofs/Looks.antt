@@ -1,13 +1,13 @@
 -- What is found where an event is looked for.
-use Rattle.std.proofs.Common.{◌≡◌, ℕ, ◌+◌, ◌<◌, ◌≤◌, Bool, true, false, List, [], ◌∷◌, ◌++◌, ◌⊎◌, inl, inr, length, get_or, drop, slice_get, Option, None, Some, refl, sym, ap, subst, ◌∙◌, arith}
+use Rattle.std.proofs.Common.{◌≡◌, ℕ, ◌+◌, ◌<◌, ◌≤◌, Bool, true, false, List, ◌∷◌, ◌⊎◌, inl, inr, length, get_or, drop, slice_get, Option, None, Some, refl, sym, ap, subst, ◌∙◌, arith}
 use Rattle.std.specs.Prelude.{IfNone}
-use Rattle.mrp_rows.specs.Table.{Table, IsPair}
+use Rattle.mrp_rows.specs.Table.{Table}
 use Rattle.mrp_net.specs.Lanes.{lanes, lane_at}
 use Rattle.mrp_net.specs.Sums.{pair_at}
 use Rattle.mrp_record.specs.declared.record.Record.{Record}
 use Rattle.mrp_events.specs.declared.event.Event.{Event}
 use Rattle.mrp_events.specs.declared.event.Event.TheVariants.{Send, Receive, Plan}
-use Rattle.mrp_events.specs.State.{State, CanPlan, IsEnabled, after_send, after_take, after_plan}
+use Rattle.mrp_events.specs.State.{State, CanPlan, after_send, after_take, after_plan}
 use Rattle.mrp_world.specs.Moments.{Moment, Showing, IsAt, IsOut, IsOwn, IsNext, Sends}
 use Rattle.mrp_world.specs.World.{Held, box_at, AreAt, AreSomewhere, Lead, LeadNowhere, MayLead, Acts, StandsStill, LaneRests, PlantRests, AllRests}
 use Rattle.mrp_world.proofs.Steps.{SendsNext, moment, plant_is_at, may_send, first_can, first_of, can_send, owner_within, full_leads_nowhere, none_leads_nowhere, empty_leads_nowhere}

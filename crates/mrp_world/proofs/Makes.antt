@@ -1,5 +1,5 @@
 -- How the plants and mailboxes of a world are made one by one.
-use Rattle.std.proofs.Common.{◌≡◌, ℕ, ◌+◌, ◌<◌, ◌≤◌, min, List, [], ◌∷◌, ◌++◌, ◌⊎◌, inl, inr, length, get_or, refl, sym, ap, subst, ◌∙◌, arith, length-append}
+use Rattle.std.proofs.Common.{◌≡◌, ℕ, ◌<◌, ◌≤◌, min, List, [], ◌∷◌, ◌++◌, ◌⊎◌, inl, inr, length, get_or, refl, sym, ap, subst, ◌∙◌, arith, length-append}
 use Rattle.std.proofs.lemmas.List.{get_or_append_left, get_or_at}
 use Rattle.mrp_rows.specs.Table.{Table}
 use Rattle.mrp_net.specs.Lanes.{lanes, lane_at}
@@ -10,7 +10,7 @@ use Rattle.mrp_events.proofs.Counting.{runs_begin_with_steps}
 use Rattle.mrp_events.proofs.Keeping.{opening_is_reached}
 use Rattle.mrp_events.specs.Loads.{steps}
 use Rattle.mrp_world.specs.Moments.{Showing}
-use Rattle.mrp_world.specs.World.{Held, nothing_held, box_at, PlantsShow, BoxesHold, WorldState, WorldShows, IsWorld}
+use Rattle.mrp_world.specs.World.{Held, nothing_held, PlantsShow, BoxesHold, WorldShows, IsWorld}
 
 or_less : (k n : ℕ) → (k < n) ⊎ (n ≤ k)
 or_less k n = grind arith

@@ -1,6 +1,6 @@
 -- The pieces that wait in a mailbox, and the figures of its lane.
-use Rattle.std.proofs.Common.{◌≡◌, ℕ, ◌+◌, ◌<◌, ◌≤◌, List, [], ◌∷◌, ◌++◌, length, get_or, take, drop, map, refl, sym, ap, subst, ◌∙◌, arith, append_assoc, Contains}
-use Rattle.std.specs.List.{sum_by, filter, flat_map, range_with_len}
+use Rattle.std.proofs.Common.{◌≡◌, ℕ, ◌+◌, ◌<◌, ◌≤◌, List, [], ◌∷◌, ◌++◌, length, get_or, take, drop, map, sym, ap, subst, ◌∙◌, arith, append_assoc, Contains}
+use Rattle.std.specs.List.{sum_by, flat_map, range_with_len}
 use Rattle.mrp_net.proofs.Routing.{flat_map-range-more}
 use Rattle.std.proofs.lemmas.List.{take_more, take-append-drop, map-append, map_more}
 use Rattle.std.proofs.lemmas.List.Elements.{filter-append}

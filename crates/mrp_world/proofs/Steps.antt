@@ -1,5 +1,5 @@
 -- What an event does to plants and mailboxes is a step of what they show.
-use Rattle.std.proofs.Common.{◌≡◌, ℕ, ◌+◌, ◌<◌, ◌≤◌, ◌==◌, min, Bool, true, false, List, [], ◌∷◌, ◌++◌, ◌⊎◌, inl, inr, length, get_or, set, drop, slice_get, Option, None, Some, refl, sym, ap, subst, ◌∙◌, arith, append_assoc, length-append}
+use Rattle.std.proofs.Common.{◌≡◌, ℕ, ◌+◌, ◌<◌, ◌≤◌, ◌==◌, min, true, List, [], ◌∷◌, ◌++◌, ◌⊎◌, inl, inr, length, get_or, set, drop, slice_get, None, Some, refl, sym, ap, subst, ◌∙◌, arith, append_assoc, length-append}
 use Rattle.std.proofs.lemmas.Bool.{cases_Bool, eqb-true, eq-eqb, false≢true}
 use Rattle.std.proofs.lemmas.List.{length-set, get_or-set_same, get_or-set_other, get_or_default}
 use Rattle.mrp_rows.specs.Table.{Table, IsPair}
@@ -12,9 +12,8 @@ use Rattle.mrp_net.specs.Sums.{pair_at, no_pair}
 use Rattle.mrp_net.specs.Texts.{longest_text}
 use Rattle.mrp_loops.specs.Sized.{IsSized}
 use Rattle.mrp_record.specs.declared.record.Record.{Record}
-use Rattle.mrp_events.specs.declared.event.Event.{Event}
 use Rattle.mrp_events.specs.declared.event.Event.TheVariants.{Send, Receive, Plan}
-use Rattle.mrp_events.specs.State.{State, CanSend, CanTake, CanPlan, Step, IsEnabled, changed, after_send, after_take, after_plan}
+use Rattle.mrp_events.specs.State.{State, CanSend, CanTake, CanPlan, changed, after_send, after_take, after_plan}
 use Rattle.mrp_events.proofs.Keeping.{reached_goes_on}
 use Rattle.mrp_events.proofs.Small.{beginnings_are_no_longer}
 use Rattle.mrp_world.specs.Moments.{Moment, Showing, IsAt, IsOut, IsIn, IsOwn, IsNext, Sends, Receives, Has, AgreeAt}

@@ -1,5 +1,5 @@
 -- What events do to a world.
-use Rattle.std.proofs.Common.{◌≡◌, Option, None, Some, get_or, take, ℕ, ◌+◌, ◌-◌, ◌<◌, ◌≤◌, ◌==◌, Bool, true, false, List, [], ◌∷◌, ◌++◌, ◌⊎◌, inl, inr, length, refl, sym, ap, subst, ◌∙◌, arith}
+use Rattle.std.proofs.Common.{◌≡◌, Option, None, Some, get_or, take, ℕ, ◌+◌, ◌-◌, ◌<◌, ◌≤◌, ◌==◌, Bool, true, false, List, [], ◌∷◌, ◌++◌, inl, inr, length, refl, sym, ap, subst, ◌∙◌, arith}
 use Rattle.std.specs.Prelude.{MatchBool, IfSome, IfNone, IfOk, Result, Ok, Err}
 use Rattle.std.proofs.lemmas.Bool.{cases_Bool, eqb-true, eq-eqb, false≢true}
 use Rattle.std.proofs.lemmas.List.{take_more}
@@ -10,7 +10,6 @@ use Rattle.mrp_events.specs.State.{State, Step, Run, IsEnabled, IsFinished}
 use Rattle.mrp_events.specs.Progress.{steps_left}
 use Rattle.mrp_events.proofs.Counting.{events_are_steps, none_is_left_at_the_end}
 use Rattle.mrp_events.proofs.Finishing.{no_schedule_sticks}
-use Rattle.mrp_events.proofs.Keeping.{runs_go_on}
 use Rattle.mrp_world.specs.Moments.{Moment, Showing, IsAt, IsOwn, Has}
 use Rattle.mrp_world.proofs.Steps.{moment, plant_is_at, owner_known}
 use Rattle.mrp_world.specs.World.{Held, AreAt, AreSomewhere, Lead, LeadNowhere, AllRests, MayLead, WorldState, WorldShows, IsWorld, Runs}
@@ -257,3 +256,8 @@ world_says {A} shows N capacity plants plants_too boxes boxes_too left w Says sa
 
 pub shows_some : {A : Type 0} (shows : Showing A) (v w : WorldState A) → v ≡ w → IsWorld shows v → (s : State) × WorldShows shows w s
 shows_some {A} shows v w e is = (is.state, subst (λ (z : WorldState A). WorldShows shows z is.state) e is.shown)
+
+-- a world without steps left is finished
+pub finished_somewhere : {A : Type 0} (shows : Showing A) (w : WorldState A) → IsWorld shows w → w.left ≡ 0
+    → (capacity : ℕ) × (boxes : List Held) × (s : State) × AreAt shows w.network capacity w.plants boxes s × IsFinished w.network s
+finished_somewhere shows w is none = (w.capacity, w.boxes, is.state, is.shown.parts, none_left_is_finished shows w is.state is.shown none)

@@ -2,7 +2,7 @@
 use Rattle.std.specs.Prelude.{◌≡◌, ℕ, ◌+◌, ◌<◌, true, List, length, Contains}
 use Rattle.mrp_lot.specs.One.{PlanRows}
 use Rattle.mrp_rows.specs.declared.numbers.ItemNo.{ItemNo}
-use Rattle.mrp_rows.specs.Table.{Table, IsPair}
+use Rattle.mrp_rows.specs.Table.{IsPair}
 use Rattle.mrp_net.specs.Lanes.{lanes, lane_at, lane_items}
 use Rattle.mrp_net.specs.Plan.{rows_at, plan_of}
 use Rattle.mrp_record.specs.Entries.{contents, is_closed, moved}
@@ -10,8 +10,8 @@ use Rattle.mrp_record.specs.Text.{IsWhole}
 use Rattle.mrp_events.specs.Laws.{KeepsOrder, cum_on}
 use Rattle.mrp_events.specs.Loads.{loads}
 use Rattle.mrp_events.specs.Local.{local_plan}
-use Rattle.mrp_events.specs.State.{State, IsFinished}
-use Rattle.mrp_world.specs.World.{Held, WorldState, box_at}
+use Rattle.mrp_events.specs.State.{State}
+use Rattle.mrp_world.specs.World.{WorldState, box_at}
 
 -- each lane has booked its sender's records in order and at most once, and nothing follows its closing record
 abbrev pub OrderIsKept : {A : Type 0} → WorldState A → State → Type 0

@@ -1,5 +1,5 @@
 -- What a plant shows of a run over a network, and what it can do at a moment of the run.
-use Rattle.std.specs.Prelude.{◌≡◌, ℕ, ◌<◌, List, [], ◌∷◌, ◌++◌, length}
+use Rattle.std.specs.Prelude.{◌≡◌, ℕ, ◌<◌, [], ◌∷◌, ◌++◌, length}
 use Rattle.mrp_rows.specs.Table.{Table, IsPair}
 use Rattle.mrp_net.specs.Lanes.{lanes, lane_at}
 use Rattle.mrp_net.specs.Sums.{pair_at}

@@ -1,6 +1,7 @@
 //! What every world says, whatever has happened in it. Each law is the contract of a function that does
 //! nothing.
 ghost use Rattle.mrp_events.specs.State.{State, IsFinished};
+ghost use Rattle.mrp_world.specs.Figures.{FiguresAreOfLanes, FinishedFiguresAreLast};
 ghost use Rattle.mrp_world.specs.Headline.{OrderIsKept, NothingIsLost, ClosedLanesAreWhole, PlansAreThePlan, IsComplete};
 ghost use Rattle.mrp_world.specs.World.{WorldShows};
 
@@ -25,3 +26,16 @@ pub fn headline<P: Plant>(world: &World<P>)
 {
     let _left = world.steps_left();
 }
+
+/// In each state that events lead to, the figures are of the network's lanes and items, and no more is
+/// received than shipped.
+pub fn figures_are_of_lanes()
+    ensures { FiguresAreOfLanes }
+{}
+
+/// Whatever has happened, a finished run ends with the same figures, which the rows alone say: for each item
+/// of each lane its opening figure, and as shipped and as received that figure and all pieces that the lane
+/// carries of it, those of closed years too.
+pub fn finished_figures_are_last()
+    ensures { FinishedFiguresAreLast }
+{}

@@ -6,8 +6,10 @@
 #![tactic(auto)]
 
 mod acting;
+mod agents;
 mod counting;
 mod figures;
+mod gathering;
 pub mod laws;
 mod looking;
 mod mailbox;
@@ -15,6 +17,7 @@ mod making;
 mod plant;
 mod world;
 
+pub use agents::Firm;
 pub use mrp_book::{BookFault, LaneFigure};
 pub use mrp_events::Event;
 pub use mrp_net::{ItemNo, LaneNo, PairNo};

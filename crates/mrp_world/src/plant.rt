@@ -20,6 +20,7 @@ pub trait Plant: Drop {
     ghost use Rattle.mrp_record.specs.declared.record.Record.{Record};
     ghost use Rattle.mrp_events.specs.Laws.{cum_on};
     ghost use Rattle.mrp_events.specs.State.{State, opening_state, CanTake, CanPlan, after_send, after_take, after_plan};
+    ghost use Rattle.mrp_world.specs.Gathering.{HasPlannedAll, own_plans};
     ghost use Rattle.mrp_world.specs.Moments.{Moment, IsAt, IsOut, IsIn, IsOwn, IsNext, IsSeen, Sends, Receives, Has, AgreeAt};
 
     /// Which states of a network a plant with a number shows.
@@ -83,6 +84,10 @@ pub trait Plant: Drop {
         ensures planned { IfSome result (λ plan. (m : Moment) (p : ℕ) → IsAt shows m p self.now → IsOwn m.network p x.0 → m.state.planned x.0 ≡ true) }
         ensures plan { IfSome result (λ plan. (m : Moment) (p : ℕ) → IsAt shows m p self.now → IsOwn m.network p x.0 → plan.now ≡ rows_at (plan_of m.network) x.0) }
         ensures none { IfNone result ((m : Moment) (p : ℕ) → IsAt shows m p self.now → IsOwn m.network p x.0 → m.state.planned x.0 ≡ false) };
+
+    /// The plans of all its pairs, in table order, once all of them are planned. The plant is gone then.
+    fn into_plans(self) -> Vec<PairPlan>
+        ensures { (m : Moment) (p : ℕ) → IsAt shows m p self → HasPlannedAll m p → result.items ≡ own_plans m.network p };
 
     /// The cumulative figure of an item of a lane that comes in, closed years added.
     fn received(&self, lane: LaneNo, item: ItemNo) -> Qty

@@ -1,10 +1,11 @@
-ghost use Rattle.std.specs.Prelude.{◌≡◌, ◌+◌, ℕ, ◌-◌, ◌≤◌, true, false, List, IfOk, IfSome, IfNone, MatchBool};
+ghost use Rattle.std.specs.Prelude.{◌≡◌, ◌+◌, ℕ, ◌-◌, ◌≤◌, true, false, All, List, IfOk, IfSome, IfNone, MatchBool, IsTrue, ◌↔◌};
 ghost use Rattle.mrp_rows.specs.Table.{IsPair};
 ghost use Rattle.mrp_world.specs.declared.world.TheConstants.{MOST_ROOM};
 
 use crate::acting::act_on;
 use crate::counting::steps;
 use crate::figures::figures;
+use crate::gathering::{from_the_last, plans_by_plant};
 use crate::looking::look;
 use crate::mailbox::Mailbox;
 use crate::making::{new_boxes, new_plants};
@@ -14,6 +15,7 @@ use mrp_events::Event;
 use mrp_loops::SizedNet;
 use mrp_net::{Network, PairNo};
 use mrp_netting::PairPlan;
+use mrp_plan::Plan;
 use mrp_qty::Memory;
 use std::alloc::Global;
 use std::marker::Model;
@@ -59,7 +61,7 @@ impl<'a, P: Plant> World<'a, P> {
     ghost use Rattle.mrp_events.specs.Loads.{steps as network_steps};
     ghost use Rattle.mrp_events.specs.Progress.{steps_left};
     ghost use Rattle.mrp_events.specs.State.{State, Step, IsEnabled, IsFinished, opening_state};
-    ghost use Rattle.mrp_world.specs.Figures.{figures_of};
+    ghost use Rattle.mrp_world.specs.Figures.{figures_of, last_figures, IsLaneFigure};
     ghost use Rattle.mrp_world.specs.World.{Runs, WorldShows};
 
     /// A world before the first event.
@@ -140,7 +142,8 @@ impl<'a, P: Plant> World<'a, P> {
 
     /// Whether the closing record of each lane is booked and each pair planned.
     pub fn finished(&self) -> bool
-        ensures { (s : State) → WorldShows P.shows self.now s → MatchBool result (IsFinished self.now.network s) (¬ IsFinished self.now.network s) }
+        ensures finished { (s : State) → WorldShows P.shows self.now s → MatchBool result (IsFinished self.now.network s) (¬ IsFinished self.now.network s) }
+        ensures left { IsTrue result ↔ (self.now.left ≡ 0) }
     {
         self.left == 0
     }
@@ -157,13 +160,16 @@ impl<'a, P: Plant> World<'a, P> {
     }
 
     /// The cumulative figures of each item of each lane, by lane, then lane item: where they begin, what has
-    /// been shipped, and what has been received, closed years added.
+    /// been shipped, and what has been received, closed years added. Those of a finished world are what the
+    /// rows alone say.
     ///
     /// # Errors
     ///
     /// [`Memory`] where a growth is refused.
     pub fn figures(&self, alloc: Global) -> Result<Vec<LaneFigure>, Memory>
-        ensures { IfOk result (λ figures. (s : State) → WorldShows P.shows self.now s → figures.items ≡ figures_of self.now.network s) }
+        ensures figures { IfOk result (λ figures. (s : State) → WorldShows P.shows self.now s → figures.items ≡ figures_of self.now.network s) }
+        ensures lanes { IfOk result (λ figures. All (IsLaneFigure self.now.network) figures.items) }
+        ensures last { IfOk result (λ figures. self.now.left ≡ 0 → figures.items ≡ last_figures self.now.network) }
     {
         figures(
             alloc,
@@ -171,6 +177,28 @@ impl<'a, P: Plant> World<'a, P> {
             self.plants.as_slice(),
             self.boxes.as_slice(),
         )
+    }
+
+    /// The plan of the whole network. A finished world is taken apart for it: the plans of its plants are
+    /// moved, not copied. `net` is the network that the world was made of.
+    ///
+    /// # Errors
+    ///
+    /// [`Memory`] where room for the list of the plans is refused; the world is gone then.
+    pub fn into_plan(self, alloc: Global, net: &SizedNet) -> Result<Plan, Memory>
+        requires network { net.now.network ≡ self.network }
+        requires finished { self.left ≡ 0 }
+        ensures { IfOk result (λ plan. plan ≡ plan_of net.now.network) }
+    {
+        let World {
+            network,
+            plants,
+            ..
+        } = self;
+        let mut lists = plans_by_plant(alloc, network, plants)?;
+        let mut pairs = from_the_last(alloc, network, lists.as_mut_slice())?;
+        pairs.as_mut_slice().reverse();
+        Ok(Plan::gather(net, pairs))
     }
 
     /// Lets the events happen one by one, and answers how many were enabled.

@@ -1,6 +1,6 @@
 //! A table cut, exchanged, repeated or written by another program.
 
-use super::plan;
+use super::{cums, plan};
 use std::alloc::{AllocError, Global};
 use std::test::Fail;
 
@@ -26,9 +26,18 @@ fn answer(alloc: Global, places: &[usize], end: &str) -> Result<String, AllocErr
     verdict(alloc, text.as_str())
 }
 
-/// The fault line that a table is refused by, or `accepted`.
+/// The fault line that a table is refused by, or `accepted`: the plan and the figures have the same.
 fn verdict(alloc: Global, table: &str) -> Result<String, AllocError> {
-    let outcome = plan(alloc, table)?;
+    let by_plan = refusal(alloc, plan(alloc, table)?)?;
+    let by_figures = refusal(alloc, cums(alloc, table)?)?;
+    if by_plan.as_str() == by_figures.as_str() {
+        return Ok(by_plan);
+    }
+    String::from_str(alloc, "refused by one alone")
+}
+
+/// The fault line of an outcome, or `accepted`.
+fn refusal(alloc: Global, outcome: String) -> Result<String, AllocError> {
     if outcome.as_str().starts_with("1 ") {
         return Ok(outcome);
     }

@@ -1,6 +1,7 @@
+use super::figures::{FIRM_OF_TWO, FIRM_OF_TWO_CUMS};
 use super::{BICYCLE, BICYCLE_PLAN};
 use mrp_tables::TableFaultKind;
-use mrp_text::{TextFault, check_text, drive_text, peg_text, status};
+use mrp_text::{TextFault, check_text, cums_text, drive_text, peg_text, status};
 use std::alloc::Global;
 use std::io;
 use std::io::{ErrorKind, Read, Write};
@@ -143,6 +144,16 @@ fn a_reader_that_fails_before_codes_and_pegs(rt: HostRuntime) {
 }
 
 #[test]
+fn a_reader_that_fails_before_figures(rt: HostRuntime) {
+    for fails in 0..22usize {
+        let mut written = Vec::new(rt.alloc());
+        let answer = cums_text(rt.alloc(), failing(fails), &mut written);
+        let told = tells_the_read(&answer, written.as_slice(), fails);
+        assert!(rt; told, "at read {fails}");
+    }
+}
+
+#[test]
 fn a_reader_that_fails_after_the_end(rt: HostRuntime) {
     let mut written = Vec::new(rt.alloc());
     let answer = drive_text(rt.alloc(), failing(22), &mut written, 64);
@@ -228,6 +239,19 @@ fn a_writer_that_ends_in_codes_and_pegs(rt: HostRuntime) {
             ended_in_front(&answer, &sink, pegs),
             "pegs, at write {ends}"
         );
+    }
+}
+
+#[test]
+fn a_writer_that_ends_in_figures(rt: HostRuntime) {
+    let alloc = rt.alloc();
+    for takes_nothing in [false, true] {
+        for ends in 0..7usize {
+            let mut sink = ending(alloc, ends, takes_nothing);
+            let answer = cums_text(alloc, FIRM_OF_TWO.as_bytes(), &mut sink);
+            let ended = ended_in_front(&answer, &sink, FIRM_OF_TWO_CUMS.as_bytes());
+            assert!(rt; ended, "at write {ends}");
+        }
     }
 }
 

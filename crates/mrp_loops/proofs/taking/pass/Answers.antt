@@ -1,7 +1,5 @@
-use Rattle.std.proofs.Common.{◌+◌, length, ap, arith, slice_index, take, drop}
-use Rattle.mrp_net.specs.Edges.{suppliers}
-use Rattle.mrp_loops.specs.Taking.{IsPassing}
-use Rattle.mrp_loops.proofs.Steps.{hand_begins, hand_waits, hand_more, hand_ends, hand_long, hand_read, no_edge}
+use Rattle.std.proofs.Common.{length, ap, arith}
+use Rattle.mrp_loops.proofs.Steps.{hand_begins, hand_waits, hand_more, hand_ends, hand_long, hand_read, hand_so_far, no_edge}
 use Rattle.mrp_loops.proofs.taking.pass.Goals as goal
 
 pub loop-edge-init : goal.loop-edge-init
@@ -15,9 +13,7 @@ pub lower-requires-clause-some : goal.lower-requires-clause-some
 lower-requires-clause-some c =
     let state = c.args.state.now in
     let es = c.suppliers-edge-items.ensures.value in
-    let at = hand_read c.args.network.now c.args.next c.args.demander state.queue.items state.left.items state.codes.items c.requires.within c.requires.at c.requires.taken c.index.result.now c.index.ensures in
-    let p : IsPassing c.args.network.now (take c.args.next state.queue.items) c.args.demander (slice_index state.codes.items c.args.demander.0 + 1) (take c.loop-edge.edge-index (suppliers c.args.network.now c.args.demander.0)) (drop c.loop-edge.edge-index (suppliers c.args.network.now c.args.demander.0)) c.loop-edge.state.queue.items c.loop-edge.state.left.items c.loop-edge.state.codes.items =
-    rw (← es, ← at) c.loop-edge.invariant in
+    let p = hand_so_far c.args.network.now c.args.next c.args.demander state.queue.items state.left.items state.codes.items c.requires.within c.requires.at c.requires.taken c.index.result.now _ c.loop-edge.edge-index c.loop-edge.state.queue.items c.loop-edge.state.left.items c.loop-edge.state.codes.items c.index.ensures c.suppliers-edge-items.ensures.value c.loop-edge.invariant in
     rw es
     (hand_waits c.args.network.now c.args.next c.args.demander state.queue.items state.left.items state.codes.items c.requires.within c.requires.at c.requires.taken
     c.loop-edge.edge-index no_edge c.loop-edge.state.queue.items c.loop-edge.state.left.items c.loop-edge.state.codes.items (omega (arith, ap length es)) p)
@@ -27,8 +23,7 @@ loop-edge-preserved c =
     let state = c.args.state.now in
     let es = c.suppliers-edge-items.ensures.value in
     let at = hand_read c.args.network.now c.args.next c.args.demander state.queue.items state.left.items state.codes.items c.requires.within c.requires.at c.requires.taken c.index.result.now c.index.ensures in
-    let p : IsPassing c.args.network.now (take c.args.next state.queue.items) c.args.demander (slice_index state.codes.items c.args.demander.0 + 1) (take c.loop-edge.edge-index (suppliers c.args.network.now c.args.demander.0)) (drop c.loop-edge.edge-index (suppliers c.args.network.now c.args.demander.0)) c.loop-edge.state.queue.items c.loop-edge.state.left.items c.loop-edge.state.codes.items =
-    rw (← es, ← at) c.loop-edge.invariant in
+    let p = hand_so_far c.args.network.now c.args.next c.args.demander state.queue.items state.left.items state.codes.items c.requires.within c.requires.at c.requires.taken c.index.result.now _ c.loop-edge.edge-index c.loop-edge.state.queue.items c.loop-edge.state.left.items c.loop-edge.state.codes.items c.index.ensures c.suppliers-edge-items.ensures.value c.loop-edge.invariant in
     rw (es, at)
     (hand_more c.args.network.now c.args.next c.args.demander state.queue.items state.left.items state.codes.items c.requires.within c.requires.at c.requires.taken
     c.loop-edge.edge-index no_edge c.loop-edge.state.queue.items c.lower.new.state.queue.items c.loop-edge.state.left.items c.loop-edge.state.codes.items c.lower.new.state.left.items c.lower.new.state.codes.items
@@ -39,18 +34,13 @@ pub returns-clause-taken : goal.returns-clause-taken
 returns-clause-taken c =
     let state = c.args.state.now in
     let es = c.suppliers-edge-items.ensures.value in
-    let at = hand_read c.args.network.now c.args.next c.args.demander state.queue.items state.left.items state.codes.items c.requires.within c.requires.at c.requires.taken c.index.result.now c.index.ensures in
-    let p : IsPassing c.args.network.now (take c.args.next state.queue.items) c.args.demander (slice_index state.codes.items c.args.demander.0 + 1) (take c.loop-edge.edge-index (suppliers c.args.network.now c.args.demander.0)) (drop c.loop-edge.edge-index (suppliers c.args.network.now c.args.demander.0)) c.loop-edge.state.queue.items c.loop-edge.state.left.items c.loop-edge.state.codes.items =
-    rw (← es, ← at) c.loop-edge.invariant in
+    let p = hand_so_far c.args.network.now c.args.next c.args.demander state.queue.items state.left.items state.codes.items c.requires.within c.requires.at c.requires.taken c.index.result.now _ c.loop-edge.edge-index c.loop-edge.state.queue.items c.loop-edge.state.left.items c.loop-edge.state.codes.items c.index.ensures c.suppliers-edge-items.ensures.value c.loop-edge.invariant in
     hand_ends c.args.network.now c.args.next c.args.demander state.queue.items state.left.items state.codes.items c.requires.within c.requires.at c.requires.taken
     c.loop-edge.edge-index c.loop-edge.state.queue.items c.loop-edge.state.left.items c.loop-edge.state.codes.items (omega (arith, ap length es)) p
 
 pub returns-clause-within : goal.returns-clause-within
 returns-clause-within c =
     let state = c.args.state.now in
-    let es = c.suppliers-edge-items.ensures.value in
-    let at = hand_read c.args.network.now c.args.next c.args.demander state.queue.items state.left.items state.codes.items c.requires.within c.requires.at c.requires.taken c.index.result.now c.index.ensures in
-    let p : IsPassing c.args.network.now (take c.args.next state.queue.items) c.args.demander (slice_index state.codes.items c.args.demander.0 + 1) (take c.loop-edge.edge-index (suppliers c.args.network.now c.args.demander.0)) (drop c.loop-edge.edge-index (suppliers c.args.network.now c.args.demander.0)) c.loop-edge.state.queue.items c.loop-edge.state.left.items c.loop-edge.state.codes.items =
-    rw (← es, ← at) c.loop-edge.invariant in
+    let p = hand_so_far c.args.network.now c.args.next c.args.demander state.queue.items state.left.items state.codes.items c.requires.within c.requires.at c.requires.taken c.index.result.now _ c.loop-edge.edge-index c.loop-edge.state.queue.items c.loop-edge.state.left.items c.loop-edge.state.codes.items c.index.ensures c.suppliers-edge-items.ensures.value c.loop-edge.invariant in
     hand_long c.args.network.now c.args.next c.args.demander state.queue.items state.left.items state.codes.items c.requires.within c.requires.at c.requires.taken
     c.loop-edge.edge-index c.loop-edge.state.queue.items c.loop-edge.state.left.items c.loop-edge.state.codes.items p

@@ -1,30 +1,23 @@
-use Rattle.std.proofs.Common.{◌≡◌, length, ap, ◌∙◌, arith, true, false, length-set}
-use Rattle.std.proofs.lemmas.List.{length_push, get_or_read}
+use Rattle.std.proofs.Common.{length, ap, ◌∙◌, arith, true, length-set}
+use Rattle.std.proofs.lemmas.List.{length_push}
 use Rattle.std.proofs.lemmas.List.Elements.{All-push}
 use Rattle.mrp_rows.specs.Table.{IsPair}
 use Rattle.mrp_rows.specs.declared.numbers.PairNo.{PairNo}
-use Rattle.mrp_loops.specs.Taking.{is_in}
 use Rattle.mrp_loops.proofs.Taken.{Apart-push}
-use Rattle.mrp_loops.proofs.Rings.{seen_more, climbs_more, path_short, ring_from_walk}
+use Rattle.mrp_loops.proofs.Rings.{not_seen, seen_more, climbs_more, path_short, ring_from_walk}
 use Rattle.mrp_loops.proofs.walk.walk.Goals as goal
 
 pub loop-visited-smaller : goal.loop-visited-smaller
 loop-visited-smaller c =
     let i = c.loop-visited.invariant in
-    let new : is_in c.loop-visited.path.items c.loop-visited.x.0 ≡ false =
-    let seen = i.seen c.loop-visited.x.0 i.pair in
-    let read = get_or_read c.loop-visited.visited.items c.loop-visited.x.0 c.index.result.now (omega (arith, i.size, i.pair)) c.index.ensures false in
-    cc in
+    let new = not_seen c.args.network.now c.loop-visited.path.items c.loop-visited.visited.items c.loop-visited.x c.index.result.now i.size i.seen i.pair c.index.ensures cc in
     let short = path_short c.args.network.now c.loop-visited.path.items c.loop-visited.x i.pairs i.pair i.apart new in
     omega (arith, ap length c.in_ok-push.ensures.items, length_push c.loop-visited.path.items c.loop-visited.x)
 
 pub loop-visited-preserved : goal.loop-visited-preserved
 loop-visited-preserved c =
     let i = c.loop-visited.invariant in
-    let new : is_in c.loop-visited.path.items c.loop-visited.x.0 ≡ false =
-    let seen = i.seen c.loop-visited.x.0 i.pair in
-    let read = get_or_read c.loop-visited.visited.items c.loop-visited.x.0 c.index.result.now (omega (arith, i.size, i.pair)) c.index.ensures false in
-    cc in
+    let new = not_seen c.args.network.now c.loop-visited.path.items c.loop-visited.visited.items c.loop-visited.x c.index.result.now i.size i.seen i.pair c.index.ensures cc in
     record {
       size = length-set c.loop-visited.visited.items c.loop-visited.x.0 true ∙ i.size;
       seen = rw c.in_ok-push.ensures.items (seen_more c.args.network.now c.loop-visited.visited.items c.loop-visited.path.items c.loop-visited.x i.size i.pair i.seen);

@@ -1,10 +1,9 @@
 use Rattle.std.proofs.Common.{◌≡◌, ℕ, List, length, slice_index, slice_set, suc, sym, ◌∙◌, ap, arith, add-one}
-use Rattle.std.proofs.lemmas.List.{get_or_read, length-set}
+use Rattle.std.proofs.lemmas.List.{length-set}
 use Rattle.std.proofs.lemmas.List.Edits.{fill_by_more}
 use Rattle.std.proofs.lemmas.List.FromFn.{fill_by_all}
-use Rattle.mrp_lot.specs.One.{order_at, order_after, balance_before}
+use Rattle.mrp_lot.specs.One.{order_at, balance_before}
 use Rattle.mrp_lot.specs.OneLaws.{balance_before-zero}
-use Rattle.mrp_netting.proofs.Balances.{is_step}
 use Rattle.mrp_netting.proofs.netting.plan_orders.Goals as goal
 
 pub loop-t-init : goal.loop-t-init
@@ -16,53 +15,21 @@ loop-t-init c = record {
   available = λ k h. absurd (omega arith);
 }
 
-pub balance_after-before-requires-clause-covered : goal.balance_after-before-requires-clause-covered
-balance_after-before-requires-clause-covered c =
-    let t = c.loop-t.t in
-    let params = c.args.params.now in
-    let incoming = c.args.incoming.now in
-    let gross = c.args.gross.now in
-    let step = is_step params incoming gross t _ _ _ _ c.requires.within (omega arith)
-    c.loop-t.invariant.before
-    (get_or_read incoming t _ (omega (arith, c.requires.within.periods)) c.index-incoming-t.is 0)
-    c.order_for-ordered.ensures
-    (get_or_read gross t _ (omega arith) c.index-gross-t.is 0) in
-    step.covered
-
-pub balance_after-before-requires-clause-within : goal.balance_after-before-requires-clause-within
-balance_after-before-requires-clause-within c =
-    let t = c.loop-t.t in
-    let params = c.args.params.now in
-    let incoming = c.args.incoming.now in
-    let gross = c.args.gross.now in
-    let step = is_step params incoming gross t _ _ _ _ c.requires.within (omega arith)
-    c.loop-t.invariant.before
-    (get_or_read incoming t _ (omega (arith, c.requires.within.periods)) c.index-incoming-t.is 0)
-    c.order_for-ordered.ensures
-    (get_or_read gross t _ (omega arith) c.index-gross-t.is 0) in
-    step.small
-
 pub loop-t-preserved : goal.loop-t-preserved
 loop-t-preserved c =
     let t = c.loop-t.t in
     let params = c.args.params.now in
     let incoming = c.args.incoming.now in
     let gross = c.args.gross.now in
-    let step = is_step params incoming gross t _ _ _ _ c.requires.within (omega arith)
-    c.loop-t.invariant.before
-    (get_or_read incoming t _ (omega (arith, c.requires.within.periods)) c.index-incoming-t.is 0)
-    c.order_for-ordered.ensures
-    (get_or_read gross t _ (omega arith) c.index-gross-t.is 0) in
     let inv = c.loop-t.invariant in
     let order = c.loop-t.order in
     let available = c.loop-t.available in
     let ordered : c.set.new.self ≡ slice_set order t (order_at params incoming gross t) =
-    c.set.ensures ∙ ap (λ (q : ℕ). slice_set order t q) step.order in
-    let left : c.balance_after-before.result ≡ balance_before params incoming gross (suc t) = c.balance_after-before.ensures ∙ step.next in
+    c.set.ensures ∙ ap (λ (q : ℕ). slice_set order t q) c.order_and_balance-ordered.ensures.order in
     let stocked : c.set-in-loop-t.new.self ≡ slice_set available t (balance_before params incoming gross (suc t)) =
-    c.set-in-loop-t.ensures ∙ ap (λ (q : ℕ). slice_set available t q) left in
+    c.set-in-loop-t.ensures ∙ ap (λ (q : ℕ). slice_set available t q) c.order_and_balance-ordered.ensures.balance in
     record {
-      before = left ∙ ap (λ (k : ℕ). balance_before params incoming gross k) (sym (add-one t));
+      before = c.order_and_balance-ordered.ensures.balance ∙ ap (λ (k : ℕ). balance_before params incoming gross k) (sym (add-one t));
       order_len = ap length ordered ∙ length-set order t _ ∙ inv.order_len;
       available_len = ap length stocked ∙ length-set available t _ ∙ inv.available_len;
       order = λ k h. ap (λ (xs : List ℕ). slice_index xs k) ordered

@@ -3,7 +3,7 @@ use Rattle.std.proofs.lemmas.List.FromFn.{length-map-range_with_len}
 use Rattle.mrp_lot.specs.One.{PlanRows}
 use Rattle.mrp_netting.specs.Plan.{AreLate, order_row, available_row, release_row, late_periods}
 use Rattle.mrp_netting.proofs.Lates.{are_late, late_few}
-use Rattle.mrp_netting.proofs.Plans.{length-order_row, order_row-le, plan_is}
+use Rattle.mrp_netting.proofs.Plans.{from_rows, length-order_row, order_row-le, plan_is}
 use Rattle.mrp_netting.proofs.plan.plan_pair.Goals as goal
 
 pub plan_releases-requires-clause-room : goal.plan_releases-requires-clause-room
@@ -11,9 +11,7 @@ plan_releases-requires-clause-room c =
     let params = c.args.params.now in
     let incoming = c.args.incoming.now in
     let gross = c.args.gross.now in
-    let ordered : c.plan_orders.new.order ≡ order_row params incoming gross =
-    c.plan_orders.ensures.orders ∙ ap (λ (xs : List ℕ). order_row params xs c.as_slice-2.result.now) c.as_slice.ensures.value
-    ∙ ap (λ (xs : List ℕ). order_row params incoming xs) c.as_slice-2.ensures.value in
+    let ordered = from_rows (order_row params) incoming gross _ _ c.plan_orders.new.order c.plan_orders.ensures.orders c.as_slice.ensures.value c.as_slice-2.ensures.value in
     let n = length-order_row params incoming gross c.as_slice-3.result.now (c.as_slice-3.ensures.value ∙ ordered) in
     let was = ap (λ (rows : PlanRows). length rows.gross) c.into.view_is in
     omega (arith, n, was, c.into.invariant.2, c.requires.room)
@@ -23,9 +21,7 @@ plan_releases-requires-clause-total c =
     let params = c.args.params.now in
     let incoming = c.args.incoming.now in
     let gross = c.args.gross.now in
-    let ordered : c.plan_orders.new.order ≡ order_row params incoming gross =
-    c.plan_orders.ensures.orders ∙ ap (λ (xs : List ℕ). order_row params xs c.as_slice-2.result.now) c.as_slice.ensures.value
-    ∙ ap (λ (xs : List ℕ). order_row params incoming xs) c.as_slice-2.ensures.value in
+    let ordered = from_rows (order_row params) incoming gross _ _ c.plan_orders.new.order c.plan_orders.ensures.orders c.as_slice.ensures.value c.as_slice-2.ensures.value in
     order_row-le params incoming gross c.as_slice-3.result.now c.requires.within (c.as_slice-3.ensures.value ∙ ordered)
 
 pub note_late-requires-clause-room : goal.note_late-requires-clause-room
@@ -33,9 +29,7 @@ note_late-requires-clause-room c =
     let params = c.args.params.now in
     let incoming = c.args.incoming.now in
     let gross = c.args.gross.now in
-    let ordered : c.plan_orders.new.order ≡ order_row params incoming gross =
-    c.plan_orders.ensures.orders ∙ ap (λ (xs : List ℕ). order_row params xs c.as_slice-2.result.now) c.as_slice.ensures.value
-    ∙ ap (λ (xs : List ℕ). order_row params incoming xs) c.as_slice-2.ensures.value in
+    let ordered = from_rows (order_row params) incoming gross _ _ c.plan_orders.new.order c.plan_orders.ensures.orders c.as_slice.ensures.value c.as_slice-2.ensures.value in
     let n = length-order_row params incoming gross c.as_slice-4.result.now (c.as_slice-4.ensures.value ∙ ordered) in
     let was = ap (λ (rows : PlanRows). length rows.gross) c.into.view_is in
     omega (arith, n, was, c.into.invariant.4, c.requires.room)
@@ -45,12 +39,8 @@ invariant_of-into c =
     let params = c.args.params.now in
     let incoming = c.args.incoming.now in
     let gross = c.args.gross.now in
-    let ordered : c.plan_orders.new.order ≡ order_row params incoming gross =
-    c.plan_orders.ensures.orders ∙ ap (λ (xs : List ℕ). order_row params xs c.as_slice-2.result.now) c.as_slice.ensures.value
-    ∙ ap (λ (xs : List ℕ). order_row params incoming xs) c.as_slice-2.ensures.value in
-    let balanced : c.plan_orders.new.available ≡ available_row params incoming gross =
-    c.plan_orders.ensures.balances ∙ ap (λ (xs : List ℕ). available_row params xs c.as_slice-2.result.now) c.as_slice.ensures.value
-    ∙ ap (λ (xs : List ℕ). available_row params incoming xs) c.as_slice-2.ensures.value in
+    let ordered = from_rows (order_row params) incoming gross _ _ c.plan_orders.new.order c.plan_orders.ensures.orders c.as_slice.ensures.value c.as_slice-2.ensures.value in
+    let balanced = from_rows (available_row params) incoming gross _ _ c.plan_orders.new.available c.plan_orders.ensures.balances c.as_slice.ensures.value c.as_slice-2.ensures.value in
     let order = c.plan_orders.new.order in
     let g = ap length c.copy_from.ensures in
     let i = ap length c.copy_from-2.ensures in
@@ -75,12 +65,8 @@ returns c =
     let params = c.args.params.now in
     let incoming = c.args.incoming.now in
     let gross = c.args.gross.now in
-    let ordered : c.plan_orders.new.order ≡ order_row params incoming gross =
-    c.plan_orders.ensures.orders ∙ ap (λ (xs : List ℕ). order_row params xs c.as_slice-2.result.now) c.as_slice.ensures.value
-    ∙ ap (λ (xs : List ℕ). order_row params incoming xs) c.as_slice-2.ensures.value in
-    let balanced : c.plan_orders.new.available ≡ available_row params incoming gross =
-    c.plan_orders.ensures.balances ∙ ap (λ (xs : List ℕ). available_row params xs c.as_slice-2.result.now) c.as_slice.ensures.value
-    ∙ ap (λ (xs : List ℕ). available_row params incoming xs) c.as_slice-2.ensures.value in
+    let ordered = from_rows (order_row params) incoming gross _ _ c.plan_orders.new.order c.plan_orders.ensures.orders c.as_slice.ensures.value c.as_slice-2.ensures.value in
+    let balanced = from_rows (available_row params) incoming gross _ _ c.plan_orders.new.available c.plan_orders.ensures.balances c.as_slice.ensures.value c.as_slice-2.ensures.value in
     let same : c.as_slice-3.result.now ≡ c.plan_orders.new.order = c.as_slice-3.ensures.value in
     let again : c.as_slice-4.result.now ≡ c.plan_orders.new.order = c.as_slice-4.ensures.value in
     plan_is params incoming gross c.copy_from-2.new.self c.copy_from.new.self c.plan_orders.new.order

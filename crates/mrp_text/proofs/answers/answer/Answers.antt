@@ -8,3 +8,6 @@ returns-in-Check-clause-text g c = rw (c.in-Check.is) c.check_text.ensures.text
 
 pub returns-in-Peg-clause-text : goal.returns-in-Peg-clause-text
 returns-in-Peg-clause-text g c = rw (c.in-Peg.is) c.peg_text.ensures.text
+
+pub returns-in-Cums-clause-text : goal.returns-in-Cums-clause-text
+returns-in-Cums-clause-text g c = rw (c.in-Cums.is) c.cums_text.ensures.text

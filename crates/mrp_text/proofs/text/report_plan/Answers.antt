@@ -12,7 +12,7 @@ returns-in_err-plan_rows-clause-text g c =
     let N = c.args.net.now.network in
     rw p.1
     (first-fails _ _ (plan_text N c.in_ok-plan.plan) (late_text N c.in_ok-plan.plan) c.in_err-plan_rows.field-0.0 p.0 (IsPlanReport N)
-    (c.requires, (c.in_ok-plan.plan, c.in_ok-plan.ensures.fits, refl)) c.in_err-plan_rows.ensures.text
+    (c.requires.plannable, (c.in_ok-plan.plan, c.in_ok-plan.ensures.fits, refl)) c.in_err-plan_rows.ensures.text
     (λ same. ap g.W.Write.contents (c.in_err-plan_rows.ensures.untouched (ap Err same))) p.2)
 
 pub returns-in_err-late_rows-clause-text : goal.returns-in_err-late_rows-clause-text
@@ -21,13 +21,13 @@ returns-in_err-late_rows-clause-text g c =
     let N = c.args.net.now.network in
     rw p.1
     (rest-fails _ _ _ (plan_text N c.in_ok-plan.plan) (late_text N c.in_ok-plan.plan) c.in_err-late_rows.field-0.0 p.0 (IsPlanReport N)
-    (c.requires, (c.in_ok-plan.plan, c.in_ok-plan.ensures.fits, refl)) c.in_ok-plan_rows.ensures.text c.in_err-late_rows.ensures.text
+    (c.requires.plannable, (c.in_ok-plan.plan, c.in_ok-plan.ensures.fits, refl)) c.in_ok-plan_rows.ensures.text c.in_err-late_rows.ensures.text
     (λ same. ap g.W.Write.contents (c.in_err-late_rows.ensures.untouched (ap Err same))) p.2)
 
 pub returns-clause-text : goal.returns-clause-text
 returns-clause-text g c =
     let N = c.args.net.now.network in (
       _,
-      (c.requires, (c.in_ok-plan.plan, c.in_ok-plan.ensures.fits, refl)),
+      (c.requires.plannable, (c.in_ok-plan.plan, c.in_ok-plan.ensures.fits, refl)),
       whole-after _ _ _ (plan_text N c.in_ok-plan.plan) (late_text N c.in_ok-plan.plan) c.in_ok-plan_rows.ensures.text c.in_ok-late_rows.ensures.text,
     )

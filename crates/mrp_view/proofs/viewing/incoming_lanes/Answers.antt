@@ -1,31 +1,15 @@
-use Rattle.std.proofs.Common.{◌≡◌, ℕ, List, map, sym, ap, ◌∙◌}
-use Rattle.std.proofs.lemmas.Bool.{eq-eqb, ne_eqb}
+use Rattle.std.proofs.Common.{ap, ◌∙◌}
 use Rattle.mrp_net.specs.declared.lane.Lane.{Lane}
-use Rattle.mrp_view.specs.declared.view.IncomingItem.{IncomingItem}
-use Rattle.mrp_view.specs.declared.view.IncomingLane.{IncomingLane}
-use Rattle.mrp_net.specs.Lanes.{lane_at, lane_items}
-use Rattle.mrp_view.specs.View.{comes_to, incoming_item, incoming_lane}
-use Rattle.mrp_view.proofs.Pushing.{range_pushed, range_passed}
+use Rattle.mrp_net.specs.Lanes.{lane_at}
+use Rattle.mrp_view.specs.View.{incoming_lane}
+use Rattle.mrp_view.proofs.Pushing.{at_plant_pushed, at_plant_passed}
 use Rattle.mrp_view.proofs.viewing.incoming_lanes.Goals as goal
 use Rattle.mrp_view.proofs.viewing.incoming_lanes.Goals.{then-lane-plant+in_ok-items+in_ok-push, else-lane-plant}
 
 pub loop-l-preserved : goal.loop-l-preserved
-loop-l-preserved c =
-    let N = c.args.network.now in
-    let l : ℕ = c.loop-l.l in
-    let plant : ℕ = c.args.plant.0 in
-    let lane : Lane = c.lane-lane.result in
-    let at_end : lane.receiver.0 ≡ (lane_at N l).receiver.0 = ap (λ (z : Lane). z.receiver.0) c.lane-lane.ensures.value in
-    elim c.if-lane-plant.branch [
-      | then-lane-plant+in_ok-items+in_ok-push w ↦
-          let made : IncomingLane = record { number = record { 0 = l }; kind = lane.kind; items = w.in_ok-items.items } in
-          let is : made ≡ incoming_lane N l =
-          ap (λ (z : List IncomingItem). let i : IncomingLane = record { number = record { 0 = l }; kind = lane.kind; items = z } in i) w.in_ok-items.ensures
-          ∙ ap (λ (z : Lane). let i : IncomingLane = record { number = record { 0 = l }; kind = z.kind; items = map (incoming_item N (lane_at N l)) (lane_items N (lane_at N l)) } in i) c.lane-lane.ensures.value in
-          ap (λ z. z.items) w.lanes-is
-          ∙ w.in_ok-push.ensures.items
-          ∙ range_pushed (incoming_lane N) (comes_to N plant) l c.loop-l.lanes.items made (eq-eqb (lane_at N l).receiver.0 plant (sym at_end ∙ w.if-lane-plant.true)) c.loop-l.invariant is
-      | else-lane-plant w ↦
-          ap (λ z. z.items) w.lanes-is
-          ∙ range_passed (incoming_lane N) (comes_to N plant) l c.loop-l.lanes.items (ne_eqb (lane_at N l).receiver.0 plant (λ e. w.if-lane-plant.false (at_end ∙ e))) c.loop-l.invariant
-    ]
+loop-l-preserved c = elim c.if-lane-plant.branch [
+  | then-lane-plant+in_ok-items+in_ok-push w ↦
+      at_plant_pushed (incoming_lane c.args.network.now) (lane_at c.args.network.now) (λ (z : Lane). z.receiver.0) c.args.plant.0 c.loop-l.l _ _ c.lane-lane.result _ c.lane-lane.ensures.value w.if-lane-plant.true c.loop-l.invariant (ap (λ z. z.items) w.lanes-is ∙ w.in_ok-push.ensures.items) (cc (w.in_ok-items.ensures, c.lane-lane.ensures.value))
+  | else-lane-plant w ↦
+      at_plant_passed (incoming_lane c.args.network.now) (lane_at c.args.network.now) (λ (z : Lane). z.receiver.0) c.args.plant.0 c.loop-l.l _ _ c.lane-lane.result c.lane-lane.ensures.value w.if-lane-plant.false c.loop-l.invariant (ap (λ z. z.items) w.lanes-is)
+]

@@ -1,38 +1,22 @@
 use Rattle.std.proofs.Common.{◌≡◌, ℕ, ◌≤◌, List, length, map, arith, sym, ap, ◌∙◌, subst}
 use Rattle.std.specs.List.{All, filter, range_with_len}
-use Rattle.std.proofs.lemmas.Bool.{eq-eqb, ne_eqb}
-use Rattle.mrp_lot.specs.declared.params.PairParams.{PairParams}
 use Rattle.mrp_rows.specs.declared.rows.PairRow.{PairRow}
-use Rattle.mrp_rows.specs.Rows.{params_of}
 use Rattle.mrp_rows.specs.Table.{IsPair}
 use Rattle.mrp_view.specs.declared.view.PlantPair.{PlantPair}
 use Rattle.mrp_net.specs.Sums.{pair_at}
 use Rattle.mrp_view.specs.View.{is_of_plant, plant_pair, plant_pairs}
-use Rattle.mrp_view.proofs.Pushing.{range_pushed, range_passed}
+use Rattle.mrp_view.proofs.Pushing.{at_plant_pushed, at_plant_passed}
 use Rattle.mrp_view.proofs.Seeing.{pairs_are_pairs, pairs_are_few}
 use Rattle.mrp_view.proofs.viewing.plant_pairs.Goals as goal
 use Rattle.mrp_view.proofs.viewing.plant_pairs.Goals.{then-row-plant+in_ok-push, else-row-plant}
 
 pub loop-x-preserved : goal.loop-x-preserved
-loop-x-preserved c =
-    let N = c.args.network.now in
-    let x : ℕ = c.loop-x.x in
-    let plant : ℕ = c.args.plant.0 in
-    let row : PairRow = c.pair-row.result in
-    let at_plant : row.plant.0 ≡ (pair_at N x).plant.0 = ap (λ (z : PairRow). z.plant.0) c.pair-row.ensures in
-    elim c.if-row-plant.branch [
-      | then-row-plant+in_ok-push w ↦
-          let made : PlantPair = record { number = record { 0 = x }; item = row.item; params = w.params.result } in
-          let is : made ≡ plant_pair N x =
-          ap (λ (z : PairParams). let p : PlantPair = record { number = record { 0 = x }; item = row.item; params = z } in p) w.params.ensures
-          ∙ ap (λ (z : PairRow). let p : PlantPair = record { number = record { 0 = x }; item = z.item; params = params_of z } in p) c.pair-row.ensures in
-          ap (λ z. z.items) w.pairs-is
-          ∙ w.in_ok-push.ensures.items
-          ∙ range_pushed (plant_pair N) (is_of_plant N plant) x c.loop-x.pairs.items made (eq-eqb (pair_at N x).plant.0 plant (sym at_plant ∙ w.if-row-plant.true)) c.loop-x.invariant is
-      | else-row-plant w ↦
-          ap (λ z. z.items) w.pairs-is
-          ∙ range_passed (plant_pair N) (is_of_plant N plant) x c.loop-x.pairs.items (ne_eqb (pair_at N x).plant.0 plant (λ e. w.if-row-plant.false (at_plant ∙ e))) c.loop-x.invariant
-    ]
+loop-x-preserved c = elim c.if-row-plant.branch [
+  | then-row-plant+in_ok-push w ↦
+      at_plant_pushed (plant_pair c.args.network.now) (pair_at c.args.network.now) (λ (z : PairRow). z.plant.0) c.args.plant.0 c.loop-x.x _ _ c.pair-row.result _ c.pair-row.ensures w.if-row-plant.true c.loop-x.invariant (ap (λ z. z.items) w.pairs-is ∙ w.in_ok-push.ensures.items) (cc (w.params.ensures, c.pair-row.ensures))
+  | else-row-plant w ↦
+      at_plant_passed (plant_pair c.args.network.now) (pair_at c.args.network.now) (λ (z : PairRow). z.plant.0) c.args.plant.0 c.loop-x.x _ _ c.pair-row.result c.pair-row.ensures w.if-row-plant.false c.loop-x.invariant (ap (λ z. z.items) w.pairs-is)
+]
 
 pub returns-clause-pairs : goal.returns-clause-pairs
 returns-clause-pairs c =

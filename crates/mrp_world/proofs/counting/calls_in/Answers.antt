@@ -1,4 +1,4 @@
-use Rattle.std.proofs.Common.{◌≡◌, ◌≤◌, ◌<◌, ◌∙◌, ℕ, ap, arith, slice_index}
+use Rattle.std.proofs.Common.{◌≡◌, ◌∙◌, ℕ, ap, arith, slice_index}
 use Rattle.mrp_events.specs.Seen.{share_of}
 use Rattle.mrp_events.proofs.Delivered.{by_period_length}
 use Rattle.mrp_world.proofs.Counts as count

@@ -1,9 +1,9 @@
-use Rattle.std.proofs.Common.{◌≡◌, ◌+◌, ◌≤◌, ℕ, List, take, length, ap, subst, sym, ◌∙◌, arith}
+use Rattle.std.proofs.Common.{◌≡◌, ◌+◌, ℕ, List, take, ap, ◌∙◌, arith}
 use Rattle.std.specs.List.{sum_by}
 use Rattle.std.proofs.lemmas.List.{take_all}
 use Rattle.std.proofs.lemmas.List.Sums.{sum_by_more, sum_by_more_le}
 use Rattle.mrp_rows.specs.declared.numbers.ItemNo.{ItemNo}
-use Rattle.mrp_net.specs.Lanes.{lane_at, lane_items}
+use Rattle.mrp_net.specs.Lanes.{lane_at}
 use Rattle.mrp_record.specs.Text.{block_length}
 use Rattle.mrp_events.specs.Loads.{load_of}
 use Rattle.mrp_world.proofs.Counts as count

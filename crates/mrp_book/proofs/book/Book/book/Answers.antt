@@ -2,7 +2,7 @@ use Rattle.mrp_book.proofs.Showing.{books_booked, books_refused}
 use Rattle.mrp_book.proofs.book.Book.book.Goals as goal
 
 pub returns-clause-booked : goal.returns-clause-booked
-returns-clause-booked c = books_booked c.args.self.now c.book_exactly.new.self c.args.record.now c.book_exactly.result c.book_exactly.ensures
+returns-clause-booked c = books_booked c.args.self.now c.book_exactly.new.self c.args.entry.now c.book_exactly.result c.book_exactly.ensures
 
 pub returns-clause-refused : goal.returns-clause-refused
-returns-clause-refused c = books_refused c.args.self.now c.book_exactly.new.self c.args.record.now c.book_exactly.result c.book_exactly.ensures
+returns-clause-refused c = books_refused c.args.self.now c.book_exactly.new.self c.args.entry.now c.book_exactly.result c.book_exactly.ensures

@@ -1,11 +1,7 @@
-use Rattle.std.proofs.Common.{◌≡◌, ◌<◌, ◌||◌, refl, Some, true, false, ap, sym, ◌∙◌, arith, length, List, subst}
-use Rattle.std.specs.Prelude.{slice_get}
+use Rattle.std.proofs.Common.{true, false, sym, ◌∙◌}
 use Rattle.std.proofs.lemmas.Bool.{or_left, or_right, or_from}
-use Rattle.std.proofs.lemmas.Option.{slice_get_read}
-use Rattle.mrp_book.specs.declared.item.ItemFigure.{ItemFigure}
 use Rattle.mrp_book.specs.Faults.{is_other_begun}
-use Rattle.mrp_book.specs.Figures.{Figures}
-use Rattle.mrp_book.proofs.Places.{not_on_lane, out_of_turn, in_turn}
+use Rattle.mrp_book.proofs.Places.{not_on_lane, out_of_turn, in_turn, shown_at}
 use Rattle.mrp_book.proofs.book.Book.place_in_turn.Goals as goal
 use Rattle.mrp_book.proofs.book.Book.place_in_turn.Goals.{then-figure-via-then-figure, then-figure-via-else-figure+then-is_other_begun}
 
@@ -15,11 +11,7 @@ returns-in_default c = not_on_lane c.args.self.now.items c.args.self.now.begun c
 pub returns-then-figure : goal.returns-then-figure
 returns-then-figure c =
     let g = c.index-figure.result.now in
-    let same : c.self.inside.items.items ≡ c.args.self.now.items = ap (λ (f : Figures). f.items) c.self.view_is in
-    let inside : c.in-Some.place < length c.self.inside.items.items = omega (arith, ap length same, c.in-Some.ensures.within) in
-    let at : slice_get c.args.self.now.items c.in-Some.place ≡ Some g =
-    subst (λ (z : List ItemFigure). slice_get z c.in-Some.place ≡ Some g) same
-    (slice_get_read c.self.inside.items.items (length c.self.inside.items.items) c.in-Some.place g refl inside c.index-figure.ensures) in
+    let at = shown_at _ c.args.self.now c.in-Some.place g c.self.view_is c.in-Some.ensures.within c.index-figure.ensures in
     out_of_turn c.args.self.now.items c.args.self.now.begun c.args.item.0 c.in-Some.place g (sym c.in-Some.ensures.place) at
     (elim c.then-figure.branch [
       | then-figure-via-then-figure w ↦ or_left g.ended (is_other_begun c.args.self.now.begun c.args.item.0) w.if-figure.true
@@ -30,11 +22,7 @@ returns-then-figure c =
 pub returns : goal.returns
 returns c =
     let g = c.index-figure.result.now in
-    let same : c.self.inside.items.items ≡ c.args.self.now.items = ap (λ (f : Figures). f.items) c.self.view_is in
-    let inside : c.in-Some.place < length c.self.inside.items.items = omega (arith, ap length same, c.in-Some.ensures.within) in
-    let at : slice_get c.args.self.now.items c.in-Some.place ≡ Some g =
-    subst (λ (z : List ItemFigure). slice_get z c.in-Some.place ≡ Some g) same
-    (slice_get_read c.self.inside.items.items (length c.self.inside.items.items) c.in-Some.place g refl inside c.index-figure.ensures) in (
+    let at = shown_at _ c.args.self.now c.in-Some.place g c.self.view_is c.in-Some.ensures.within c.index-figure.ensures in (
       sym c.in-Some.ensures.place,
       c.in-Some.ensures.within,
       in_turn c.args.self.now.items c.args.self.now.begun c.args.item.0 c.in-Some.place g (sym c.in-Some.ensures.place) at

@@ -1,20 +1,9 @@
-use Rattle.std.proofs.Common.{◌≡◌, ℕ, ◌+◌, ◌*◌, ◌<◌, length, get_or, sym, ap, ◌∙◌, subst}
-use Rattle.std.proofs.lemmas.List.{get_or_read}
-use Rattle.mrp_rows.specs.Table.{Table, horizon}
-use Rattle.mrp_net.specs.Built.{ArePeriods}
+use Rattle.std.proofs.Common.{◌∙◌}
 use Rattle.mrp_net.specs.Sums.{incoming}
-use Rattle.mrp_net.proofs.Summing.{place_within}
+use Rattle.mrp_net.proofs.Summing.{amount_read}
 use Rattle.mrp_net.proofs.network.Network.incoming.Goals as goal
 
 pub returns : goal.returns
 returns c =
-    let M = c.args.self.now in
-    let amounts = c.self.inside.amounts.incoming.items in
-    let x : ℕ = c.args.x.0 in
-    let t : ℕ = c.args.t in
-    let are : ArePeriods M (incoming M) amounts = subst (λ (z : Table). ArePeriods z (incoming z) amounts) c.self.view_is c.self.invariant.amounts.coming in
-    let periods : c.get-periods.result ≡ horizon M = c.get-periods.ensures.value ∙ c.horizon.ensures in
-    let within : x * c.get-periods.result + t < length amounts = subst (λ (z : ℕ). x * z + t < length amounts) (sym periods) (place_within M amounts x t are.size c.requires.pair c.requires.period) in
-    get_or_read amounts (x * c.get-periods.result + t) c.index.result.now within c.index.ensures 0
-    ∙ ap (λ (z : ℕ). get_or amounts (x * z + t) 0) periods
-    ∙ are.each x t c.requires.pair c.requires.period
+    amount_read _ c.args.self.now incoming c.self.inside.amounts.incoming.items c.args.x.0 c.args.t c.get-periods.result c.index.result.now c.self.view_is c.self.invariant.amounts.coming
+    (c.get-periods.ensures.value ∙ c.horizon.ensures) c.requires.pair c.requires.period c.index.ensures

@@ -1,8 +1,7 @@
 use Rattle.std.proofs.Common.{ℕ, ◌+◌, arith, sym, ap, ◌∙◌, subst}
-use Rattle.mrp_rows.specs.Table.{Table, IsTable}
+use Rattle.mrp_rows.specs.Table.{IsTable}
 use Rattle.mrp_net.specs.declared.lane.Lane.{Lane}
 use Rattle.mrp_net.specs.Lanes.{opening, figure, shipped_from, pair_on, supplier_of}
-use Rattle.mrp_net.specs.Sources.{AreSent}
 use Rattle.mrp_net.proofs.Summing.{figure_within, shipped_from_within}
 use Rattle.mrp_net.proofs.Routing.{opening_despatch, opening_schedule}
 use Rattle.mrp_net.proofs.Sourcing.{sent_at}
@@ -14,8 +13,7 @@ returns-in-Despatch c =
     let lane = c.lane-lane.result in
     let x : ℕ = pair_on M lane c.args.item in
     let p : ℕ = supplier_of lane in
-    let figures = subst (λ (z : Table). AreSent z (figure z) c.self.inside.lanes.figures.items) c.self.view_is c.self.invariant.lanes.openings in
-    let read = sent_at M (figure M) c.self.inside.lanes.figures.items c.source-at.result x p c.index.result.now figures c.source-at.ensures.value c.source-at.ensures.taken c.index.ensures in
+    let read = sent_at _ M figure c.self.inside.lanes.figures.items c.source-at.result x p c.index.result.now c.self.view_is c.self.invariant.lanes.openings c.source-at.ensures.value c.source-at.ensures.taken c.index.ensures in
     read
     ∙ sym (opening_despatch M lane c.args.item c.in-Despatch.is)
     ∙ ap (λ (z : Lane). opening M z c.args.item) c.lane-lane.ensures.value
@@ -26,10 +24,8 @@ returns-in-Schedule c =
     let lane = c.lane-lane.result in
     let x : ℕ = pair_on M lane c.args.item in
     let p : ℕ = supplier_of lane in
-    let figures = subst (λ (z : Table). AreSent z (figure z) c.self.inside.lanes.figures.items) c.self.view_is c.self.invariant.lanes.openings in
-    let shipped = subst (λ (z : Table). AreSent z (shipped_from z) c.self.inside.lanes.shipped.items) c.self.view_is c.self.invariant.lanes.sent in
-    let one = sent_at M (figure M) c.self.inside.lanes.figures.items c.source-at.result x p c.index-in-Schedule.result.now figures c.source-at.ensures.value c.source-at.ensures.taken c.index-in-Schedule.ensures in
-    let two = sent_at M (shipped_from M) c.self.inside.lanes.shipped.items c.source-at.result x p c.index-in-Schedule-2.result.now shipped c.source-at.ensures.value c.source-at.ensures.taken c.index-in-Schedule-2.ensures in
+    let one = sent_at _ M figure c.self.inside.lanes.figures.items c.source-at.result x p c.index-in-Schedule.result.now c.self.view_is c.self.invariant.lanes.openings c.source-at.ensures.value c.source-at.ensures.taken c.index-in-Schedule.ensures in
+    let two = sent_at _ M shipped_from c.self.inside.lanes.shipped.items c.source-at.result x p c.index-in-Schedule-2.result.now c.self.view_is c.self.invariant.lanes.sent c.source-at.ensures.value c.source-at.ensures.taken c.index-in-Schedule-2.ensures in
     ap (λ (z : ℕ). z + c.index-in-Schedule-2.result.now) one
     ∙ ap (λ (z : ℕ). figure M x p + z) two
     ∙ sym (opening_schedule M lane c.args.item c.in-Schedule.is)
@@ -42,8 +38,6 @@ overflow_add-result c =
     let x : ℕ = pair_on M lane c.args.item in
     let p : ℕ = supplier_of lane in
     let table : IsTable M = subst IsTable c.self.view_is c.self.invariant.table in
-    let figures = subst (λ (z : Table). AreSent z (figure z) c.self.inside.lanes.figures.items) c.self.view_is c.self.invariant.lanes.openings in
-    let shipped = subst (λ (z : Table). AreSent z (shipped_from z) c.self.inside.lanes.shipped.items) c.self.view_is c.self.invariant.lanes.sent in
-    let one = sent_at M (figure M) c.self.inside.lanes.figures.items c.source-at.result x p c.index-in-Schedule.result.now figures c.source-at.ensures.value c.source-at.ensures.taken c.index-in-Schedule.ensures in
-    let two = sent_at M (shipped_from M) c.self.inside.lanes.shipped.items c.source-at.result x p c.index-in-Schedule-2.result.now shipped c.source-at.ensures.value c.source-at.ensures.taken c.index-in-Schedule-2.ensures in
+    let one = sent_at _ M figure c.self.inside.lanes.figures.items c.source-at.result x p c.index-in-Schedule.result.now c.self.view_is c.self.invariant.lanes.openings c.source-at.ensures.value c.source-at.ensures.taken c.index-in-Schedule.ensures in
+    let two = sent_at _ M shipped_from c.self.inside.lanes.shipped.items c.source-at.result x p c.index-in-Schedule-2.result.now c.self.view_is c.self.invariant.lanes.sent c.source-at.ensures.value c.source-at.ensures.taken c.index-in-Schedule-2.ensures in
     omega (arith, one, two, figure_within M table x p, shipped_from_within M table x p)

@@ -1,8 +1,7 @@
-use Rattle.std.proofs.Common.{◌≡◌, ℕ, ◌++◌, List, length, sym, ◌∙◌, ap, subst, arith}
-use Rattle.std.proofs.lemmas.Bool.{cond-true}
+use Rattle.std.proofs.Common.{ℕ, List, length, sym, ◌∙◌, ap, subst, arith}
 use Rattle.mrp_lot.specs.One.{PlanRows}
 use Rattle.mrp_netting.specs.Plan.{AreLate}
-use Rattle.mrp_netting.proofs.Plans.{copied}
+use Rattle.mrp_netting.proofs.Plans.{copied, refilled}
 use Rattle.mrp_netting.proofs.plan.PairPlan.copy_from.Goals as goal
 
 pub invariant_of-self : goal.invariant_of-self
@@ -16,12 +15,8 @@ invariant_of-self c =
     let a = ap length c.copy_from-5.ensures in
     let was = ap (λ (rows : PlanRows). length rows.gross) c.self.view_is in
     let periods = ap (λ (rows : PlanRows). length rows.gross) c.other.view_is in
-    let slice : c.as_slice.result.now ≡ c.other.inside.late.items = c.as_slice.ensures.value in
-    let ok = c.extend_from_slice.ensures.succeeds (omega (arith, own.4, inv.6, was, periods, c.requires, c.clear.ensures.len, c.clear.ensures.capacity, ap length slice)) in
-    let late : c.extend_from_slice.new.self.items ≡ c.other.inside.late.items =
-    c.extend_from_slice.ensures.items
-    ∙ cond-true _ (c.clear.new.self.items ++ c.as_slice.result.now) c.clear.new.self.items ok
-    ∙ ap (λ (xs : List ℕ). xs ++ c.as_slice.result.now) c.clear.ensures.items ∙ slice in
+    let ok = c.extend_from_slice.ensures.succeeds (omega (arith, own.4, inv.6, was, periods, c.requires, c.clear.ensures.len, c.clear.ensures.capacity, ap length c.as_slice.ensures.value)) in
+    let late = refilled _ c.other.inside.late.items _ _ c.extend_from_slice.new.self.items ok c.as_slice.ensures.value c.clear.ensures.items c.extend_from_slice.ensures.items in
     let lates : AreLate c.other.inside.lead c.copy_from-3.new.self c.extend_from_slice.new.self.items =
     subst (AreLate c.other.inside.lead c.copy_from-3.new.self) (sym late)
     (subst (λ (order : List ℕ). AreLate c.other.inside.lead order c.other.inside.late.items) (sym c.copy_from-3.ensures) inv.5) in (
@@ -40,11 +35,7 @@ returns c =
     let inv = c.other.invariant in
     let was = ap (λ (rows : PlanRows). length rows.gross) c.self.view_is in
     let periods = ap (λ (rows : PlanRows). length rows.gross) c.other.view_is in
-    let slice : c.as_slice.result.now ≡ c.other.inside.late.items = c.as_slice.ensures.value in
-    let ok = c.extend_from_slice.ensures.succeeds (omega (arith, own.4, inv.6, was, periods, c.requires, c.clear.ensures.len, c.clear.ensures.capacity, ap length slice)) in
-    let late : c.extend_from_slice.new.self.items ≡ c.other.inside.late.items =
-    c.extend_from_slice.ensures.items
-    ∙ cond-true _ (c.clear.new.self.items ++ c.as_slice.result.now) c.clear.new.self.items ok
-    ∙ ap (λ (xs : List ℕ). xs ++ c.as_slice.result.now) c.clear.ensures.items ∙ slice in
+    let ok = c.extend_from_slice.ensures.succeeds (omega (arith, own.4, inv.6, was, periods, c.requires, c.clear.ensures.len, c.clear.ensures.capacity, ap length c.as_slice.ensures.value)) in
+    let late = refilled _ c.other.inside.late.items _ _ c.extend_from_slice.new.self.items ok c.as_slice.ensures.value c.clear.ensures.items c.extend_from_slice.ensures.items in
     copied _ _ _ _ _ _ _ _ _ _ _ _ _ c.copy_from.ensures c.copy_from-2.ensures c.copy_from-3.ensures c.copy_from-4.ensures c.copy_from-5.ensures late
     ∙ c.other.view_is

@@ -1,4 +1,4 @@
-use Rattle.std.proofs.Common.{◌≡◌, ◌+◌, ◌<◌, ap, arith}
+use Rattle.std.proofs.Common.{◌+◌, ap, arith}
 use Rattle.mrp_world.specs.World.{Held}
 use Rattle.mrp_world.proofs.Pieces as piece
 use Rattle.mrp_world.proofs.mailbox.Mailbox.pieces.Goals as goal

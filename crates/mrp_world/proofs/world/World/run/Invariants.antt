@@ -1,4 +1,4 @@
-use Rattle.std.proofs.Common.{◌≡◌, ◌≤◌, take}
+use Rattle.std.proofs.Common.{◌≤◌, take}
 use Rattle.mrp_world.specs.World.{Runs}
 use Rattle.mrp_world.proofs.world.World.run.Given as goal
 

@@ -1,4 +1,3 @@
-use Rattle.std.proofs.Common.{subst}
 use Rattle.mrp_world.proofs.Worlds as world
 use Rattle.mrp_world.proofs.world.World.steps_left.Goals as goal
 

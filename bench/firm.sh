@@ -1,0 +1,71 @@
+#!/bin/sh
+# Measures a firm that is driven beside the same table planned at once: a firm of plants that all take from
+# each other. Prints a line for each run with what it counted, seconds and peak memory in KiB.
+#
+#   bench/firm.sh [PLANTS] [PAIRS]      PLANTS is 2 to 64, PAIRS at most 20,000
+#   bench/firm.sh table PLANTS PAIRS    prints the table alone
+#
+# It needs awk and GNU time. The program is built over the crates of the project, which it leaves as they
+# are: they are copied with what is proved of them.
+set -eu
+top=$(CDPATH='' cd -- "$(dirname -- "$0")/.." && pwd)
+
+# Item k stands at each plant. It begins at plant k modulo PLANTS, its root: the plant at distance d from the
+# root takes it from the root where k is below PLANTS, so that each two plants take from each other, and
+# else from the plant at distance (d - 1) / 2. A root makes it of item k + PLANTS, which begins there too.
+make_table() {
+    awk -v plants="$1" -v pairs="$2" 'BEGIN {
+        periods = 52; items = int((pairs + plants - 1) / plants)
+        print "run,2026-01-05,7," periods ",,,,"
+        for (p = 0; p < plants; p++) print "plant,P" p ",,,,,,"
+        for (k = 0; k < items; k++) for (d = 0; d < plants && k * plants + d < pairs; d++) {
+            from = "from:P" (k + (k < plants ? 0 : int((d - 1) / 2))) % plants
+            own = (k + plants) * plants < pairs ? "make" : "buy"
+            print "pair,P" (k + d) % plants ",I" k "," (d == 0 ? own : from) ",lot," k % 3 ",0,0"
+        }
+        for (k = 0; (k + plants) * plants < pairs; k++)
+            print "bill,P" k % plants ",I" k ",I" k + plants ",1,,,"
+        for (k = 0; k < items; k++) for (d = 0; d < plants && k * plants + d < pairs; d++)
+            print "demand,P" (k + d) % plants ",I" k "," (k * 7 + d * 5) % periods "," 1 + (k + d) % 40 ",,,"
+    }'
+}
+
+if [ "${1:-}" = table ]; then
+    make_table "$2" "$3"
+    exit
+fi
+plants=${1:-64}
+pairs=${2:-20000}
+folder=$(mktemp -d)
+trap 'rm -rf "$folder"' EXIT
+
+below="qty cal lot spell rows tables group ready net view loops netting plan record cursor book events local agent world"
+mkdir "$folder/crates"
+for name in $below; do
+    cp -a "$top/crates/mrp_$name" "$folder/crates/"
+done
+cp -a "$top/bench/firm" "$folder/crates/bench_firm"
+# its files end in .in, so that no check of the project looks for a crate in bench/
+find "$folder/crates/bench_firm" -name '*.in' | while read -r file; do mv "$file" "${file%.in}"; done
+any=$(echo "$below" | tr ' ' '|')
+grep -E "^(#|mrp_($any):)" "$top/crates.txt" >"$folder/crates.txt"
+uses=$(echo "$below" | sed 's/[a-z][a-z]*/mrp_&/g')
+echo "bench_firm: $uses" >>"$folder/crates.txt"
+make_table "$plants" "$pairs" >"$folder/table.csv"
+(cd "$folder/crates/bench_firm" && rt run -- plan <"$folder/table.csv" >/dev/null)
+program=$folder/crates/bench_firm/out/bench_firm
+
+# Runs the words five times over the table and prints the fastest.
+measure() {
+    for _ in 1 2 3 4 5; do
+        command time -f '%e %M' -o "$folder/time" "$program" "$@" <"$folder/table.csv" >"$folder/out"
+        cat "$folder/time"
+    done | sort -n | head -n 1 >"$folder/fastest"
+    echo "$* $(cat "$folder/out") $(cat "$folder/fastest")"
+}
+
+echo "what count seconds peak_kib"
+measure plan
+for capacity in 1 64 65536; do
+    measure drive "$capacity"
+done

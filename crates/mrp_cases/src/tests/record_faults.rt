@@ -1,0 +1,166 @@
+//! What is read of texts of records that are damaged, too long or not read to their end.
+
+use crate::tests::firms::{FIRM, network_of};
+use crate::tests::records::DESPATCHES;
+use mrp_net::Network;
+use mrp_stream::{RecordFault, RecordFaultKind, read_records};
+use std::alloc::Global;
+use std::io;
+use std::io::{ErrorKind, Read};
+
+/// Whether what is read of a reader is refused at that row for that fault.
+fn is_refused<R: Read + Drop>(
+    alloc: Global,
+    network: &Network,
+    reader: R,
+    row: u64,
+    kind: RecordFaultKind,
+) -> bool {
+    match read_records(alloc, network, reader) {
+        Ok(_) => false,
+        Err(fault) => fault == RecordFault { row, kind },
+    }
+}
+
+/// Whether each text is refused at that row for that fault.
+fn are_refused(alloc: Global, rows: &[(&str, u64, RecordFaultKind)]) -> bool {
+    let Some(network) = network_of(alloc, FIRM) else {
+        return false;
+    };
+    let mut all = true;
+    for (text, row, kind) in rows {
+        all = is_refused(alloc, &network, text.as_bytes(), *row, *kind) && all;
+    }
+    all
+}
+
+#[test]
+fn damaged_rows(rt: HostRuntime) {
+    let rows = [
+        ("close,3", 1, RecordFaultKind::FieldCount),
+        (
+            "line,1,X,2,8,108\nclose,3\n",
+            2,
+            RecordFaultKind::FieldCount,
+        ),
+        ("close,3,,,1,\n", 1, RecordFaultKind::FieldCount),
+        ("reset,1,X,100,0,\n", 1, RecordFaultKind::FieldCount),
+        ("clos,3,,,,\n", 1, RecordFaultKind::UnknownKind),
+        ("Line,01,X,2,8,108\n", 1, RecordFaultKind::UnknownKind),
+        ("line,01,X,2,8,108\n", 1, RecordFaultKind::BadNumber),
+        ("line,1,Q,2,8,10 8\n", 1, RecordFaultKind::BadNumber),
+        (
+            "line,1,X,2,8,12345678901234567\n",
+            1,
+            RecordFaultKind::BadNumber,
+        ),
+        ("line,1,Q,2,8,108\n", 1, RecordFaultKind::UnknownItem),
+        ("end,1,a name,0,0,\n", 1, RecordFaultKind::UnknownItem),
+    ];
+    assert!(rt; are_refused(rt.alloc(), &rows));
+}
+
+/// A reader of a text, seven bytes a call, whose call number `fails` fails.
+#[derive(Drop)]
+struct Failing<'t> {
+    left: &'t [u8],
+    call: usize,
+    fails: usize,
+}
+
+impl Read for Failing<'_> {
+    fn read(&mut self, buf: &mut [u8]) -> io::Result<usize> {
+        if self.call == self.fails {
+            return Err(io::Error::from(ErrorKind::Other));
+        }
+        self.call = self.call.saturating_add(1);
+        let count = 7usize.min(buf.len()).min(self.left.len());
+        buf[..count].copy_from_slice(&self.left[..count]);
+        self.left = &self.left[count..];
+        Ok(count)
+    }
+}
+
+/// Whether the reading of what B has sent fails in that row where that call of the reader fails.
+fn fails_in(alloc: Global, network: &Network, fails: usize, row: u64) -> bool {
+    let reader = Failing {
+        left: DESPATCHES.as_bytes(),
+        call: 0,
+        fails,
+    };
+    is_refused(alloc, network, reader, row, RecordFaultKind::ReadFault)
+}
+
+/// Whether the reading of what B has sent fails in each of those rows where that call fails.
+fn all_fail_in(alloc: Global, rows: &[(usize, u64)]) -> bool {
+    let Some(network) = network_of(alloc, FIRM) else {
+        return false;
+    };
+    let mut all = true;
+    for (fails, row) in rows {
+        all = fails_in(alloc, &network, *fails, *row) && all;
+    }
+    all
+}
+
+#[test]
+fn a_reader_that_fails(rt: HostRuntime) {
+    // 44 bytes, seven a read: the rows end in the third, the fifth and the seventh read, and a row is
+    // handed out once the read after its end came.
+    let rows = [
+        (0, 1),
+        (1, 1),
+        (2, 1),
+        (3, 1),
+        (4, 2),
+        (5, 2),
+        (6, 3),
+        (7, 3),
+    ];
+    assert!(rt; all_fail_in(rt.alloc(), &rows));
+}
+
+/// Whether of so many rows, more than may be read, the last is refused.
+fn last_is_refused(alloc: Global, network: &Network, rows: usize) -> bool {
+    match "close,1,,,,\n".repeat(alloc, rows) {
+        Ok(text) => is_refused(
+            alloc,
+            network,
+            text.as_bytes(),
+            rows as u64,
+            RecordFaultKind::ReadFault,
+        ),
+        Err(_) => false,
+    }
+}
+
+/// Whether that many records are read of a text.
+fn has_records(alloc: Global, network: &Network, text: &str, count: usize) -> bool {
+    match read_records(alloc, network, text.as_bytes()) {
+        Ok(records) => records.len() == count,
+        Err(_) => false,
+    }
+}
+
+/// Whether so many rows are read.
+fn all_are_read(alloc: Global, network: &Network, rows: usize) -> bool {
+    match "close,1,,,,\n".repeat(alloc, rows) {
+        Ok(text) => has_records(alloc, network, text.as_str(), rows),
+        Err(_) => false,
+    }
+}
+
+/// Whether the firm's network reads four million records and refuses one more.
+fn limit_is_kept(alloc: Global) -> bool {
+    match network_of(alloc, FIRM) {
+        Some(network) => {
+            all_are_read(alloc, &network, 4_000_000) && last_is_refused(alloc, &network, 4_000_001)
+        }
+        None => false,
+    }
+}
+
+#[test]
+fn four_million_records_are_read_and_no_more(rt: HostRuntime) {
+    assert!(rt; limit_is_kept(rt.alloc()));
+}

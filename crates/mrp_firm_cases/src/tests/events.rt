@@ -1,0 +1,630 @@
+//! What plants do at each event, and how firms end.
+
+ghost use Rattle.std.specs.Prelude.{◌≡◌};
+
+use super::tables::{
+    IDLE_RING, NO_LANES, NO_PLANTS, ONE_SHARED, RESET_AT_RELEASE, RESET_LATER, RING, SHARED,
+    SHARED_AFTER_SHIPMENT, TWO_CUSTOMERS, TWO_PLANTS, TWO_SHIPMENTS,
+};
+use super::{are_figures, follows, is_at_the_end, is_planned_whole, network};
+use mrp_loops::{SizedNet, bound, check};
+use mrp_net::{LaneNo, Network, PairNo};
+use mrp_plan::plan_all;
+use mrp_world::{Event, Firm, MOST_ROOM};
+use std::alloc::Global;
+use std::test::Fail;
+
+/// An event, whether it is enabled, and how many steps are left after it.
+type Tried = (Event, bool, u64);
+
+/// An item's figures on a lane: opening, shipped and received.
+type Figures = (u64, u64, u64);
+
+/// A record is sent over the lane of that number.
+const fn send(lane: usize) -> Event {
+    Event::Send(LaneNo(lane))
+}
+
+/// The next record of the lane of that number is received.
+const fn receive(lane: usize) -> Event {
+    Event::Receive(LaneNo(lane))
+}
+
+/// The pair of that number is planned.
+const fn plan(pair: usize) -> Event {
+    Event::Plan(PairNo(pair))
+}
+
+/// Whether an event is enabled where that is wanted, and leaves so many steps.
+fn takes_one(firm: &mut Firm, tried: Tried) -> bool
+    ensures network { firm.new.network ≡ firm.old.network }
+{
+    let (event, enabled, left) = tried;
+    let applied = firm.apply(event);
+    applied == enabled && firm.steps_left() == left
+}
+
+/// The same of each event.
+fn takes(firm: &mut Firm, tried: &[Tried]) -> bool
+    ensures network { firm.new.network ≡ firm.old.network }
+{
+    let mut all = true;
+    for each in tried {
+        all = takes_one(firm, *each) && all;
+    }
+    all
+}
+
+/// Whether the firm takes the events so, shows these figures after them, and has planned no pair
+/// otherwise than the network is.
+fn goes_so(
+    alloc: Global,
+    net: &SizedNet,
+    capacity: u64,
+    tried: &[Tried],
+    figures: &[Figures],
+) -> Result<bool, Fail> {
+    if capacity == 0 || capacity > MOST_ROOM {
+        return Ok(false);
+    }
+    let whole = plan_all(alloc, net)?;
+    let mut firm: Firm<'_> = Firm::new(alloc, net, capacity)?;
+    let taken = takes(&mut firm, tried);
+    let shown = firm.figures(alloc)?;
+    Ok(taken && are_figures(shown.as_slice(), figures) && follows(&firm, net.network(), &whole))
+}
+
+/// The same of the firm of a table.
+fn goes(
+    rt: &HostRuntime,
+    table: &str,
+    capacity: u64,
+    tried: &[Tried],
+    figures: &[Figures],
+) -> Result<bool, Fail> {
+    let network = network(rt, table)?;
+    let levels = check(rt.alloc(), &network)?;
+    let net = bound(rt.alloc(), &network, &levels)?;
+    goes_so(rt.alloc(), &net, capacity, tried, figures)
+}
+
+/// What is known of a firm at its end: how many steps it takes, the figures, and the orders of each
+/// pair.
+#[derive(Clone, Copy)]
+struct Ending<'a> {
+    table: &'a str,
+    steps: u64,
+    figures: &'a [Figures],
+    orders: &'a [&'a [u64]],
+}
+
+/// Whether the pair is planned with these orders.
+fn has_orders(firm: &Firm, network: &Network, x: usize, orders: &[u64]) -> bool
+    requires network { firm.now.network ≡ network.now }
+{
+    if x >= network.pairs() {
+        return false;
+    }
+    match firm.planned(PairNo(x)) {
+        Some(planned) => {
+            let row = planned.order().as_slice();
+            row.len() == orders.len() && row.iter().zip(orders).all(|(q, e)| q.get() == *e)
+        }
+        None => false,
+    }
+}
+
+/// Whether each pair is planned with its orders.
+fn has_all_orders(firm: &Firm, network: &Network, orders: &[&[u64]]) -> bool
+    requires network { firm.now.network ≡ network.now }
+{
+    for (x, row) in orders.iter().enumerate() {
+        if !has_orders(firm, network, x, *row) {
+            return false;
+        }
+    }
+    orders.len() == network.pairs()
+}
+
+/// Whether the firm begins with so many steps and is driven to this ending, which is the plan of
+/// the network.
+fn ends_so(alloc: Global, net: &SizedNet, capacity: u64, ending: &Ending) -> Result<bool, Fail> {
+    if capacity == 0 || capacity > MOST_ROOM {
+        return Ok(false);
+    }
+    let network = net.network();
+    let whole = plan_all(alloc, net)?;
+    let mut firm: Firm<'_> = Firm::new(alloc, net, capacity)?;
+    let steps = firm.steps_left();
+    firm.drive();
+    let shown = firm.figures(alloc)?;
+    Ok(
+        steps == ending.steps
+            && is_at_the_end(&firm)
+            && are_figures(shown.as_slice(), ending.figures)
+            && has_all_orders(&firm, network, ending.orders)
+            && is_planned_whole(&firm, network)
+            && follows(&firm, network, &whole),
+    )
+}
+
+/// Whether the firm ends so with mailboxes for 1, 2, 64 and 65,536 records.
+fn ends(rt: &HostRuntime, ending: &Ending) -> Result<bool, Fail> {
+    let network = network(rt, ending.table)?;
+    let levels = check(rt.alloc(), &network)?;
+    let net = bound(rt.alloc(), &network, &levels)?;
+    Ok(
+        ends_so(rt.alloc(), &net, 1, ending)?
+            && ends_so(rt.alloc(), &net, 2, ending)?
+            && ends_so(rt.alloc(), &net, 64, ending)?
+            && ends_so(rt.alloc(), &net, 65_536, ending)?,
+    )
+}
+
+#[test]
+fn a_record_is_sent_before_it_is_received(rt: HostRuntime) -> Result<(), Fail> {
+    let tried = [
+        (receive(0), false, 14),
+        (send(0), true, 13),
+        (send(0), false, 13),
+        (plan(0), false, 13),
+    ];
+    assert!(rt;
+        goes(
+            &rt,
+            TWO_PLANTS,
+            1,
+            &tried,
+            &[(100, 108, 100), (108, 108, 108)]
+        )?
+    );
+    Ok(())
+}
+
+#[test]
+fn a_pair_is_planned_once_its_block_has_ended(rt: HostRuntime) -> Result<(), Fail> {
+    let tried = [
+        (receive(0), false, 14),
+        (send(0), true, 13),
+        (send(0), false, 13),
+        (plan(0), false, 13),
+        (receive(0), true, 12),
+        (plan(0), false, 12),
+        (send(0), true, 11),
+        (receive(0), true, 10),
+        (plan(0), true, 9),
+        (plan(0), false, 9),
+        (plan(1), false, 9),
+    ];
+    assert!(rt;
+        goes(
+            &rt,
+            TWO_PLANTS,
+            1,
+            &tried,
+            &[(100, 108, 108), (108, 108, 108)]
+        )?
+    );
+    Ok(())
+}
+
+#[test]
+fn a_schedule_is_sent_once_its_pair_is_planned(rt: HostRuntime) -> Result<(), Fail> {
+    let tried = [
+        (send(1), false, 14),
+        (send(0), true, 13),
+        (send(0), true, 12),
+        (receive(0), true, 11),
+        (receive(0), true, 10),
+        (send(1), false, 10),
+        (plan(0), true, 9),
+        (send(1), true, 8),
+    ];
+    assert!(rt;
+        goes(
+            &rt,
+            TWO_PLANTS,
+            64,
+            &tried,
+            &[(100, 108, 108), (108, 130, 108)]
+        )?
+    );
+    Ok(())
+}
+
+#[test]
+fn two_plants_from_the_first_event_to_the_last(rt: HostRuntime) -> Result<(), Fail> {
+    let tried = [
+        (send(0), true, 13),
+        (receive(0), true, 12),
+        (send(0), true, 11),
+        (receive(0), true, 10),
+        (plan(0), true, 9),
+        (send(1), true, 8),
+        (send(1), false, 8),
+        (plan(1), false, 8),
+        (receive(1), true, 7),
+        (plan(1), false, 7),
+        (send(1), true, 6),
+        (receive(1), true, 5),
+        (plan(1), true, 4),
+        (send(0), true, 3),
+        (receive(0), true, 2),
+        (send(0), false, 2),
+        (receive(0), false, 2),
+        (send(1), true, 1),
+        (receive(1), true, 0),
+        (send(1), false, 0),
+        (receive(1), false, 0),
+        (plan(1), false, 0),
+    ];
+    assert!(rt;
+        goes(
+            &rt,
+            TWO_PLANTS,
+            1,
+            &tried,
+            &[(100, 108, 108), (108, 130, 130)]
+        )?
+    );
+    Ok(())
+}
+
+#[test]
+fn a_firm_has_no_other_lanes_and_pairs(rt: HostRuntime) -> Result<(), Fail> {
+    let tried = [
+        (send(2), false, 14),
+        (receive(2), false, 14),
+        (plan(2), false, 14),
+        (send(usize::MAX), false, 14),
+        (receive(usize::MAX), false, 14),
+        (plan(usize::MAX), false, 14),
+    ];
+    assert!(rt;
+        goes(
+            &rt,
+            TWO_PLANTS,
+            1,
+            &tried,
+            &[(100, 100, 100), (108, 108, 108)]
+        )?
+    );
+    Ok(())
+}
+
+#[test]
+fn a_pair_waits_for_its_second_source(rt: HostRuntime) -> Result<(), Fail> {
+    let tried = [
+        (send(0), true, 22),
+        (receive(0), true, 21),
+        (plan(0), false, 21),
+        (send(1), false, 21),
+        (send(3), false, 21),
+        (send(2), true, 20),
+        (plan(0), false, 20),
+        (receive(2), true, 19),
+        (plan(0), true, 18),
+        (send(1), true, 17),
+        (send(3), true, 16),
+        (plan(1), false, 16),
+        (plan(2), false, 16),
+    ];
+    let figures = [(0, 0, 0), (0, 4, 0), (0, 0, 0), (0, 3, 0)];
+    assert!(rt; goes(&rt, SHARED, 4, &tried, &figures)?);
+    Ok(())
+}
+
+#[test]
+fn a_source_without_a_part_has_a_block_without_lines(rt: HostRuntime) -> Result<(), Fail> {
+    let tried = [
+        (send(0), true, 20),
+        (receive(0), true, 19),
+        (send(2), true, 18),
+        (receive(2), true, 17),
+        (plan(0), true, 16),
+        (send(1), true, 15),
+        (receive(1), true, 14),
+        (plan(1), true, 13),
+        (send(3), true, 12),
+        (send(1), true, 11),
+        (send(1), false, 11),
+    ];
+    let figures = [(0, 0, 0), (0, 0, 0), (0, 0, 0), (0, 1, 0)];
+    assert!(rt; goes(&rt, ONE_SHARED, 4, &tried, &figures)?);
+    Ok(())
+}
+
+#[test]
+fn a_lane_is_closed_after_all_its_blocks(rt: HostRuntime) -> Result<(), Fail> {
+    let tried = [
+        (send(2), true, 31),
+        (send(2), true, 30),
+        (send(2), true, 29),
+        (send(2), false, 29),
+        (receive(2), true, 28),
+        (plan(0), true, 27),
+        (send(3), true, 26),
+        (send(3), true, 25),
+        (send(3), false, 25),
+        (receive(3), true, 24),
+        (plan(1), false, 24),
+        (receive(3), true, 23),
+        (plan(1), true, 22),
+        (plan(2), false, 22),
+        (send(0), true, 21),
+        (receive(0), true, 20),
+        (plan(2), true, 19),
+        (send(1), true, 18),
+        (send(1), true, 17),
+        (receive(1), true, 16),
+        (receive(1), true, 15),
+        (plan(3), true, 14),
+        (plan(4), false, 14),
+        (receive(2), true, 13),
+        (plan(4), true, 12),
+        (send(3), true, 11),
+        (send(3), true, 10),
+        (send(3), true, 9),
+        (send(3), false, 9),
+        (receive(3), true, 8),
+        (receive(3), true, 7),
+        (plan(5), true, 6),
+        (receive(3), true, 5),
+        (receive(2), true, 4),
+        (send(0), true, 3),
+        (receive(0), true, 2),
+        (send(1), true, 1),
+        (receive(1), true, 0),
+    ];
+    let figures = [
+        (0, 0, 0),
+        (0, 10, 10),
+        (0, 0, 0),
+        (0, 0, 0),
+        (0, 5, 5),
+        (0, 30, 30),
+    ];
+    assert!(rt; goes(&rt, RING, 64, &tried, &figures)?);
+    Ok(())
+}
+
+#[test]
+fn figures_start_anew_before_the_shipment(rt: HostRuntime) -> Result<(), Fail> {
+    let tried = [(send(0), true, 17), (receive(0), true, 16)];
+    let figures = [(100, 100, 100), (108, 108, 108)];
+    assert!(rt; goes(&rt, RESET_LATER, 8, &tried, &figures)?);
+    Ok(())
+}
+
+#[test]
+fn figures_start_anew_after_the_release(rt: HostRuntime) -> Result<(), Fail> {
+    let tried = [
+        (send(0), true, 17),
+        (send(0), true, 16),
+        (send(0), true, 15),
+        (receive(0), true, 14),
+        (receive(0), true, 13),
+        (plan(0), false, 13),
+        (receive(0), true, 12),
+        (plan(0), true, 11),
+        (send(1), true, 10),
+    ];
+    let figures = [(100, 108, 108), (108, 130, 108)];
+    assert!(rt; goes(&rt, RESET_LATER, 8, &tried, &figures)?);
+    Ok(())
+}
+
+#[test]
+fn figures_start_anew_before_the_release(rt: HostRuntime) -> Result<(), Fail> {
+    let tried = [
+        (send(0), true, 17),
+        (send(0), true, 16),
+        (send(0), true, 15),
+        (receive(0), true, 14),
+        (receive(0), true, 13),
+        (receive(0), true, 12),
+        (plan(0), true, 11),
+        (send(1), true, 10),
+    ];
+    let figures = [(100, 108, 108), (108, 108, 108)];
+    assert!(rt; goes(&rt, RESET_AT_RELEASE, 8, &tried, &figures)?);
+    Ok(())
+}
+
+#[test]
+fn closed_years_are_added(rt: HostRuntime) -> Result<(), Fail> {
+    let tried = [
+        (send(0), true, 17),
+        (send(0), true, 16),
+        (send(0), true, 15),
+        (receive(0), true, 14),
+        (receive(0), true, 13),
+        (receive(0), true, 12),
+        (plan(0), true, 11),
+        (send(1), true, 10),
+        (send(1), true, 9),
+        (receive(1), true, 8),
+        (receive(1), true, 7),
+        (send(1), true, 6),
+        (send(1), true, 5),
+        (send(1), false, 5),
+    ];
+    let figures = [(100, 108, 108), (108, 130, 130)];
+    assert!(rt; goes(&rt, RESET_AT_RELEASE, 8, &tried, &figures)?);
+    Ok(())
+}
+
+/// Whether events that aren't enabled count nothing among those that are, and change nothing.
+fn counts_what_is_enabled(alloc: Global, net: &SizedNet) -> Result<bool, Fail> {
+    let mut firm: Firm<'_> = Firm::new(alloc, net, 1)?;
+    let none = firm.run(&[receive(0), plan(0), send(1), plan(1), receive(1), send(7)]);
+    let begun = firm.figures(alloc)?;
+    let some = firm.run(&[
+        send(0),
+        send(0),
+        plan(0),
+        receive(0),
+        receive(0),
+        send(0),
+        plan(0),
+    ]);
+    let later = firm.figures(alloc)?;
+    Ok(
+        none == 0
+            && are_figures(begun.as_slice(), &[(100, 100, 100), (108, 108, 108)])
+            && some == 3
+            && are_figures(later.as_slice(), &[(100, 108, 108), (108, 108, 108)])
+            && firm.steps_left() == 11
+            && !firm.finished(),
+    )
+}
+
+#[test]
+fn lists_count_the_events_that_are_enabled(rt: HostRuntime) -> Result<(), Fail> {
+    let network = network(&rt, TWO_PLANTS)?;
+    let levels = check(rt.alloc(), &network)?;
+    let net = bound(rt.alloc(), &network, &levels)?;
+    assert!(rt; counts_what_is_enabled(rt.alloc(), &net)?);
+    Ok(())
+}
+
+#[test]
+fn two_plants_end(rt: HostRuntime) -> Result<(), Fail> {
+    let ending = Ending {
+        table: TWO_PLANTS,
+        steps: 14,
+        figures: &[(100, 108, 108), (108, 130, 130)],
+        orders: &[&[0, 0, 22, 0], &[0, 22, 0, 0]],
+    };
+    assert!(rt; ends(&rt, &ending)?);
+    Ok(())
+}
+
+#[test]
+fn two_shipments_end(rt: HostRuntime) -> Result<(), Fail> {
+    let ending = Ending {
+        table: TWO_SHIPMENTS,
+        steps: 16,
+        figures: &[(100, 116, 116), (116, 130, 130)],
+        orders: &[&[0, 0, 14, 0], &[0, 14, 0, 0]],
+    };
+    assert!(rt; ends(&rt, &ending)?);
+    Ok(())
+}
+
+#[test]
+fn figures_that_start_anew_end_alike(rt: HostRuntime) -> Result<(), Fail> {
+    for table in [RESET_LATER, RESET_AT_RELEASE] {
+        let ending = Ending {
+            table,
+            steps: 18,
+            figures: &[(100, 108, 108), (108, 130, 130)],
+            orders: &[&[0, 0, 22, 0], &[0, 22, 0, 0]],
+        };
+        assert!(rt; ends(&rt, &ending)?);
+    }
+    Ok(())
+}
+
+#[test]
+fn a_ring_ends(rt: HostRuntime) -> Result<(), Fail> {
+    let ending = Ending {
+        table: RING,
+        steps: 32,
+        figures: &[
+            (0, 0, 0),
+            (0, 10, 10),
+            (0, 0, 0),
+            (0, 0, 0),
+            (0, 5, 5),
+            (0, 30, 30),
+        ],
+        orders: &[&[5], &[5], &[10], &[10], &[30], &[30]],
+    };
+    assert!(rt; ends(&rt, &ending)?);
+    Ok(())
+}
+
+#[test]
+fn an_idle_ring_ends(rt: HostRuntime) -> Result<(), Fail> {
+    let ending = Ending {
+        table: IDLE_RING,
+        steps: 26,
+        figures: &[(0, 0, 0); 6],
+        orders: &[&[0], &[0], &[0], &[0], &[0], &[0]],
+    };
+    assert!(rt; ends(&rt, &ending)?);
+    Ok(())
+}
+
+#[test]
+fn two_customers_end(rt: HostRuntime) -> Result<(), Fail> {
+    let ending = Ending {
+        table: TWO_CUSTOMERS,
+        steps: 25,
+        figures: &[(0, 0, 0), (0, 15, 15), (0, 0, 0), (0, 25, 25)],
+        orders: &[&[10], &[10], &[100], &[15], &[25]],
+    };
+    assert!(rt; ends(&rt, &ending)?);
+    Ok(())
+}
+
+#[test]
+fn shares_end(rt: HostRuntime) -> Result<(), Fail> {
+    let ending = Ending {
+        table: SHARED,
+        steps: 23,
+        figures: &[(0, 0, 0), (0, 4, 4), (0, 0, 0), (0, 3, 3)],
+        orders: &[&[7], &[4], &[3]],
+    };
+    assert!(rt; ends(&rt, &ending)?);
+    Ok(())
+}
+
+#[test]
+fn a_share_of_nothing_ends(rt: HostRuntime) -> Result<(), Fail> {
+    let ending = Ending {
+        table: ONE_SHARED,
+        steps: 21,
+        figures: &[(0, 0, 0), (0, 0, 0), (0, 0, 0), (0, 1, 1)],
+        orders: &[&[1], &[0], &[1]],
+    };
+    assert!(rt; ends(&rt, &ending)?);
+    Ok(())
+}
+
+#[test]
+fn shares_after_a_shipment_end(rt: HostRuntime) -> Result<(), Fail> {
+    let ending = Ending {
+        table: SHARED_AFTER_SHIPMENT,
+        steps: 25,
+        figures: &[(0, 0, 0), (0, 1, 1), (0, 5, 5), (5, 6, 6)],
+        orders: &[&[2], &[1], &[1]],
+    };
+    assert!(rt; ends(&rt, &ending)?);
+    Ok(())
+}
+
+#[test]
+fn a_firm_without_lanes_ends(rt: HostRuntime) -> Result<(), Fail> {
+    let ending = Ending {
+        table: NO_LANES,
+        steps: 1,
+        figures: &[],
+        orders: &[&[20, 0, 20]],
+    };
+    assert!(rt; ends(&rt, &ending)?);
+    Ok(())
+}
+
+#[test]
+fn a_firm_without_plants_is_at_its_end(rt: HostRuntime) -> Result<(), Fail> {
+    let ending = Ending {
+        table: NO_PLANTS,
+        steps: 0,
+        figures: &[],
+        orders: &[],
+    };
+    assert!(rt; ends(&rt, &ending)?);
+    Ok(())
+}

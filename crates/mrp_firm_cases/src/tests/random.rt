@@ -1,0 +1,198 @@
+//! Firms of several plants by events in random order, enabled or not.
+
+ghost use Rattle.std.specs.Prelude.{◌≡◌, length};
+
+use super::tables::{FOUR_PLANTS, RESET_AT_RELEASE, RESET_LATER, RING, SHARED_AFTER_SHIPMENT};
+use super::{follows, is_at_the_end, is_planned_whole, network};
+use mrp_book::LaneFigure;
+use mrp_loops::{SizedNet, bound, check};
+use mrp_net::{LaneNo, Network, PairNo};
+use mrp_plan::{Plan, plan_all};
+use mrp_world::{Event, Firm, MOST_ROOM};
+use std::alloc::Global;
+use std::test::Fail;
+
+/// Numbers in an order that looks random, from a linear congruential generator.
+#[derive(Drop)]
+struct Dice {
+    state: u64,
+}
+
+impl Dice {
+    /// A number below `sides`, or 0 where there are none.
+    fn roll(&mut self, sides: u64) -> u64 {
+        self.state = self
+            .state
+            .wrapping_mul(6_364_136_223_846_793_005)
+            .wrapping_add(1_442_695_040_888_963_407);
+        if sides == 0 {
+            return 0;
+        }
+        (self.state >> 33) % sides
+    }
+}
+
+/// An event of the firm, or one of a lane or pair past its last.
+fn any_event(dice: &mut Dice, network: &Network) -> Event {
+    let lane = dice.roll(network.lanes() as u64 | 1) as usize;
+    let pair = dice.roll(network.pairs() as u64 | 1) as usize;
+    match dice.roll(5) {
+        0 | 1 => Event::Send(LaneNo(lane)),
+        2 | 3 => Event::Receive(LaneNo(lane)),
+        _ => Event::Plan(PairNo(pair)),
+    }
+}
+
+/// Whether no more is received than was shipped, and nothing that was shipped or received before is
+/// taken back.
+fn are_figures_after(figures: &[LaneFigure], before: &[LaneFigure]) -> bool {
+    figures.len() == before.len()
+        && figures.iter().zip(before).all(|(now, old)| {
+            now.opening.get() == old.opening.get()
+                && old.shipped.get() <= now.shipped.get()
+                && old.received.get() <= now.received.get()
+                && now.opening.get() <= now.received.get()
+                && now.received.get() <= now.shipped.get()
+        })
+}
+
+/// Whether the event takes one step or none, as the firm answers, and an event that is enabled is
+/// known as long as steps are left.
+fn counts(firm: &mut Firm, event: Event) -> bool
+    ensures network { firm.new.network ≡ firm.old.network }
+{
+    let before = firm.steps_left();
+    let enabled = firm.apply(event);
+    let left = firm.steps_left();
+    let counted = if enabled {
+        left < before && before - left == 1
+    } else {
+        left == before
+    };
+    counted && firm.finished() == (left == 0) && firm.enabled().is_none() == (left == 0)
+}
+
+/// Whether the laws hold after an event: figures that were `before` have not fallen, and each pair that
+/// is planned has its plan. The figures after it are then those before the next.
+fn keeps_them(
+    alloc: Global,
+    network: &Network,
+    plan: &Plan,
+    firm: &mut Firm,
+    event: Event,
+    before: &mut Vec<LaneFigure>,
+) -> Result<bool, Fail>
+    requires network { firm.old.network ≡ network.now }
+    requires pairs { length plan.now ≡ length network.now.pairs }
+    ensures network { firm.new.network ≡ firm.old.network }
+{
+    let counted = counts(firm, event);
+    let figures = firm.figures(alloc)?;
+    let risen = are_figures_after(figures.as_slice(), before.as_slice());
+    *before = figures;
+    Ok(counted && risen && follows(firm, network, plan))
+}
+
+/// Whether the laws hold after each of so many events.
+fn keeps_the_laws(
+    alloc: Global,
+    network: &Network,
+    plan: &Plan,
+    firm: &mut Firm,
+    seed: u64,
+) -> Result<bool, Fail>
+    requires network { firm.old.network ≡ network.now }
+    requires pairs { length plan.now ≡ length network.now.pairs }
+    ensures network { firm.new.network ≡ firm.old.network }
+{
+    let mut dice = Dice { state: seed };
+    let mut before = firm.figures(alloc)?;
+    let mut kept = true;
+    for _ in 0..150u64 {
+        let event = any_event(&mut dice, network);
+        kept = keeps_them(alloc, network, plan, firm, event, &mut before)? && kept;
+    }
+    Ok(kept)
+}
+
+/// Whether all that was shipped is received.
+fn are_received(figures: &[LaneFigure]) -> bool {
+    figures
+        .iter()
+        .all(|figure| figure.shipped.get() == figure.received.get())
+}
+
+/// Whether a firm keeps the laws under events in an order that comes from the seed, and is driven
+/// from there to its end.
+fn keeps_on(
+    alloc: Global,
+    net: &SizedNet,
+    plan: &Plan,
+    capacity: u64,
+    seed: u64,
+) -> Result<bool, Fail>
+    requires pairs { length plan.now ≡ length net.now.network.pairs }
+{
+    if capacity == 0 || capacity > MOST_ROOM {
+        return Ok(false);
+    }
+    let network = net.network();
+    let mut firm: Firm<'_> = Firm::new(alloc, net, capacity)?;
+    let kept = keeps_the_laws(alloc, network, plan, &mut firm, seed)?;
+    firm.drive();
+    let figures = firm.figures(alloc)?;
+    Ok(
+        kept && is_at_the_end(&firm)
+            && are_received(figures.as_slice())
+            && is_planned_whole(&firm, network)
+            && follows(&firm, network, plan),
+    )
+}
+
+/// Whether that holds for so many orders of events, each at capacity 1, 2 and 64.
+fn keep_on(alloc: Global, net: &SizedNet, lists: u64) -> Result<bool, Fail> {
+    let plan = plan_all(alloc, net)?;
+    for seed in 0..lists {
+        if !keeps_on(alloc, net, &plan, 1, seed)?
+            || !keeps_on(alloc, net, &plan, 2, seed)?
+            || !keeps_on(alloc, net, &plan, 64, seed)?
+        {
+            return Ok(false);
+        }
+    }
+    Ok(true)
+}
+
+/// The same of the firm of a table.
+fn table_keeps_on(rt: &HostRuntime, table: &str, lists: u64) -> Result<bool, Fail> {
+    let network = network(rt, table)?;
+    let levels = check(rt.alloc(), &network)?;
+    let net = bound(rt.alloc(), &network, &levels)?;
+    keep_on(rt.alloc(), &net, lists)
+}
+
+#[test]
+fn a_ring_in_any_order(rt: HostRuntime) -> Result<(), Fail> {
+    assert!(rt; table_keeps_on(&rt, RING, 100)?);
+    Ok(())
+}
+
+#[test]
+fn shares_in_any_order(rt: HostRuntime) -> Result<(), Fail> {
+    assert!(rt; table_keeps_on(&rt, SHARED_AFTER_SHIPMENT, 100)?);
+    Ok(())
+}
+
+#[test]
+fn resets_in_any_order(rt: HostRuntime) -> Result<(), Fail> {
+    for table in [RESET_LATER, RESET_AT_RELEASE] {
+        assert!(rt; table_keeps_on(&rt, table, 100)?);
+    }
+    Ok(())
+}
+
+#[test]
+fn four_plants_in_any_order(rt: HostRuntime) -> Result<(), Fail> {
+    assert!(rt; table_keeps_on(&rt, FOUR_PLANTS, 100)?);
+    Ok(())
+}

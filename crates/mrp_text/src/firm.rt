@@ -1,0 +1,61 @@
+//! The plants of a network with the mailboxes between them, driven until all have planned.
+
+ghost use Rattle.std.specs.Prelude.{◌≡◌, ◌≤◌, All, IfOk, IfErr};
+ghost use Rattle.mrp_net.specs.Plan.{Fits};
+ghost use Rattle.mrp_report.specs.Lanes.{IsFigure};
+ghost use Rattle.mrp_world.specs.Figures.{last_figures};
+ghost use Rattle.mrp_text.specs.Text.{IsPlannable};
+ghost use Rattle.mrp_words.specs.declared.words.TheConstants.{MOST_CAPACITY};
+
+use crate::fault::TextFault;
+use mrp_book::LaneFigure;
+use mrp_loops::SizedNet;
+use mrp_plan::Plan;
+use mrp_words::MOST_CAPACITY;
+use mrp_world::Firm;
+use std::alloc::Global;
+
+/// The capacity of a mailbox where nothing depends on it, in records.
+const USUAL_CAPACITY: u64 = 64;
+
+/// The firm of a network after its last event.
+fn driven<'a>(alloc: Global, net: &SizedNet<'a>, capacity: u64) -> Result<Firm<'a>, TextFault>
+    requires capacity { (1 ≤ capacity) × (capacity ≤ MOST_CAPACITY) }
+    ensures network { IfOk result (λ firm. firm.network ≡ net.now.network) }
+    ensures finished { IfOk result (λ firm. firm.left ≡ 0) }
+    ensures fault { IfErr result (λ fault. fault ≡ TextFault.Memory) }
+{
+    let mut firm = Firm::new(alloc, net, capacity)?;
+    firm.drive();
+    Ok(firm)
+}
+
+/// The plan that the plants of a network come to.
+pub(crate) fn driven_plan(
+    alloc: Global,
+    net: &SizedNet<'_>,
+    capacity: u64,
+) -> Result<Plan, TextFault>
+    requires capacity { (1 ≤ capacity) × (capacity ≤ MOST_CAPACITY) }
+    requires plannable { IsPlannable net.now.network }
+    ensures fits { IfOk result (Fits net.now.network) }
+    ensures fault { IfErr result (λ fault. fault ≡ TextFault.Memory) }
+{
+    let firm = driven(alloc, net, capacity)?;
+    let plan = firm.into_plan(alloc, net)?;
+    Ok(plan)
+}
+
+/// The cumulative figures of the lanes of a network after the last event.
+pub(crate) fn driven_figures(
+    alloc: Global,
+    net: &SizedNet<'_>,
+) -> Result<Vec<LaneFigure>, TextFault>
+    ensures figures { IfOk result (λ figures. figures.items ≡ last_figures net.now.network) }
+    ensures lanes { IfOk result (λ figures. All (IsFigure net.now.network) figures.items) }
+    ensures fault { IfErr result (λ fault. fault ≡ TextFault.Memory) }
+{
+    let firm = driven(alloc, net, USUAL_CAPACITY)?;
+    let figures = firm.figures(alloc)?;
+    Ok(figures)
+}
