@@ -1,4 +1,4 @@
--- Where no step of the parse fails, the words name one of the three commands, with its values.
+-- Where no step of the parse fails, the words name one of the four commands, with its values.
 use Rattle.std.proofs.Common.{◌≡◌, ◌∙◌, ◌&&◌, ◌||◌, inl, inr, ℕ, Bool, cond, true, false, not, List, [], ◌∷◌, Option, Some, None, codes, option_map, refl, sym, ap, ap₂, subst, is_some, true≢false}
 use Rattle.std.specs.Prelude.{unwrap_or}
 use Rattle.std.specs.List.{list_any}
@@ -18,7 +18,7 @@ use Rattle.clap.specs.declared.builder.value_parser.ValueParser.TheVariants.{Uns
 use Rattle.clap.proofs.OnLiterals.{clap_on_literals}
 use Rattle.clap.proofs.ValueTestLemmas.{accepts-Accepts}
 use Rattle.mrp_words.specs.Choice.{number_at}
-use Rattle.mrp_words.specs.CommandLine.{check_words, mrp, peg_words, plan_words, program_words}
+use Rattle.mrp_words.specs.CommandLine.{check_words, cums_words, mrp, peg_words, plan_words, program_words}
 use Rattle.mrp_words.specs.declared.words.TheConstants.{MOST_WORKERS, MOST_CAPACITY, LAST_PERIOD}
 use Rattle.mrp_words.specs.Values.{HasFlag, HasNumber, HasPegValues, HasPlanValues, HasText, IsWholeCommand, IsWithin}
 use Rattle.mrp_words.proofs.RowFacts.{asks_at, defaults_gain, either, first_none, given_row, next_none, no_kind, rows_good, unfailed, value_found, walk_good}
@@ -40,13 +40,16 @@ check_leaf = leaf check_words.top
 abbrev peg_leaf : Shape
 peg_leaf = leaf peg_words.top
 
+abbrev cums_leaf : Shape
+cums_leaf = leaf cums_words.top
+
 abbrev help_leaf : Shape
 help_leaf = built_leaf help_shape
 
 abbrev ready : App
 ready = record {
   top = with_filled_rules (with_version_flag (with_help_flag top));
-  subs = plan_leaf ∷ check_leaf ∷ peg_leaf ∷ help_leaf ∷ [];
+  subs = plan_leaf ∷ check_leaf ∷ peg_leaf ∷ cums_leaf ∷ help_leaf ∷ [];
 }
 
 built_is : built mrp ≡ ready
@@ -146,17 +149,19 @@ peg_whole words e =
 
 -- ---- the command
 
-abbrev pick : Bool → Bool → Bool → Bool → Option Shape
-pick plan check peg help = cond plan (Some plan_leaf) (cond check (Some check_leaf) (cond peg (Some peg_leaf) (cond help (Some help_leaf) None)))
+abbrev pick : Bool → Bool → Bool → Bool → Bool → Option Shape
+pick plan check peg cums help =
+    cond plan (Some plan_leaf) (cond check (Some check_leaf) (cond peg (Some peg_leaf) (cond cums (Some cums_leaf) (cond help (Some help_leaf) None))))
 
-picked : (words : List Text) (plan check peg help : Bool) → option_map_or (λ s. level_fault s [] nothing_held words false []) (pick plan check peg help) [] ≡ []
-    → is_some (option_map (λ s. rows_at s words) (pick plan check peg help)) ≡ true → help ≡ false
-    → IsWholeCommand (option_map (λ s. rows_at s words) (pick plan check peg help))
-picked words true check peg help e some off = inl (refl, plan_whole words e)
-picked words false true peg help e some off = inr (inl refl)
-picked words false false true help e some off = inr (inr (refl, peg_whole words e))
-picked words false false false true e some off = absurd (true≢false off)
-picked words false false false false e some off = absurd (true≢false (sym some))
+picked : (words : List Text) (plan check peg cums help : Bool) → option_map_or (λ s. level_fault s [] nothing_held words false []) (pick plan check peg cums help) [] ≡ []
+    → is_some (option_map (λ s. rows_at s words) (pick plan check peg cums help)) ≡ true → help ≡ false
+    → IsWholeCommand (option_map (λ s. rows_at s words) (pick plan check peg cums help))
+picked words true check peg cums help e some off = inl (refl, plan_whole words e)
+picked words false true peg cums help e some off = inr (inl refl)
+picked words false false true cums help e some off = inr (inr (inl (refl, peg_whole words e)))
+picked words false false false true help e some off = inr (inr (inr refl))
+picked words false false false false true e some off = absurd (true≢false off)
+picked words false false false false false e some off = absurd (true≢false (sym some))
 
 no_help : (name : Text) (aliases : Bool) → (bytes_eq name (codes "help") && true) ≡ false → aliases ≡ false → (bytes_eq (codes "help") name || aliases) ≡ false
 no_help name aliases e none = go (bytes_eq (codes "help") name) refl
@@ -171,7 +176,7 @@ no_help name aliases e none = go (bytes_eq (codes "help") name) refl
 stopped_whole : (stop : Option (Text × List Text)) → entered_fault ready stop ≡ [] → is_some (entered ready stop) ≡ true → asks_at ready.top refl stop ≡ false
     → IsWholeCommand (entered ready stop)
 stopped_whole None e some off = absurd (true≢false (sym some))
-stopped_whole (Some p) e some off = picked p.1 (answers_to p.0 (label_of plan_leaf)) (answers_to p.0 (label_of check_leaf)) (answers_to p.0 (label_of peg_leaf)) (answers_to p.0 (label_of help_leaf))
+stopped_whole (Some p) e some off = picked p.1 (answers_to p.0 (label_of plan_leaf)) (answers_to p.0 (label_of check_leaf)) (answers_to p.0 (label_of peg_leaf)) (answers_to p.0 (label_of cums_leaf)) (answers_to p.0 (label_of help_leaf))
     e some (no_help p.0 false off refl)
 
 has_command : (rows : List Row) (has : Bool) → check_fault ready.top rows has ≡ [] → has ≡ true

@@ -9,7 +9,7 @@ use Rattle.clap.specs.Words.{HasKind, Row, Text, fault_of, first_of, kind_of, su
 use Rattle.clap.specs.declared.error.kind.ErrorKind.TheVariants.{OutOfMemory}
 use Rattle.mrp_words.specs.CommandLine.{mrp}
 use Rattle.mrp_words.specs.declared.words.Choice.{Choice}
-use Rattle.mrp_words.specs.declared.words.Choice.TheVariants.{Plan, Check, Peg}
+use Rattle.mrp_words.specs.declared.words.Choice.TheVariants.{Plan, Check, Peg, Cums}
 use Rattle.mrp_words.specs.declared.words.ChooseFault.{ChooseFault}
 use Rattle.mrp_words.specs.declared.words.ChooseFault.TheVariants.{Words, Memory}
 use Rattle.mrp_words.specs.declared.words.TheConstants.{MOST_WORKERS, MOST_CAPACITY, LAST_PERIOD}
@@ -19,6 +19,7 @@ abbrev pub IsInRange : Choice → Type 0
 IsInRange (Plan workers capacity single) = (1 ≤ workers) × (workers ≤ MOST_WORKERS) × (1 ≤ capacity) × (capacity ≤ MOST_CAPACITY)
 IsInRange Check = Unit {0}
 IsInRange (Peg plant item period) = period ≤ LAST_PERIOD
+IsInRange Cums = Unit {0}
 
 -- the texts of the words
 abbrev pub texts_of : List (Bor Text) → List Text
@@ -48,6 +49,7 @@ IsCommand name rows (Peg plant item period) =
     (name ≡ codes "peg") × (text_at (codes "plant") rows ≡ Some plant.now)
     × (text_at (codes "item") rows ≡ Some item.now)
     × (number_at (codes "period") rows ≡ Some period)
+IsCommand name rows Cums = name ≡ codes "cums"
 
 -- the same, where there is a subcommand
 abbrev pub IsMeantBy : Option (Text × List Row) → Choice → Type 0

@@ -59,6 +59,10 @@ check_words = new_app (codes "check")
 abbrev pub peg_words : App
 peg_words = with_rule (with_rule (with_rule (new_app (codes "peg")) plant) item) period
 
+-- `cums`
+abbrev pub cums_words : App
+cums_words = new_app (codes "cums")
+
 -- a program of that name, which has to be given a subcommand
 abbrev pub program_words : Text → App
 program_words name =
@@ -67,8 +71,10 @@ program_words name =
 -- the command line
 unfoldable pub mrp : App
 mrp = with_subcommand
+    (with_subcommand
     (with_subcommand (with_subcommand (program_words (codes "mrp")) plan_words.top) check_words.top)
-    peg_words.top
+    peg_words.top)
+    cums_words.top
 
 -- the argument has this rule, at its own command alone
 abbrev pub IsRuled : Rule → Arg → Type 0

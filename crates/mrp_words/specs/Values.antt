@@ -41,10 +41,10 @@ pub record HasPegValues (rows : List Row) : Type 0 where
   pub period : HasNumber (codes "period") rows
   pub period_within : IsWithin 0 LAST_PERIOD (number_at (codes "period") rows)
 
--- the command is one of the three, with its values
+-- the command is one of the four, with its values
 abbrev pub IsWhole : Text → List Row → Type 0
 IsWhole name rows = ((name ≡ codes "plan") × HasPlanValues rows)
-    ⊎ ((name ≡ codes "check") ⊎ ((name ≡ codes "peg") × HasPegValues rows))
+    ⊎ ((name ≡ codes "check") ⊎ (((name ≡ codes "peg") × HasPegValues rows) ⊎ (name ≡ codes "cums")))
 
 abbrev pub IsWholeCommand : Option (Text × List Row) → Type 0
 IsWholeCommand None = ⊥

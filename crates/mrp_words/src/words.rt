@@ -1,7 +1,7 @@
 ghost use Rattle.std.specs.Prelude.{◌≡◌, Some, true, false, [], codes, IfOk, IfErr};
 ghost use Rattle.clap.specs.Words.{app_of, fault_of, found_of, rows_of, subcommand_rows_of, takes};
 ghost use Rattle.mrp_words.specs.Choice.{IsChosenBy, IsCommand, IsInRange, IsMeantBy, IsMemory, IsRefusalOf, flag_at, number_at, text_at, texts_of};
-ghost use Rattle.mrp_words.specs.CommandLine.{IsRuled, IsWorded, check_words, mrp, peg_words, plan_words};
+ghost use Rattle.mrp_words.specs.CommandLine.{IsRuled, IsWorded, check_words, cums_words, mrp, peg_words, plan_words};
 ghost use Rattle.mrp_words.specs.CommandLine as rule;
 ghost use Rattle.mrp_words.specs.Values.{HasFlag, HasName, HasNumber, HasPlanValues, HasPegValues, IsWholeCommand};
 
@@ -41,6 +41,8 @@ pub enum Choice<'a> {
         /// The period, 0 to [`LAST_PERIOD`].
         period: u64,
     },
+    /// Write the cumulative figures of the lanes between plants.
+    Cums,
 }
 
 /// Why no choice was made.
@@ -102,6 +104,16 @@ peg,SOURCE,PLANT,ITEM,RELEASE,PER,QUANTITY";
 
 const PEG_EXAMPLE: &str = "Example: mrp peg P1 WHEEL 2 < bicycle.csv";
 
+const CUMS: &str = "Write the cumulative figures of the lanes between plants";
+
+const CUMS_LONG: &str =
+    "Writes the cumulative figures of each item on each lane between two plants, once\n\
+all plants have planned: a despatch lane carries what its sender ships, a\n\
+schedule lane what its sender calls for. TRANSIT is SHIPPED less RECEIVED.\n\n  \
+lane,KIND,SENDER,RECEIVER,ITEM,OPENING,SHIPPED,RECEIVED,TRANSIT";
+
+const CUMS_EXAMPLE: &str = "Example: mrp cums < firm.csv";
+
 /// Reads the words of a command line, of which the first is the program's name: the choice is the
 /// subcommand that `clap` reads in them, with its values. It is made only of words in which `clap`
 /// finds no fault.
@@ -137,7 +149,8 @@ fn program<'a>(alloc: Global) -> Result<Command<'a>, AllocError>
         .subcommand_required(true)
         .subcommand(plan_command(alloc)?)?
         .subcommand(check_command(alloc))?
-        .subcommand(peg_command(alloc)?)
+        .subcommand(peg_command(alloc)?)?
+        .subcommand(cums_command(alloc))
 }
 
 /// `plan`.
@@ -241,6 +254,16 @@ fn period_argument<'a>(alloc: Global) -> Arg<'a>
         .help("The period, 0 to 103")
 }
 
+/// `cums`.
+fn cums_command<'a>(alloc: Global) -> Command<'a>
+    ensures { IsWorded cums_words result }
+{
+    Command::new(alloc, "cums")
+        .about(CUMS)
+        .long_about(CUMS_LONG)
+        .after_help(CUMS_EXAMPLE)
+}
+
 /// The choice that the matches name.
 fn chosen<'a>(matches: &ArgMatches<'a>) -> Choice<'a>
     requires { IsWholeCommand (subcommand_rows_of matches.now) }
@@ -254,8 +277,10 @@ fn chosen<'a>(matches: &ArgMatches<'a>) -> Choice<'a>
         planning(values)
     } else if name == "check" {
         Choice::Check
-    } else {
+    } else if name == "peg" {
         pegging(values)
+    } else {
+        Choice::Cums
     }
 }
 

@@ -1,4 +1,5 @@
-use Rattle.std.proofs.Common.{codes, inl, inr, subst}
+use Rattle.std.proofs.Common.{◌∙◌, ap, codes, inl, inr, subst, sym, true≢false}
+use Rattle.std.specs.Str.{bytes_eq}
 use Rattle.std.specs.Box.{box_value}
 use Rattle.clap.specs.Words.{found_of, rows_of}
 use Rattle.clap.specs.declared.parser.matches.ArgMatches.TheViews.{out-ArgMatches, out-SubCommand}
@@ -14,5 +15,6 @@ pegging-requires c =
     elim whole [
       | inl p ↦ absurd (other_name c.in-Some.name.now (codes "plan") c.eq.result c.eq.ensures c.if-eq.false p.0)
       | inr (inl p) ↦ absurd (other_name c.in-Some.name.now (codes "check") c.eq-else-eq.result c.eq-else-eq.ensures c.if-eq-2.false p)
-      | inr (inr p) ↦ p.1
+      | inr (inr (inl p)) ↦ p.1
+      | inr (inr (inr p)) ↦ absurd (true≢false (sym c.if-eq-3.true ∙ c.eq-else-eq-2.ensures ∙ ap (λ n. bytes_eq n (codes "peg")) p))
     ]

@@ -13,4 +13,6 @@ returns c =
     let peg = c.in_ok-peg_command.ensures in
     let one = c.in_ok-subcommand.ensures.shape plan.1 ∙ ap₂ with_subcommand start (ap (λ (a : App). a.top) plan.0) in
     let two = c.in_ok-subcommand-2.ensures.shape check.1 ∙ ap₂ with_subcommand one (ap (λ (a : App). a.top) check.0) in
-    IfOk-weaker c.subcommand-3.result _ _ (λ r h. h.shape peg.1 ∙ ap₂ with_subcommand two (ap (λ (a : App). a.top) peg.0)) c.subcommand-3.ensures
+    let cums = c.cums_command.ensures in
+    let three = c.in_ok-subcommand-3.ensures.shape peg.1 ∙ ap₂ with_subcommand two (ap (λ (a : App). a.top) peg.0) in
+    IfOk-weaker c.subcommand-4.result _ _ (λ r h. h.shape cums.1 ∙ ap₂ with_subcommand three (ap (λ (a : App). a.top) cums.0)) c.subcommand-4.ensures
