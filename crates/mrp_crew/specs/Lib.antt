@@ -1,0 +1,6 @@
+pub mod Planning
+pub mod State
+pub mod Rooms
+pub mod Started
+pub mod Settled
+pub mod Laws

@@ -1,0 +1,38 @@
+-- Which agents a crew can plan for, and what planning some pairs does to an agent.
+use Rattle.std.specs.Prelude.{◌≡◌, ℕ, ◌+◌, Bool, true, false, List, [], ◌∷◌, length, All}
+use Rattle.mrp_rows.specs.declared.numbers.PairNo.{PairNo}
+use Rattle.mrp_rows.specs.Table.{Table}
+use Rattle.mrp_loops.specs.Sized.{IsSized}
+use Rattle.mrp_record.specs.declared.record.Record.{Record}
+use Rattle.mrp_events.specs.State.{changed}
+use Rattle.mrp_ready.specs.Progress.{left_of}
+use Rattle.mrp_agent.specs.Laws.{WorksIn}
+use Rattle.mrp_agent.specs.Shows.{Shows}
+use Rattle.mrp_agent.specs.State.{AgentState}
+
+-- the agent of a plant of some sized network, to which legal beginnings have come
+pub record IsPlannable (A : AgentState) : Type 0 where
+  pub network : Table
+  pub sized : IsSized network
+  pub plant : ℕ
+  pub sent : ℕ → List Record
+  pub taken : ℕ → List Record
+  pub planned : ℕ → Bool
+  pub works : WorksIn network plant A sent taken planned
+
+-- the planned pairs, and these with them
+abbrev pub all_planned : (ℕ → Bool) → List PairNo → ℕ → Bool
+all_planned planned [] = planned
+all_planned planned (x ∷ xs) = all_planned (changed planned x.0 true) xs
+
+-- none of these is planned
+abbrev pub AreUnplanned : (ℕ → Bool) → List PairNo → Type 0
+AreUnplanned planned xs = All (λ x. planned x.0 ≡ false) xs
+
+-- The agent has planned these pairs and done nothing else: whatever lists of records and planned pairs it
+-- showed, these pairs weren't planned, and it shows the same lists with them planned.
+pub record PlansAll (old new : AgentState) (xs : List PairNo) : Type 0 where
+  pub view : new.view ≡ old.view
+  pub left : length xs + left_of new.progress.planned ≡ left_of old.progress.planned
+  pub unplanned : (sent taken : ℕ → List Record) (planned : ℕ → Bool) → Shows old sent taken planned → AreUnplanned planned xs
+  pub shows : (sent taken : ℕ → List Record) (planned : ℕ → Bool) → Shows old sent taken planned → Shows new sent taken (all_planned planned xs)

@@ -1,0 +1,38 @@
+-- What workers draft in, and what they bring back.
+use Rattle.std.specs.Prelude.{◌≡◌, ℕ, ◌++◌, true, List, length, map, reverse, All}
+use Rattle.mrp_rows.specs.declared.numbers.PairNo.{PairNo}
+use Rattle.mrp_agent.specs.Drafts.{drafted}
+use Rattle.mrp_agent.specs.State.{AgentState}
+use Rattle.mrp_crew.specs.declared.room.Room.{Room}
+use Rattle.mrp_crew.specs.declared.work.Order.{Order}
+use Rattle.mrp_crew.specs.declared.work.Work.{Work}
+use Rattle.mrp_crew.specs.declared.work.Drafts.{Drafts}
+
+-- room for a plan of so many periods
+pub record IsRoom (horizon : ℕ) (room : Room) : Type 0 where
+  pub incoming : length room.incoming ≡ horizon
+  pub gross : length room.gross ≡ horizon
+  pub plan : length room.plan.gross ≡ horizon
+
+-- a worker's result: where the gate was open, its room has the plan that the agent drafts for its pair
+pub record WorkedFor (A : AgentState) (work : Work) : Type 0 where
+  pub room : IsRoom A.view.horizon work.room
+  pub plan : work.open ≡ true → work.room.plan ≡ drafted A work.pair
+
+-- what the thread of an order brings back is of the order's pair, for the order's agent
+pub record Fulfils (order : Order) (work : Work) : Type 0 where
+  pub pair : work.pair ≡ order.pair
+  pub worked : WorkedFor order.agent.value work
+
+-- the pairs of some results
+abbrev pub pairs_of : List Work → List PairNo
+pairs_of works = map (λ work. work.pair) works
+
+-- What the workers of a wave bring back: the results of the first of its pairs, the last of these first,
+-- and of all where each could be started. Rooms that none took are still rooms.
+pub record AreDrafts (A : AgentState) (pairs : List PairNo) (drafts : Drafts) : Type 0 where
+  pub left_out : List PairNo
+  pub front : pairs ≡ reverse (pairs_of drafts.works.items) ++ left_out
+  pub all : drafts.all ≡ true → length drafts.works.items ≡ length pairs
+  pub worked : All (WorkedFor A) drafts.works.items
+  pub rooms : All (IsRoom A.view.horizon) drafts.rooms.items

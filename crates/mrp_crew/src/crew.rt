@@ -1,0 +1,142 @@
+ghost use Rattle.std.specs.Prelude.{◌≤◌};
+ghost use Rattle.mrp_crew.specs.declared.crew.TheConstants.{MOST_WORKERS};
+
+use crate::fault::CrewFault;
+use crate::room::{Room, refill};
+use crate::settling::settle_all;
+use crate::threads::draft_wave;
+use crate::work::Drafts;
+use mrp_agent::{Agent, Gate};
+use mrp_qty::{Horizon, Memory};
+use std::alloc::Global;
+use std::marker::Model;
+use std::mem;
+use std::sync::Wait;
+use std::thread::Threads;
+
+/// The greatest number of workers.
+pub const MOST_WORKERS: u64 = 64;
+
+/// The workers of a plant.
+///
+/// Contracts see how many they are and for how many periods they plan. The rooms in which they draft are
+/// made once.
+#[derive(Drop)]
+pub struct Crew {
+    workers: u64,
+    horizon: Horizon,
+    rooms: Vec<Room>,
+}
+
+impl Model for Crew {
+    ghost use Rattle.std.specs.Prelude.{◌≤◌, All};
+    ghost use Rattle.mrp_crew.specs.Rooms.{IsRoom};
+    ghost use Rattle.mrp_crew.specs.State.{CrewState};
+    ghost use Rattle.mrp_crew.specs.declared.crew.TheConstants.{MOST_WORKERS};
+
+    ghost Value = { CrewState };
+
+    ghost view = { λ crew. record { workers = crew.workers; horizon = crew.horizon } };
+
+    ghost invariant = { λ crew. (1 ≤ crew.workers) × (crew.workers ≤ MOST_WORKERS) × All (IsRoom crew.horizon) crew.rooms.items };
+}
+
+impl Crew {
+    ghost use Rattle.std.specs.Prelude.{◌≡◌, ◌<◌, List, [], length, IfOk, OnOk};
+    ghost use Rattle.mrp_rows.specs.declared.numbers.PairNo.{PairNo};
+    ghost use Rattle.mrp_agent.specs.Drafts.{ready_numbers};
+    ghost use Rattle.mrp_crew.specs.Planning.{IsPlannable, PlansAll};
+
+    /// A crew of 1 to [`MOST_WORKERS`] workers that plan for so many periods.
+    ///
+    /// # Errors
+    ///
+    /// [`Memory`] where a growth is refused.
+    pub fn new(alloc: Global, workers: u64, horizon: Horizon) -> Result<Crew, Memory>
+        requires workers { (1 ≤ workers) × (workers ≤ MOST_WORKERS) }
+        ensures workers { IfOk result (λ crew. crew.workers ≡ workers) }
+        ensures horizon { IfOk result (λ crew. crew.horizon ≡ horizon) }
+    {
+        let mut rooms = Vec::with_capacity(alloc, workers as usize)?;
+        refill(alloc, &mut rooms, horizon, workers)?;
+        Ok(Crew {
+            workers,
+            horizon,
+            rooms,
+        })
+    }
+
+    /// Plans the pairs of an agent in waves until none is ready, and answers how many it planned.
+    ///
+    /// A wave takes the ready pairs, at most the first as many as there are workers. The last of them is
+    /// drafted by the calling thread, and each of the others by a thread of its own; so one worker starts
+    /// none. Each worker, the calling thread too, first asks `gate.worker` with the plant and its number
+    /// in the wave, from 1 on. The wave is over once all its threads have returned, and then the agent
+    /// keeps all plans that were drafted.
+    ///
+    /// The agent is one of a plant of a sized network, to which legal beginnings have come, and the crew
+    /// plans for as many periods. The calling thread may wait for its workers.
+    ///
+    /// # Errors
+    ///
+    /// In this order, and after any of them each pair is planned rightly or not planned:
+    ///
+    /// - [`CrewFault::Memory`] where a growth is refused.
+    /// - [`CrewFault::ThreadRefused`] where a thread could not be started; no further ones of the wave are
+    ///   started then, and the calling thread drafts nothing.
+    /// - [`CrewFault::GateShut`] where the gate answered false to a worker.
+    pub fn plan_ready<R: Threads + Wait + Sync, G: Gate>(
+        &mut self,
+        rt: &R,
+        alloc: Global,
+        agent: &mut Agent,
+        plant: usize,
+        gate: &G,
+    ) -> Result<usize, CrewFault>
+        requires plannable { IsPlannable agent.old }
+        requires horizon { self.old.horizon ≡ agent.old.view.horizon }
+        ensures crew { self.new ≡ self.old }
+        ensures planned { (xs : List PairNo) × PlansAll agent.old agent.new xs
+            × IfOk result (λ count. (count ≡ length xs) × (ready_numbers agent.new ≡ [])) }
+    {
+        let before = agent.left();
+        while agent.ready().is_some() {
+            self.plan_wave(rt, alloc, agent, plant, gate)?;
+        }
+        Ok(before - agent.left())
+    }
+
+    /// Plans a wave of ready pairs; there is one.
+    fn plan_wave<R: Threads + Wait + Sync, G: Gate>(
+        &mut self,
+        rt: &R,
+        alloc: Global,
+        agent: &mut Agent,
+        plant: usize,
+        gate: &G,
+    ) -> Result<(), CrewFault>
+        requires plannable { IsPlannable agent.old }
+        requires horizon { self.old.horizon ≡ agent.old.view.horizon }
+        requires ready { 0 < length (ready_numbers agent.old) }
+        ensures crew { self.new ≡ self.old }
+        ensures planned { (xs : List PairNo) × PlansAll agent.old agent.new xs × OnOk result (0 < length xs) }
+    {
+        refill(alloc, &mut self.rooms, self.horizon, self.workers)?;
+        let size = agent.ready_pairs().len().min(self.workers as usize);
+        let works = Vec::with_capacity(alloc, size)?;
+        let workers = Vec::with_capacity(alloc, size - 1)?;
+        let rooms = mem::replace(&mut self.rooms, Vec::new(alloc));
+        let pairs = &agent.ready_pairs()[..size];
+        let drafts = draft_wave(rt, agent, plant, gate, pairs, rooms, workers, works);
+        let Drafts { works, all, rooms } = drafts;
+        self.rooms = rooms;
+        let open = settle_all(agent, works, &mut self.rooms);
+        if !all {
+            return Err(CrewFault::ThreadRefused);
+        }
+        if !open {
+            return Err(CrewFault::GateShut);
+        }
+        Ok(())
+    }
+}

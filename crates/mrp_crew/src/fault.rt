@@ -1,0 +1,22 @@
+use mrp_qty::Memory;
+use thiserror::Error;
+
+/// Why a crew gave up before all was planned.
+#[derive(Clone, Copy, Debug, PartialEq, Eq, Error)]
+pub enum CrewFault {
+    /// A growth was refused.
+    #[error("out of memory")]
+    Memory,
+    /// A worker's thread could not be started.
+    #[error("a thread could not be started")]
+    ThreadRefused,
+    /// The gate answered a worker that it may not begin.
+    #[error("the gate is shut")]
+    GateShut,
+}
+
+impl From<Memory> for CrewFault {
+    fn from(_refusal: Memory) -> CrewFault {
+        CrewFault::Memory
+    }
+}

@@ -1,0 +1,9 @@
+//! The law of planning in a network. It is the contract of a function that does nothing.
+
+ghost use Rattle.mrp_crew.specs.Laws.{PlanningKeepsAtWork};
+
+/// Where an agent of a plant of a network, to which legal beginnings have come, has planned some pairs and
+/// done nothing else, it is still one, with these pairs planned.
+pub fn planning_keeps_agents_at_work()
+    ensures { PlanningKeepsAtWork }
+{}

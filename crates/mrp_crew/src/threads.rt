@@ -1,0 +1,164 @@
+//! The threads of a wave: started, and joined.
+ghost use Rattle.std.specs.Prelude.{◌≡◌, ◌≢◌, ◌+◌, ◌++◌, ◌<◌, ◌≤◌, true, List, length, map, reverse, take, All, AllPairs, IfSome, OnTrue, vec_capacity};
+ghost use Rattle.mrp_rows.specs.declared.numbers.PairNo.{PairNo};
+ghost use Rattle.mrp_agent.specs.Drafts.{CanDraft, ready_numbers};
+ghost use Rattle.mrp_agent.specs.State.{AgentState};
+ghost use Rattle.mrp_crew.specs.Planning.{IsPlannable};
+ghost use Rattle.mrp_crew.specs.Rooms.{AreDrafts, IsRoom, WorkedFor, pairs_of};
+ghost use Rattle.mrp_crew.specs.Started.{IsFor, IsStarted, ordered};
+
+use crate::room::Room;
+use crate::work::{Drafts, Order, Work, work};
+use mrp_agent::{Agent, Gate};
+use mrp_net::PairNo;
+use std::snapshot::Snapshot;
+use std::sync::Wait;
+use std::thread;
+use std::thread::{PromisedHandle, Scope, Threads};
+
+/// A thread that drafts the plan of a pair.
+pub(crate) type Worker = PromisedHandle<Work, Order>;
+
+/// Drafts the plans of these pairs, the last one's in the calling thread and each other one's in a thread
+/// of its own. It returns when all of them have returned.
+pub(crate) fn draft_wave<R: Threads + Wait + Sync, G: Gate>(
+    rt: &R,
+    agent: &Agent,
+    plant: usize,
+    gate: &G,
+    pairs: &[PairNo],
+    rooms: Vec<Room>,
+    workers: Vec<Worker>,
+    works: Vec<Work>,
+) -> Drafts
+    requires some { 0 < length pairs.now }
+    requires can { All (CanDraft agent.now) pairs.now }
+    requires rooms { All (IsRoom agent.now.view.horizon) rooms.items }
+    requires enough { length pairs.now ≤ length rooms.items }
+    requires workers { (workers.items ≡ []) × (length pairs.now ≤ vec_capacity workers + 1) }
+    requires works { (works.items ≡ []) × (length pairs.now ≤ vec_capacity works) }
+    ensures { AreDrafts agent.now pairs.now result }
+{
+    thread::scope(
+        thread::scope_env(),
+        rt,
+        move |scope| -> Drafts
+            requires some { 0 < length pairs.now }
+            requires can { All (CanDraft agent.now) pairs.now }
+            requires rooms { All (IsRoom agent.now.view.horizon) rooms.items }
+            requires enough { length pairs.now ≤ length rooms.items }
+            requires workers { (workers.items ≡ []) × (length pairs.now ≤ vec_capacity workers + 1) }
+            requires works { (works.items ≡ []) × (length pairs.now ≤ vec_capacity works) }
+            ensures { AreDrafts agent.entry.now pairs.entry.now result }
+        { draft_beside(scope, rt, agent, plant, gate, pairs, rooms, workers, works) },
+    )
+}
+
+/// The same, with the scope in which the threads run.
+fn draft_beside<'s, E, R: Threads, G: Gate>(
+    scope: &Scope<'s, E>,
+    rt: &R,
+    agent: &'s Agent,
+    plant: usize,
+    gate: &'s G,
+    pairs: &[PairNo],
+    mut rooms: Vec<Room>,
+    mut workers: Vec<Worker>,
+    mut works: Vec<Work>,
+) -> Drafts
+    requires some { 0 < length pairs.now }
+    requires can { All (CanDraft agent.now) pairs.now }
+    requires rooms { All (IsRoom agent.now.view.horizon) rooms.items }
+    requires enough { length pairs.now ≤ length rooms.items }
+    requires workers { (workers.items ≡ []) × (length pairs.now ≤ vec_capacity workers + 1) }
+    requires works { (works.items ≡ []) × (length pairs.now ≤ vec_capacity works) }
+    ensures { AreDrafts agent.now pairs.now result }
+{
+    let Some(room) = rooms.pop() else {
+        unreachable!()
+    };
+    let last = pairs.len() - 1;
+    let others = &pairs[..last];
+    let all = start_all(scope, agent, plant, gate, others, &mut rooms, &mut workers);
+    if all {
+        let own = work(agent, plant, gate, last as u64 + 1, pairs[last], room);
+        let _ = works.push(own);
+    } else {
+        let _ = rooms.push(room);
+    }
+    join_all(rt, workers, &mut works);
+    Drafts { works, all, rooms }
+}
+
+/// Starts a thread for each pair, unless one is refused, and answers whether none was.
+fn start_all<'s, E, G: Gate>(
+    scope: &Scope<'s, E>,
+    agent: &'s Agent,
+    plant: usize,
+    gate: &'s G,
+    pairs: &[PairNo],
+    rooms: &mut Vec<Room>,
+    workers: &mut Vec<Worker>,
+) -> bool
+    requires can { All (CanDraft agent.now) pairs.now }
+    requires rooms { All (IsRoom agent.now.view.horizon) rooms.old.items }
+    requires enough { length pairs.now ≤ length rooms.old.items }
+    requires workers { (workers.old.items ≡ []) × (length pairs.now ≤ vec_capacity workers.old) }
+    ensures rooms { All (IsRoom agent.now.view.horizon) rooms.new.items }
+    ensures started { (rest : List PairNo) × (pairs.now ≡ ordered workers.new.items ++ rest) × OnTrue result (rest ≡ []) }
+    ensures agent { All (IsFor agent.now) workers.new.items }
+{
+    for pair in pairs {
+        let Some(room) = rooms.pop() else {
+            unreachable!()
+        };
+        let number = workers.len() as u64 + 1;
+        let Some(worker) = start(scope, agent, plant, gate, number, *pair, room) else {
+            return false;
+        };
+        let Ok(()) = workers.push(worker) else {
+            unreachable!()
+        };
+    }
+    true
+}
+
+/// Starts a thread for a pair; `None` where it could not be started, and the room is gone then.
+fn start<'s, E, G: Gate>(
+    scope: &Scope<'s, E>,
+    agent: &'s Agent,
+    plant: usize,
+    gate: &'s G,
+    number: u64,
+    pair: PairNo,
+    room: Room,
+) -> Option<Worker>
+    requires can { CanDraft agent.now pair }
+    requires room { IsRoom agent.now.view.horizon room }
+    ensures { IfSome result (IsStarted agent.now pair) }
+{
+    let order = Order {
+        agent: Snapshot::of(agent),
+        pair,
+    };
+    let started = scope.spawn_with(order, move || {
+        work(agent, plant, gate, number, pair, room)
+    });
+    match started {
+        Ok(worker) => Some(worker),
+        Err(_) => None,
+    }
+}
+
+/// Joins the threads, the last first, and puts their results behind those before them.
+fn join_all<R: Threads>(rt: &R, mut workers: Vec<Worker>, works: &mut Vec<Work>)
+    requires room { length workers.items + length works.old.items ≤ vec_capacity works.old }
+    ensures pairs { reverse (pairs_of works.new.items) ≡ ordered workers.items ++ reverse (pairs_of works.old.items) }
+    ensures worked { (A : AgentState) → All (IsFor A) workers.items → All (WorkedFor A) works.old.items → All (WorkedFor A) works.new.items }
+{
+    while let Some(worker) = workers.pop() {
+        let Ok(()) = works.push(worker.join(rt)) else {
+            unreachable!()
+        };
+    }
+}
