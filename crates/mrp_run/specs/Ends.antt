@@ -1,0 +1,82 @@
+-- The lanes of a network dealt to its plants: each plant has the sender's end of each lane that goes from it
+-- and the receiver's end of each that comes to it, in lane order.
+use Rattle.std.specs.Prelude.{◌≡◌, ℕ, zero, suc, ◌<◌, Bool, List, [], ◌∷◌, ◌++◌, length, filter, slice_index_or, All}
+use Rattle.mrp_rows.specs.Table.{Table}
+use Rattle.mrp_net.specs.Lanes.{lanes}
+use Rattle.mrp_view.specs.View.{comes_to, goes_from, plant_rows}
+use Rattle.mrp_loops.specs.Within.{plan_at}
+use Rattle.mrp_local.specs.Laws.{IsPairAt}
+use Rattle.mrp_lane.specs.Ends.{Name}
+use Rattle.mrp_agent.specs.State.{AgentState, plans_of}
+use Rattle.mrp_run.specs.declared.plant.Plant.{Plant}
+use Rattle.mrp_run.specs.Plant.{IsClosed, names}
+use Rattle.mrp_run.specs.Steps.{AtWork, IsFinished}
+
+-- what holds of each element and its place
+abbrev pub EachAt : {X : Type 0} → (ℕ → X → Type 0) → List X → Type 0
+EachAt {X} P xs = (k : ℕ) (d : X) → k < length xs → P k (slice_index_or xs k d)
+
+-- a name for each of the first lanes of a network, in lane order
+abbrev pub AreNames : Table → ℕ → List Name → Type 0
+AreNames N zero ns = ns ≡ []
+AreNames N (suc l) ns = (before : List Name) × (n : Name) × (ns ≡ before ++ n ∷ []) × (n.lane ≡ l) × (n.network ≡ N) × AreNames N l before
+
+-- a lane of that name goes from the plant, or comes to it
+abbrev pub is_from : Table → ℕ → Name → Bool
+is_from N p n = goes_from N p n.lane
+
+abbrev pub is_to : Table → ℕ → Name → Bool
+is_to N p n = comes_to N p n.lane
+
+-- of the lanes with the first names the plant has the sender's ends of those that go from it, and of the
+-- lanes with the second names the receiver's ends of those that come to it
+pub record IsDealt (N : Table) (sends takes : List Name) (p : ℕ) (P : Plant) : Type 0 where
+  pub sends_are : names P.sends.items ≡ filter (is_from N p) sends
+  pub takes_are : names P.takes.items ≡ filter (is_to N p) takes
+
+-- ---- all plants of a network
+
+-- before the first turn: the ends of all lanes are dealt, and each plant is at work
+pub record IsReady (N : Table) (ns : List Name) (p : ℕ) (P : Plant) : Type 0 where
+  pub dealt : IsDealt N ns ns p P
+  pub works : AtWork N p P
+
+pub record AreReady (N : Table) (plants : List Plant) : Type 0 where
+  pub names : List Name
+  pub all_lanes : AreNames N (length (lanes N)) names
+  pub all_plants : length plants ≡ length N.plants
+  pub each : EachAt (IsReady N names) plants
+
+-- after the joins: the plants have the same ends, and each has finished
+pub record IsThrough (N : Table) (ns : List Name) (p : ℕ) (P : Plant) : Type 0 where
+  pub dealt : IsDealt N ns ns p P
+  pub works : AtWork N p P
+  pub finished : IsFinished N p P
+
+pub record AreThrough (N : Table) (plants : List Plant) : Type 0 where
+  pub names : List Name
+  pub all_lanes : AreNames N (length (lanes N)) names
+  pub all_plants : length plants ≡ length N.plants
+  pub each : EachAt (IsThrough N names) plants
+
+-- ---- pairing
+
+-- the agent has the plans of its plant's pairs
+pub record HasPlans (N : Table) (p : ℕ) (A : AgentState) : Type 0 where
+  pub view : A.view ≡ plant_rows N p
+  pub plans : (x : ℕ) → IsPairAt N p x → plans_of A x ≡ plan_at N x
+
+-- while the ends are paired: those of these names are there yet, and all of them are closed
+pub record HasEnded (N : Table) (sends takes : List Name) (p : ℕ) (P : Plant) : Type 0 where
+  pub dealt : IsDealt N sends takes p P
+  pub sent : All IsClosed P.sends.items
+  pub taken : All IsClosed P.takes.items
+  pub plans : HasPlans N p P.agent
+
+pub record HaveEnded (N : Table) (sends takes : List Name) (plants : List Plant) : Type 0 where
+  pub all_plants : length plants ≡ length N.plants
+  pub each : EachAt (HasEnded N sends takes) plants
+
+pub record HavePlans (N : Table) (plants : List Plant) : Type 0 where
+  pub all_plants : length plants ≡ length N.plants
+  pub each : EachAt (λ p P. HasPlans N p P.agent) plants

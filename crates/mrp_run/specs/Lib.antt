@@ -1,0 +1,5 @@
+pub mod Settings
+pub mod Plant
+pub mod Steps
+pub mod Ends
+pub mod Outcome

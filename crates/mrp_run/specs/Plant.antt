@@ -1,0 +1,73 @@
+-- A plant at work in a network: its agent, and the ends of its lanes.
+use Rattle.std.specs.Prelude.{◌≡◌, ℕ, Bool, true, List, map, filter, All}
+use Rattle.mrp_rows.specs.Table.{Table}
+use Rattle.mrp_view.specs.View.{comes_to, goes_from, lane_numbers}
+use Rattle.mrp_loops.specs.Sized.{IsSized}
+use Rattle.mrp_loops.specs.Within.{plan_at}
+use Rattle.mrp_record.specs.declared.record.Record.{Record}
+use Rattle.mrp_record.specs.Entries.{contents, is_closed}
+use Rattle.mrp_local.specs.Laws.{IsPairAt}
+use Rattle.mrp_lane.specs.Ends.{End, Name}
+use Rattle.mrp_agent.specs.Laws.{WorksIn}
+use Rattle.mrp_agent.specs.Shows.{is_done}
+use Rattle.mrp_agent.specs.State.{AgentState, plans_of}
+
+-- ---- at work
+
+-- the lanes that go from a plant, and those that come to it, in lane order
+abbrev pub lanes_from : Table → ℕ → List ℕ
+lanes_from N p = filter (goes_from N p) (lane_numbers N)
+
+abbrev pub lanes_to : Table → ℕ → List ℕ
+lanes_to N p = filter (comes_to N p) (lane_numbers N)
+
+-- these are ends of these lanes of the network, in this order, and what went through each is its lane's list
+pub record AreEnds (N : Table) (lanes : List ℕ) (lists : ℕ → List Record) (ends : List End) : Type 0 where
+  pub network : All (λ e. e.name.network ≡ N) ends
+  pub lanes : map (λ e. e.name.lane) ends ≡ lanes
+  pub lists : All (λ e. e.list ≡ lists e.name.lane) ends
+
+-- a plant of a sized network: by some history its agent works in the network, and what was sent and taken by
+-- that history went through the ends of its lanes
+pub record AtWork (N : Table) (p : ℕ) (A : AgentState) (sends takes : List End) : Type 0 where
+  pub sized : IsSized N
+  pub sent : ℕ → List Record
+  pub taken : ℕ → List Record
+  pub planned : ℕ → Bool
+  pub works : WorksIn N p A sent taken planned
+  pub sends_are : AreEnds N (lanes_from N p) sent sends
+  pub takes_are : AreEnds N (lanes_to N p) taken takes
+
+-- it is at work as some plant of some network
+abbrev pub IsAtWork : AgentState → List End → List End → Type 0
+IsAtWork A sends takes = (N : Table) × (p : ℕ) × AtWork N p A sends takes
+
+-- ---- finished
+
+-- the closing record went through the end
+abbrev pub IsClosed : End → Type 0
+IsClosed e = is_closed (contents e.list) ≡ true
+
+-- the agent is done, all its lanes are closed, and each of its pairs has the plan of the network
+pub record IsFinished (N : Table) (p : ℕ) (A : AgentState) (sends takes : List End) : Type 0 where
+  pub done : is_done A ≡ true
+  pub sent : All IsClosed sends
+  pub taken : All IsClosed takes
+  pub plans : (x : ℕ) → IsPairAt N p x → plans_of A x ≡ plan_at N x
+
+-- ---- what work keeps
+
+abbrev pub names : List End → List Name
+names ends = map (λ e. e.name) ends
+
+-- the plant sees the same, its ends are the same, and wherever it was at work it is
+pub record Kept (A : AgentState) (sends takes : List End) (B : AgentState) (sends_now takes_now : List End) : Type 0 where
+  pub view : B.view ≡ A.view
+  pub sends : names sends_now ≡ names sends
+  pub takes : names takes_now ≡ names takes
+  pub works : (N : Table) (p : ℕ) → AtWork N p A sends takes → AtWork N p B sends_now takes_now
+
+-- and wherever it was at work it has finished
+abbrev pub HasFinished : AgentState → List End → List End → AgentState → List End → List End → Type 0
+HasFinished A sends takes B sends_now takes_now =
+    (N : Table) (p : ℕ) → AtWork N p A sends takes → IsFinished N p B sends_now takes_now

@@ -1,0 +1,22 @@
+-- What the steps of a plant's thread keep, in the words of `Plant` of the code.
+use Rattle.std.specs.Prelude.{ℕ}
+use Rattle.mrp_rows.specs.Table.{Table}
+use Rattle.mrp_run.specs.declared.plant.Plant.{Plant}
+use Rattle.mrp_run.specs.Plant as plant
+
+abbrev pub AtWork : Table → ℕ → Plant → Type 0
+AtWork N p P = plant.AtWork N p P.agent P.sends.items P.takes.items
+
+abbrev pub IsAtWork : Plant → Type 0
+IsAtWork P = plant.IsAtWork P.agent P.sends.items P.takes.items
+
+abbrev pub IsFinished : Table → ℕ → Plant → Type 0
+IsFinished N p P = plant.IsFinished N p P.agent P.sends.items P.takes.items
+
+abbrev pub Keeps : Plant → Plant → Type 0
+Keeps P Q = plant.Kept P.agent P.sends.items P.takes.items Q.agent Q.sends.items Q.takes.items
+
+-- its work is kept and done
+pub record Finishes (P Q : Plant) : Type 0 where
+  pub kept : Keeps P Q
+  pub finished : plant.HasFinished P.agent P.sends.items P.takes.items Q.agent Q.sends.items Q.takes.items

@@ -1,0 +1,81 @@
+//! How the plants of a network are made, and the ends of its lanes dealt to them.
+ghost use Rattle.std.specs.Prelude.{◌≡◌, ◌≤◌, ◌<◌, ◌×◌, IfOk, length};
+ghost use Rattle.mrp_lane.specs.declared.making.TheConstants.{MOST_ROOM};
+ghost use Rattle.mrp_run.specs.Ends.{AreReady};
+
+use crate::plant::Plant;
+use mrp_agent::Agent;
+use mrp_lane::{SendEnd, TakeEnd, lane};
+use mrp_loops::SizedNet;
+use mrp_net::{LaneNo, Network, PlantNo};
+use mrp_qty::Memory;
+use mrp_view::PlantView;
+use std::alloc::Global;
+
+/// The plants of a network before the first turn, each with its agent and the ends of its lanes. A mailbox
+/// has room for `capacity` records, or for the longest text of its lane where that is less.
+///
+/// # Errors
+///
+/// [`Memory`] where a growth is refused.
+pub(crate) fn ready_plants(
+    alloc: Global,
+    net: &SizedNet<'_>,
+    capacity: u64,
+) -> Result<Vec<Plant>, Memory>
+    requires capacity { (1 ≤ capacity) × (capacity ≤ MOST_ROOM) }
+    ensures { IfOk result (λ plants. AreReady net.now.network plants.items) }
+{
+    let network = net.network();
+    let mut plants = idle_plants(alloc, network)?;
+    for l in 0..network.lanes() {
+        deal(alloc, net, LaneNo(l), capacity, &mut plants)?;
+    }
+    Ok(plants)
+}
+
+/// The plants, with no ends yet.
+fn idle_plants(alloc: Global, network: &Network) -> Result<Vec<Plant>, Memory> {
+    let mut plants = Vec::with_capacity(alloc, network.plants())?;
+    for p in 0..network.plants() {
+        plants.push(idle_plant(alloc, network, PlantNo(p))?)?;
+    }
+    Ok(plants)
+}
+
+/// A plant with no ends yet.
+fn idle_plant(alloc: Global, network: &Network, plant: PlantNo) -> Result<Plant, Memory> {
+    let view = PlantView::of(alloc, network, plant)?;
+    Ok(Plant {
+        agent: Agent::new(alloc, view)?,
+        sends: Vec::new(alloc),
+        takes: Vec::new(alloc),
+    })
+}
+
+/// Makes the mailbox of a lane and deals its two ends.
+fn deal(
+    alloc: Global,
+    net: &SizedNet<'_>,
+    number: LaneNo,
+    capacity: u64,
+    plants: &mut [Plant],
+) -> Result<(), Memory> {
+    let between = net.network().lane(number);
+    let (send, take) = lane(alloc, net, number, capacity)?;
+    deal_send(plants, between.sender, send)?;
+    deal_take(plants, between.receiver, take)?;
+    Ok(())
+}
+
+/// Deals the sender's end.
+fn deal_send(plants: &mut [Plant], sender: PlantNo, end: SendEnd) -> Result<(), Memory> {
+    plants[sender.0].sends.push(end)?;
+    Ok(())
+}
+
+/// Deals the receiver's end.
+fn deal_take(plants: &mut [Plant], receiver: PlantNo, end: TakeEnd) -> Result<(), Memory> {
+    plants[receiver.0].takes.push(end)?;
+    Ok(())
+}

@@ -1,0 +1,29 @@
+//! A network run by threads, one for each plant.
+//!
+//! Each plant's thread owns its agent and the ends of its lanes, and nothing else of the network. It books
+//! what lies in its incoming lanes, plans what is ready and offers what it has, turn by turn, until it is
+//! done. A run that ends well gives the one plan of the network, and each lane carried its whole text,
+//! whatever the threads' order.
+#![tactic(auto)]
+
+mod booking;
+mod dealing;
+mod fault;
+mod gathering;
+mod network;
+mod offering;
+mod pairing;
+mod plant;
+mod running;
+mod settings;
+mod threads;
+
+pub use fault::RunFault;
+pub use mrp_agent::{Agent, Gate, NoGate};
+pub use mrp_crew::{Crew, MOST_WORKERS};
+pub use mrp_lane::{MOST_ROOM, Reconciled, SendEnd, TakeEnd};
+pub use mrp_net::PlantNo;
+pub use mrp_netting::PairPlan;
+pub use network::{Outcome, run_network, run_network_within};
+pub use running::run_plant;
+pub use settings::Settings;

@@ -1,0 +1,91 @@
+//! A whole network, run by a thread for each plant.
+ghost use Rattle.std.specs.Prelude.{IfOk};
+ghost use Rattle.mrp_loops.specs.Sized.{IsSized};
+ghost use Rattle.mrp_run.specs.Ends.{AreThrough};
+ghost use Rattle.mrp_run.specs.Outcome.{IsOutcome};
+
+use crate::dealing::ready_plants;
+use crate::fault::RunFault;
+use crate::gathering::gather;
+use crate::pairing::reconcile_all;
+use crate::plant::Plant;
+use crate::settings::Settings;
+use crate::threads::run_plants;
+use mrp_agent::Gate;
+use mrp_lane::Reconciled;
+use mrp_loops::SizedNet;
+use mrp_net::Network;
+use mrp_netting::PairPlan;
+use mrp_qty::Memory;
+use std::alloc::Global;
+use std::sync::Wait;
+use std::thread::Threads;
+
+/// The most turns that [`run_network`] gives a plant: more than any run uses.
+const MOST_TURNS: u64 = 1 << 62;
+
+/// What a run comes to.
+#[derive(Drop)]
+pub struct Outcome {
+    /// The plan of each pair, in table order.
+    pub plans: Vec<PairPlan>,
+    /// What went over each lane, in lane order.
+    pub lanes: Vec<Reconciled>,
+}
+
+/// Runs a network by a thread for each plant, until each plant is done.
+///
+/// The outcome is the one plan of the network, and each lane carried its whole text, for every number of
+/// workers and every capacity. It isn't claimed that a run ends.
+///
+/// # Errors
+///
+/// The lowest fault met, and of shut gates that of the lowest plant: [`RunFault::Memory`] where a growth is
+/// refused, [`RunFault::ThreadRefused`] where no thread could be made, [`RunFault::GateShut`].
+pub fn run_network<R: Threads + Wait + Sync, G: Gate>(
+    rt: &R,
+    alloc: Global,
+    net: &SizedNet<'_>,
+    settings: Settings,
+    gate: &G,
+) -> Result<Outcome, RunFault>
+    ensures outcome { IfOk result (λ o. IsOutcome net.now.network o) }
+{
+    run_network_within(rt, alloc, net, settings, gate, MOST_TURNS)
+}
+
+/// As [`run_network`], where a plant has so many turns at most.
+///
+/// # Errors
+///
+/// Those of [`run_network`], and [`RunFault::Stopped`] where a plant isn't done after its turns.
+pub fn run_network_within<R: Threads + Wait + Sync, G: Gate>(
+    rt: &R,
+    alloc: Global,
+    net: &SizedNet<'_>,
+    settings: Settings,
+    gate: &G,
+    turns: u64,
+) -> Result<Outcome, RunFault>
+    ensures outcome { IfOk result (λ o. IsOutcome net.now.network o) }
+{
+    let ready = ready_plants(alloc, net, settings.capacity())?;
+    let through = run_plants(rt, alloc, ready, settings.workers(), gate, turns)?;
+    Ok(outcome(rt, alloc, net.network(), through)?)
+}
+
+/// What plants that have finished come to.
+fn outcome<R: Wait>(
+    rt: &R,
+    alloc: Global,
+    network: &Network,
+    mut plants: Vec<Plant>,
+) -> Result<Outcome, Memory>
+    requires sized { IsSized network.now }
+    requires through { AreThrough network.now plants.items }
+    ensures { IfOk result (λ o. IsOutcome network.now o) }
+{
+    let lanes = reconcile_all(rt, alloc, network, plants.as_mut_slice())?;
+    let plans = gather(alloc, network, plants)?;
+    Ok(Outcome { plans, lanes })
+}

@@ -1,0 +1,76 @@
+//! How the ends of the lanes are paired again after the joins, and reconciled.
+ghost use Rattle.std.specs.Prelude.{◌≡◌, ◌<◌, ◌×◌, [], ◌∷◌, ◌++◌, List, length, IfOk, IsSomeAnd};
+ghost use Rattle.mrp_rows.specs.Table.{Table};
+ghost use Rattle.mrp_net.specs.Lanes.{lanes, lane_at};
+ghost use Rattle.mrp_lane.specs.Ends.{Name};
+ghost use Rattle.mrp_run.specs.Ends.{AreNames, HaveEnded, HavePlans};
+ghost use Rattle.mrp_run.specs.Outcome.{AreSettled};
+ghost use Rattle.mrp_run.specs.Plant.{IsClosed};
+
+use crate::plant::Plant;
+use mrp_lane::{Reconciled, SendEnd, TakeEnd, reconcile};
+use mrp_net::{LaneNo, Network, PlantNo};
+use mrp_qty::Memory;
+use std::alloc::Global;
+use std::sync::Wait;
+
+/// The two ends of each lane, reconciled, in lane order. The plants have no ends then.
+///
+/// # Errors
+///
+/// [`Memory`] where a growth is refused.
+pub(crate) fn reconcile_all<R: Wait>(
+    rt: &R,
+    alloc: Global,
+    network: &Network,
+    plants: &mut [Plant],
+) -> Result<Vec<Reconciled>, Memory>
+    requires ended { (ns : List Name) × AreNames network.now (length (lanes network.now)) ns × HaveEnded network.now ns ns plants.old }
+    ensures lanes { IfOk result (λ all. AreSettled network.now all.items) }
+    ensures plans { IfOk result (λ _. HavePlans network.now plants.new) }
+{
+    let lanes = network.lanes();
+    let mut all = Vec::with_capacity(alloc, lanes)?;
+    for done in 0..lanes {
+        let settled = reconcile_last(rt, alloc, network, LaneNo(lanes - 1 - done), plants)?;
+        all.push(settled)?;
+    }
+    all.as_mut_slice().reverse();
+    Ok(all)
+}
+
+/// The two ends of the last lane whose ends are there, reconciled.
+fn reconcile_last<R: Wait>(
+    rt: &R,
+    alloc: Global,
+    network: &Network,
+    lane: LaneNo,
+    plants: &mut [Plant],
+) -> Result<Reconciled, Memory>
+    requires lane { lane.0 < length (lanes network.now) }
+{
+    let between = network.lane(lane);
+    let Some(send) = last_send(plants, between.sender) else {
+        unreachable!()
+    };
+    let Some(take) = last_take(plants, between.receiver) else {
+        unreachable!()
+    };
+    reconcile(rt, alloc, send, take)
+}
+
+/// Takes the last sender's end of a plant.
+fn last_send(plants: &mut [Plant], sender: PlantNo) -> Option<SendEnd>
+    ensures last { (N : Table) (ns ts : List Name) (n : Name) → (lane_at N n.lane).sender.0 ≡ sender.0 → HaveEnded N (ns ++ n ∷ []) ts plants.old
+        → IsSomeAnd result (λ e. (e.name ≡ n) × IsClosed e) × HaveEnded N ns ts plants.new }
+{
+    plants[sender.0].sends.pop()
+}
+
+/// Takes the last receiver's end of a plant.
+fn last_take(plants: &mut [Plant], receiver: PlantNo) -> Option<TakeEnd>
+    ensures last { (N : Table) (ns ts : List Name) (n : Name) → (lane_at N n.lane).receiver.0 ≡ receiver.0 → HaveEnded N ns (ts ++ n ∷ []) plants.old
+        → IsSomeAnd result (λ e. (e.name ≡ n) × IsClosed e) × HaveEnded N ns ts plants.new }
+{
+    plants[receiver.0].takes.pop()
+}

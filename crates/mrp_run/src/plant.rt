@@ -1,0 +1,10 @@
+use mrp_agent::Agent;
+use mrp_lane::{SendEnd, TakeEnd};
+
+/// What a plant's thread owns: the plant's agent, and the ends of its lanes in lane order.
+#[derive(Drop)]
+pub(crate) struct Plant {
+    pub(crate) agent: Agent,
+    pub(crate) sends: Vec<SendEnd>,
+    pub(crate) takes: Vec<TakeEnd>,
+}

@@ -1,0 +1,176 @@
+//! The thread of one plant.
+ghost use Rattle.std.specs.Prelude.{◌≡◌, IfOk};
+ghost use Rattle.mrp_run.specs.Plant as at;
+ghost use Rattle.mrp_run.specs.Steps.{IsAtWork, Keeps, Finishes};
+
+use crate::booking::book_all;
+use crate::fault::RunFault;
+use crate::offering::offer_all;
+use crate::plant::Plant;
+use mrp_agent::{Agent, Gate};
+use mrp_crew::{Crew, CrewFault};
+use mrp_lane::{SendEnd, TakeEnd};
+use mrp_net::PlantNo;
+use std::alloc::Global;
+use std::sync::Wait;
+use std::sync::atomic::{AtomicBool, Ordering};
+use std::thread;
+use std::thread::Threads;
+
+/// Runs one plant until it is done.
+///
+/// The ends are those of the plant's lanes in one sized network, in lane order; the agent sees what the plant
+/// sees there, and what it has sent and taken went through these ends. The plant isn't given the network.
+///
+/// A turn asks the gate, books what lies in the lanes that come in, plans what is ready and offers what the
+/// plant has to send, as far as there is room. Turns count from 1. Before each turn the plant looks whether
+/// `stop` is raised; at a fault it raises it.
+///
+/// # Errors
+///
+/// The fault, or `None` where another raised `stop`. The agent and the ends are gone then.
+///
+/// - [`RunFault::Memory`] where a growth is refused;
+/// - [`RunFault::ThreadRefused`] where no thread could be made for a worker;
+/// - [`RunFault::GateShut`] where the gate was shut for this plant or for one of its workers;
+/// - [`RunFault::Stopped`] where the plant isn't done after so many turns.
+pub fn run_plant<R: Threads + Wait + Sync, G: Gate>(
+    rt: &R,
+    alloc: Global,
+    plant: PlantNo,
+    agent: Agent,
+    sends: Vec<SendEnd>,
+    takes: Vec<TakeEnd>,
+    crew: &mut Crew,
+    gate: &G,
+    stop: &AtomicBool,
+    turns: u64,
+) -> Result<(Agent, Vec<SendEnd>, Vec<TakeEnd>), Option<RunFault>>
+    requires work { at.IsAtWork agent sends.items takes.items }
+    requires horizon { crew.old.horizon ≡ agent.view.horizon }
+    ensures crew { crew.new ≡ crew.old }
+    ensures kept { IfOk result (λ r. at.Kept agent sends.items takes.items r.0 r.1.items r.2.items) }
+    ensures finished { IfOk result (λ r. at.HasFinished agent sends.items takes.items r.0 r.1.items r.2.items) }
+{
+    let owned = Plant {
+        agent,
+        sends,
+        takes,
+    };
+    let Plant {
+        agent,
+        sends,
+        takes,
+    } = run_owned(rt, alloc, plant, owned, crew, gate, stop, turns)?;
+    Ok((agent, sends, takes))
+}
+
+/// The same for a plant in one piece.
+pub(crate) fn run_owned<R: Threads + Wait + Sync, G: Gate>(
+    rt: &R,
+    alloc: Global,
+    number: PlantNo,
+    plant: Plant,
+    crew: &mut Crew,
+    gate: &G,
+    stop: &AtomicBool,
+    turns: u64,
+) -> Result<Plant, Option<RunFault>>
+    requires work { IsAtWork plant }
+    requires horizon { crew.old.horizon ≡ plant.agent.view.horizon }
+    ensures crew { crew.new ≡ crew.old }
+    ensures finishes { IfOk result (λ after. Finishes plant after) }
+{
+    let outcome = work(rt, alloc, number, plant, crew, gate, stop, turns);
+    if outcome.is_err() {
+        stop.store(true, Ordering::SeqCst);
+    }
+    outcome
+}
+
+/// Turn by turn, until the plant is done.
+fn work<R: Threads + Wait + Sync, G: Gate>(
+    rt: &R,
+    alloc: Global,
+    number: PlantNo,
+    mut plant: Plant,
+    crew: &mut Crew,
+    gate: &G,
+    stop: &AtomicBool,
+    turns: u64,
+) -> Result<Plant, Option<RunFault>>
+    requires work { IsAtWork plant }
+    requires horizon { crew.old.horizon ≡ plant.agent.view.horizon }
+    ensures crew { crew.new ≡ crew.old }
+    ensures finishes { IfOk result (λ after. Finishes plant after) }
+{
+    for turn in 0..turns {
+        begin(number, turn + 1, gate, stop)?;
+        let moved = take_turn(rt, alloc, number, &mut plant, crew, gate)?;
+        if plant.agent.done() {
+            return Ok(plant);
+        }
+        if !moved {
+            thread::yield_now();
+        }
+    }
+    Err(Some(RunFault::Stopped))
+}
+
+/// Whether a turn may begin: nobody has raised `stop`, and the gate is open.
+fn begin<G: Gate>(
+    number: PlantNo,
+    turn: u64,
+    gate: &G,
+    stop: &AtomicBool,
+) -> Result<(), Option<RunFault>> {
+    if stop.load(Ordering::SeqCst) {
+        Err(None)
+    } else if gate.turn(number.0, turn) {
+        Ok(())
+    } else {
+        Err(Some(RunFault::GateShut(number)))
+    }
+}
+
+/// One turn: books, then plans, then offers. Answers whether anything was booked, planned or sent.
+fn take_turn<R: Threads + Wait + Sync, G: Gate>(
+    rt: &R,
+    alloc: Global,
+    number: PlantNo,
+    plant: &mut Plant,
+    crew: &mut Crew,
+    gate: &G,
+) -> Result<bool, RunFault>
+    requires work { IsAtWork plant.old }
+    requires horizon { crew.old.horizon ≡ plant.old.agent.view.horizon }
+    ensures crew { crew.new ≡ crew.old }
+    ensures kept { Keeps plant.old plant.new }
+{
+    let came = book_all(rt, plant);
+    let planned = plan_all(rt, alloc, number, plant, crew, gate)?;
+    let sent = offer_all(rt, plant);
+    Ok(came || planned || sent)
+}
+
+/// Plans all pairs that can be planned, and answers whether there were any.
+fn plan_all<R: Threads + Wait + Sync, G: Gate>(
+    rt: &R,
+    alloc: Global,
+    number: PlantNo,
+    plant: &mut Plant,
+    crew: &mut Crew,
+    gate: &G,
+) -> Result<bool, RunFault>
+    requires work { IsAtWork plant.old }
+    requires horizon { crew.old.horizon ≡ plant.old.agent.view.horizon }
+    ensures crew { crew.new ≡ crew.old }
+    ensures kept { Keeps plant.old plant.new }
+{
+    match crew.plan_ready(rt, alloc, &mut plant.agent, number.0, gate) {
+        Ok(count) => Ok(count > 0),
+        Err(CrewFault::Memory) => Err(RunFault::Memory),
+        Err(CrewFault::ThreadRefused) => Err(RunFault::ThreadRefused),
+        Err(CrewFault::GateShut) => Err(RunFault::GateShut(number)),
+    }
+}
