@@ -1,4 +1,5 @@
 pub mod Settings
+pub mod Faults
 pub mod Plant
 pub mod Steps
 pub mod Ends
