@@ -1,5 +1,6 @@
 //! The threads of a wave: started, and joined.
-ghost use Rattle.std.specs.Prelude.{◌≡◌, ◌≢◌, ◌+◌, ◌++◌, ◌<◌, ◌≤◌, true, List, length, map, reverse, take, All, AllPairs, IfSome, OnTrue, vec_capacity};
+ghost use Rattle.std.specs.Prelude.{◌≡◌, ◌≢◌, ◌+◌, ◌++◌, ◌<◌, ◌≤◌, true, List, length, map, reverse, take, All, AllPairs, IfSome, vec_capacity};
+ghost use Rattle.std.specs.Bool.{OnTrue};
 ghost use Rattle.mrp_rows.specs.declared.numbers.PairNo.{PairNo};
 ghost use Rattle.mrp_agent.specs.Drafts.{CanDraft, ready_numbers};
 ghost use Rattle.mrp_agent.specs.State.{AgentState};
@@ -8,7 +9,7 @@ ghost use Rattle.mrp_crew.specs.Rooms.{AreDrafts, IsRoom, WorkedFor, pairs_of};
 ghost use Rattle.mrp_crew.specs.Started.{IsFor, IsStarted, ordered};
 
 use crate::room::Room;
-use crate::work::{Drafts, Order, Work, work};
+use crate::work::{Drafts, Order, Work, draft_pair};
 use mrp_agent::{Agent, Gate};
 use mrp_net::PairNo;
 use std::snapshot::Snapshot;
@@ -81,7 +82,7 @@ fn draft_beside<'s, E, R: Threads, G: Gate>(
     let others = &pairs[..last];
     let all = start_all(scope, agent, plant, gate, others, &mut rooms, &mut workers);
     if all {
-        let own = work(agent, plant, gate, last as u64 + 1, pairs[last], room);
+        let own = draft_pair(agent, plant, gate, last as u64 + 1, pairs[last], room);
         let _ = works.push(own);
     } else {
         let _ = rooms.push(room);
@@ -142,7 +143,7 @@ fn start<'s, E, G: Gate>(
         pair,
     };
     let started = scope.spawn_with(order, move || {
-        work(agent, plant, gate, number, pair, room)
+        draft_pair(agent, plant, gate, number, pair, room)
     });
     match started {
         Ok(worker) => Some(worker),

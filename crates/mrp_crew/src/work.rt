@@ -41,7 +41,7 @@ pub(crate) struct Drafts {
 }
 
 /// A worker asks the gate, and where it is open drafts the plan of its pair.
-pub(crate) fn work<G: Gate>(
+pub(crate) fn draft_pair<G: Gate>(
     agent: &Agent,
     plant: usize,
     gate: &G,
