@@ -1,5 +1,5 @@
 //! The threads of a wave: started, and joined.
-ghost use Rattle.std.specs.Prelude.{◌≡◌, ◌≢◌, ◌+◌, ◌++◌, ◌<◌, ◌≤◌, true, List, length, map, reverse, take, All, AllPairs, IfSome, vec_capacity};
+ghost use Rattle.std.specs.Prelude.{◌≡◌, ◌≢◌, ◌+◌, ◌++◌, ◌<◌, ◌≤◌, true, List, [], length, map, reverse, take, All, AllPairs, IfSome, vec_capacity};
 ghost use Rattle.std.specs.Bool.{OnTrue};
 ghost use Rattle.mrp_rows.specs.declared.numbers.PairNo.{PairNo};
 ghost use Rattle.mrp_agent.specs.Drafts.{CanDraft, ready_numbers};
@@ -142,9 +142,15 @@ fn start<'s, E, G: Gate>(
         agent: Snapshot::of(agent),
         pair,
     };
-    let started = scope.spawn_with(order, move || {
-        draft_pair(agent, plant, gate, number, pair, room)
-    });
+    let started = scope.spawn_with(
+        order,
+        move || -> Work
+            requires can { CanDraft agent.now pair }
+            requires room { IsRoom agent.now.view.horizon room }
+            ensures pair { result.pair ≡ pair }
+            ensures worked { WorkedFor agent.entry.now result }
+        { draft_pair(agent, plant, gate, number, pair, room) },
+    );
     match started {
         Ok(worker) => Some(worker),
         Err(_) => None,
@@ -154,7 +160,7 @@ fn start<'s, E, G: Gate>(
 /// Joins the threads, the last first, and puts their results behind those before them.
 fn join_all<R: Threads>(rt: &R, mut workers: Vec<Worker>, works: &mut Vec<Work>)
     requires room { length workers.items + length works.old.items ≤ vec_capacity works.old }
-    ensures pairs { reverse (pairs_of works.new.items) ≡ ordered workers.items ++ reverse (pairs_of works.old.items) }
+    ensures pairs { pairs_of (reverse works.new.items) ≡ ordered workers.items ++ pairs_of (reverse works.old.items) }
     ensures worked { (A : AgentState) → All (IsFor A) workers.items → All (WorkedFor A) works.old.items → All (WorkedFor A) works.new.items }
 {
     while let Some(worker) = workers.pop() {
