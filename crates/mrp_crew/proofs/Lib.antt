@@ -1,5 +1,5 @@
 pub mod PlanningLaws
 pub mod Ready
 pub mod Fronts
-pub mod Settling
+pub mod Keeping
 pub mod Drafting

@@ -3,7 +3,7 @@ use Rattle.mrp_rows.specs.declared.numbers.PairNo.{PairNo}
 use Rattle.mrp_agent.specs.State.{AgentState}
 use Rattle.mrp_crew.proofs.PlanningLaws.{plans_none, plans_one}
 use Rattle.mrp_crew.proofs.Ready.{can_draft, unplanned}
-use Rattle.mrp_crew.proofs.Settling.{numbers_differ}
+use Rattle.mrp_crew.proofs.Keeping.{numbers_differ}
 use Rattle.mrp_crew.proofs.settling.settle.Goals as goal
 
 pub settle-requires-clause-can : goal.settle-requires-clause-can
