@@ -27,7 +27,7 @@ All-from_map P f [] all = All-nil (λ x. P (f x))
 All-from_map P f (x ∷ xs) all = All-cons (λ z. P (f z)) x xs (All-head P (f x) (map f xs) all) (All-from_map P f xs (All-tail P (f x) (map f xs) all))
 
 pub AllPairs-from_map : {X Y : Type 0} (R : Y → Y → Type 0) (f : X → Y) (xs : List X) → AllPairs R (map f xs) → AllPairs (λ v w. R (f v) (f w)) xs
-AllPairs-from_map R f [] all i j d less within = absurd (omega (arith, within))
+AllPairs-from_map R f [] all = λ i j d less within. absurd (omega (arith, within))
 AllPairs-from_map R f (x ∷ xs) all =
     AllPairs-cons (λ v w. R (f v) (f w)) x xs (All-from_map (R (f x)) f xs (AllPairs-head R (f x) (map f xs) all))
     (AllPairs-from_map R f xs (AllPairs-tail R (f x) (map f xs) all))
@@ -35,14 +35,12 @@ AllPairs-from_map R f (x ∷ xs) all =
 -- in the other order
 pub All-reverse : {X : Type 0} (P : X → Type 0) (xs : List X) → All P xs → All P (reverse xs)
 All-reverse P [] all = all
-All-reverse P (x ∷ xs) all = All-push P (reverse xs) x (All-reverse P xs (All-tail P x xs all)) (All-head P x xs all)
+All-reverse P (x ∷ xs) all =
+    subst (All P) (sym (reverse-append (x ∷ []) xs)) (All-push P (reverse xs) x (All-reverse P xs (All-tail P x xs all)) (All-head P x xs all))
 
 pub reverse-push : {X : Type 0} (xs : List X) (x : X) → reverse (xs ++ x ∷ []) ≡ x ∷ reverse xs
 reverse-push xs x = reverse-append xs (x ∷ [])
 
--- the last of one list becomes the first of the other
-pub last_moves : {X : Type 0} (xs : List X) (x : X) (ys zs : List X) → (xs ++ x ∷ []) ++ ys ≡ zs → xs ++ x ∷ ys ≡ zs
-last_moves xs x ys zs is = sym (append_assoc xs (x ∷ []) ys) ∙ is
-
+-- of as many of the first
 pub AllPairs-take : {X : Type 0} (R : X → X → Type 0) (n : ℕ) (xs : List X) → AllPairs R xs → AllPairs R (take n xs)
 AllPairs-take R n xs all = AllPairs-front R (take n xs) (drop n xs) (subst (AllPairs R) (sym (take-append-drop n xs)) all)

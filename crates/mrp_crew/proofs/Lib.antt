@@ -3,3 +3,4 @@ pub mod Ready
 pub mod Fronts
 pub mod Keeping
 pub mod Drafting
+pub mod Joining

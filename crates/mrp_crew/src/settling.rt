@@ -1,5 +1,5 @@
 //! The agent keeps what the workers of a wave drafted.
-ghost use Rattle.std.specs.Prelude.{◌≡◌, ◌≢◌, List, length, reverse, All, Contains};
+ghost use Rattle.std.specs.Prelude.{◌≡◌, ◌≢◌, true, List, length, reverse, All, Contains};
 ghost use Rattle.std.specs.Bool.{OnTrue};
 ghost use Rattle.mrp_rows.specs.declared.numbers.PairNo.{PairNo};
 ghost use Rattle.mrp_agent.specs.Drafts.{drafted, ready_numbers};
@@ -7,7 +7,7 @@ ghost use Rattle.mrp_crew.specs.Planning.{IsPlannable, PlansAll};
 ghost use Rattle.mrp_crew.specs.Rooms.{IsRoom, WorkedFor};
 ghost use Rattle.mrp_crew.specs.Settled.{AreToSettle, StaysReady};
 
-use crate::room::Room;
+use crate::room::{Room, put_back};
 use crate::work::Work;
 use mrp_agent::Agent;
 
@@ -22,19 +22,19 @@ pub(crate) fn settle_all(agent: &mut Agent, mut works: Vec<Work>, rooms: &mut Ve
 {
     let mut all = true;
     while let Some(work) = works.pop() {
-        let open = settle(agent, &work);
-        all = all && open;
-        let _ = rooms.push(work.room);
+        let kept = settle(agent, &work, all);
+        all = kept;
+        put_back(rooms, work.room);
     }
     all
 }
 
-/// Has the agent keep a plan where it was drafted, and answers whether it was.
-fn settle(agent: &mut Agent, work: &Work) -> bool
+/// Has the agent keep a plan where it was drafted. The answer is whether it was, and `before` with it.
+fn settle(agent: &mut Agent, work: &Work, before: bool) -> bool
     requires plannable { IsPlannable agent.old }
     requires ready { Contains (ready_numbers agent.old) work.now.pair }
     requires worked { WorkedFor agent.old work.now }
-    ensures planned { (xs : List PairNo) × PlansAll agent.old agent.new xs × OnTrue result (length xs ≡ 1) }
+    ensures planned { (xs : List PairNo) × PlansAll agent.old agent.new xs × OnTrue result ((before ≡ true) × (length xs ≡ 1)) }
     ensures others { (y : PairNo) → Contains (ready_numbers agent.old) y → y ≢ work.now.pair → StaysReady agent.old agent.new y }
 {
     let _ready = agent.ready_pairs();
@@ -42,5 +42,5 @@ fn settle(agent: &mut Agent, work: &Work) -> bool
         return false;
     }
     agent.settle(work.pair, &work.room.plan);
-    true
+    before
 }

@@ -1,9 +1,9 @@
-use Rattle.std.proofs.Common.{◌≡◌, true, [], ◌∷◌, refl}
+use Rattle.std.proofs.Common.{[], ◌∷◌, refl}
 use Rattle.mrp_rows.specs.declared.numbers.PairNo.{PairNo}
 use Rattle.mrp_agent.specs.State.{AgentState}
-use Rattle.mrp_crew.proofs.PlanningLaws.{plans_none, plans_one}
+use Rattle.mrp_crew.proofs.PlanningLaws.{plans_one}
 use Rattle.mrp_crew.proofs.Ready.{can_draft, unplanned}
-use Rattle.mrp_crew.proofs.Keeping.{numbers_differ}
+use Rattle.mrp_crew.proofs.Keeping.{numbers_differ, on_true}
 use Rattle.mrp_crew.proofs.settling.settle.Goals as goal
 
 pub settle-requires-clause-can : goal.settle-requires-clause-can
@@ -16,7 +16,7 @@ returns-clause-planned c =
     let A : AgentState = c.args.agent.now in
     let x : PairNo = c.args.work.now.pair in
     let fresh = unplanned A c.requires.plannable c.ready_pairs-ready.result.now c.ready_pairs-ready.ensures.numbers c.ready_pairs-ready.ensures.own c.ready_pairs-ready.ensures.exact x c.requires.ready in
-    (x ∷ [], plans_one A c.settle.new.self x c.settle.ensures.view c.settle.ensures.left fresh c.settle.ensures.planned, refl)
+    (x ∷ [], plans_one A c.settle.new.self x c.settle.ensures.view c.settle.ensures.left fresh c.settle.ensures.planned, on_true c.args.before _ refl)
 
 pub returns-clause-others : goal.returns-clause-others
 returns-clause-others c = λ y listed differ. record {
