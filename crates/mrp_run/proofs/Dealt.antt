@@ -1,0 +1,134 @@
+-- The two ends of the next lane dealt to their plants.
+use Rattle.std.proofs.Common.{◌≡◌, ◌≢◌, inl, inr, ℕ, ◌+◌, ◌<◌, ◌==◌, Bool, true, false, List, [], ◌∷◌, ◌++◌, length, get_or, set, Vec, Global, refl, sym, ap, subst, ◌∙◌, arith, add-one}
+use Rattle.std.specs.List.{filter}
+use Rattle.std.proofs.lemmas.Bool.{cases_Bool, eqb-true, eq-eqb}
+use Rattle.std.proofs.lemmas.List.{append-nil, map-append, length-set}
+use Rattle.std.proofs.lemmas.List.Elements.{All-push, All-same, All-nil, filter-append}
+use Rattle.mrp_rows.specs.Table.{Table}
+use Rattle.mrp_net.specs.declared.lane.Lane.{Lane}
+use Rattle.mrp_net.specs.declared.lane.LaneKind.{LaneKind}
+use Rattle.mrp_net.specs.declared.lane.LaneKind.TheVariants.{Despatch, Schedule}
+use Rattle.mrp_net.specs.Lanes.{lane_at, customer_of, supplier_of}
+use Rattle.mrp_net.specs.Routes.{IsLane}
+use Rattle.mrp_lane.specs.Ends.{End, Name}
+use Rattle.mrp_run.specs.declared.plant.Plant.{Plant}
+use Rattle.mrp_run.specs.Ends.{AreNames, EachAt, is_from, is_to, IsEmpty, IsDealt, IsIdle, AreIdle, HaveFirst}
+use Rattle.mrp_run.specs.Plant.{names}
+use Rattle.mrp_run.proofs.DealtLists.{each_set, kept_last, dropped_last}
+
+-- ---- the plants of a lane
+
+lane_plants : (N : Table) (kind : LaneKind) (lane : Lane) → kind ≡ lane.kind → IsLane N lane → (lane.sender.0 < length N.plants) × (lane.receiver.0 < length N.plants)
+lane_plants N Despatch lane is h = (subst (λ (p : ℕ). p < length N.plants) (ap (λ (k : LaneKind). elim k as (λ _. ℕ) [ Despatch ↦ lane.sender.0 | Schedule ↦ lane.receiver.0 ]) (sym is)) h.supplier,
+    subst (λ (p : ℕ). p < length N.plants) (ap (λ (k : LaneKind). elim k as (λ _. ℕ) [ Despatch ↦ lane.receiver.0 | Schedule ↦ lane.sender.0 ]) (sym is)) h.customer)
+lane_plants N Schedule lane is h = (subst (λ (p : ℕ). p < length N.plants) (ap (λ (k : LaneKind). elim k as (λ _. ℕ) [ Despatch ↦ lane.receiver.0 | Schedule ↦ lane.sender.0 ]) (sym is)) h.customer,
+    subst (λ (p : ℕ). p < length N.plants) (ap (λ (k : LaneKind). elim k as (λ _. ℕ) [ Despatch ↦ lane.sender.0 | Schedule ↦ lane.receiver.0 ]) (sym is)) h.supplier)
+
+pub sender_there : (N : Table) (lane : Lane) → IsLane N lane → lane.sender.0 < length N.plants
+sender_there N lane h = (lane_plants N lane.kind lane refl h).0
+
+pub receiver_there : (N : Table) (lane : Lane) → IsLane N lane → lane.receiver.0 < length N.plants
+receiver_there N lane h = (lane_plants N lane.kind lane refl h).1
+
+-- ---- names
+
+pub names_more : (ends : List End) (e : End) → names (ends ++ e ∷ []) ≡ names ends ++ e.name ∷ []
+names_more ends e = map-append (λ (x : End). x.name) ends (e ∷ [])
+
+pub filter_own : (test : Name → Bool) (ns : List Name) (n : Name) → test n ≡ true → filter test (ns ++ n ∷ []) ≡ filter test ns ++ n ∷ []
+filter_own test ns n own = filter-append test ns (n ∷ []) ∙ ap (λ (z : List Name). filter test ns ++ z) (kept_last test n own)
+
+pub filter_other : (test : Name → Bool) (ns : List Name) (n : Name) → test n ≡ false → filter test (ns ++ n ∷ []) ≡ filter test ns
+filter_other test ns n other = filter-append test ns (n ∷ []) ∙ ap (λ (z : List Name). filter test ns ++ z) (dropped_last test n other) ∙ append-nil (filter test ns)
+
+pub apart : (a b : ℕ) → a ≢ b → (a == b) ≡ false
+apart a b other = elim (cases_Bool (a == b)) [ inl t ↦ absurd (other (eqb-true a b t)) | inr e ↦ e ]
+
+-- ---- the sender's end
+
+send_dealt : (N : Table) (ns ts : List Name) (p : ℕ) (P : Plant) (e : End) (new : Vec End Global) → (lane_at N e.name.lane).sender.0 ≡ p → IsEmpty e → new.items ≡ P.sends.items ++ e ∷ []
+    → IsIdle N ns ts p P → IsIdle N (ns ++ e.name ∷ []) ts p (record P { sends = new })
+send_dealt N ns ts p P e new owner empty grown idle = record {
+  dealt = record {
+    sends_are = ap names grown ∙ names_more P.sends.items e ∙ ap (λ (z : List Name). z ++ e.name ∷ []) idle.dealt.sends_are
+        ∙ sym (filter_own (is_from N p) ns e.name (eq-eqb (lane_at N e.name.lane).sender.0 p owner));
+    takes_are = idle.dealt.takes_are;
+  };
+  view = idle.view;
+  opens = idle.opens;
+  sent = All-same IsEmpty new.items (P.sends.items ++ e ∷ []) grown (All-push IsEmpty P.sends.items e idle.sent empty);
+  taken = idle.taken;
+}
+
+send_elsewhere : (N : Table) (ns ts : List Name) (p : ℕ) (P : Plant) (n : Name) → (lane_at N n.lane).sender.0 ≢ p → IsIdle N ns ts p P → IsIdle N (ns ++ n ∷ []) ts p P
+send_elsewhere N ns ts p P n other idle = record {
+  dealt = record {
+    sends_are = idle.dealt.sends_are ∙ sym (filter_other (is_from N p) ns n (apart (lane_at N n.lane).sender.0 p other));
+    takes_are = idle.dealt.takes_are;
+  };
+  view = idle.view;
+  opens = idle.opens;
+  sent = idle.sent;
+  taken = idle.taken;
+}
+
+pub sends_dealt : (N : Table) (ns ts : List Name) (plants : List Plant) (at : ℕ) (P : Plant) (e : End) (new : Vec End Global) → at < length plants → P ≡ get_or plants at P
+    → new.items ≡ P.sends.items ++ e ∷ [] → (lane_at N e.name.lane).sender.0 ≡ at → IsEmpty e → AreIdle N ns ts plants → AreIdle N (ns ++ e.name ∷ []) ts (set plants at (record P { sends = new }))
+sends_dealt N ns ts plants at P e new within is grown owner empty idle = record {
+  all_plants = length-set plants at (record P { sends = new }) ∙ idle.all_plants;
+  each = each_set (IsIdle N ns ts) (IsIdle N (ns ++ e.name ∷ []) ts) plants at (record P { sends = new }) within
+      (send_dealt N ns ts at P e new owner empty grown (subst (IsIdle N ns ts at) (sym is) (idle.each at P within)))
+      (λ k Q other. send_elsewhere N ns ts k Q e.name (λ i. other (sym i ∙ owner)))
+      idle.each;
+}
+
+-- ---- the receiver's end
+
+take_dealt : (N : Table) (ns ts : List Name) (p : ℕ) (P : Plant) (e : End) (new : Vec End Global) → (lane_at N e.name.lane).receiver.0 ≡ p → IsEmpty e → new.items ≡ P.takes.items ++ e ∷ []
+    → IsIdle N ns ts p P → IsIdle N ns (ts ++ e.name ∷ []) p (record P { takes = new })
+take_dealt N ns ts p P e new owner empty grown idle = record {
+  dealt = record {
+    sends_are = idle.dealt.sends_are;
+    takes_are = ap names grown ∙ names_more P.takes.items e ∙ ap (λ (z : List Name). z ++ e.name ∷ []) idle.dealt.takes_are
+        ∙ sym (filter_own (is_to N p) ts e.name (eq-eqb (lane_at N e.name.lane).receiver.0 p owner));
+  };
+  view = idle.view;
+  opens = idle.opens;
+  sent = idle.sent;
+  taken = All-same IsEmpty new.items (P.takes.items ++ e ∷ []) grown (All-push IsEmpty P.takes.items e idle.taken empty);
+}
+
+take_elsewhere : (N : Table) (ns ts : List Name) (p : ℕ) (P : Plant) (n : Name) → (lane_at N n.lane).receiver.0 ≢ p → IsIdle N ns ts p P → IsIdle N ns (ts ++ n ∷ []) p P
+take_elsewhere N ns ts p P n other idle = record {
+  dealt = record {
+    sends_are = idle.dealt.sends_are;
+    takes_are = idle.dealt.takes_are ∙ sym (filter_other (is_to N p) ts n (apart (lane_at N n.lane).receiver.0 p other));
+  };
+  view = idle.view;
+  opens = idle.opens;
+  sent = idle.sent;
+  taken = idle.taken;
+}
+
+pub takes_dealt : (N : Table) (ns ts : List Name) (plants : List Plant) (at : ℕ) (P : Plant) (e : End) (new : Vec End Global) → at < length plants → P ≡ get_or plants at P
+    → new.items ≡ P.takes.items ++ e ∷ [] → (lane_at N e.name.lane).receiver.0 ≡ at → IsEmpty e → AreIdle N ns ts plants → AreIdle N ns (ts ++ e.name ∷ []) (set plants at (record P { takes = new }))
+takes_dealt N ns ts plants at P e new within is grown owner empty idle = record {
+  all_plants = length-set plants at (record P { takes = new }) ∙ idle.all_plants;
+  each = each_set (IsIdle N ns ts) (IsIdle N ns (ts ++ e.name ∷ [])) plants at (record P { takes = new }) within
+      (take_dealt N ns ts at P e new owner empty grown (subst (IsIdle N ns ts at) (sym is) (idle.each at P within)))
+      (λ k Q other. take_elsewhere N ns ts k Q e.name (λ i. other (sym i ∙ owner)))
+      idle.each;
+}
+
+-- ---- both ends of the next lane
+
+pub have_next : (N : Table) (l : ℕ) (ns : List Name) (n m : Name) (plants : List Plant) → AreNames N l ns → n.lane ≡ l → n.network ≡ N → n ≡ m → AreIdle N (ns ++ n ∷ []) (ns ++ m ∷ []) plants
+    → HaveFirst N (l + 1) plants
+have_next N l ns n m plants first lane network same idle = record {
+  names = ns ++ n ∷ [];
+  first_lanes = subst (λ (k : ℕ). AreNames N k (ns ++ n ∷ [])) (sym (add-one l)) (ns, (n, (refl, (lane, (network, first)))));
+  idle = subst (λ (x : Name). AreIdle N (ns ++ n ∷ []) (ns ++ x ∷ []) plants) (sym same) idle;
+}
+
+pub have_none : (N : Table) (plants : List Plant) → AreIdle N [] [] plants → HaveFirst N 0 plants
+have_none N plants idle = record { names = []; first_lanes = refl; idle = idle }

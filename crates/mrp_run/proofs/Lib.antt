@@ -1,0 +1,5 @@
+pub mod DealtLists
+pub mod Dealt
+pub mod DealtReady
+pub mod Paired
+pub mod PairedSettled
