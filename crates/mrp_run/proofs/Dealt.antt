@@ -1,34 +1,22 @@
 -- The two ends of the next lane dealt to their plants.
-use Rattle.std.proofs.Common.{◌≡◌, ◌≢◌, inl, inr, ℕ, ◌+◌, ◌<◌, ◌==◌, Bool, true, false, List, [], ◌∷◌, ◌++◌, length, get_or, set, Vec, Global, refl, sym, ap, subst, ◌∙◌, arith, add-one}
+use Rattle.std.proofs.Common.{◌≡◌, ◌≢◌, inl, inr, ℕ, ◌+◌, ◌<◌, ◌==◌, Bool, true, false, List, [], ◌∷◌, ◌++◌, length, get_or, set, take, drop, Vec, Global, refl, sym, ap, subst, ◌∙◌, arith, add-one}
 use Rattle.std.specs.List.{filter}
 use Rattle.std.proofs.lemmas.Bool.{cases_Bool, eqb-true, eq-eqb}
-use Rattle.std.proofs.lemmas.List.{append-nil, map-append, length-set}
+use Rattle.std.proofs.lemmas.List.{append-nil, map-append, length-set, take_at}
 use Rattle.std.proofs.lemmas.List.Elements.{All-push, All-same, All-nil, filter-append}
 use Rattle.mrp_rows.specs.Table.{Table}
 use Rattle.mrp_net.specs.declared.lane.Lane.{Lane}
-use Rattle.mrp_net.specs.declared.lane.LaneKind.{LaneKind}
-use Rattle.mrp_net.specs.declared.lane.LaneKind.TheVariants.{Despatch, Schedule}
-use Rattle.mrp_net.specs.Lanes.{lane_at, customer_of, supplier_of}
-use Rattle.mrp_net.specs.Routes.{IsLane}
+use Rattle.mrp_net.specs.Lanes.{lane_at}
 use Rattle.mrp_lane.specs.Ends.{End, Name}
 use Rattle.mrp_run.specs.declared.plant.Plant.{Plant}
 use Rattle.mrp_run.specs.Ends.{AreNames, EachAt, is_from, is_to, IsEmpty, IsDealt, IsIdle, AreIdle, HaveFirst}
 use Rattle.mrp_run.specs.Plant.{names}
-use Rattle.mrp_run.proofs.DealtLists.{each_set, kept_last, dropped_last}
+use Rattle.mrp_run.proofs.DealtLists.{each_push, each_set, kept_last, dropped_last}
 
 -- ---- the plants of a lane
 
-lane_plants : (N : Table) (kind : LaneKind) (lane : Lane) → kind ≡ lane.kind → IsLane N lane → (lane.sender.0 < length N.plants) × (lane.receiver.0 < length N.plants)
-lane_plants N Despatch lane is h = (subst (λ (p : ℕ). p < length N.plants) (ap (λ (k : LaneKind). elim k as (λ _. ℕ) [ Despatch ↦ lane.sender.0 | Schedule ↦ lane.receiver.0 ]) (sym is)) h.supplier,
-    subst (λ (p : ℕ). p < length N.plants) (ap (λ (k : LaneKind). elim k as (λ _. ℕ) [ Despatch ↦ lane.receiver.0 | Schedule ↦ lane.sender.0 ]) (sym is)) h.customer)
-lane_plants N Schedule lane is h = (subst (λ (p : ℕ). p < length N.plants) (ap (λ (k : LaneKind). elim k as (λ _. ℕ) [ Despatch ↦ lane.receiver.0 | Schedule ↦ lane.sender.0 ]) (sym is)) h.customer,
-    subst (λ (p : ℕ). p < length N.plants) (ap (λ (k : LaneKind). elim k as (λ _. ℕ) [ Despatch ↦ lane.sender.0 | Schedule ↦ lane.receiver.0 ]) (sym is)) h.supplier)
-
-pub sender_there : (N : Table) (lane : Lane) → IsLane N lane → lane.sender.0 < length N.plants
-sender_there N lane h = (lane_plants N lane.kind lane refl h).0
-
-pub receiver_there : (N : Table) (lane : Lane) → IsLane N lane → lane.receiver.0 < length N.plants
-receiver_there N lane h = (lane_plants N lane.kind lane refl h).1
+pub lane_is : (N M : Table) (n l : ℕ) (lane : Lane) → M ≡ N → n ≡ l → lane ≡ lane_at M l → lane_at N n ≡ lane
+lane_is N M n l lane same e is = (λ i. lane_at (sym same i) (e i)) ∙ sym is
 
 -- ---- names
 
@@ -126,9 +114,21 @@ pub have_next : (N : Table) (l : ℕ) (ns : List Name) (n m : Name) (plants : Li
     → HaveFirst N (l + 1) plants
 have_next N l ns n m plants first lane network same idle = record {
   names = ns ++ n ∷ [];
-  first_lanes = subst (λ (k : ℕ). AreNames N k (ns ++ n ∷ [])) (sym (add-one l)) (ns, (n, (refl, (lane, (network, first)))));
+  first_lanes = subst (λ (k : ℕ). AreNames N k (ns ++ n ∷ [])) (sym (add-one l)) (ns, n, refl, lane, network, first);
   idle = subst (λ (x : Name). AreIdle N (ns ++ n ∷ []) (ns ++ x ∷ []) plants) (sym same) idle;
 }
 
 pub have_none : (N : Table) (plants : List Plant) → AreIdle N [] [] plants → HaveFirst N 0 plants
 have_none N plants idle = record { names = []; first_lanes = refl; idle = idle }
+
+-- the plants in place
+pub first_in_place : (N : Table) (before count : ℕ) (old new : List Plant) (len : ℕ) → HaveFirst N before old → len ≡ length old → HaveFirst N count new
+    → HaveFirst N count (take len (new ++ drop (length new) old))
+first_in_place N before count old new len had size first =
+    let long : length new ≡ len = first.idle.all_plants ∙ sym had.idle.all_plants ∙ sym size in
+    subst (HaveFirst N count) (sym (take_at new (drop (length new) old) len long)) first
+
+-- ---- plants with no ends yet
+
+pub idle_more : (N : Table) (p : ℕ) (now new : List Plant) (P : Plant) → length now ≡ p → new ≡ now ++ P ∷ [] → IsIdle N [] [] p P → EachAt (IsIdle N [] []) now → EachAt (IsIdle N [] []) new
+idle_more N p now new P size grown here each = subst (EachAt (IsIdle N [] [])) (sym grown) (each_push (IsIdle N [] []) now P p size each here)

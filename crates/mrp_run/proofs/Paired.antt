@@ -1,12 +1,12 @@
 -- The two ends of the last lane taken from their plants.
-use Rattle.std.proofs.Common.{◌≡◌, ◌≢◌, ℕ, zero, suc, ◌+◌, ◌<◌, ◌==◌, Bool, true, false, List, [], ◌∷◌, ◌++◌, length, get_or, set, Option, None, Some, Vec, Global, refl, sym, ap, subst, ◌∙◌, arith, add-one}
+use Rattle.std.proofs.Common.{◌≡◌, ◌≢◌, ℕ, zero, suc, ◌+◌, ◌-◌, ◌<◌, ◌==◌, Bool, true, false, List, [], ◌∷◌, ◌++◌, length, get_or, set, Option, None, Some, Vec, Global, refl, sym, ap, subst, ◌∙◌, arith, add-one}
 use Rattle.std.specs.List.{filter}
 use Rattle.std.specs.Option.{option_to_list, IsSomeAnd, MatchOption}
 use Rattle.std.specs.Vec.{vec_len}
 use Rattle.std.proofs.lemmas.Bool.{eq-eqb}
 use Rattle.std.proofs.lemmas.List.{length-set}
 use Rattle.mrp_rows.specs.Table.{Table}
-use Rattle.mrp_net.specs.Lanes.{lane_at}
+use Rattle.mrp_net.specs.Lanes.{lanes, lane_at}
 use Rattle.mrp_lane.specs.Ends.{End, Name}
 use Rattle.mrp_run.specs.declared.plant.Plant.{Plant}
 use Rattle.mrp_run.specs.Ends.{AreNames, EachAt, is_from, is_to, IsDealt, HasEnded, HaveEnded, HaveLeft, HavePlans}
@@ -135,9 +135,16 @@ last_of N l ns plants (before, n, is, lane, network, first) ended = record {
 pub have_last : (N : Table) (l : ℕ) (plants : List Plant) → HaveLeft N (l + 1) plants → HaveLast N l plants
 have_last N l plants left = last_of N l left.names plants (subst (λ (k : ℕ). AreNames N k left.names) (add-one l) left.first_lanes) left.ended
 
-pub owner_of : (N : Table) (n l : ℕ) → n ≡ l → lane_at N n ≡ lane_at N l
-owner_of N n l e = ap (lane_at N) e
+-- before the first lane is taken, and at each
+pub all_left : (N : Table) (ns : List Name) (plants : List Plant) → AreNames N (length (lanes N)) ns → HaveEnded N ns ns plants → HaveLeft N (length (lanes N) - 0) plants
+all_left N ns plants all ended = subst (λ (k : ℕ). HaveLeft N k plants) (omega arith) record { names = ns; first_lanes = all; ended = ended }
 
--- no lane is left
-pub have_plans : (N : Table) (plants : List Plant) → HaveLeft N 0 plants → HavePlans N plants
-have_plans N plants left = record { all_plants = left.ended.all_plants; each = λ k d h. (left.ended.each k d h).plans }
+pub left_here : (N : Table) (plants : List Plant) (count done : ℕ) → count ≡ length (lanes N) → done < count → HaveLeft N (length (lanes N) - done) plants → HaveLeft N (count - 1 - done + 1) plants
+left_here N plants count done is within left = subst (λ (k : ℕ). HaveLeft N k plants) (omega (arith, is, within)) left
+
+pub left_next : (N : Table) (plants : List Plant) (count done : ℕ) → count ≡ length (lanes N) → done < count → HaveLeft N (count - 1 - done) plants → HaveLeft N (length (lanes N) - (done + 1)) plants
+left_next N plants count done is within left = subst (λ (k : ℕ). HaveLeft N k plants) (omega (arith, is, within)) left
+
+-- the plans are there throughout
+pub have_plans : (N : Table) (plants : List Plant) (count : ℕ) → HaveLeft N count plants → HavePlans N plants
+have_plans N plants count left = record { all_plants = left.ended.all_plants; each = λ k d h. (left.ended.each k d h).plans }

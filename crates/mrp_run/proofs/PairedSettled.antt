@@ -1,6 +1,6 @@
 -- What reconciling the two ends of a closed lane answers.
-use Rattle.std.proofs.Common.{◌≡◌, ℕ, ◌+◌, ◌-◌, ◌<◌, true, List, [], ◌∷◌, ◌++◌, length, map, reverse, refl, sym, ap, subst, ◌∙◌, arith, append_assoc}
-use Rattle.std.proofs.lemmas.List.{length-map, length-reverse, length_push}
+use Rattle.std.proofs.Common.{◌≡◌, ℕ, ◌+◌, ◌-◌, ◌<◌, true, List, [], ◌∷◌, ◌++◌, length, map, reverse, refl, sym, ap, subst, ◌∙◌, arith, append_assoc, take, drop, Result, Ok, Err, IfOk}
+use Rattle.std.proofs.lemmas.List.{length-map, length-reverse, length_push, take_at}
 use Rattle.mrp_rows.specs.Table.{Table}
 use Rattle.mrp_net.specs.Lanes.{lanes, lane_at}
 use Rattle.mrp_record.specs.declared.record.Record.{Record}
@@ -65,21 +65,40 @@ settled N l n send take r lane network name closed legal r_lane r_sent r_taken r
       figures = r_figures ∙ (λ i. figures_on (of i) (on i) send.list (all.same i));
     }
 
+pub settled_ok : {E : Type 0} (N : Table) (l : ℕ) (n : Name) (send take : End) (o : Result Reconciled E) → n.lane ≡ l → n.network ≡ N → send.name ≡ n → IsClosed take → HasLegalList send
+    → IfOk o (λ r. r.lane.0 ≡ send.name.lane) → IfOk o (λ r. r.sent ≡ length send.list) → IfOk o (λ r. r.taken ≡ length take.list) → IfOk o (λ r. send.list ≡ take.list ++ r.left.items)
+    → IfOk o (λ r. r.figures.items ≡ figures_on send.name.network send.name.lane send.list take.list) → IfOk o (λ r. IsSettled N l r)
+settled_ok N l n send take (Err e) lane network name closed legal r_lane r_sent r_taken r_left r_figures = tt
+settled_ok N l n send take (Ok r) lane network name closed legal r_lane r_sent r_taken r_left r_figures =
+    settled N l n send take r lane network name closed legal r_lane r_sent r_taken r_left r_figures
+
+pub ok_anyway : {T E : Type 0} (o : Result T E) (P : Type 0) → P → IfOk o (λ _. P)
+ok_anyway (Ok r) P h = h
+ok_anyway (Err e) P h = tt
+
 -- ---- all lanes, from the last on
 
 pub record AreSettledFrom (N : Table) (count done : ℕ) (rs : List Reconciled) : Type 0 where
   pub size : length rs ≡ done
   pub each : EachAt (λ k. IsSettled N (count - 1 - k)) rs
 
-pub settled_more : (N : Table) (count done : ℕ) (rs new : List Reconciled) (r : Reconciled) → new ≡ rs ++ r ∷ [] → IsSettled N (count - 1 - done) r → AreSettledFrom N count done rs
+pub settled_more : (N : Table) (size count done : ℕ) (rs new : List Reconciled) (r : Reconciled) → new ≡ rs ++ r ∷ [] → size ≡ count → IsSettled N (size - 1 - done) r → AreSettledFrom N count done rs
     → AreSettledFrom N count (done + 1) new
-settled_more N count done rs new r grown here so_far = subst (AreSettledFrom N count (done + 1)) (sym grown) record {
+settled_more N size count done rs new r grown same here so_far = subst (AreSettledFrom N count (done + 1)) (sym grown) record {
   size = omega (arith, so_far.size, length_push rs r);
-  each = each_push (λ k. IsSettled N (count - 1 - k)) rs r done so_far.size so_far.each here;
+  each = each_push (λ k. IsSettled N (count - 1 - k)) rs r done so_far.size so_far.each (subst (λ (z : ℕ). IsSettled N (z - 1 - done) r) same here);
 }
 
-pub settled_all : (N : Table) (count done : ℕ) (rs turned : List Reconciled) → count ≡ length (lanes N) → done ≡ count → turned ≡ reverse rs → AreSettledFrom N count done rs → AreSettled N turned
-settled_all N count done rs turned is all turns so_far = subst (AreSettled N) (sym turns) record {
-  all = length-reverse rs ∙ so_far.size ∙ all ∙ is;
-  each = each_turned (IsSettled N) rs count (so_far.size ∙ all) so_far.each;
-}
+pub settled_none : (N : Table) (count : ℕ) (rs : List Reconciled) → rs ≡ [] → AreSettledFrom N count 0 rs
+settled_none N count rs is = subst (AreSettledFrom N count 0) (sym is) record { size = refl; each = λ k d h. absurd (omega (arith, h)) }
+
+-- turned round in place they are in lane order
+pub settled_all : (N : Table) (count done : ℕ) (rs now turned : List Reconciled) (len : ℕ) → count ≡ length (lanes N) → done ≡ count → now ≡ rs → turned ≡ reverse now → len ≡ length rs
+    → AreSettledFrom N (length (lanes N)) done rs → AreSettled N (take len (turned ++ drop (length turned) rs))
+settled_all N count done rs now turned len is all same turns size so_far =
+    let round : turned ≡ reverse rs = turns ∙ ap reverse same in
+    let long : length turned ≡ len = ap length round ∙ length-reverse rs ∙ sym size in
+    subst (AreSettled N) (sym (take_at turned (drop (length turned) rs) len long ∙ round)) record {
+      all = length-reverse rs ∙ so_far.size ∙ all ∙ is;
+      each = each_turned (IsSettled N) rs (length (lanes N)) (so_far.size ∙ all ∙ is) so_far.each;
+    }
