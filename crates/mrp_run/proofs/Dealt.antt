@@ -1,15 +1,15 @@
 -- The two ends of the next lane dealt to their plants.
-use Rattle.std.proofs.Common.{◌≡◌, ◌≢◌, inl, inr, ℕ, ◌+◌, ◌<◌, ◌==◌, Bool, true, false, List, [], ◌∷◌, ◌++◌, length, get_or, set, take, drop, Vec, Global, refl, sym, ap, subst, ◌∙◌, arith, add-one}
+use Rattle.std.proofs.Common.{◌≡◌, ◌≢◌, inl, inr, ℕ, ◌+◌, ◌<◌, ◌==◌, Bool, true, false, List, [], ◌∷◌, ◌++◌, length, get_or, set, take, drop, Vec, Global, refl, sym, ap, subst, ◌∙◌, add-one}
 use Rattle.std.specs.List.{filter}
 use Rattle.std.proofs.lemmas.Bool.{cases_Bool, eqb-true, eq-eqb}
 use Rattle.std.proofs.lemmas.List.{append-nil, map-append, length-set, take_at}
-use Rattle.std.proofs.lemmas.List.Elements.{All-push, All-same, All-nil, filter-append}
+use Rattle.std.proofs.lemmas.List.Elements.{All-push, All-same, filter-append}
 use Rattle.mrp_rows.specs.Table.{Table}
 use Rattle.mrp_net.specs.declared.lane.Lane.{Lane}
 use Rattle.mrp_net.specs.Lanes.{lane_at}
 use Rattle.mrp_lane.specs.Ends.{End, Name}
 use Rattle.mrp_run.specs.declared.plant.Plant.{Plant}
-use Rattle.mrp_run.specs.Ends.{AreNames, EachAt, is_from, is_to, IsEmpty, IsDealt, IsIdle, AreIdle, HaveFirst}
+use Rattle.mrp_run.specs.Ends.{AreNames, EachAt, is_from, is_to, IsEmpty, IsIdle, AreIdle, HaveFirst}
 use Rattle.mrp_run.specs.Plant.{names}
 use Rattle.mrp_run.proofs.DealtLists.{each_push, each_set, kept_last, dropped_last}
 

@@ -1,10 +1,10 @@
 -- Lists of plants and of ends: one element changed, one more at the end, the last one taken.
-use Rattle.std.proofs.Common.{◌≡◌, ◌≢◌, ◌⊎◌, inl, inr, ℕ, zero, suc, ◌+◌, ◌-◌, ◌<◌, ◌==◌, Bool, true, false, cond, List, [], ◌∷◌, ◌++◌, length, get_or, set, map, reverse, Option, None, Some, refl, sym, ap, subst, ◌∙◌, arith, length-append, All}
+use Rattle.std.proofs.Common.{◌≡◌, ◌≢◌, ◌⊎◌, inl, inr, ℕ, ◌-◌, ◌<◌, ◌==◌, Bool, true, false, cond, List, [], ◌∷◌, ◌++◌, length, get_or, set, map, reverse, Option, None, Some, refl, sym, ap, subst, ◌∙◌, arith, length-append, All}
 use Rattle.std.specs.List.{filter}
 use Rattle.std.specs.Option.{option_to_list, IsSomeAnd}
 use Rattle.std.proofs.lemmas.Bool.{cases_Bool, eqb-true, eq-eqb, false≢true}
 use Rattle.std.proofs.lemmas.List.{map-append, length-set, length-reverse, reverse-append, reverse-reverse, get_or-set_same, get_or-set_other, get_or-reverse, get_or_append_left, get_or_at, length_push}
-use Rattle.std.proofs.lemmas.List.Elements.{All-pop, All-get_or, All-head, All-tail, All-cons, All-nil}
+use Rattle.std.proofs.lemmas.List.Elements.{All-pop, All-head, All-tail, All-cons, All-nil}
 use Rattle.mrp_run.specs.Ends.{EachAt}
 
 -- ---- one element changed

@@ -1,20 +1,20 @@
 -- With the ends of all lanes dealt each plant is at work.
-use Rattle.std.proofs.Common.{◌≡◌, ℕ, zero, suc, ◌+◌, ◌<◌, List, [], ◌∷◌, ◌++◌, length, map, refl, sym, ap, subst, ◌∙◌, All}
+use Rattle.std.proofs.Common.{◌≡◌, ℕ, zero, suc, List, [], ◌∷◌, ◌++◌, length, map, sym, ap, subst, ◌∙◌, All}
 use Rattle.std.specs.List.{filter, range_with_len}
 use Rattle.std.proofs.lemmas.List.{map-append}
-use Rattle.std.proofs.lemmas.List.Elements.{All-filter, All-nil, All-push, All-same, All-weaker}
+use Rattle.std.proofs.lemmas.List.Elements.{All-filter, All-nil, All-push, All-same}
 use Rattle.mrp_rows.specs.Table.{Table}
 use Rattle.mrp_group.proofs.Grouping.{range-suc}
 use Rattle.mrp_net.specs.Lanes.{lanes, lane_at}
 use Rattle.mrp_net.proofs.Routing.{map-map}
-use Rattle.mrp_view.specs.View.{comes_to, goes_from, lane_numbers, plant_rows}
+use Rattle.mrp_view.specs.View.{comes_to, goes_from, lane_numbers}
 use Rattle.mrp_loops.specs.Sized.{IsSized}
 use Rattle.mrp_record.proofs.Beginnings.{empty_is_a_beginning}
 use Rattle.mrp_events.specs.Loads.{loads}
 use Rattle.mrp_events.specs.State.{opening_state}
 use Rattle.mrp_lane.specs.Ends.{End, Name}
 use Rattle.mrp_run.specs.declared.plant.Plant.{Plant}
-use Rattle.mrp_run.specs.Ends.{AreNames, EachAt, is_from, is_to, IsEmpty, IsDealt, IsIdle, AreIdle, HaveFirst, IsReady, AreReady}
+use Rattle.mrp_run.specs.Ends.{AreNames, is_from, is_to, IsEmpty, IsIdle, HaveFirst, IsReady, AreReady}
 use Rattle.mrp_run.specs.Plant.{AreEnds, names}
 use Rattle.mrp_run.proofs.DealtLists.{all_before_map, filter_through}
 

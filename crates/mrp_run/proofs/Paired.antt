@@ -1,5 +1,5 @@
 -- The two ends of the last lane taken from their plants.
-use Rattle.std.proofs.Common.{◌≡◌, ◌≢◌, ℕ, zero, suc, ◌+◌, ◌-◌, ◌<◌, ◌==◌, Bool, true, false, List, [], ◌∷◌, ◌++◌, length, get_or, set, Option, None, Some, Vec, Global, refl, sym, ap, subst, ◌∙◌, arith, add-one}
+use Rattle.std.proofs.Common.{◌≡◌, ◌≢◌, ℕ, suc, ◌+◌, ◌-◌, ◌<◌, List, [], ◌∷◌, ◌++◌, length, get_or, set, Option, None, Some, Vec, Global, refl, sym, subst, ◌∙◌, arith, add-one}
 use Rattle.std.specs.List.{filter}
 use Rattle.std.specs.Option.{option_to_list, IsSomeAnd, MatchOption}
 use Rattle.std.specs.Vec.{vec_len}
@@ -9,8 +9,8 @@ use Rattle.mrp_rows.specs.Table.{Table}
 use Rattle.mrp_net.specs.Lanes.{lanes, lane_at}
 use Rattle.mrp_lane.specs.Ends.{End, Name}
 use Rattle.mrp_run.specs.declared.plant.Plant.{Plant}
-use Rattle.mrp_run.specs.Ends.{AreNames, EachAt, is_from, is_to, IsDealt, HasEnded, HaveEnded, HaveLeft, HavePlans}
-use Rattle.mrp_run.specs.Plant.{IsClosed, names}
+use Rattle.mrp_run.specs.Ends.{AreNames, is_from, is_to, HasEnded, HaveEnded, HaveLeft, HavePlans}
+use Rattle.mrp_run.specs.Plant.{IsClosed}
 use Rattle.mrp_run.proofs.Dealt.{filter_own, filter_other, apart}
 use Rattle.mrp_run.proofs.DealtLists.{each_set, popped}
 

@@ -1,4 +1,4 @@
-use Rattle.std.proofs.Common.{◌+◌, ◌-◌, length, arith}
+use Rattle.std.proofs.Common.{◌-◌, length, arith}
 use Rattle.mrp_net.specs.Lanes.{lanes}
 use Rattle.mrp_run.proofs.Paired as pair
 use Rattle.mrp_run.proofs.PairedSettled as settle
