@@ -1,15 +1,16 @@
 -- The two ends of the next lane dealt to their plants.
-use Rattle.std.proofs.Common.{◌≡◌, ◌≢◌, inl, inr, ℕ, ◌+◌, ◌<◌, ◌==◌, Bool, true, false, List, [], ◌∷◌, ◌++◌, length, get_or, set, take, drop, Vec, Global, refl, sym, ap, subst, ◌∙◌, add-one}
+use Rattle.std.proofs.Common.{◌≡◌, ◌≢◌, inl, inr, ℕ, ◌+◌, ◌<◌, ◌==◌, Bool, true, false, List, [], ◌∷◌, ◌++◌, length, get_or, set, take, drop, min, All, Vec, Global, refl, sym, ap, subst, ◌∙◌, add-one}
 use Rattle.std.specs.List.{filter}
 use Rattle.std.proofs.lemmas.Bool.{cases_Bool, eqb-true, eq-eqb}
 use Rattle.std.proofs.lemmas.List.{append-nil, map-append, length-set, take_at}
-use Rattle.std.proofs.lemmas.List.Elements.{All-push, All-same, filter-append}
+use Rattle.std.proofs.lemmas.List.Elements.{All-nil, All-push, All-same, filter-append}
 use Rattle.mrp_rows.specs.Table.{Table}
 use Rattle.mrp_net.specs.declared.lane.Lane.{Lane}
 use Rattle.mrp_net.specs.Lanes.{lane_at}
+use Rattle.mrp_net.specs.Texts.{longest_text}
 use Rattle.mrp_lane.specs.Ends.{End, Name}
 use Rattle.mrp_run.specs.declared.plant.Plant.{Plant}
-use Rattle.mrp_run.specs.Ends.{AreNames, EachAt, is_from, is_to, IsEmpty, IsIdle, AreIdle, HaveFirst}
+use Rattle.mrp_run.specs.Ends.{AreNames, EachAt, is_from, is_to, IsEmpty, IsIdle, AreIdle, HasRoom, HaveFirst}
 use Rattle.mrp_run.specs.Plant.{names}
 use Rattle.mrp_run.proofs.DealtLists.{each_push, each_set, kept_last, dropped_last}
 
@@ -110,23 +111,24 @@ takes_dealt N ns ts plants at P e new within is grown owner empty idle = record 
 
 -- ---- both ends of the next lane
 
-pub have_next : (N : Table) (l : ℕ) (ns : List Name) (n m : Name) (plants : List Plant) → AreNames N l ns → n.lane ≡ l → n.network ≡ N → n ≡ m → AreIdle N (ns ++ n ∷ []) (ns ++ m ∷ []) plants
-    → HaveFirst N (l + 1) plants
-have_next N l ns n m plants first lane network same idle = record {
+pub have_next : (N : Table) (capacity l : ℕ) (ns : List Name) (n m : Name) (plants : List Plant) → AreNames N l ns → All (HasRoom N capacity) ns → n.lane ≡ l → n.network ≡ N → n ≡ m
+    → n.room ≡ min capacity (longest_text N (lane_at N l)) → AreIdle N (ns ++ n ∷ []) (ns ++ m ∷ []) plants → HaveFirst N capacity (l + 1) plants
+have_next N capacity l ns n m plants first rooms lane network same room idle = record {
   names = ns ++ n ∷ [];
   first_lanes = subst (λ (k : ℕ). AreNames N k (ns ++ n ∷ [])) (sym (add-one l)) (ns, n, refl, lane, network, first);
+  rooms = All-push (HasRoom N capacity) ns n rooms (room ∙ ap (λ (k : ℕ). min capacity (longest_text N (lane_at N k))) (sym lane));
   idle = subst (λ (x : Name). AreIdle N (ns ++ n ∷ []) (ns ++ x ∷ []) plants) (sym same) idle;
 }
 
-pub have_none : (N : Table) (plants : List Plant) → AreIdle N [] [] plants → HaveFirst N 0 plants
-have_none N plants idle = record { names = []; first_lanes = refl; idle = idle }
+pub have_none : (N : Table) (capacity : ℕ) (plants : List Plant) → AreIdle N [] [] plants → HaveFirst N capacity 0 plants
+have_none N capacity plants idle = record { names = []; first_lanes = refl; rooms = All-nil (HasRoom N capacity); idle = idle }
 
 -- the plants in place
-pub first_in_place : (N : Table) (before count : ℕ) (old new : List Plant) (len : ℕ) → HaveFirst N before old → len ≡ length old → HaveFirst N count new
-    → HaveFirst N count (take len (new ++ drop (length new) old))
-first_in_place N before count old new len had size first =
+pub first_in_place : (N : Table) (capacity before count : ℕ) (old new : List Plant) (len : ℕ) → HaveFirst N capacity before old → len ≡ length old → HaveFirst N capacity count new
+    → HaveFirst N capacity count (take len (new ++ drop (length new) old))
+first_in_place N capacity before count old new len had size first =
     let long : length new ≡ len = first.idle.all_plants ∙ sym had.idle.all_plants ∙ sym size in
-    subst (HaveFirst N count) (sym (take_at new (drop (length new) old) len long)) first
+    subst (HaveFirst N capacity count) (sym (take_at new (drop (length new) old) len long)) first
 
 -- ---- plants with no ends yet
 

@@ -14,7 +14,7 @@ use Rattle.mrp_events.specs.Loads.{loads}
 use Rattle.mrp_events.specs.State.{opening_state}
 use Rattle.mrp_lane.specs.Ends.{End, Name}
 use Rattle.mrp_run.specs.declared.plant.Plant.{Plant}
-use Rattle.mrp_run.specs.Ends.{AreNames, is_from, is_to, IsEmpty, IsIdle, HaveFirst, IsReady, AreReady}
+use Rattle.mrp_run.specs.Ends.{AreNames, is_from, is_to, IsEmpty, IsDealt, IsIdle, HasRoom, HasRooms, HaveFirst, IsReady, AreReady}
 use Rattle.mrp_run.specs.Plant.{AreEnds, names}
 use Rattle.mrp_run.proofs.DealtLists.{all_before_map, filter_through}
 
@@ -73,8 +73,8 @@ is_ready N ns p P sized all idle = record {
   };
 }
 
-pub are_ready : (N : Table) (count : ℕ) (plants : List Plant) → IsSized N → count ≡ length (lanes N) → HaveFirst N count plants → AreReady N plants
-are_ready N count plants sized is first =
+pub are_ready : (N : Table) (capacity count : ℕ) (plants : List Plant) → IsSized N → count ≡ length (lanes N) → HaveFirst N capacity count plants → AreReady N plants
+are_ready N capacity count plants sized is first =
     let all : AreNames N (length (lanes N)) first.names = subst (λ (k : ℕ). AreNames N k first.names) is first.first_lanes in
     record {
       names = first.names;
@@ -82,3 +82,13 @@ are_ready N count plants sized is first =
       all_plants = first.idle.all_plants;
       each = λ k d h. is_ready N first.names k _ sized all (first.idle.each k d h);
     }
+
+-- the ends of a plant are some of all
+dealt_rooms : (N : Table) (capacity : ℕ) (ns : List Name) (p : ℕ) (P : Plant) → All (HasRoom N capacity) ns → IsDealt N ns ns p P → HasRooms N capacity P
+dealt_rooms N capacity ns p P rooms dealt = record {
+  sends = All-same (HasRoom N capacity) (names P.sends.items) (filter (is_from N p) ns) dealt.sends_are (All-filter (is_from N p) (HasRoom N capacity) ns rooms);
+  takes = All-same (HasRoom N capacity) (names P.takes.items) (filter (is_to N p) ns) dealt.takes_are (All-filter (is_to N p) (HasRoom N capacity) ns rooms);
+}
+
+pub have_rooms : (N : Table) (capacity count : ℕ) (plants : List Plant) → HaveFirst N capacity count plants → All (HasRooms N capacity) plants
+have_rooms N capacity count plants first = λ k d h. dealt_rooms N capacity first.names k _ first.rooms (first.idle.each k d h).dealt

@@ -1,8 +1,9 @@
 -- The lanes of a network dealt to its plants: each plant has the sender's end of each lane that goes from it
 -- and the receiver's end of each that comes to it, in lane order.
-use Rattle.std.specs.Prelude.{◌≡◌, ℕ, zero, suc, ◌<◌, Bool, List, [], ◌∷◌, ◌++◌, length, filter, slice_index_or, All}
+use Rattle.std.specs.Prelude.{◌≡◌, ℕ, zero, suc, ◌<◌, Bool, List, [], ◌∷◌, ◌++◌, min, length, filter, slice_index_or, All}
 use Rattle.mrp_rows.specs.Table.{Table}
-use Rattle.mrp_net.specs.Lanes.{lanes}
+use Rattle.mrp_net.specs.Lanes.{lanes, lane_at}
+use Rattle.mrp_net.specs.Texts.{longest_text}
 use Rattle.mrp_view.specs.View.{comes_to, goes_from, plant_rows}
 use Rattle.mrp_loops.specs.Within.{plan_at}
 use Rattle.mrp_local.specs.Laws.{IsPairAt}
@@ -55,11 +56,21 @@ pub record AreIdle (N : Table) (sends takes : List Name) (plants : List Plant) :
   pub all_plants : length plants ≡ length N.plants
   pub each : EachAt (IsIdle N sends takes) plants
 
+-- a mailbox has room for so many records, or for the longest text of its lane where that is less
+abbrev pub HasRoom : Table → ℕ → Name → Type 0
+HasRoom N capacity n = n.room ≡ min capacity (longest_text N (lane_at N n.lane))
+
 -- both ends of the first lanes are dealt
-pub record HaveFirst (N : Table) (count : ℕ) (plants : List Plant) : Type 0 where
+pub record HaveFirst (N : Table) (capacity count : ℕ) (plants : List Plant) : Type 0 where
   pub names : List Name
   pub first_lanes : AreNames N count names
+  pub rooms : All (HasRoom N capacity) names
   pub idle : AreIdle N names names plants
+
+-- the mailboxes of all plants have room
+pub record HasRooms (N : Table) (capacity : ℕ) (P : Plant) : Type 0 where
+  pub sends : All (HasRoom N capacity) (names P.sends.items)
+  pub takes : All (HasRoom N capacity) (names P.takes.items)
 
 -- ---- all plants of a network
 

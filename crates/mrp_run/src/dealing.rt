@@ -1,11 +1,11 @@
 //! How the plants of a network are made, and the ends of its lanes dealt to them.
-ghost use Rattle.std.specs.Prelude.{◌≡◌, ◌+◌, ◌≤◌, ◌<◌, [], ◌∷◌, ◌++◌, List, IfOk, OnOk, length};
+ghost use Rattle.std.specs.Prelude.{◌≡◌, ◌+◌, ◌≤◌, ◌<◌, [], ◌∷◌, ◌++◌, List, All, IfOk, OnOk, length};
 ghost use Rattle.mrp_rows.specs.Table.{Table};
 ghost use Rattle.mrp_net.specs.Lanes.{lanes, lane_at};
 ghost use Rattle.mrp_loops.specs.Sized.{IsSized};
 ghost use Rattle.mrp_lane.specs.declared.making.TheConstants.{MOST_ROOM};
 ghost use Rattle.mrp_lane.specs.Ends.{Name};
-ghost use Rattle.mrp_run.specs.Ends.{AreIdle, AreReady, HaveFirst, IsEmpty, IsIdle};
+ghost use Rattle.mrp_run.specs.Ends.{AreIdle, AreReady, HasRooms, HaveFirst, IsEmpty, IsIdle};
 
 use crate::plant::Plant;
 use mrp_agent::Agent;
@@ -28,7 +28,8 @@ pub(crate) fn ready_plants(
     capacity: u64,
 ) -> Result<Vec<Plant>, Memory>
     requires capacity { (1 ≤ capacity) × (capacity ≤ MOST_ROOM) }
-    ensures { IfOk result (λ plants. AreReady net.now.network plants.items) }
+    ensures ready { IfOk result (λ plants. AreReady net.now.network plants.items) }
+    ensures rooms { IfOk result (λ plants. All (HasRooms net.now.network capacity) plants.items) }
 {
     let network = net.network();
     let mut plants = idle_plants(alloc, network)?;
@@ -73,8 +74,8 @@ fn deal(
 ) -> Result<(), Memory>
     requires lane { number.0 < length (lanes net.now.network) }
     requires capacity { (1 ≤ capacity) × (capacity ≤ MOST_ROOM) }
-    requires first { HaveFirst net.now.network number.0 plants.old }
-    ensures next { OnOk result (HaveFirst net.now.network (number.0 + 1) plants.new) }
+    requires first { HaveFirst net.now.network capacity number.0 plants.old }
+    ensures next { OnOk result (HaveFirst net.now.network capacity (number.0 + 1) plants.new) }
 {
     let between = net.network().lane(number);
     let (send, take) = lane(alloc, net, number, capacity)?;
