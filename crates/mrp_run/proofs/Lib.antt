@@ -4,3 +4,8 @@ pub mod Keeping
 pub mod Booked
 pub mod Offered
 pub mod Done
+pub mod DealtLists
+pub mod Dealt
+pub mod DealtReady
+pub mod Paired
+pub mod PairedSettled
