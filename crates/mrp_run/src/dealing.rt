@@ -1,5 +1,5 @@
 //! How the plants of a network are made, and the ends of its lanes dealt to them.
-ghost use Rattle.std.specs.Prelude.{◌≡◌, ◌≤◌, ◌<◌, ◌×◌, IfOk, length};
+ghost use Rattle.std.specs.Prelude.{◌≡◌, ◌≤◌, ◌<◌, IfOk, length};
 ghost use Rattle.mrp_lane.specs.declared.making.TheConstants.{MOST_ROOM};
 ghost use Rattle.mrp_run.specs.Ends.{AreReady};
 

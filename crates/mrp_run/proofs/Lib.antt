@@ -1,0 +1,2 @@
+pub mod JoinedFaults
+pub mod JoinedThreads
