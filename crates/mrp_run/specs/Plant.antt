@@ -22,10 +22,10 @@ abbrev pub lanes_to : Table → ℕ → List ℕ
 lanes_to N p = filter (comes_to N p) (lane_numbers N)
 
 -- these are ends of these lanes of the network, in this order, and what went through each is its lane's list
-pub record AreEnds (N : Table) (lanes : List ℕ) (lists : ℕ → List Record) (ends : List End) : Type 0 where
+pub record AreEnds (N : Table) (numbers : List ℕ) (texts : ℕ → List Record) (ends : List End) : Type 0 where
   pub network : All (λ e. e.name.network ≡ N) ends
-  pub lanes : map (λ e. e.name.lane) ends ≡ lanes
-  pub lists : All (λ e. e.list ≡ lists e.name.lane) ends
+  pub lanes : map (λ e. e.name.lane) ends ≡ numbers
+  pub lists : All (λ e. e.list ≡ texts e.name.lane) ends
 
 -- a plant of a sized network: by some history its agent works in the network, and what was sent and taken by
 -- that history went through the ends of its lanes
@@ -61,11 +61,11 @@ abbrev pub names : List End → List Name
 names ends = map (λ e. e.name) ends
 
 -- the plant sees the same, its ends are the same, and wherever it was at work it is
-pub record Kept (A : AgentState) (sends takes : List End) (B : AgentState) (sends_now takes_now : List End) : Type 0 where
+pub record Kept (A : AgentState) (sends_then takes_then : List End) (B : AgentState) (sends_now takes_now : List End) : Type 0 where
   pub view : B.view ≡ A.view
-  pub sends : names sends_now ≡ names sends
-  pub takes : names takes_now ≡ names takes
-  pub works : (N : Table) (p : ℕ) → AtWork N p A sends takes → AtWork N p B sends_now takes_now
+  pub sends : names sends_now ≡ names sends_then
+  pub takes : names takes_now ≡ names takes_then
+  pub works : (N : Table) (p : ℕ) → AtWork N p A sends_then takes_then → AtWork N p B sends_now takes_now
 
 -- and wherever it was at work it has finished
 abbrev pub HasFinished : AgentState → List End → List End → AgentState → List End → List End → Type 0
