@@ -9,3 +9,5 @@ pub mod Dealt
 pub mod DealtReady
 pub mod Paired
 pub mod PairedSettled
+pub mod JoinedFaults
+pub mod JoinedThreads

@@ -4,3 +4,7 @@ pub mod Plant
 pub mod Steps
 pub mod Ends
 pub mod Outcome
+pub mod Faults
+pub mod Worst
+pub mod Joined
+pub mod Gathered
