@@ -4,7 +4,6 @@ pub mod Plant
 pub mod Steps
 pub mod Ends
 pub mod Outcome
-pub mod Faults
 pub mod Worst
 pub mod Joined
 pub mod Gathered
