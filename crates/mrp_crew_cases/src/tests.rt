@@ -32,7 +32,8 @@ fn new_agent(alloc: Global, net: &SizedNet, plant: usize) -> Result<Agent, Memor
 {
     let network = net.network();
     let view = PlantView::of(alloc, network, PlantNo(plant))?;
-    Agent::new(alloc, view)
+    let agent = Agent::new(alloc, view)?;
+    Ok(agent)
 }
 
 /// Has a crew plan what is ready; the agent can be planned for again.
