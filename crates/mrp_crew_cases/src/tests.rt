@@ -18,7 +18,9 @@ use mrp_qty::{Memory, Row};
 use mrp_tables::read_tables_uncounted;
 use mrp_view::PlantView;
 use std::alloc::Global;
+use std::sync::Wait;
 use std::test::Fail;
+use std::thread::Threads;
 
 /// The network of a table's text.
 fn network(rt: &HostRuntime, text: &str) -> Result<Network, Fail> {
@@ -37,8 +39,9 @@ fn new_agent(alloc: Global, net: &SizedNet, plant: usize) -> Result<Agent, Memor
 }
 
 /// Has a crew plan what is ready; the agent can be planned for again.
-fn plan<G: Gate>(
-    rt: &HostRuntime,
+fn plan<R: Threads + Wait + Sync, G: Gate>(
+    rt: &R,
+    alloc: Global,
     crew: &mut Crew,
     agent: &mut Agent,
     gate: &G,
@@ -49,7 +52,7 @@ fn plan<G: Gate>(
     ensures view { agent.new.view ≡ agent.old.view }
     ensures plannable { IsPlannable agent.new }
 {
-    crew.plan_ready(rt, rt.alloc(), agent, 0, gate)
+    crew.plan_ready(rt, alloc, agent, 0, gate)
 }
 
 /// Whether two rows have the same pieces in each period.

@@ -9,6 +9,7 @@ const MOST_LOOKS: u32 = 1_000_000;
 
 /// A gate that opens to so many workers once all of them have asked, and answers false to one that has
 /// looked in vain.
+#[derive(Drop)]
 pub(super) struct Meeting {
     workers: u64,
     asked: AtomicU64,
@@ -41,6 +42,7 @@ impl Gate for Meeting {
 }
 
 /// A gate that is shut to the worker of a number, or to all at 0.
+#[derive(Drop)]
 pub(super) struct ShutTo(pub(super) u64);
 
 impl Gate for ShutTo {
@@ -55,6 +57,7 @@ impl Gate for ShutTo {
 
 /// A gate that is open and counts what it is asked: how often, the sum of the numbers, and how many
 /// asked of another plant than the first.
+#[derive(Drop)]
 pub(super) struct Counting {
     pub(super) asked: AtomicU64,
     pub(super) numbers: AtomicU64,

@@ -6,18 +6,25 @@ use mrp_agent::NoGate;
 use mrp_crew::{Crew, CrewFault};
 use mrp_loops::{SizedNet, bound, check};
 use mrp_plan::plan_all;
+use std::alloc::Global;
+use std::sync::Wait;
 use std::test::Fail;
+use std::thread::Threads;
 
 /// Whether a crew of three plans the plant whole, or, where it is refused memory or a thread, goes on from
 /// there in a second call; what is planned is planned rightly after each.
-fn plans_or_is_refused(rt: &HostRuntime, net: &SizedNet) -> Result<bool, Fail> {
-    let whole = plan_all(rt.alloc(), net)?;
+fn plans_or_is_refused<R: Threads + Wait + Sync>(
+    rt: &R,
+    alloc: Global,
+    net: &SizedNet,
+) -> Result<bool, Fail> {
+    let whole = plan_all(alloc, net)?;
     let pairs = net.network().pairs();
-    let mut agent = new_agent(rt.alloc(), net, 0)?;
-    let mut crew = Crew::new(rt.alloc(), 3, agent.view().horizon())?;
-    let first = plan(rt, &mut crew, &mut agent, &NoGate);
+    let mut agent = new_agent(alloc, net, 0)?;
+    let mut crew = Crew::new(alloc, 3, agent.view().horizon())?;
+    let first = plan(rt, alloc, &mut crew, &mut agent, &NoGate);
     let before = planned_so(&agent, net.network(), &whole);
-    let second = plan(rt, &mut crew, &mut agent, &NoGate);
+    let second = plan(rt, alloc, &mut crew, &mut agent, &NoGate);
     let after = planned_so(&agent, net.network(), &whole);
     let went_on = match first {
         Ok(count) => count == pairs && second == Ok(0),
@@ -34,6 +41,6 @@ fn a_refusal_is_the_only_other_answer(rt: HostRuntime) -> Result<(), Fail> {
     let network = network(&rt, FIVE_ARTICLES)?;
     let levels = check(rt.alloc(), &network)?;
     let net = bound(rt.alloc(), &network, &levels)?;
-    assert!(rt; plans_or_is_refused(&rt, &net)?);
+    assert!(rt; plans_or_is_refused(&rt, rt.alloc(), &net)?);
     Ok(())
 }
