@@ -1,5 +1,6 @@
 -- The agent keeps the results of a wave one by one, and those that are left still fit it.
-use Rattle.std.proofs.Common.{◌≡◌, ◌≢◌, ℕ, ◌+◌, Bool, true, false, List, [], ◌∷◌, ◌++◌, length, get_or, reverse, refl, sym, ap, ◌∙◌, subst, arith, All, Contains}
+use Rattle.std.specs.Option.{is_some}
+use Rattle.std.proofs.Common.{◌≡◌, ◌≢◌, ℕ, ◌+◌, Bool, true, false, Option, None, Some, slice_get, List, [], ◌∷◌, ◌++◌, length, get_or, reverse, refl, sym, ap, ◌∙◌, subst, arith, All, Contains}
 use Rattle.std.specs.Bool.{OnTrue}
 use Rattle.std.specs.List.{AllPairs}
 use Rattle.std.proofs.lemmas.Bool.{false≢true}
@@ -55,3 +56,10 @@ when_true false P says is = absurd (false≢true is)
 pub on_true : (b : Bool) (P : Type 0) → P → OnTrue b ((b ≡ true) × P)
 on_true true P p = (refl, p)
 on_true false P p = tt
+
+-- ---- where no pair is ready
+
+pub none_ready : (numbers : List PairNo) (o : Option PairNo) → o ≡ slice_get numbers 0 → is_some o ≡ false → numbers ≡ []
+none_ready [] o at is = refl
+none_ready (x ∷ xs) None at is = absurd (cc at)
+none_ready (x ∷ xs) (Some y) at is = absurd (false≢true (sym is))

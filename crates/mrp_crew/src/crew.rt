@@ -1,4 +1,4 @@
-ghost use Rattle.std.specs.Prelude.{◌≤◌};
+ghost use Rattle.std.specs.Prelude.{◌≡◌, ◌+◌, ◌≤◌, min};
 ghost use Rattle.mrp_crew.specs.declared.crew.TheConstants.{MOST_WORKERS};
 
 use crate::fault::CrewFault;
@@ -42,7 +42,7 @@ impl Model for Crew {
 }
 
 impl Crew {
-    ghost use Rattle.std.specs.Prelude.{◌≡◌, ◌<◌, List, [], length, IfOk, OnOk};
+    ghost use Rattle.std.specs.Prelude.{◌<◌, List, [], length, IfOk, OnOk};
     ghost use Rattle.mrp_rows.specs.declared.numbers.PairNo.{PairNo};
     ghost use Rattle.mrp_agent.specs.Drafts.{ready_numbers};
     ghost use Rattle.mrp_crew.specs.Planning.{IsPlannable, PlansAll};
@@ -122,11 +122,11 @@ impl Crew {
         ensures planned { (xs : List PairNo) × PlansAll agent.old agent.new xs × OnOk result (0 < length xs) }
     {
         refill(alloc, &mut self.rooms, self.horizon, self.workers)?;
-        let others = agent.ready_pairs().len().min(self.workers as usize) - 1;
+        let pairs = agent.ready_pairs();
+        let others = others_of(pairs.len(), self.workers);
         let works = Vec::with_capacity(alloc, others + 1)?;
         let workers = Vec::with_capacity(alloc, others)?;
         let rooms = mem::replace(&mut self.rooms, Vec::new(alloc));
-        let pairs = agent.ready_pairs();
         let own = pairs[others];
         let others = &pairs[..others];
         let drafts = draft_wave(rt, agent, plant, gate, others, own, rooms, workers, works);
@@ -141,4 +141,14 @@ impl Crew {
         }
         Ok(())
     }
+}
+
+/// How many threads a wave of a crew starts: one less than it has pairs, since the calling thread drafts
+/// one. It has the ready pairs, or as many of them as there are workers.
+fn others_of(ready: usize, workers: u64) -> usize
+    requires ready { 1 ≤ ready }
+    requires workers { (1 ≤ workers) × (workers ≤ MOST_WORKERS) }
+    ensures { result + 1 ≡ min ready workers }
+{
+    ready.min(workers as usize) - 1
 }

@@ -1,5 +1,5 @@
 //! What a worker drafts a plan in.
-ghost use Rattle.std.specs.Prelude.{◌≡◌, ◌≤◌, ℕ, All, IfOk, OnOk, length};
+ghost use Rattle.std.specs.Prelude.{◌≤◌, ℕ, All, IfOk, OnOk, length};
 ghost use Rattle.mrp_crew.specs.Rooms.{IsRoom};
 
 use mrp_netting::PairPlan;

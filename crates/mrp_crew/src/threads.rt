@@ -1,10 +1,9 @@
 //! The threads of a wave: started, and joined.
-ghost use Rattle.std.specs.Prelude.{◌≡◌, ◌≢◌, ◌+◌, ◌++◌, ◌<◌, ◌≤◌, true, List, [], ◌∷◌, length, map, reverse, take, All, AllPairs, IfSome, vec_capacity};
+ghost use Rattle.std.specs.Prelude.{◌≡◌, ◌+◌, ◌++◌, ◌<◌, ◌≤◌, List, [], ◌∷◌, length, reverse, All, IfSome, vec_capacity};
 ghost use Rattle.std.specs.Bool.{OnTrue};
 ghost use Rattle.mrp_rows.specs.declared.numbers.PairNo.{PairNo};
-ghost use Rattle.mrp_agent.specs.Drafts.{CanDraft, ready_numbers};
+ghost use Rattle.mrp_agent.specs.Drafts.{CanDraft};
 ghost use Rattle.mrp_agent.specs.State.{AgentState};
-ghost use Rattle.mrp_crew.specs.Planning.{IsPlannable};
 ghost use Rattle.mrp_crew.specs.Rooms.{AreDrafts, IsRoom, WorkedFor, pairs_of};
 ghost use Rattle.mrp_crew.specs.Started.{IsFor, IsStarted, ordered};
 

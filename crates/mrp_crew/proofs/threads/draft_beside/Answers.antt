@@ -1,4 +1,40 @@
+use Rattle.std.proofs.Common.{◌≡◌, [], ◌++◌, List, Some, reverse, ap, sym, ◌∙◌, subst, All}
+use Rattle.std.proofs.lemmas.List.Elements.{All-nil, All-pop, All-push}
+use Rattle.mrp_rows.specs.declared.numbers.PairNo.{PairNo}
+use Rattle.mrp_agent.specs.State.{AgentState}
+use Rattle.mrp_crew.specs.declared.work.Work.{Work}
+use Rattle.mrp_crew.specs.Rooms.{IsRoom, WorkedFor, pairs_of}
+use Rattle.mrp_crew.specs.Started.{ordered}
+use Rattle.mrp_crew.proofs.Keeping.{when_true}
+use Rattle.mrp_crew.proofs.Joining.{only_pair, refused_drafts, whole_drafts}
 use Rattle.mrp_crew.proofs.threads.draft_beside.Goals as goal
 
+pub returns-then-not-all : goal.returns-then-not-all
+returns-then-not-all g c =
+    let A : AgentState = c.args.agent.now in
+    let workers = c.start_all-all.new.workers.items in
+    let started = c.start_all-all.ensures.started in
+    let room : IsRoom A.view.horizon c.in-Some.room = (All-pop (IsRoom A.view.horizon) c.args.rooms.items c.pop.new.self.items (Some c.in-Some.room) c.in-Some.ensures.items c.requires.rooms).1 in
+    let nothing : All (WorkedFor A) c.args.works.items = subst (All (WorkedFor A)) (sym c.requires.works.0) (All-nil (WorkedFor A)) in
+    refused_drafts A c.args.others.now c.args.own workers started.0 (record { works = c.join_all.new.works; all = c.start_all-all.result; rooms = c.put_back.new.rooms })
+    c.if-not-all.true started.1 (c.join_all.ensures.pairs ∙ ap (λ (z : List Work). ordered workers ++ pairs_of (reverse z)) c.requires.works.0)
+    (c.join_all.ensures.worked A c.start_all-all.ensures.agent nothing) (c.put_back.ensures A.view.horizon c.start_all-all.ensures.rooms room)
+
+pub draft_pair-drafted-requires-clause-room : goal.draft_pair-drafted-requires-clause-room
+draft_pair-drafted-requires-clause-room g c κs within =
+    let h = c.args.agent.now.view.horizon in
+    (All-pop (IsRoom h) c.args.rooms.items c.pop.new.self.items (Some c.in-Some.room) c.in-Some.ensures.items c.requires.rooms).1
+
 pub returns : goal.returns
-returns g c = ?
+returns g c =
+    let A : AgentState = c.args.agent.now in
+    let workers = c.start_all-all.new.workers.items in
+    let started = c.start_all-all.ensures.started in
+    let w : Work = c.draft_pair-drafted.result in
+    let nothing : All (WorkedFor A) c.args.works.items = subst (All (WorkedFor A)) (sym c.requires.works.0) (All-nil (WorkedFor A)) in
+    let one : All (WorkedFor A) c.push.new.self.items = subst (All (WorkedFor A)) (sym c.in-Ok.ensures.items) (All-push (WorkedFor A) c.args.works.items w nothing c.draft_pair-drafted.ensures.worked) in
+    whole_drafts A c.args.others.now c.args.own workers started.0 (record { works = c.join_all-2.new.works; all = c.start_all-all.result; rooms = c.start_all-all.new.rooms })
+    (when_true c.start_all-all.result (started.0 ≡ []) started.2 c.if-not-all.false) started.1
+    (c.join_all-2.ensures.pairs
+    ∙ ap (λ (z : List PairNo). ordered workers ++ z) (only_pair c.args.works.items c.push.new.self.items w c.args.own c.requires.works.0 c.in-Ok.ensures.items c.draft_pair-drafted.ensures.pair))
+    (c.join_all-2.ensures.worked A c.start_all-all.ensures.agent one) c.start_all-all.ensures.rooms

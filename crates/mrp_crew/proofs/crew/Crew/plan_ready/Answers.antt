@@ -1,4 +1,7 @@
-use Rattle.std.proofs.Common.{◌++◌, ◌∙◌}
+use Rattle.std.proofs.Common.{◌++◌, ◌∙◌, sym, arith}
+use Rattle.std.proofs.lemmas.Result.{err_from_is_err_and}
+use Rattle.mrp_agent.specs.Drafts.{ready_numbers}
+use Rattle.mrp_crew.proofs.Keeping.{none_ready}
 use Rattle.mrp_crew.proofs.PlanningLaws.{plannable_after, plans_append}
 use Rattle.mrp_crew.proofs.crew.Crew.plan_ready.Goals as goal
 
@@ -16,7 +19,16 @@ pub returns-in_err-plan_wave-clause-planned : goal.returns-in_err-plan_wave-clau
 returns-in_err-plan_wave-clause-planned g c =
     let before = c.loop-alloc.invariant in
     let next = c.plan_wave.ensures.planned in
-    (before.planned.0 ++ next.0, plans_append c.args.agent.now c.loop-alloc.agent c.plan_wave.new.agent before.planned.0 next.0 before.planned.1 next.1, tt)
+    let p = err_from_is_err_and c.from_residual.result c.from_residual.ensures.1 in
+    rw p.1 (before.planned.0 ++ next.0, plans_append c.args.agent.now c.loop-alloc.agent c.plan_wave.new.agent before.planned.0 next.0 before.planned.1 next.1, tt)
 
 pub returns-clause-planned : goal.returns-clause-planned
-returns-clause-planned g c = ?
+returns-clause-planned g c =
+    let before = c.loop-alloc.invariant in (
+      before.planned.0,
+      before.planned.1,
+      (
+        omega (arith, before.planned.1.left, c.left-before.ensures, c.left.ensures),
+        none_ready (ready_numbers c.loop-alloc.agent) c.ready.result c.ready.ensures (sym c.is_some.ensures ∙ c.loop-alloc-test.false),
+      ),
+    )

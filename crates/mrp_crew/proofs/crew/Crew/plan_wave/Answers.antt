@@ -1,21 +1,50 @@
-use Rattle.std.proofs.Common.{[]}
+use Rattle.std.proofs.Common.{[], ◌∷◌, ◌++◌, List, take, get_or, refl, subst, arith, All}
+use Rattle.std.proofs.lemmas.List.Elements.{All-take, All-get_or}
+use Rattle.std.proofs.lemmas.Result.{err_from_is_err_and}
+use Rattle.mrp_rows.specs.declared.numbers.PairNo.{PairNo}
+use Rattle.mrp_agent.specs.Drafts.{CanDraft}
+use Rattle.mrp_agent.specs.State.{AgentState}
+use Rattle.mrp_crew.proofs.Drafting.{drafts_settle, wave_can, wave_once}
 use Rattle.mrp_crew.proofs.PlanningLaws.{plans_none}
+use Rattle.mrp_crew.proofs.Ready.{all_can_draft}
 use Rattle.mrp_crew.proofs.crew.Crew.plan_wave.Goals as goal
 
 pub returns-in_err-refill-clause-planned : goal.returns-in_err-refill-clause-planned
-returns-in_err-refill-clause-planned g c = ([], plans_none c.args.agent.now, tt)
+returns-in_err-refill-clause-planned g c =
+    let p = err_from_is_err_and c.from_residual.result c.from_residual.ensures.1 in
+    rw p.1 ([], plans_none c.args.agent.now, tt)
 
 pub returns-in_err-works-clause-planned : goal.returns-in_err-works-clause-planned
-returns-in_err-works-clause-planned g c = ([], plans_none c.args.agent.now, tt)
+returns-in_err-works-clause-planned g c =
+    let p = err_from_is_err_and c.from_residual-in_err-works.result c.from_residual-in_err-works.ensures.1 in
+    rw p.1 ([], plans_none c.args.agent.now, tt)
 
 pub returns-in_err-workers-clause-planned : goal.returns-in_err-workers-clause-planned
-returns-in_err-workers-clause-planned g c = ([], plans_none c.args.agent.now, tt)
+returns-in_err-workers-clause-planned g c =
+    let p = err_from_is_err_and c.from_residual-in_err-workers.result c.from_residual-in_err-workers.ensures.1 in
+    rw p.1 ([], plans_none c.args.agent.now, tt)
 
 pub draft_wave-drafts-requires-clause-others : goal.draft_wave-drafts-requires-clause-others
-draft_wave-drafts-requires-clause-others g c = ?
+draft_wave-drafts-requires-clause-others g c = λ κs met.
+    let A : AgentState = c.args.agent.now in
+    let ready = c.ready_pairs-pairs in
+    All-take (CanDraft A) (c.others_of-others.result) ready.result.now (all_can_draft A c.requires.plannable ready.result.now ready.ensures.numbers ready.ensures.own ready.ensures.exact)
 
 pub draft_wave-drafts-requires-clause-own : goal.draft_wave-drafts-requires-clause-own
-draft_wave-drafts-requires-clause-own g c = ?
+draft_wave-drafts-requires-clause-own g c = λ κs met.
+    let A : AgentState = c.args.agent.now in
+    let ready = c.ready_pairs-pairs in
+    All-get_or (CanDraft A) ready.result.now (c.others_of-others.result) (record { 0 = 0 }) (omega arith)
+    (all_can_draft A c.requires.plannable ready.result.now ready.ensures.numbers ready.ensures.own ready.ensures.exact)
 
 pub settle_all-open-requires-clause-drafts : goal.settle_all-open-requires-clause-drafts
-settle_all-open-requires-clause-drafts g c = ?
+settle_all-open-requires-clause-drafts g c =
+    let A : AgentState = c.args.agent.now in
+    let ready = c.ready_pairs-pairs in
+    let numbers : List PairNo = ready.result.now in
+    let others = c.others_of-others.result in
+    let no_pair : PairNo = record { 0 = 0 } in
+    let own : PairNo = get_or numbers others no_pair in
+    let can : All (CanDraft A) numbers = all_can_draft A c.requires.plannable numbers ready.ensures.numbers ready.ensures.own ready.ensures.exact in
+    drafts_settle A (take others numbers ++ own ∷ []) (wave_can (CanDraft A) numbers others own can (All-get_or (CanDraft A) numbers others no_pair (omega arith) can))
+    (wave_once numbers others no_pair own (omega arith) refl ready.ensures.once) c.draft_wave-drafts.result c.draft_wave-drafts.ensures
