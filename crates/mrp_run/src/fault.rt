@@ -1,3 +1,5 @@
+ghost use Rattle.std.specs.Prelude.{◌≡◌};
+
 use mrp_net::PlantNo;
 use mrp_qty::Memory;
 use thiserror::Error;
@@ -20,6 +22,10 @@ pub enum RunFault {
 }
 
 impl From<Memory> for RunFault {
+    ghost use Rattle.mrp_run.specs.declared.fault.RunFault.{RunFault};
+
+    ghost from_gives = { λ _ fault. fault ≡ RunFault.Memory };
+
     fn from(_refusal: Memory) -> RunFault {
         RunFault::Memory
     }

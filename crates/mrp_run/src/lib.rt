@@ -14,6 +14,7 @@ mod network;
 mod offering;
 mod pairing;
 mod plant;
+mod results;
 mod running;
 mod settings;
 mod threads;

@@ -1,8 +1,9 @@
 //! A whole network, run by a thread for each plant.
-ghost use Rattle.std.specs.Prelude.{IfOk};
+ghost use Rattle.std.specs.Prelude.{IfErr, IfOk};
 ghost use Rattle.mrp_loops.specs.Sized.{IsSized};
 ghost use Rattle.mrp_run.specs.Ends.{AreThrough};
 ghost use Rattle.mrp_run.specs.Outcome.{IsOutcome};
+ghost use Rattle.mrp_run.specs.Worst.{IsFaultIn};
 
 use crate::dealing::ready_plants;
 use crate::fault::RunFault;
@@ -50,6 +51,7 @@ pub fn run_network<R: Threads + Wait + Sync, G: Gate>(
     gate: &G,
 ) -> Result<Outcome, RunFault>
     ensures outcome { IfOk result (λ o. IsOutcome net.now.network o) }
+    ensures gate { IfErr result (IsFaultIn net.now.network) }
 {
     run_network_within(rt, alloc, net, settings, gate, MOST_TURNS)
 }
@@ -68,14 +70,15 @@ pub fn run_network_within<R: Threads + Wait + Sync, G: Gate>(
     turns: u64,
 ) -> Result<Outcome, RunFault>
     ensures outcome { IfOk result (λ o. IsOutcome net.now.network o) }
+    ensures gate { IfErr result (IsFaultIn net.now.network) }
 {
     let ready = ready_plants(alloc, net, settings.capacity())?;
     let through = run_plants(rt, alloc, ready, settings.workers(), gate, turns)?;
-    Ok(outcome(rt, alloc, net.network(), through)?)
+    Ok(outcome_of(rt, alloc, net.network(), through)?)
 }
 
 /// What plants that have finished come to.
-fn outcome<R: Wait>(
+fn outcome_of<R: Wait>(
     rt: &R,
     alloc: Global,
     network: &Network,

@@ -1,15 +1,39 @@
 //! How the threads of the plants are started and joined.
-ghost use Rattle.std.specs.Prelude.{◌≡◌, ◌≤◌, ◌×◌, All, IfOk, length, slice_index_or};
+ghost use Rattle.std.specs.Prelude.{◌≡◌, ◌≤◌, ◌++◌, [], List, All, IfErr, IfOk, IfSome, OnOk, ℕ, length, slice_index_or, vec_capacity};
+ghost use Rattle.std.specs.List.{AllZip};
 ghost use Rattle.mrp_crew.specs.declared.crew.TheConstants.{MOST_WORKERS};
+ghost use Rattle.mrp_run.specs.declared.plant.Plant.{Plant};
 ghost use Rattle.mrp_run.specs.Ends.{EachAt};
+ghost use Rattle.mrp_run.specs.Faults.{IsOf};
+ghost use Rattle.mrp_run.specs.Joined.{AreOfFirst, AreRooms, AreShutOfFirst, Finished, started};
 ghost use Rattle.mrp_run.specs.Steps.{Finishes, IsAtWork};
+ghost use Rattle.mrp_run.specs.Worst.{IsOfFirst};
 
 use crate::fault::RunFault;
 use crate::plant::Plant;
+use crate::results::{Back, Duty, all_of};
+use crate::running::run_owned;
 use mrp_agent::Gate;
+use mrp_crew::Crew;
+use mrp_net::PlantNo;
+use mrp_qty::Memory;
 use std::alloc::Global;
+use std::snapshot::Snapshot;
 use std::sync::Wait;
-use std::thread::Threads;
+use std::sync::atomic::{AtomicBool, Ordering};
+use std::thread;
+use std::thread::{PromisedHandle, Scope, Threads};
+
+/// The thread of a plant.
+pub(crate) type Running = PromisedHandle<Back, Duty>;
+
+/// Room for the threads of all plants, for what they bring back, and for the plants again.
+#[derive(Drop)]
+pub(crate) struct Rooms {
+    pub(crate) threads: Vec<Running>,
+    pub(crate) backs: Vec<Back>,
+    pub(crate) plants: Vec<Plant>,
+}
 
 /// Runs each plant in a thread of its own, and joins them all.
 ///
@@ -29,6 +53,177 @@ pub(crate) fn run_plants<R: Threads + Wait + Sync, G: Gate>(
     requires workers { (1 ≤ workers) × (workers ≤ MOST_WORKERS) }
     ensures all { IfOk result (λ after. length after.items ≡ length plants.items) }
     ensures each { IfOk result (λ after. EachAt (λ p P. Finishes (slice_index_or plants.items p P) P) after.items) }
+    ensures gate { IfErr result (IsOfFirst (length plants.items)) }
 {
-    unreachable!()
+    let rooms = new_rooms(alloc, plants.len())?;
+    let stop = AtomicBool::new(false);
+    let stop = &stop;
+    thread::scope(
+        thread::scope_env(),
+        rt,
+        move |scope| -> Result<Vec<Plant>, RunFault>
+            requires work { All IsAtWork plants.items }
+            requires workers { (1 ≤ workers) × (workers ≤ MOST_WORKERS) }
+            requires rooms { AreRooms (length plants.items) rooms }
+            ensures each { IfOk result (λ after. AllZip Finishes plants.items after.items) }
+            ensures gate { IfErr result (IsOfFirst (length plants.items)) }
+        { run_beside(scope, rt, alloc, plants, workers, gate, stop, turns, rooms) },
+    )
+}
+
+/// Room for so many plants.
+fn new_rooms(alloc: Global, plants: usize) -> Result<Rooms, Memory>
+    ensures { IfOk result (AreRooms plants) }
+{
+    Ok(Rooms {
+        threads: Vec::with_capacity(alloc, plants)?,
+        backs: Vec::with_capacity(alloc, plants)?,
+        plants: Vec::with_capacity(alloc, plants)?,
+    })
+}
+
+/// The same, with the scope in which the threads run.
+fn run_beside<'s, E, R: Threads + Wait + Sync, G: Gate>(
+    scope: &Scope<'s, E>,
+    rt: &'s R,
+    alloc: Global,
+    plants: Vec<Plant>,
+    workers: u64,
+    gate: &'s G,
+    stop: &'s AtomicBool,
+    turns: u64,
+    rooms: Rooms,
+) -> Result<Vec<Plant>, RunFault>
+    requires work { All IsAtWork plants.items }
+    requires workers { (1 ≤ workers) × (workers ≤ MOST_WORKERS) }
+    requires rooms { AreRooms (length plants.items) rooms }
+    ensures each { IfOk result (λ after. AllZip Finishes plants.items after.items) }
+    ensures gate { IfErr result (IsOfFirst (length plants.items)) }
+{
+    let Rooms {
+        mut threads,
+        mut backs,
+        plants: all,
+    } = rooms;
+    let refused = start_all(
+        scope,
+        rt,
+        alloc,
+        plants,
+        workers,
+        gate,
+        stop,
+        turns,
+        &mut threads,
+    );
+    join_all(rt, threads, &mut backs);
+    all_of(backs, refused.err(), all)
+}
+
+/// Starts a thread for each plant.
+///
+/// # Errors
+///
+/// [`RunFault::ThreadRefused`] where one could not be started; no further ones are started then, and `stop`
+/// is raised.
+fn start_all<'s, E, R: Threads + Wait + Sync, G: Gate>(
+    scope: &Scope<'s, E>,
+    rt: &'s R,
+    alloc: Global,
+    plants: Vec<Plant>,
+    workers: u64,
+    gate: &'s G,
+    stop: &'s AtomicBool,
+    turns: u64,
+    threads: &mut Vec<Running>,
+) -> Result<(), RunFault>
+    requires work { All IsAtWork plants.items }
+    requires workers { (1 ≤ workers) × (workers ≤ MOST_WORKERS) }
+    requires room { (threads.old.items ≡ []) × (length plants.items ≤ vec_capacity threads.old) }
+    ensures started { (rest : List Plant) × (plants.items ≡ started threads.new.items ++ rest) × OnOk result (rest ≡ []) }
+    ensures first { AreOfFirst (length plants.items) threads.new.items }
+    ensures refused { IfErr result (λ fault. fault ≡ RunFault.ThreadRefused) }
+{
+    for plant in plants {
+        let number = PlantNo(threads.len());
+        let Some(thread) = start(scope, rt, alloc, number, plant, workers, gate, stop, turns) else {
+            stop.store(true, Ordering::SeqCst);
+            return Err(RunFault::ThreadRefused);
+        };
+        let Ok(()) = threads.push(thread) else {
+            unreachable!()
+        };
+    }
+    Ok(())
+}
+
+/// Starts a thread for a plant; `None` where it could not be started, and the plant is gone then.
+fn start<'s, E, R: Threads + Wait + Sync, G: Gate>(
+    scope: &Scope<'s, E>,
+    rt: &'s R,
+    alloc: Global,
+    number: PlantNo,
+    plant: Plant,
+    workers: u64,
+    gate: &'s G,
+    stop: &'s AtomicBool,
+    turns: u64,
+) -> Option<Running>
+    requires work { IsAtWork plant }
+    requires workers { (1 ≤ workers) × (workers ≤ MOST_WORKERS) }
+    ensures plant { IfSome result (λ thread. thread.promise.plant.value ≡ plant) }
+    ensures number { IfSome result (λ thread. thread.promise.number ≡ number) }
+{
+    let duty = Duty {
+        number,
+        plant: Snapshot::of(&plant),
+    };
+    let started = scope.spawn_with(
+        duty,
+        move || -> Back
+            requires work { IsAtWork plant }
+            requires workers { (1 ≤ workers) × (workers ≤ MOST_WORKERS) }
+        { run_alone(rt, alloc, number, plant, workers, gate, stop, turns) },
+    );
+    match started {
+        Ok(thread) => Some(thread),
+        Err(_) => None,
+    }
+}
+
+/// Runs a plant with a crew of its own.
+fn run_alone<R: Threads + Wait + Sync, G: Gate>(
+    rt: &R,
+    alloc: Global,
+    number: PlantNo,
+    plant: Plant,
+    workers: u64,
+    gate: &G,
+    stop: &AtomicBool,
+    turns: u64,
+) -> Back
+    requires work { IsAtWork plant }
+    requires workers { (1 ≤ workers) × (workers ≤ MOST_WORKERS) }
+    ensures plant { Finished plant result }
+    ensures fault { IfErr result (λ why. IfSome why (IsOf number)) }
+{
+    let horizon = plant.agent.view().horizon();
+    let Ok(mut crew) = Crew::new(alloc, workers, horizon) else {
+        stop.store(true, Ordering::SeqCst);
+        return Err(Some(RunFault::Memory));
+    };
+    run_owned(rt, alloc, number, plant, &mut crew, gate, stop, turns)
+}
+
+/// Joins all threads, in the order in which they were started.
+fn join_all<R: Threads>(rt: &R, threads: Vec<Running>, backs: &mut Vec<Back>)
+    requires room { (backs.old.items ≡ []) × (length threads.items ≤ vec_capacity backs.old) }
+    ensures finished { AllZip Finished (started threads.items) backs.new.items }
+    ensures first { (plants : ℕ) → AreOfFirst plants threads.items → AreShutOfFirst plants backs.new.items }
+{
+    for thread in threads {
+        let Ok(()) = backs.push(thread.join(rt)) else {
+            unreachable!()
+        };
+    }
 }

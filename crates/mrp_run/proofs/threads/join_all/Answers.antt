@@ -1,0 +1,20 @@
+use Rattle.std.proofs.Common.{◌≡◌, ◌++◌, ◌∷◌, [], List, length-append, sym, subst, arith}
+use Rattle.std.specs.List.{AllZip}
+use Rattle.std.specs.Vec.Iter.{into_iter_items}
+use Rattle.mrp_run.specs.Joined.{Back, Finished, AreShutOfFirst, started}
+use Rattle.mrp_run.proofs.JoinedThreads.{pairs_more, shut_more, started_more, whole_next}
+use Rattle.mrp_run.proofs.threads.join_all.Goals as goal
+
+pub loop-thread-preserved : goal.loop-thread-preserved
+loop-thread-preserved g c =
+    let at = c.loop-thread in
+    let thread = c.in-Some.thread in
+    let pushed : c.push.new.self.items ≡ at.backs.items ++ c.join.result ∷ [] = c.in-Ok.ensures.items in record {
+      whole = whole_next at.yielded (into_iter_items at.thread-iterator) _ c.args.threads.items thread at.invariant.whole c.in-Some.ensures.steps.0;
+      count = omega (arith, at.invariant.count, c.in-Ok.ensures.len, length-append at.yielded (thread ∷ []));
+      room = omega (arith, at.invariant.room, c.push.ensures.capacity);
+      finished = subst (λ (z : List Back). AllZip Finished (started (at.yielded ++ thread ∷ [])) z) (sym pushed)
+          (subst (λ z. AllZip Finished z (at.backs.items ++ c.join.result ∷ [])) (sym (started_more at.yielded thread))
+            (pairs_more Finished (started at.yielded) at.backs.items thread.promise.plant.value c.join.result at.invariant.finished c.join.ensures.finished));
+      first = λ plants each. subst (AreShutOfFirst plants) (sym pushed) (shut_more plants at.yielded thread at.backs.items c.join.result c.join.ensures.fault each at.invariant.first);
+    }

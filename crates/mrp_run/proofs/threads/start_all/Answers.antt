@@ -1,0 +1,25 @@
+use Rattle.std.proofs.Common.{◌≡◌, ◌<◌, ◌++◌, ◌∷◌, [], List, length, sym, ap, subst, ◌∙◌, arith}
+use Rattle.std.proofs.lemmas.List.{length-map}
+use Rattle.std.proofs.lemmas.List.Elements.{All-push}
+use Rattle.std.specs.Vec.Iter.{into_iter_items}
+use Rattle.mrp_run.specs.declared.plant.Plant.{Plant}
+use Rattle.mrp_run.specs.Joined.{AreOfFirst, started}
+use Rattle.mrp_run.proofs.JoinedThreads.{started_more, whole_next, one_left}
+use Rattle.mrp_run.proofs.threads.start_all.Goals as goal
+
+pub loop-plant-preserved : goal.loop-plant-preserved
+loop-plant-preserved g c =
+    let at = c.loop-plant in
+    let plant = c.in-Some.plant in
+    let thread = c.in-Some-start.thread in
+    let pushed : c.push.new.self.items ≡ at.threads.items ++ thread ∷ [] = c.in-Ok.ensures.items in
+    let left = one_left at.yielded (into_iter_items at.plant-iterator) _ c.args.plants.items plant at.invariant.whole c.in-Some.ensures.steps.0 in
+    let size : length at.yielded ≡ length at.threads.items = sym (ap length at.invariant.started_so_far) ∙ length-map at.threads.items (λ t. t.promise.plant.value) in record {
+      whole = whole_next at.yielded (into_iter_items at.plant-iterator) _ c.args.plants.items plant at.invariant.whole c.in-Some.ensures.steps.0;
+      started_so_far = ap started pushed ∙ started_more at.threads.items thread ∙ ap (λ (z : List Plant). z ++ thread.promise.plant.value ∷ []) at.invariant.started_so_far
+          ∙ ap (λ (z : Plant). at.yielded ++ z ∷ []) c.in-Some-start.ensures.plant;
+      room = omega (arith, at.invariant.room, c.push.ensures.capacity);
+      first = subst (AreOfFirst (length c.args.plants.items)) (sym pushed)
+          (All-push (λ t. t.promise.number.0 < length c.args.plants.items) at.threads.items thread at.invariant.first
+            (omega (arith, left, size, c.len.ensures, ap (λ n. n.0) c.in-Some-start.ensures.number, at.threads.ok.0)));
+    }

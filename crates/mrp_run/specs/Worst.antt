@@ -1,0 +1,45 @@
+-- Which of several faults a run answers.
+use Rattle.std.specs.Prelude.{◌≡◌, ◌⊎◌, ℕ, ◌<◌, ◌≤◌, List, [], length, Option, All, Contains, MatchOption}
+use Rattle.mrp_rows.specs.Table.{Table}
+use Rattle.mrp_run.specs.declared.fault.RunFault.{RunFault}
+use Rattle.mrp_run.specs.declared.fault.RunFault.TheVariants.{Memory, ThreadRefused, GateShut, Stopped}
+
+-- the number of a fault
+abbrev pub number_of : RunFault → ℕ
+number_of Memory = 1
+number_of ThreadRefused = 2
+number_of (GateShut plant) = 3
+number_of Stopped = 4
+
+-- the plant whose gate was shut
+abbrev pub plant_of : RunFault → ℕ
+plant_of Memory = 0
+plant_of ThreadRefused = 0
+plant_of (GateShut plant) = plant.0
+plant_of Stopped = 0
+
+-- its number is lower; or the numbers are the same, and of shut gates it is that of the lower plant
+abbrev pub IsBefore : RunFault → RunFault → Type 0
+IsBefore a b = (number_of a < number_of b) ⊎ ((number_of a ≡ number_of b) × (plant_of a ≤ plant_of b))
+
+-- one of these faults, and none of them is before it
+pub record IsWorst (fault : RunFault) (faults : List RunFault) : Type 0 where
+  pub met : Contains faults fault
+  pub first : All (IsBefore fault) faults
+
+-- the worst of these faults, and none where there are none
+abbrev pub IsWorstOf : Option RunFault → List RunFault → Type 0
+IsWorstOf worst faults = MatchOption worst (faults ≡ []) (λ fault. IsWorst fault faults)
+
+-- ---- whose it is
+
+-- a shut gate is that of one of the first so many plants
+abbrev pub IsOfFirst : ℕ → RunFault → Type 0
+IsOfFirst plants Memory = Unit {0}
+IsOfFirst plants ThreadRefused = Unit {0}
+IsOfFirst plants (GateShut plant) = plant.0 < plants
+IsOfFirst plants Stopped = Unit {0}
+
+-- or of a plant of the network
+abbrev pub IsFaultIn : Table → RunFault → Type 0
+IsFaultIn N fault = IsOfFirst (length N.plants) fault
