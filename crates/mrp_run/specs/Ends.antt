@@ -67,11 +67,6 @@ pub record HaveFirst (N : Table) (capacity count : ℕ) (plants : List Plant) : 
   pub rooms : All (HasRoom N capacity) names
   pub idle : AreIdle N names names plants
 
--- the mailboxes of all plants have room
-pub record HasRooms (N : Table) (capacity : ℕ) (P : Plant) : Type 0 where
-  pub sends : All (HasRoom N capacity) (names P.sends.items)
-  pub takes : All (HasRoom N capacity) (names P.takes.items)
-
 -- ---- all plants of a network
 
 -- before the first turn: the ends of all lanes are dealt, and each plant is at work
@@ -84,6 +79,11 @@ pub record AreReady (N : Table) (plants : List Plant) : Type 0 where
   pub all_lanes : AreNames N (length (lanes N)) names
   pub all_plants : length plants ≡ length N.plants
   pub each : EachAt (IsReady N names) plants
+
+-- the mailboxes of a plant's lanes have their rooms
+pub record HasRooms (N : Table) (capacity : ℕ) (P : Plant) : Type 0 where
+  pub sends : All (HasRoom N capacity) (names P.sends.items)
+  pub takes : All (HasRoom N capacity) (names P.takes.items)
 
 -- after the joins: the plants have the same ends, and each has finished
 pub record IsThrough (N : Table) (ns : List Name) (p : ℕ) (P : Plant) : Type 0 where
@@ -120,6 +120,11 @@ pub record HaveLeft (N : Table) (count : ℕ) (plants : List Plant) : Type 0 whe
   pub names : List Name
   pub first_lanes : AreNames N count names
   pub ended : HaveEnded N names names plants
+
+-- no end is there any more
+pub record HasNoEnds (P : Plant) : Type 0 where
+  pub sends : P.sends.items ≡ []
+  pub takes : P.takes.items ≡ []
 
 pub record HavePlans (N : Table) (plants : List Plant) : Type 0 where
   pub all_plants : length plants ≡ length N.plants

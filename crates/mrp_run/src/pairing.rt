@@ -1,9 +1,9 @@
 //! How the ends of the lanes are paired again after the joins, and reconciled.
-ghost use Rattle.std.specs.Prelude.{◌≡◌, ◌+◌, ◌<◌, [], ◌∷◌, ◌++◌, List, length, IfOk, IsSomeAnd};
+ghost use Rattle.std.specs.Prelude.{◌≡◌, ◌+◌, ◌<◌, [], ◌∷◌, ◌++◌, List, length, All, IfOk, IsSomeAnd};
 ghost use Rattle.mrp_rows.specs.Table.{Table};
 ghost use Rattle.mrp_net.specs.Lanes.{lanes, lane_at};
 ghost use Rattle.mrp_lane.specs.Ends.{Name};
-ghost use Rattle.mrp_run.specs.Ends.{AreNames, HaveEnded, HaveLeft, HavePlans};
+ghost use Rattle.mrp_run.specs.Ends.{AreNames, HasNoEnds, HaveEnded, HaveLeft, HavePlans};
 ghost use Rattle.mrp_run.specs.Outcome.{AreSettled, IsSettled};
 ghost use Rattle.mrp_run.specs.Plant.{IsClosed};
 
@@ -28,6 +28,7 @@ pub(crate) fn reconcile_all<R: Wait>(
     requires ended { (ns : List Name) × AreNames network.now (length (lanes network.now)) ns × HaveEnded network.now ns ns plants.old }
     ensures lanes { IfOk result (λ all. AreSettled network.now all.items) }
     ensures plans { IfOk result (λ _. HavePlans network.now plants.new) }
+    ensures no_ends { IfOk result (λ _. All HasNoEnds plants.new) }
 {
     let lanes = network.lanes();
     let mut all = Vec::with_capacity(alloc, lanes)?;

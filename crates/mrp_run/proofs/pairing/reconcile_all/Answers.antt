@@ -29,3 +29,8 @@ returns-clause-lanes g c =
 
 pub returns-clause-plans : goal.returns-clause-plans
 returns-clause-plans g c = pair.have_plans c.args.network.now c.loop-done.plants (length (lanes c.args.network.now) - c.loop-done.done) c.loop-done.invariant.left
+
+pub returns-clause-no_ends : goal.returns-clause-no_ends
+returns-clause-no_ends g c =
+    let N = c.args.network.now in
+    pair.no_ends N c.loop-done.plants (length (lanes N) - c.loop-done.done) (omega (arith, c.lanes-lanes.ensures, c.loop-done-test.false)) c.loop-done.invariant.left
