@@ -1,2 +1,4 @@
 pub mod JoinedFaults
 pub mod JoinedThreads
+pub mod JoinedNetwork
+pub mod GatheredPlans
