@@ -1,0 +1,6 @@
+pub mod PlanningLaws
+pub mod Ready
+pub mod Fronts
+pub mod Keeping
+pub mod Drafting
+pub mod Joining

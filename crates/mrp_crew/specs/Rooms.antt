@@ -32,7 +32,7 @@ pairs_of works = map (λ work. work.pair) works
 -- and of all where each could be started. Rooms that none took are still rooms.
 pub record AreDrafts (A : AgentState) (pairs : List PairNo) (drafts : Drafts) : Type 0 where
   pub left_out : List PairNo
-  pub front : pairs ≡ reverse (pairs_of drafts.works.items) ++ left_out
+  pub front : pairs ≡ pairs_of (reverse drafts.works.items) ++ left_out
   pub all : drafts.all ≡ true → length drafts.works.items ≡ length pairs
   pub worked : All (WorkedFor A) drafts.works.items
   pub rooms : All (IsRoom A.view.horizon) drafts.rooms.items

@@ -1,6 +1,6 @@
 -- The threads of a wave.
 use Rattle.std.specs.Prelude.{◌≡◌, List, map}
-use Rattle.core.specs.declared.thread.PromisedHandle.{PromisedHandle}
+use Rattle.std.specs.declared.thread.PromisedHandle.{PromisedHandle}
 use Rattle.mrp_rows.specs.declared.numbers.PairNo.{PairNo}
 use Rattle.mrp_agent.specs.State.{AgentState}
 use Rattle.mrp_crew.specs.declared.work.Order.{Order}

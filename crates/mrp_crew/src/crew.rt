@@ -122,12 +122,14 @@ impl Crew {
         ensures planned { (xs : List PairNo) × PlansAll agent.old agent.new xs × OnOk result (0 < length xs) }
     {
         refill(alloc, &mut self.rooms, self.horizon, self.workers)?;
-        let size = agent.ready_pairs().len().min(self.workers as usize);
-        let works = Vec::with_capacity(alloc, size)?;
-        let workers = Vec::with_capacity(alloc, size - 1)?;
+        let others = agent.ready_pairs().len().min(self.workers as usize) - 1;
+        let works = Vec::with_capacity(alloc, others + 1)?;
+        let workers = Vec::with_capacity(alloc, others)?;
         let rooms = mem::replace(&mut self.rooms, Vec::new(alloc));
-        let pairs = &agent.ready_pairs()[..size];
-        let drafts = draft_wave(rt, agent, plant, gate, pairs, rooms, workers, works);
+        let pairs = agent.ready_pairs();
+        let own = pairs[others];
+        let others = &pairs[..others];
+        let drafts = draft_wave(rt, agent, plant, gate, others, own, rooms, workers, works);
         let Drafts { works, all, rooms } = drafts;
         self.rooms = rooms;
         let open = settle_all(agent, works, &mut self.rooms);

@@ -1,4 +1,5 @@
 use mrp_qty::Memory;
+use std::alloc::AllocError;
 use thiserror::Error;
 
 /// Why a crew gave up before all was planned.
@@ -17,6 +18,12 @@ pub enum CrewFault {
 
 impl From<Memory> for CrewFault {
     fn from(_refusal: Memory) -> CrewFault {
+        CrewFault::Memory
+    }
+}
+
+impl From<AllocError> for CrewFault {
+    fn from(_refusal: AllocError) -> CrewFault {
         CrewFault::Memory
     }
 }

@@ -1,5 +1,5 @@
 //! What a worker drafts a plan in.
-ghost use Rattle.std.specs.Prelude.{◌≡◌, ◌≤◌, All, IfOk, OnOk, length};
+ghost use Rattle.std.specs.Prelude.{◌≡◌, ◌≤◌, ℕ, All, IfOk, OnOk, length};
 ghost use Rattle.mrp_crew.specs.Rooms.{IsRoom};
 
 use mrp_netting::PairPlan;
@@ -46,4 +46,11 @@ pub(crate) fn refill(
         rooms.push(room)?;
     }
     Ok(())
+}
+
+/// Puts a room back among the others; where there is no place for it, it is let go.
+pub(crate) fn put_back(rooms: &mut Vec<Room>, room: Room)
+    ensures { (horizon : ℕ) → All (IsRoom horizon) rooms.old.items → IsRoom horizon room → All (IsRoom horizon) rooms.new.items }
+{
+    let _ = rooms.push(room);
 }

@@ -1,12 +1,13 @@
 //! The agent keeps what the workers of a wave drafted.
-ghost use Rattle.std.specs.Prelude.{◌≡◌, ◌≢◌, true, List, length, reverse, All, AllPairs, Contains, OnTrue};
+ghost use Rattle.std.specs.Prelude.{◌≡◌, ◌≢◌, true, List, length, reverse, All, Contains};
+ghost use Rattle.std.specs.Bool.{OnTrue};
 ghost use Rattle.mrp_rows.specs.declared.numbers.PairNo.{PairNo};
 ghost use Rattle.mrp_agent.specs.Drafts.{drafted, ready_numbers};
 ghost use Rattle.mrp_crew.specs.Planning.{IsPlannable, PlansAll};
-ghost use Rattle.mrp_crew.specs.Rooms.{IsRoom, WorkedFor, pairs_of};
-ghost use Rattle.mrp_crew.specs.Settled.{StaysReady};
+ghost use Rattle.mrp_crew.specs.Rooms.{IsRoom, WorkedFor};
+ghost use Rattle.mrp_crew.specs.Settled.{AreToSettle, StaysReady};
 
-use crate::room::Room;
+use crate::room::{Room, put_back};
 use crate::work::Work;
 use mrp_agent::Agent;
 
@@ -14,33 +15,32 @@ use mrp_agent::Agent;
 /// was open to all.
 pub(crate) fn settle_all(agent: &mut Agent, mut works: Vec<Work>, rooms: &mut Vec<Room>) -> bool
     requires plannable { IsPlannable agent.old }
-    requires ready { All (Contains (ready_numbers agent.old)) (reverse (pairs_of works.items)) }
-    requires once { AllPairs (λ x y. x ≢ y) (reverse (pairs_of works.items)) }
-    requires worked { All (WorkedFor agent.old) works.items }
+    requires drafts { AreToSettle agent.old (reverse works.items) }
     requires rooms { All (IsRoom agent.old.view.horizon) rooms.old.items }
     ensures rooms { All (IsRoom agent.old.view.horizon) rooms.new.items }
     ensures planned { (xs : List PairNo) × PlansAll agent.old agent.new xs × OnTrue result (length xs ≡ length works.items) }
 {
     let mut all = true;
     while let Some(work) = works.pop() {
-        let open = settle(agent, &work);
-        all = all && open;
-        let _ = rooms.push(work.room);
+        let kept = settle(agent, &work, all);
+        all = kept;
+        put_back(rooms, work.room);
     }
     all
 }
 
-/// Has the agent keep a plan where it was drafted, and answers whether it was.
-fn settle(agent: &mut Agent, work: &Work) -> bool
+/// Has the agent keep a plan where it was drafted. The answer is whether it was, and `before` with it.
+fn settle(agent: &mut Agent, work: &Work, before: bool) -> bool
     requires plannable { IsPlannable agent.old }
     requires ready { Contains (ready_numbers agent.old) work.now.pair }
     requires worked { WorkedFor agent.old work.now }
-    ensures planned { (xs : List PairNo) × PlansAll agent.old agent.new xs × OnTrue result (length xs ≡ 1) }
+    ensures planned { (xs : List PairNo) × PlansAll agent.old agent.new xs × OnTrue result ((before ≡ true) × (length xs ≡ 1)) }
     ensures others { (y : PairNo) → Contains (ready_numbers agent.old) y → y ≢ work.now.pair → StaysReady agent.old agent.new y }
 {
     let _ready = agent.ready_pairs();
-    if work.open {
-        agent.settle(work.pair, &work.room.plan);
+    if !work.open {
+        return false;
     }
-    work.open
+    agent.settle(work.pair, &work.room.plan);
+    before
 }

@@ -1,5 +1,6 @@
 //! The threads of a wave: started, and joined.
-ghost use Rattle.std.specs.Prelude.{◌≡◌, ◌≢◌, ◌+◌, ◌++◌, ◌<◌, ◌≤◌, true, List, length, map, reverse, take, All, AllPairs, IfSome, OnTrue, vec_capacity};
+ghost use Rattle.std.specs.Prelude.{◌≡◌, ◌≢◌, ◌+◌, ◌++◌, ◌<◌, ◌≤◌, true, List, [], ◌∷◌, length, map, reverse, take, All, AllPairs, IfSome, vec_capacity};
+ghost use Rattle.std.specs.Bool.{OnTrue};
 ghost use Rattle.mrp_rows.specs.declared.numbers.PairNo.{PairNo};
 ghost use Rattle.mrp_agent.specs.Drafts.{CanDraft, ready_numbers};
 ghost use Rattle.mrp_agent.specs.State.{AgentState};
@@ -7,8 +8,8 @@ ghost use Rattle.mrp_crew.specs.Planning.{IsPlannable};
 ghost use Rattle.mrp_crew.specs.Rooms.{AreDrafts, IsRoom, WorkedFor, pairs_of};
 ghost use Rattle.mrp_crew.specs.Started.{IsFor, IsStarted, ordered};
 
-use crate::room::Room;
-use crate::work::{Drafts, Order, Work, work};
+use crate::room::{Room, put_back};
+use crate::work::{Drafts, Order, Work, draft_pair};
 use mrp_agent::{Agent, Gate};
 use mrp_net::PairNo;
 use std::snapshot::Snapshot;
@@ -19,38 +20,43 @@ use std::thread::{PromisedHandle, Scope, Threads};
 /// A thread that drafts the plan of a pair.
 pub(crate) type Worker = PromisedHandle<Work, Order>;
 
-/// Drafts the plans of these pairs, the last one's in the calling thread and each other one's in a thread
-/// of its own. It returns when all of them have returned.
+/// Drafts the plans of pairs, of one in the calling thread and of each other one in a thread of its own.
+/// It returns when all of them have returned.
 pub(crate) fn draft_wave<R: Threads + Wait + Sync, G: Gate>(
     rt: &R,
     agent: &Agent,
     plant: usize,
     gate: &G,
-    pairs: &[PairNo],
+    others: &[PairNo],
+    own: PairNo,
     rooms: Vec<Room>,
     workers: Vec<Worker>,
     works: Vec<Work>,
 ) -> Drafts
-    requires some { 0 < length pairs.now }
-    requires can { All (CanDraft agent.now) pairs.now }
+    requires others { All (CanDraft agent.now) others.now }
+    requires own { CanDraft agent.now own }
     requires rooms { All (IsRoom agent.now.view.horizon) rooms.items }
-    requires enough { length pairs.now ≤ length rooms.items }
-    requires workers { (workers.items ≡ []) × (length pairs.now ≤ vec_capacity workers + 1) }
-    requires works { (works.items ≡ []) × (length pairs.now ≤ vec_capacity works) }
-    ensures { AreDrafts agent.now pairs.now result }
+    requires enough { length others.now < length rooms.items }
+    requires workers { (workers.items ≡ []) × (length others.now ≤ vec_capacity workers) }
+    requires works { (works.items ≡ []) × (length others.now < vec_capacity works) }
+    ensures { AreDrafts agent.now (others.now ++ own ∷ []) result }
 {
     thread::scope(
         thread::scope_env(),
         rt,
         move |scope| -> Drafts
-            requires some { 0 < length pairs.now }
-            requires can { All (CanDraft agent.now) pairs.now }
+            requires others { All (CanDraft agent.now) others.now }
+            requires own { CanDraft agent.now own }
             requires rooms { All (IsRoom agent.now.view.horizon) rooms.items }
-            requires enough { length pairs.now ≤ length rooms.items }
-            requires workers { (workers.items ≡ []) × (length pairs.now ≤ vec_capacity workers + 1) }
-            requires works { (works.items ≡ []) × (length pairs.now ≤ vec_capacity works) }
-            ensures { AreDrafts agent.entry.now pairs.entry.now result }
-        { draft_beside(scope, rt, agent, plant, gate, pairs, rooms, workers, works) },
+            requires enough { length others.now < length rooms.items }
+            requires workers { (workers.items ≡ []) × (length others.now ≤ vec_capacity workers) }
+            requires works { (works.items ≡ []) × (length others.now < vec_capacity works) }
+            ensures { AreDrafts agent.entry.now (others.entry.now ++ own ∷ []) result }
+        {
+            draft_beside(
+                scope, rt, agent, plant, gate, others, own, rooms, workers, works,
+            )
+        },
     )
 }
 
@@ -61,31 +67,34 @@ fn draft_beside<'s, E, R: Threads, G: Gate>(
     agent: &'s Agent,
     plant: usize,
     gate: &'s G,
-    pairs: &[PairNo],
+    others: &[PairNo],
+    own: PairNo,
     mut rooms: Vec<Room>,
     mut workers: Vec<Worker>,
     mut works: Vec<Work>,
 ) -> Drafts
-    requires some { 0 < length pairs.now }
-    requires can { All (CanDraft agent.now) pairs.now }
+    requires others { All (CanDraft agent.now) others.now }
+    requires own { CanDraft agent.now own }
     requires rooms { All (IsRoom agent.now.view.horizon) rooms.items }
-    requires enough { length pairs.now ≤ length rooms.items }
-    requires workers { (workers.items ≡ []) × (length pairs.now ≤ vec_capacity workers + 1) }
-    requires works { (works.items ≡ []) × (length pairs.now ≤ vec_capacity works) }
-    ensures { AreDrafts agent.now pairs.now result }
+    requires enough { length others.now < length rooms.items }
+    requires workers { (workers.items ≡ []) × (length others.now ≤ vec_capacity workers) }
+    requires works { (works.items ≡ []) × (length others.now < vec_capacity works) }
+    ensures { AreDrafts agent.now (others.now ++ own ∷ []) result }
 {
     let Some(room) = rooms.pop() else {
         unreachable!()
     };
-    let last = pairs.len() - 1;
-    let others = &pairs[..last];
     let all = start_all(scope, agent, plant, gate, others, &mut rooms, &mut workers);
-    if all {
-        let own = work(agent, plant, gate, last as u64 + 1, pairs[last], room);
-        let _ = works.push(own);
-    } else {
-        let _ = rooms.push(room);
+    if !all {
+        put_back(&mut rooms, room);
+        join_all(rt, workers, &mut works);
+        return Drafts { works, all, rooms };
     }
+    let number = others.len() as u64 + 1;
+    let drafted = draft_pair(agent, plant, gate, number, own, room);
+    let Ok(()) = works.push(drafted) else {
+        unreachable!()
+    };
     join_all(rt, workers, &mut works);
     Drafts { works, all, rooms }
 }
@@ -106,6 +115,7 @@ fn start_all<'s, E, G: Gate>(
     requires workers { (workers.old.items ≡ []) × (length pairs.now ≤ vec_capacity workers.old) }
     ensures rooms { All (IsRoom agent.now.view.horizon) rooms.new.items }
     ensures started { (rest : List PairNo) × (pairs.now ≡ ordered workers.new.items ++ rest) × OnTrue result (rest ≡ []) }
+    ensures few { length workers.new.items ≤ length pairs.now }
     ensures agent { All (IsFor agent.now) workers.new.items }
 {
     for pair in pairs {
@@ -141,9 +151,15 @@ fn start<'s, E, G: Gate>(
         agent: Snapshot::of(agent),
         pair,
     };
-    let started = scope.spawn_with(order, move || {
-        work(agent, plant, gate, number, pair, room)
-    });
+    let started = scope.spawn_with(
+        order,
+        move || -> Work
+            requires can { CanDraft agent.now pair }
+            requires room { IsRoom agent.now.view.horizon room }
+            ensures pair { result.pair ≡ pair }
+            ensures worked { WorkedFor agent.entry.now result }
+        { draft_pair(agent, plant, gate, number, pair, room) },
+    );
     match started {
         Ok(worker) => Some(worker),
         Err(_) => None,
@@ -153,7 +169,7 @@ fn start<'s, E, G: Gate>(
 /// Joins the threads, the last first, and puts their results behind those before them.
 fn join_all<R: Threads>(rt: &R, mut workers: Vec<Worker>, works: &mut Vec<Work>)
     requires room { length workers.items + length works.old.items ≤ vec_capacity works.old }
-    ensures pairs { reverse (pairs_of works.new.items) ≡ ordered workers.items ++ reverse (pairs_of works.old.items) }
+    ensures pairs { pairs_of (reverse works.new.items) ≡ ordered workers.items ++ pairs_of (reverse works.old.items) }
     ensures worked { (A : AgentState) → All (IsFor A) workers.items → All (WorkedFor A) works.old.items → All (WorkedFor A) works.new.items }
 {
     while let Some(worker) = workers.pop() {

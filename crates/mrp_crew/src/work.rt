@@ -41,7 +41,7 @@ pub(crate) struct Drafts {
 }
 
 /// A worker asks the gate, and where it is open drafts the plan of its pair.
-pub(crate) fn work<G: Gate>(
+pub(crate) fn draft_pair<G: Gate>(
     agent: &Agent,
     plant: usize,
     gate: &G,
@@ -54,9 +54,17 @@ pub(crate) fn work<G: Gate>(
     ensures pair { result.pair ≡ pair }
     ensures worked { WorkedFor agent.now result }
 {
-    let open = gate.worker(plant, number);
-    if open {
-        agent.draft(pair, &mut room.incoming, &mut room.gross, &mut room.plan);
+    if !gate.worker(plant, number) {
+        return Work {
+            pair,
+            open: false,
+            room,
+        };
     }
-    Work { pair, open, room }
+    agent.draft(pair, &mut room.incoming, &mut room.gross, &mut room.plan);
+    Work {
+        pair,
+        open: true,
+        room,
+    }
 }

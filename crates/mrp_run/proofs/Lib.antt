@@ -1,3 +1,14 @@
+pub mod Held
+pub mod Placed
+pub mod Keeping
+pub mod Booked
+pub mod Offered
+pub mod Done
+pub mod DealtLists
+pub mod Dealt
+pub mod DealtReady
+pub mod Paired
+pub mod PairedSettled
 pub mod JoinedFaults
 pub mod JoinedThreads
 pub mod JoinedNetwork

@@ -1,12 +1,15 @@
 -- The lanes of a network dealt to its plants: each plant has the sender's end of each lane that goes from it
 -- and the receiver's end of each that comes to it, in lane order.
-use Rattle.std.specs.Prelude.{◌≡◌, ℕ, zero, suc, ◌<◌, Bool, List, [], ◌∷◌, ◌++◌, length, filter, slice_index_or, All}
+use Rattle.std.specs.Prelude.{◌≡◌, ℕ, zero, suc, ◌<◌, Bool, List, [], ◌∷◌, ◌++◌, min, length, filter, slice_index_or, All}
 use Rattle.mrp_rows.specs.Table.{Table}
-use Rattle.mrp_net.specs.Lanes.{lanes}
+use Rattle.mrp_net.specs.Lanes.{lanes, lane_at}
+use Rattle.mrp_net.specs.Texts.{longest_text}
 use Rattle.mrp_view.specs.View.{comes_to, goes_from, plant_rows}
 use Rattle.mrp_loops.specs.Within.{plan_at}
 use Rattle.mrp_local.specs.Laws.{IsPairAt}
-use Rattle.mrp_lane.specs.Ends.{Name}
+use Rattle.mrp_events.specs.State.{opening_state}
+use Rattle.mrp_lane.specs.Ends.{End, Name}
+use Rattle.mrp_agent.specs.Shows.{Shows}
 use Rattle.mrp_agent.specs.State.{AgentState, plans_of}
 use Rattle.mrp_run.specs.declared.plant.Plant.{Plant}
 use Rattle.mrp_run.specs.Plant.{IsClosed, names}
@@ -28,11 +31,46 @@ is_from N p n = goes_from N p n.lane
 abbrev pub is_to : Table → ℕ → Name → Bool
 is_to N p n = comes_to N p n.lane
 
+-- nothing went through an end
+abbrev pub IsEmpty : End → Type 0
+IsEmpty e = e.list ≡ []
+
 -- of the lanes with the first names the plant has the sender's ends of those that go from it, and of the
 -- lanes with the second names the receiver's ends of those that come to it
 pub record IsDealt (N : Table) (sends takes : List Name) (p : ℕ) (P : Plant) : Type 0 where
   pub sends_are : names P.sends.items ≡ filter (is_from N p) sends
   pub takes_are : names P.takes.items ≡ filter (is_to N p) takes
+
+-- ---- dealing
+
+-- before the first turn, with the ends of the lanes of these names: the agent sees its plant and shows that
+-- nothing was sent, taken or planned, and nothing went through an end
+pub record IsIdle (N : Table) (sends takes : List Name) (p : ℕ) (P : Plant) : Type 0 where
+  pub dealt : IsDealt N sends takes p P
+  pub view : P.agent.view ≡ plant_rows N p
+  pub opens : Shows P.agent opening_state.sent opening_state.taken opening_state.planned
+  pub sent : All IsEmpty P.sends.items
+  pub taken : All IsEmpty P.takes.items
+
+pub record AreIdle (N : Table) (sends takes : List Name) (plants : List Plant) : Type 0 where
+  pub all_plants : length plants ≡ length N.plants
+  pub each : EachAt (IsIdle N sends takes) plants
+
+-- a mailbox has room for so many records, or for the longest text of its lane where that is less
+abbrev pub HasRoom : Table → ℕ → Name → Type 0
+HasRoom N capacity n = n.room ≡ min capacity (longest_text N (lane_at N n.lane))
+
+-- both ends of the first lanes are dealt
+pub record HaveFirst (N : Table) (capacity count : ℕ) (plants : List Plant) : Type 0 where
+  pub names : List Name
+  pub first_lanes : AreNames N count names
+  pub rooms : All (HasRoom N capacity) names
+  pub idle : AreIdle N names names plants
+
+-- the mailboxes of all plants have room
+pub record HasRooms (N : Table) (capacity : ℕ) (P : Plant) : Type 0 where
+  pub sends : All (HasRoom N capacity) (names P.sends.items)
+  pub takes : All (HasRoom N capacity) (names P.takes.items)
 
 -- ---- all plants of a network
 
@@ -76,6 +114,12 @@ pub record HasEnded (N : Table) (sends takes : List Name) (p : ℕ) (P : Plant) 
 pub record HaveEnded (N : Table) (sends takes : List Name) (plants : List Plant) : Type 0 where
   pub all_plants : length plants ≡ length N.plants
   pub each : EachAt (HasEnded N sends takes) plants
+
+-- both ends of the first lanes are there yet
+pub record HaveLeft (N : Table) (count : ℕ) (plants : List Plant) : Type 0 where
+  pub names : List Name
+  pub first_lanes : AreNames N count names
+  pub ended : HaveEnded N names names plants
 
 pub record HavePlans (N : Table) (plants : List Plant) : Type 0 where
   pub all_plants : length plants ≡ length N.plants

@@ -1,7 +1,11 @@
 //! How the plants of a network are made, and the ends of its lanes dealt to them.
-ghost use Rattle.std.specs.Prelude.{◌≡◌, ◌≤◌, ◌<◌, IfOk, length};
+ghost use Rattle.std.specs.Prelude.{◌≡◌, ◌+◌, ◌≤◌, ◌<◌, [], ◌∷◌, ◌++◌, List, All, IfOk, OnOk, length};
+ghost use Rattle.mrp_rows.specs.Table.{Table};
+ghost use Rattle.mrp_net.specs.Lanes.{lanes, lane_at};
+ghost use Rattle.mrp_loops.specs.Sized.{IsSized};
 ghost use Rattle.mrp_lane.specs.declared.making.TheConstants.{MOST_ROOM};
-ghost use Rattle.mrp_run.specs.Ends.{AreReady};
+ghost use Rattle.mrp_lane.specs.Ends.{Name};
+ghost use Rattle.mrp_run.specs.Ends.{AreIdle, AreReady, HasRooms, HaveFirst, IsEmpty, IsIdle};
 
 use crate::plant::Plant;
 use mrp_agent::Agent;
@@ -24,7 +28,8 @@ pub(crate) fn ready_plants(
     capacity: u64,
 ) -> Result<Vec<Plant>, Memory>
     requires capacity { (1 ≤ capacity) × (capacity ≤ MOST_ROOM) }
-    ensures { IfOk result (λ plants. AreReady net.now.network plants.items) }
+    ensures ready { IfOk result (λ plants. AreReady net.now.network plants.items) }
+    ensures rooms { IfOk result (λ plants. All (HasRooms net.now.network capacity) plants.items) }
 {
     let network = net.network();
     let mut plants = idle_plants(alloc, network)?;
@@ -35,7 +40,10 @@ pub(crate) fn ready_plants(
 }
 
 /// The plants, with no ends yet.
-fn idle_plants(alloc: Global, network: &Network) -> Result<Vec<Plant>, Memory> {
+fn idle_plants(alloc: Global, network: &Network) -> Result<Vec<Plant>, Memory>
+    requires sized { IsSized network.now }
+    ensures { IfOk result (λ plants. AreIdle network.now [] [] plants.items) }
+{
     let mut plants = Vec::with_capacity(alloc, network.plants())?;
     for p in 0..network.plants() {
         plants.push(idle_plant(alloc, network, PlantNo(p))?)?;
@@ -44,7 +52,10 @@ fn idle_plants(alloc: Global, network: &Network) -> Result<Vec<Plant>, Memory> {
 }
 
 /// A plant with no ends yet.
-fn idle_plant(alloc: Global, network: &Network, plant: PlantNo) -> Result<Plant, Memory> {
+fn idle_plant(alloc: Global, network: &Network, plant: PlantNo) -> Result<Plant, Memory>
+    requires sized { IsSized network.now }
+    ensures { IfOk result (λ idle. IsIdle network.now [] [] plant.0 idle) }
+{
     let view = PlantView::of(alloc, network, plant)?;
     Ok(Plant {
         agent: Agent::new(alloc, view)?,
@@ -53,14 +64,19 @@ fn idle_plant(alloc: Global, network: &Network, plant: PlantNo) -> Result<Plant,
     })
 }
 
-/// Makes the mailbox of a lane and deals its two ends.
+/// Makes the mailbox of the next lane and deals its two ends.
 fn deal(
     alloc: Global,
     net: &SizedNet<'_>,
     number: LaneNo,
     capacity: u64,
     plants: &mut [Plant],
-) -> Result<(), Memory> {
+) -> Result<(), Memory>
+    requires lane { number.0 < length (lanes net.now.network) }
+    requires capacity { (1 ≤ capacity) × (capacity ≤ MOST_ROOM) }
+    requires first { HaveFirst net.now.network capacity number.0 plants.old }
+    ensures next { OnOk result (HaveFirst net.now.network capacity (number.0 + 1) plants.new) }
+{
     let between = net.network().lane(number);
     let (send, take) = lane(alloc, net, number, capacity)?;
     deal_send(plants, between.sender, send)?;
@@ -68,14 +84,22 @@ fn deal(
     Ok(())
 }
 
-/// Deals the sender's end.
-fn deal_send(plants: &mut [Plant], sender: PlantNo, end: SendEnd) -> Result<(), Memory> {
+/// Deals the sender's end of a new lane.
+fn deal_send(plants: &mut [Plant], sender: PlantNo, end: SendEnd) -> Result<(), Memory>
+    requires there { sender.0 < length plants.old }
+    ensures { OnOk result ((N : Table) (ns ts : List Name) → (lane_at N end.name.lane).sender.0 ≡ sender.0 → IsEmpty end → AreIdle N ns ts plants.old
+        → AreIdle N (ns ++ end.name ∷ []) ts plants.new) }
+{
     plants[sender.0].sends.push(end)?;
     Ok(())
 }
 
-/// Deals the receiver's end.
-fn deal_take(plants: &mut [Plant], receiver: PlantNo, end: TakeEnd) -> Result<(), Memory> {
+/// Deals the receiver's end of a new lane.
+fn deal_take(plants: &mut [Plant], receiver: PlantNo, end: TakeEnd) -> Result<(), Memory>
+    requires there { receiver.0 < length plants.old }
+    ensures { OnOk result ((N : Table) (ns ts : List Name) → (lane_at N end.name.lane).receiver.0 ≡ receiver.0 → IsEmpty end → AreIdle N ns ts plants.old
+        → AreIdle N ns (ts ++ end.name ∷ []) plants.new) }
+{
     plants[receiver.0].takes.push(end)?;
     Ok(())
 }

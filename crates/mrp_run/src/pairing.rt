@@ -1,10 +1,10 @@
 //! How the ends of the lanes are paired again after the joins, and reconciled.
-ghost use Rattle.std.specs.Prelude.{◌≡◌, ◌<◌, [], ◌∷◌, ◌++◌, List, length, IfOk, IsSomeAnd};
+ghost use Rattle.std.specs.Prelude.{◌≡◌, ◌+◌, ◌<◌, [], ◌∷◌, ◌++◌, List, length, IfOk, IsSomeAnd};
 ghost use Rattle.mrp_rows.specs.Table.{Table};
 ghost use Rattle.mrp_net.specs.Lanes.{lanes, lane_at};
 ghost use Rattle.mrp_lane.specs.Ends.{Name};
-ghost use Rattle.mrp_run.specs.Ends.{AreNames, HaveEnded, HavePlans};
-ghost use Rattle.mrp_run.specs.Outcome.{AreSettled};
+ghost use Rattle.mrp_run.specs.Ends.{AreNames, HaveEnded, HaveLeft, HavePlans};
+ghost use Rattle.mrp_run.specs.Outcome.{AreSettled, IsSettled};
 ghost use Rattle.mrp_run.specs.Plant.{IsClosed};
 
 use crate::plant::Plant;
@@ -48,6 +48,9 @@ fn reconcile_last<R: Wait>(
     plants: &mut [Plant],
 ) -> Result<Reconciled, Memory>
     requires lane { lane.0 < length (lanes network.now) }
+    requires left { HaveLeft network.now (lane.0 + 1) plants.old }
+    ensures settled { IfOk result (λ r. IsSettled network.now lane.0 r) }
+    ensures left { IfOk result (λ _. HaveLeft network.now lane.0 plants.new) }
 {
     let between = network.lane(lane);
     let Some(send) = last_send(plants, between.sender) else {
@@ -61,6 +64,7 @@ fn reconcile_last<R: Wait>(
 
 /// Takes the last sender's end of a plant.
 fn last_send(plants: &mut [Plant], sender: PlantNo) -> Option<SendEnd>
+    requires there { sender.0 < length plants.old }
     ensures last { (N : Table) (ns ts : List Name) (n : Name) → (lane_at N n.lane).sender.0 ≡ sender.0 → HaveEnded N (ns ++ n ∷ []) ts plants.old
         → IsSomeAnd result (λ e. (e.name ≡ n) × IsClosed e) × HaveEnded N ns ts plants.new }
 {
@@ -69,6 +73,7 @@ fn last_send(plants: &mut [Plant], sender: PlantNo) -> Option<SendEnd>
 
 /// Takes the last receiver's end of a plant.
 fn last_take(plants: &mut [Plant], receiver: PlantNo) -> Option<TakeEnd>
+    requires there { receiver.0 < length plants.old }
     ensures last { (N : Table) (ns ts : List Name) (n : Name) → (lane_at N n.lane).receiver.0 ≡ receiver.0 → HaveEnded N ns (ts ++ n ∷ []) plants.old
         → IsSomeAnd result (λ e. (e.name ≡ n) × IsClosed e) × HaveEnded N ns ts plants.new }
 {

@@ -1,5 +1,6 @@
 //! The thread of one plant.
-ghost use Rattle.std.specs.Prelude.{◌≡◌, IfOk};
+ghost use Rattle.std.specs.Prelude.{◌≡◌, IfErr, IfOk, IfSome};
+ghost use Rattle.mrp_run.specs.Faults.{IsOf};
 ghost use Rattle.mrp_run.specs.Plant as at;
 ghost use Rattle.mrp_run.specs.Steps.{IsAtWork, Keeps, Finishes};
 
@@ -51,6 +52,7 @@ pub fn run_plant<R: Threads + Wait + Sync, G: Gate>(
     ensures crew { crew.new ≡ crew.old }
     ensures kept { IfOk result (λ r. at.Kept agent sends.items takes.items r.0 r.1.items r.2.items) }
     ensures finished { IfOk result (λ r. at.HasFinished agent sends.items takes.items r.0 r.1.items r.2.items) }
+    ensures fault { IfErr result (λ why. IfSome why (IsOf plant)) }
 {
     let owned = Plant {
         agent,
@@ -80,6 +82,7 @@ pub(crate) fn run_owned<R: Threads + Wait + Sync, G: Gate>(
     requires horizon { crew.old.horizon ≡ plant.agent.view.horizon }
     ensures crew { crew.new ≡ crew.old }
     ensures finishes { IfOk result (λ after. Finishes plant after) }
+    ensures fault { IfErr result (λ why. IfSome why (IsOf number)) }
 {
     let outcome = work(rt, alloc, number, plant, crew, gate, stop, turns);
     if outcome.is_err() {
@@ -103,6 +106,7 @@ fn work<R: Threads + Wait + Sync, G: Gate>(
     requires horizon { crew.old.horizon ≡ plant.agent.view.horizon }
     ensures crew { crew.new ≡ crew.old }
     ensures finishes { IfOk result (λ after. Finishes plant after) }
+    ensures fault { IfErr result (λ why. IfSome why (IsOf number)) }
 {
     for turn in 0..turns {
         begin(number, turn + 1, gate, stop)?;
@@ -123,7 +127,9 @@ fn begin<G: Gate>(
     turn: u64,
     gate: &G,
     stop: &AtomicBool,
-) -> Result<(), Option<RunFault>> {
+) -> Result<(), Option<RunFault>>
+    ensures fault { IfErr result (λ why. IfSome why (IsOf number)) }
+{
     if stop.load(Ordering::SeqCst) {
         Err(None)
     } else if gate.turn(number.0, turn) {
@@ -146,6 +152,7 @@ fn take_turn<R: Threads + Wait + Sync, G: Gate>(
     requires horizon { crew.old.horizon ≡ plant.old.agent.view.horizon }
     ensures crew { crew.new ≡ crew.old }
     ensures kept { Keeps plant.old plant.new }
+    ensures fault { IfErr result (IsOf number) }
 {
     let came = book_all(rt, plant);
     let planned = plan_all(rt, alloc, number, plant, crew, gate)?;
@@ -166,6 +173,7 @@ fn plan_all<R: Threads + Wait + Sync, G: Gate>(
     requires horizon { crew.old.horizon ≡ plant.old.agent.view.horizon }
     ensures crew { crew.new ≡ crew.old }
     ensures kept { Keeps plant.old plant.new }
+    ensures fault { IfErr result (IsOf number) }
 {
     match crew.plan_ready(rt, alloc, &mut plant.agent, number.0, gate) {
         Ok(count) => Ok(count > 0),

@@ -36,7 +36,11 @@ impl Settings {
             && workers <= MOST_WORKERS
             && 1 <= capacity
             && capacity <= MOST_ROOM;
-        fits.then_some(Settings { workers, capacity })
+        if fits {
+            Some(Settings { workers, capacity })
+        } else {
+            None
+        }
     }
 
     /// How many workers each plant has.

@@ -1,0 +1,70 @@
+-- What threads were started for, and what they bring back.
+use Rattle.std.proofs.Common.{◌≡◌, ℕ, suc, ◌+◌, ◌<◌, Bool, true, false, List, [], ◌∷◌, ◌++◌, length, map, reverse, take, get_or, refl, sym, ap, ◌∙◌, subst, All, add-one}
+use Rattle.std.proofs.Math.Seq.{take-suc}
+use Rattle.std.proofs.lemmas.Bool.{false≢true}
+use Rattle.std.proofs.lemmas.List.{append_assoc, append-nil, length-map, length-reverse, map-append}
+use Rattle.std.specs.declared.thread.PromisedHandle.{PromisedHandle}
+use Rattle.mrp_rows.specs.declared.numbers.PairNo.{PairNo}
+use Rattle.mrp_agent.specs.State.{AgentState}
+use Rattle.mrp_crew.specs.declared.work.Drafts.{Drafts}
+use Rattle.mrp_crew.specs.declared.work.Order.{Order}
+use Rattle.mrp_crew.specs.declared.work.Work.{Work}
+use Rattle.mrp_crew.specs.Rooms.{AreDrafts, IsRoom, WorkedFor, pairs_of}
+use Rattle.mrp_crew.specs.Started.{ordered}
+use Rattle.mrp_crew.proofs.Fronts.{reverse-push}
+
+abbrev Worker : Type 0
+Worker = PromisedHandle Work Order
+
+-- one more thread
+ordered-push : (workers more : List Worker) (h : Worker) → more ≡ workers ++ h ∷ [] → ordered more ≡ ordered workers ++ h.promise.pair ∷ []
+ordered-push workers more h is = ap ordered is ∙ map-append (λ (w : Worker). w.promise.pair) workers (h ∷ [])
+
+pub started_next : (pairs : List PairNo) (i : ℕ) (d : PairNo) (workers more : List Worker) (h : Worker) → i < length pairs → take i pairs ≡ ordered workers
+    → more ≡ workers ++ h ∷ [] → h.promise.pair ≡ get_or pairs i d → take (i + 1) pairs ≡ ordered more
+started_next pairs i d workers more h within so_far pushed its =
+    ap (λ (n : ℕ). take n pairs) (add-one i) ∙ take-suc pairs i d within ∙ ap (λ (z : List PairNo). z ++ get_or pairs i d ∷ []) so_far
+    ∙ ap (λ (x : PairNo). ordered workers ++ x ∷ []) (sym its) ∙ sym (ordered-push workers more h pushed)
+
+-- one is joined
+pub joined_pairs : (workers rest : List Worker) (h : Worker) (works more : List Work) (w : Work) (pairs : List PairNo) → workers ≡ rest ++ h ∷ [] → more ≡ works ++ w ∷ []
+    → w.pair ≡ h.promise.pair → ordered workers ++ pairs_of (reverse works) ≡ pairs → ordered rest ++ pairs_of (reverse more) ≡ pairs
+joined_pairs workers rest h works more w pairs popped pushed its so_far =
+    ap (λ (z : List Work). ordered rest ++ pairs_of z) (ap (λ (z : List Work). reverse z) pushed ∙ reverse-push works w)
+    ∙ ap (λ (x : PairNo). ordered rest ++ x ∷ pairs_of (reverse works)) its
+    ∙ sym (append_assoc (ordered rest) (h.promise.pair ∷ []) (pairs_of (reverse works)))
+    ∙ ap (λ (z : List PairNo). z ++ pairs_of (reverse works)) (sym (ordered-push rest workers h popped))
+    ∙ so_far
+
+-- the only result so far
+pub only_pair : (before works : List Work) (w : Work) (own : PairNo) → before ≡ [] → works ≡ before ++ w ∷ [] → w.pair ≡ own → pairs_of (reverse works) ≡ own ∷ []
+only_pair before works w own none pushed its =
+    ap (λ (z : List Work). pairs_of (reverse z)) (pushed ∙ ap (λ (z : List Work). z ++ w ∷ []) none) ∙ ap (λ (x : PairNo). x ∷ []) its
+
+-- a thread was refused
+pub refused_drafts : (A : AgentState) (others : List PairNo) (own : PairNo) (workers : List Worker) (rest : List PairNo) (drafts : Drafts) → drafts.all ≡ false
+    → others ≡ ordered workers ++ rest → pairs_of (reverse drafts.works.items) ≡ ordered workers ++ [] → All (WorkedFor A) drafts.works.items
+    → All (IsRoom A.view.horizon) drafts.rooms.items → AreDrafts A (others ++ own ∷ []) drafts
+refused_drafts A others own workers rest drafts refused started pairs worked rooms = record {
+  left_out = rest ++ own ∷ [];
+  front = ap (λ (z : List PairNo). z ++ own ∷ []) started ∙ append_assoc (ordered workers) rest (own ∷ [])
+      ∙ ap (λ (z : List PairNo). z ++ (rest ++ own ∷ [])) (sym (pairs ∙ append-nil (ordered workers)));
+  all = λ t. absurd (false≢true (sym refused ∙ t));
+  worked = worked;
+  rooms = rooms;
+}
+
+-- all threads were started
+pub whole_drafts : (A : AgentState) (others : List PairNo) (own : PairNo) (workers : List Worker) (rest : List PairNo) (drafts : Drafts) → rest ≡ []
+    → others ≡ ordered workers ++ rest → pairs_of (reverse drafts.works.items) ≡ ordered workers ++ own ∷ [] → All (WorkedFor A) drafts.works.items
+    → All (IsRoom A.view.horizon) drafts.rooms.items → AreDrafts A (others ++ own ∷ []) drafts
+whole_drafts A others own workers rest drafts none started pairs worked rooms =
+    let whole : others ++ own ∷ [] ≡ pairs_of (reverse drafts.works.items) =
+    ap (λ (z : List PairNo). z ++ own ∷ []) (started ∙ ap (λ (z : List PairNo). ordered workers ++ z) none ∙ append-nil (ordered workers)) ∙ sym pairs in
+    record {
+      left_out = [];
+      front = whole ∙ sym (append-nil (pairs_of (reverse drafts.works.items)));
+      all = λ t. sym (length-reverse drafts.works.items) ∙ sym (length-map (reverse drafts.works.items) (λ (w : Work). w.pair)) ∙ ap length (sym whole);
+      worked = worked;
+      rooms = rooms;
+    }

@@ -1,0 +1,85 @@
+-- A ready pair of a plannable agent can be drafted, and isn't planned yet.
+use Rattle.std.proofs.Common.{◌≡◌, ◌↔◌, ℕ, ◌<◌, Bool, true, false, List, length, get_or, sym, subst, All, Contains}
+use Rattle.std.specs.List.{filter, range_with_len}
+use Rattle.std.proofs.lemmas.Bool.{eqb-true}
+use Rattle.std.proofs.lemmas.List.Elements.{All-contains, All-contains_itself, All-filter, All-map, All-weaker, filter_passes}
+use Rattle.mrp_rows.specs.declared.numbers.PairNo.{PairNo}
+use Rattle.mrp_rows.specs.Table.{Table}
+use Rattle.mrp_net.specs.Sums.{pair_at}
+use Rattle.mrp_net.proofs.Members.{Contains-from_in}
+use Rattle.mrp_view.specs.declared.view.PlantPair.{PlantPair}
+use Rattle.mrp_view.specs.Seen.{IsOwn}
+use Rattle.mrp_view.specs.View.{PlantRows, is_of_plant, plant_pair, plant_pairs, plant_rows}
+use Rattle.mrp_view.proofs.Seeing.{below}
+use Rattle.mrp_record.specs.declared.record.Record.{Record}
+use Rattle.mrp_local.specs.Laws.{IsPairAt}
+use Rattle.mrp_local.specs.Local.{CanBePlanned}
+use Rattle.mrp_local.proofs.Seeing.{sees_pair}
+use Rattle.mrp_agent.specs.Drafts.{CanDraft, ready_numbers}
+use Rattle.mrp_agent.specs.Shows.{Shows}
+use Rattle.mrp_agent.specs.State.{AgentState}
+use Rattle.mrp_agent.proofs.DraftLaws.{drafts_are_within}
+use Rattle.mrp_crew.specs.Planning.{IsPlannable}
+
+-- the numbers are those of the pairs that can be planned
+abbrev pub AreReady : AgentState → List PairNo → Type 0
+AreReady A numbers =
+    (sent taken : ℕ → List Record) (planned : ℕ → Bool) → Shows A sent taken planned
+    → (p : PlantPair) → Contains A.view.pairs p → Contains numbers p.number ↔ CanBePlanned A.view taken planned p
+
+-- ---- pairs that a plant sees are its own
+
+pairs_are_at : (N : Table) (plant : ℕ) → All (λ q. IsPairAt N plant q.number.0) (plant_pairs N plant)
+pairs_are_at N plant =
+    let all : List ℕ = range_with_len 0 (length N.pairs) in
+    All-map (λ (q : PlantPair). IsPairAt N plant q.number.0) (plant_pair N) (filter (is_of_plant N plant) all)
+    (λ k d within. record {
+      pair = All-filter (is_of_plant N plant) (λ (x : ℕ). x < length N.pairs) all (below (length N.pairs)) k d within;
+      at_plant = eqb-true (pair_at N (get_or (filter (is_of_plant N plant) all) k d)).plant.0 plant (filter_passes (is_of_plant N plant) all k d within);
+    })
+
+own_at : (V : PlantRows) (N : Table) (plant : ℕ) (x : PairNo) → V ≡ plant_rows N plant → IsOwn V x → IsPairAt N plant x.0
+own_at V N plant x view (q, there, is) =
+    let all : All (λ z. IsPairAt N plant z.number.0) V.pairs = subst (λ (z : PlantRows). All (λ q. IsPairAt N plant q.number.0) z.pairs) (sym view) (pairs_are_at N plant) in
+    subst (λ (n : PairNo). IsPairAt N plant n.0) is (All-contains (λ (z : PlantPair). IsPairAt N plant z.number.0) V.pairs q all there)
+
+seen_there : (V : PlantRows) (N : Table) (plant x : ℕ) → V ≡ plant_rows N plant → IsPairAt N plant x → Contains V.pairs (plant_pair N x)
+seen_there V N plant x view at =
+    subst (λ (z : PlantRows). Contains z.pairs (plant_pair N x)) (sym view) (Contains-from_in (plant_pairs N plant) (plant_pair N x) (sees_pair N plant x at))
+
+-- ---- ready pairs
+
+module _ (A : AgentState) (can : IsPlannable A) (numbers : List PairNo) (same : numbers ≡ ready_numbers A) (own : All (IsOwn A.view) numbers) (exact : AreReady A numbers) where
+  exact_ready : AreReady A (ready_numbers A)
+  exact_ready = subst (AreReady A) same exact
+
+  pub own_ready : (x : PairNo) → Contains (ready_numbers A) x → IsOwn A.view x
+  own_ready x listed = All-contains (IsOwn A.view) (ready_numbers A) x (subst (All (IsOwn A.view)) same own) listed
+
+  at_plant : (x : PairNo) → Contains (ready_numbers A) x → IsPairAt can.network can.plant x.0
+  at_plant x listed = own_at A.view can.network can.plant x can.works.view (own_ready x listed)
+
+  can_be : (x : PairNo) → Contains (ready_numbers A) x → CanBePlanned (plant_rows can.network can.plant) can.taken can.planned (plant_pair can.network x.0)
+  can_be x listed =
+      subst (λ (V : PlantRows). CanBePlanned V can.taken can.planned (plant_pair can.network x.0)) can.works.view
+      ((exact_ready can.sent can.taken can.planned can.works.shows (plant_pair can.network x.0)
+      (seen_there A.view can.network can.plant x.0 can.works.view (at_plant x listed))).0 listed)
+
+  pub can_draft : (x : PairNo) → Contains (ready_numbers A) x → CanDraft A x
+  can_draft x listed = record {
+    own = own_ready x listed;
+    ready = listed;
+    within = drafts_are_within can.network can.sized can.plant A can.sent can.taken can.planned can.works x.0 (at_plant x listed) (can_be x listed).ready;
+  }
+
+  pub unplanned : (x : PairNo) → Contains (ready_numbers A) x
+      → (sent taken : ℕ → List Record) (planned : ℕ → Bool) → Shows A sent taken planned → planned x.0 ≡ false
+  unplanned x listed sent taken planned shown =
+      let (q, there, is) = own_ready x listed in
+      subst (λ (n : PairNo). planned n.0 ≡ false) is
+      ((exact_ready sent taken planned shown q there).0 (subst (Contains (ready_numbers A)) (sym is) listed)).unplanned
+
+  pub all_can_draft : All (CanDraft A) numbers
+  all_can_draft =
+      subst (All (CanDraft A)) (sym same)
+      (All-weaker (Contains (ready_numbers A)) (CanDraft A) (λ x listed. can_draft x listed) (ready_numbers A) (All-contains_itself (ready_numbers A)))

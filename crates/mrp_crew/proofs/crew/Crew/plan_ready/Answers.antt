@@ -1,0 +1,22 @@
+use Rattle.std.proofs.Common.{◌++◌, ◌∙◌}
+use Rattle.mrp_crew.proofs.PlanningLaws.{plannable_after, plans_append}
+use Rattle.mrp_crew.proofs.crew.Crew.plan_ready.Goals as goal
+
+pub loop-alloc-preserved : goal.loop-alloc-preserved
+loop-alloc-preserved g c =
+    let before = c.loop-alloc.invariant in
+    let next = c.plan_wave.ensures.planned in
+    record {
+      crew = c.plan_wave.ensures.crew ∙ before.crew;
+      planned = (before.planned.0 ++ next.0, plans_append c.args.agent.now c.loop-alloc.agent c.plan_wave.new.agent before.planned.0 next.0 before.planned.1 next.1);
+      plannable = plannable_after c.loop-alloc.agent c.plan_wave.new.agent next.0 before.plannable next.1;
+    }
+
+pub returns-in_err-plan_wave-clause-planned : goal.returns-in_err-plan_wave-clause-planned
+returns-in_err-plan_wave-clause-planned g c =
+    let before = c.loop-alloc.invariant in
+    let next = c.plan_wave.ensures.planned in
+    (before.planned.0 ++ next.0, plans_append c.args.agent.now c.loop-alloc.agent c.plan_wave.new.agent before.planned.0 next.0 before.planned.1 next.1, tt)
+
+pub returns-clause-planned : goal.returns-clause-planned
+returns-clause-planned g c = ?

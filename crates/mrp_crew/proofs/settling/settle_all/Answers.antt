@@ -1,0 +1,44 @@
+use Rattle.std.proofs.Common.{◌≡◌, [], ◌∷◌, ◌++◌, length, reverse, List, ap, ◌×◌, true, subst, arith, length-append}
+use Rattle.mrp_rows.specs.declared.numbers.PairNo.{PairNo}
+use Rattle.mrp_view.specs.View.{PlantRows}
+use Rattle.mrp_agent.specs.State.{AgentState}
+use Rattle.mrp_crew.specs.declared.work.Work.{Work}
+use Rattle.mrp_crew.specs.Rooms.{IsRoom}
+use Rattle.mrp_crew.proofs.Keeping.{first_ready, first_worked, popped_first, still_to_settle, when_true}
+use Rattle.mrp_crew.proofs.PlanningLaws.{plannable_after, plans_append}
+use Rattle.mrp_crew.proofs.settling.settle_all.Goals as goal
+
+pub settle-kept-requires-clause-ready : goal.settle-kept-requires-clause-ready
+settle-kept-requires-clause-ready c =
+    first_ready c.loop-work.agent c.in-Some.work (reverse c.pop.new.self.items)
+    (popped_first c.loop-work.agent c.loop-work.works.items c.pop.new.self.items c.in-Some.work c.in-Some.ensures.items c.loop-work.invariant.drafts)
+
+pub settle-kept-requires-clause-worked : goal.settle-kept-requires-clause-worked
+settle-kept-requires-clause-worked c =
+    first_worked c.loop-work.agent c.in-Some.work (reverse c.pop.new.self.items)
+    (popped_first c.loop-work.agent c.loop-work.works.items c.pop.new.self.items c.in-Some.work c.in-Some.ensures.items c.loop-work.invariant.drafts)
+
+pub loop-work-preserved : goal.loop-work-preserved
+loop-work-preserved c =
+    let before = c.loop-work.invariant in
+    let work : Work = c.in-Some.work in
+    let first : AgentState = c.args.agent.now in
+    let A : AgentState = c.loop-work.agent in
+    let B : AgentState = c.settle-kept.new.agent in
+    let rest : List Work = c.pop.new.self.items in
+    let popped = c.in-Some.ensures.items in
+    let are = popped_first A c.loop-work.works.items rest work popped before.drafts in
+    let next = c.settle-kept.ensures.planned in
+    let room : IsRoom first.view.horizon work.room = subst (λ (V : PlantRows). IsRoom V.horizon work.room) before.planned.1.view (first_worked A work (reverse rest) are).room in
+    record {
+      planned = (
+        before.planned.0 ++ next.0,
+        plans_append first A B before.planned.0 next.0 before.planned.1 next.1,
+        (λ all.
+            let kept = when_true c.settle-kept.result _ next.2 all in
+            omega (arith, length-append before.planned.0 next.0, before.planned.2 kept.0, kept.1, ap length popped, length-append rest (work ∷ []))),
+      );
+      plannable = plannable_after A B next.0 before.plannable next.1;
+      drafts = still_to_settle A B work (reverse rest) are next.1.view c.settle-kept.ensures.others;
+      rooms = c.put_back.ensures first.view.horizon before.rooms room;
+    }

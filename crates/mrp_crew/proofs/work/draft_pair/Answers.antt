@@ -1,0 +1,14 @@
+use Rattle.std.proofs.Common.{ap, ◌∙◌, length}
+use Rattle.mrp_lot.specs.One.{PlanRows}
+use Rattle.mrp_crew.proofs.Drafting.{drafted_periods}
+use Rattle.mrp_crew.proofs.work.draft_pair.Goals as goal
+
+pub returns-clause-worked : goal.returns-clause-worked
+returns-clause-worked g c = record {
+  room = record {
+    incoming = c.draft.ensures.incoming ∙ c.requires.room.incoming;
+    gross = c.draft.ensures.gross ∙ c.requires.room.gross;
+    plan = ap (λ (p : PlanRows). length p.gross) c.draft.ensures.plan ∙ drafted_periods c.args.agent.now c.args.pair;
+  };
+  plan = λ open_. c.draft.ensures.plan;
+}

@@ -1,0 +1,131 @@
+-- A plant books what was taken.
+use Rattle.std.proofs.Common.{◌≡◌, ℕ, ◌<◌, Bool, List, [], ◌∷◌, ◌++◌, inl, inr, length, get_or, set, map, refl, sym, ap, ◌∙◌, subst, arith, Contains}
+use Rattle.std.proofs.lemmas.Bool.{cases_eq}
+use Rattle.std.proofs.lemmas.List.{get_or_read}
+use Rattle.std.proofs.Math.Seq.{map-set_same}
+use Rattle.mrp_rows.specs.Table.{Table, horizon}
+use Rattle.mrp_net.specs.declared.lane.LaneKind.{LaneKind}
+use Rattle.mrp_net.specs.declared.lane.LaneKind.TheVariants.{Despatch, Schedule}
+use Rattle.mrp_net.specs.Lanes.{lanes, lane_at}
+use Rattle.mrp_net.proofs.Routing.{map-map}
+use Rattle.mrp_view.specs.declared.view.IncomingLane.{IncomingLane}
+use Rattle.mrp_view.specs.View.{PlantRows, comes_to, incoming_lane, lane_numbers, plant_rows}
+use Rattle.mrp_loops.specs.Sized.{IsSized}
+use Rattle.mrp_record.specs.declared.record.Record.{Record}
+use Rattle.mrp_record.specs.Form.{FormItem, LaneForm, IsInForm}
+use Rattle.mrp_record.specs.Text.{IsBeginning}
+use Rattle.mrp_book.specs.Figures.{form_item, rises_on}
+use Rattle.mrp_events.specs.LoadLaws.{lane_form}
+use Rattle.mrp_events.specs.Loads.{loads, is_rising}
+use Rattle.mrp_events.specs.Local.{AreLegal}
+use Rattle.mrp_events.specs.Seen.{form_item_of, seen_form}
+use Rattle.mrp_events.specs.State.{changed}
+use Rattle.mrp_events.proofs.Keeping.{changed_by}
+use Rattle.mrp_events.proofs.Sending.{forms_are_seen}
+use Rattle.mrp_events.proofs.Small.{legal_is_in_form}
+use Rattle.mrp_lane.specs.Ends.{End, Name, HasLegalList}
+use Rattle.mrp_agent.specs.Shows.{Shows, BooksShow, book_item, form_of}
+use Rattle.mrp_agent.specs.State.{AgentState, incoming_at, incoming_place}
+use Rattle.mrp_run.specs.Plant.{AtWork, IsAtWork, Kept, lanes_to, names}
+use Rattle.mrp_run.proofs.Held.{lane_there, lanes_rise, list_is, one_more, put_back}
+use Rattle.mrp_run.proofs.Keeping.{nothing_done}
+use Rattle.mrp_run.proofs.Placed.{in_placed}
+
+-- ---- legal lists are in form
+
+rising_is : (kind : LaneKind) → is_rising kind ≡ rises_on kind
+rising_is Despatch = refl
+rising_is Schedule = refl
+
+abbrev form_with : ℕ → Bool → List FormItem → LaneForm
+form_with periods rising items = record { rising = rising; horizon = periods; items = items }
+
+-- the form of a lane by what its receiver sees
+form_is : (V : PlantRows) (lane : IncomingLane) → seen_form V.horizon lane ≡ form_of V lane
+form_is V lane =
+    ap (λ (b : Bool). form_with V.horizon b (map form_item_of lane.items)) (rising_is lane.kind)
+    ∙ ap (form_with V.horizon (rises_on lane.kind)) (sym (map-map form_item book_item lane.items))
+
+legal_in_form : (N : Table) → IsSized N → (p : ℕ) (V : PlantRows) → V ≡ plant_rows N p → (l : ℕ) → Contains (lanes_to N p) l → (records : List Record) → IsBeginning (loads N (lane_at N l)) records
+    → IsInForm (form_of V (incoming_at V (incoming_place V l))) records
+legal_in_form N sized p V view l own records legal =
+    let place = in_placed V N p l view own in
+    let periods : horizon N ≡ V.horizon = sym (ap (λ (z : PlantRows). z.horizon) view) in
+    let same : lane_form N (lane_at N l) ≡ form_of V (incoming_at V (incoming_place V l)) =
+    forms_are_seen N l ∙ ap (λ (h : ℕ). seen_form h (incoming_lane N l)) periods ∙ form_is V (incoming_lane N l) ∙ ap (form_of V) (sym place.is) in
+    subst (λ (form : LaneForm). IsInForm form records) same (legal_is_in_form N sized (lane_at N l) records legal)
+
+-- ---- the record that was taken
+
+-- its lane comes in
+pub comes_in : (A : AgentState) (s t : List End) → IsAtWork A s t → (k l : ℕ) (x : End) → k < length t → x ≡ get_or t k x → l ≡ x.name.lane → incoming_place A.view l < length A.view.incoming
+comes_in A s t (N, p, w) k l x within at lane =
+    let is : (get_or t k x).name.lane ≡ l = ap (λ (z : End). z.name.lane) (sym at) ∙ sym lane in
+    subst (λ (n : ℕ). incoming_place A.view n < length A.view.incoming) is
+    (in_placed A.view N p (get_or t k x).name.lane w.works.view (lane_there N (lanes_to N p) w.taken t w.takes_are k x within)).within
+
+-- the end x is looked at for its lane, the end y is taken from, and it is e then
+module _ (A : AgentState) (s t : List End) (k l : ℕ) (x y e : End) (r : Record) (within : k < length t) (at_x : x ≡ get_or t k x) (at_y : y ≡ get_or t k y) (lane : l ≡ x.name.lane)
+    (name_kept : e.name ≡ y.name) (list_grown : e.list ≡ y.list ++ r ∷ []) (legal : HasLegalList e) where
+  same : y ≡ get_or t k x
+  same = get_or_read t k y within at_y x
+
+  name : e.name ≡ (get_or t k x).name
+  name = name_kept ∙ ap (λ (z : End). z.name) same
+
+  list : e.list ≡ (get_or t k x).list ++ r ∷ []
+  list = list_grown ∙ ap (λ (z : End). z.list ++ r ∷ []) same
+
+  of_lane : e.name.lane ≡ l
+  of_lane = ap (λ (n : Name). n.lane) name ∙ ap (λ (z : End). z.name.lane) (sym at_x) ∙ sym lane
+
+  own : (N : Table) (p : ℕ) (w : AtWork N p A s t) → Contains (lanes_to N p) e.name.lane
+  own N p w =
+      subst (λ (n : ℕ). Contains (lanes_to N p) n) (sym (ap (λ (n : Name). n.lane) name)) (lane_there N (lanes_to N p) w.taken t w.takes_are k x within)
+
+  -- what was taken with the record is a legal beginning in the network
+  legal_there : (N : Table) (p : ℕ) (w : AtWork N p A s t) → IsBeginning (loads N (lane_at N e.name.lane)) (w.taken e.name.lane ++ r ∷ [])
+  legal_there N p w =
+      let network : e.name.network ≡ N = ap (λ (n : Name). n.network) name ∙ w.takes_are.network k x within in
+      let is : e.list ≡ w.taken e.name.lane ++ r ∷ [] = list_is N (lanes_to N p) (lanes_rise N (comes_to N p)) w.taken t w.takes_are k x e r within name list in
+      subst (λ (z : List Record). IsBeginning (loads N (lane_at N e.name.lane)) z) is
+      (subst (λ (M : Table). IsBeginning (loads M (lane_at M e.name.lane)) e.list) network legal)
+
+  -- no book refuses it
+  pub not_refused : IsAtWork A s t → ((taken : ℕ → List Record) → BooksShow A taken → IsInForm (form_of A.view (incoming_at A.view (incoming_place A.view l))) (taken l ++ r ∷ []) → ⊥) → ⊥
+  not_refused (N, p, w) refused =
+      let there : IsInForm (form_of A.view (incoming_at A.view (incoming_place A.view e.name.lane))) (w.taken e.name.lane ++ r ∷ []) =
+      legal_in_form N w.sized p A.view w.works.view e.name.lane (own N p w) (w.taken e.name.lane ++ r ∷ []) (legal_there N p w) in
+      refused w.taken w.works.shows.books
+      (subst (λ (n : ℕ). IsInForm (form_of A.view (incoming_at A.view (incoming_place A.view n))) (w.taken n ++ r ∷ [])) of_lane there)
+
+  pub booked_kept : (B : AgentState) → B.view ≡ A.view
+      → ((sent taken : ℕ → List Record) (planned : ℕ → Bool) → Shows A sent taken planned → Shows B sent (changed taken l (taken l ++ r ∷ [])) planned)
+      → Kept A s t B s (set t k e)
+  booked_kept B view booked = record {
+    view = view;
+    sends = refl;
+    takes = map-set_same (λ (z : End). z.name) t k e x name;
+    works = λ N p w. record {
+      sized = w.sized;
+      sent = w.sent;
+      taken = changed w.taken e.name.lane (w.taken e.name.lane ++ r ∷ []);
+      planned = w.planned;
+      works = record {
+        view = view ∙ w.works.view;
+        legal = λ n there receiver.
+            changed_by (λ (z : List Record). IsBeginning (loads N (lane_at N n)) z) w.taken e.name.lane (w.taken e.name.lane ++ r ∷ []) n
+            (λ here. subst (λ (j : ℕ). IsBeginning (loads N (lane_at N j)) (w.taken e.name.lane ++ r ∷ [])) (sym here) (legal_there N p w))
+            (w.works.legal n there receiver);
+        shows = subst (λ (n : ℕ). Shows B w.sent (changed w.taken n (w.taken n ++ r ∷ [])) w.planned) (sym of_lane) (booked w.sent w.taken w.planned w.works.shows);
+      };
+      sends_are = w.sends_are;
+      takes_are = one_more N (lanes_to N p) (lanes_rise N (comes_to N p)) w.taken t w.takes_are k x e r within name list;
+    };
+  }
+
+-- ---- nothing to take
+
+pub none_kept : (A : AgentState) (s t : List End) (k : ℕ) (y e : End) → y ≡ get_or t k y → e.name ≡ y.name → e.list ≡ y.list → Kept A s t A s (set t k e)
+none_kept A s t k y e at name list =
+    subst (λ (z : List End). Kept A s t A s z) (sym (put_back t k y e at name list)) (nothing_done A s t)

@@ -1,0 +1,94 @@
+-- With the ends of all lanes dealt each plant is at work.
+use Rattle.std.proofs.Common.{◌≡◌, ℕ, zero, suc, List, [], ◌∷◌, ◌++◌, length, map, sym, ap, subst, ◌∙◌, All}
+use Rattle.std.specs.List.{filter, range_with_len}
+use Rattle.std.proofs.lemmas.List.{map-append}
+use Rattle.std.proofs.lemmas.List.Elements.{All-filter, All-nil, All-push, All-same}
+use Rattle.mrp_rows.specs.Table.{Table}
+use Rattle.mrp_group.proofs.Grouping.{range-suc}
+use Rattle.mrp_net.specs.Lanes.{lanes, lane_at}
+use Rattle.mrp_net.proofs.Routing.{map-map}
+use Rattle.mrp_view.specs.View.{comes_to, goes_from, lane_numbers}
+use Rattle.mrp_loops.specs.Sized.{IsSized}
+use Rattle.mrp_record.proofs.Beginnings.{empty_is_a_beginning}
+use Rattle.mrp_events.specs.Loads.{loads}
+use Rattle.mrp_events.specs.State.{opening_state}
+use Rattle.mrp_lane.specs.Ends.{End, Name}
+use Rattle.mrp_run.specs.declared.plant.Plant.{Plant}
+use Rattle.mrp_run.specs.Ends.{AreNames, is_from, is_to, IsEmpty, IsDealt, IsIdle, HasRoom, HasRooms, HaveFirst, IsReady, AreReady}
+use Rattle.mrp_run.specs.Plant.{AreEnds, names}
+use Rattle.mrp_run.proofs.DealtLists.{all_before_map, filter_through}
+
+-- ---- the names of all lanes
+
+pub lanes_named : (N : Table) (l : ℕ) (ns : List Name) → AreNames N l ns → map (λ n. n.lane) ns ≡ range_with_len 0 l
+lanes_named N zero ns is = ap (map (λ (n : Name). n.lane)) is
+lanes_named N (suc l) ns (before, n, is, lane, network, first) =
+    ap (map (λ (n : Name). n.lane)) is ∙ map-append (λ (n : Name). n.lane) before (n ∷ []) ∙ ap (λ (z : List ℕ). z ++ n.lane ∷ []) (lanes_named N l before first)
+    ∙ ap (λ (z : ℕ). range_with_len 0 l ++ z ∷ []) lane ∙ sym (range-suc l)
+
+pub network_named : (N : Table) (l : ℕ) (ns : List Name) → AreNames N l ns → All (λ n. n.network ≡ N) ns
+network_named N zero ns is = All-same (λ (n : Name). n.network ≡ N) ns [] is (All-nil (λ (n : Name). n.network ≡ N))
+network_named N (suc l) ns (before, n, is, lane, network, first) =
+    All-same (λ (x : Name). x.network ≡ N) ns (before ++ n ∷ []) is (All-push (λ (x : Name). x.network ≡ N) before n (network_named N l before first) network)
+
+-- ---- the ends of a plant
+
+sends_are_ends : (N : Table) (ns : List Name) (p : ℕ) (ends : List End) → AreNames N (length (lanes N)) ns → names ends ≡ filter (is_from N p) ns → All IsEmpty ends
+    → AreEnds N (filter (goes_from N p) (lane_numbers N)) (λ _. []) ends
+sends_are_ends N ns p ends all are empty = record {
+  network = all_before_map (λ (e : End). e.name) (λ (n : Name). n.network ≡ N) ends
+      (All-same (λ (n : Name). n.network ≡ N) (names ends) (filter (is_from N p) ns) are (All-filter (is_from N p) (λ (n : Name). n.network ≡ N) ns (network_named N (length (lanes N)) ns all)));
+  lanes = sym (map-map (λ (n : Name). n.lane) (λ (e : End). e.name) ends) ∙ ap (map (λ (n : Name). n.lane)) are
+      ∙ filter_through (λ (n : Name). n.lane) (goes_from N p) ns ∙ ap (filter (goes_from N p)) (lanes_named N (length (lanes N)) ns all);
+  lists = empty;
+}
+
+takes_are_ends : (N : Table) (ns : List Name) (p : ℕ) (ends : List End) → AreNames N (length (lanes N)) ns → names ends ≡ filter (is_to N p) ns → All IsEmpty ends
+    → AreEnds N (filter (comes_to N p) (lane_numbers N)) (λ _. []) ends
+takes_are_ends N ns p ends all are empty = record {
+  network = all_before_map (λ (e : End). e.name) (λ (n : Name). n.network ≡ N) ends
+      (All-same (λ (n : Name). n.network ≡ N) (names ends) (filter (is_to N p) ns) are (All-filter (is_to N p) (λ (n : Name). n.network ≡ N) ns (network_named N (length (lanes N)) ns all)));
+  lanes = sym (map-map (λ (n : Name). n.lane) (λ (e : End). e.name) ends) ∙ ap (map (λ (n : Name). n.lane)) are
+      ∙ filter_through (λ (n : Name). n.lane) (comes_to N p) ns ∙ ap (filter (comes_to N p)) (lanes_named N (length (lanes N)) ns all);
+  lists = empty;
+}
+
+-- ---- the plants
+
+is_ready : (N : Table) (ns : List Name) (p : ℕ) (P : Plant) → IsSized N → AreNames N (length (lanes N)) ns → IsIdle N ns ns p P → IsReady N ns p P
+is_ready N ns p P sized all idle = record {
+  dealt = idle.dealt;
+  works = record {
+    sized = sized;
+    sent = opening_state.sent;
+    taken = opening_state.taken;
+    planned = opening_state.planned;
+    works = record {
+      view = idle.view;
+      legal = λ l within receiver. empty_is_a_beginning (loads N (lane_at N l));
+      shows = idle.opens;
+    };
+    sends_are = sends_are_ends N ns p P.sends.items all idle.dealt.sends_are idle.sent;
+    takes_are = takes_are_ends N ns p P.takes.items all idle.dealt.takes_are idle.taken;
+  };
+}
+
+pub are_ready : (N : Table) (capacity count : ℕ) (plants : List Plant) → IsSized N → count ≡ length (lanes N) → HaveFirst N capacity count plants → AreReady N plants
+are_ready N capacity count plants sized is first =
+    let all : AreNames N (length (lanes N)) first.names = subst (λ (k : ℕ). AreNames N k first.names) is first.first_lanes in
+    record {
+      names = first.names;
+      all_lanes = all;
+      all_plants = first.idle.all_plants;
+      each = λ k d h. is_ready N first.names k _ sized all (first.idle.each k d h);
+    }
+
+-- the ends of a plant are some of all
+dealt_rooms : (N : Table) (capacity : ℕ) (ns : List Name) (p : ℕ) (P : Plant) → All (HasRoom N capacity) ns → IsDealt N ns ns p P → HasRooms N capacity P
+dealt_rooms N capacity ns p P rooms dealt = record {
+  sends = All-same (HasRoom N capacity) (names P.sends.items) (filter (is_from N p) ns) dealt.sends_are (All-filter (is_from N p) (HasRoom N capacity) ns rooms);
+  takes = All-same (HasRoom N capacity) (names P.takes.items) (filter (is_to N p) ns) dealt.takes_are (All-filter (is_to N p) (HasRoom N capacity) ns rooms);
+}
+
+pub have_rooms : (N : Table) (capacity count : ℕ) (plants : List Plant) → HaveFirst N capacity count plants → All (HasRooms N capacity) plants
+have_rooms N capacity count plants first = λ k d h. dealt_rooms N capacity first.names k _ first.rooms (first.idle.each k d h).dealt

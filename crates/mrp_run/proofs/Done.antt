@@ -1,0 +1,45 @@
+-- A plant that is done has finished.
+use Rattle.std.proofs.Common.{◌≡◌, ◌↔◌, ℕ, ◌<◌, Bool, true, List, length, get_or, refl, sym, ap, ◌∙◌, subst, Contains}
+use Rattle.std.specs.Bool.{IsTrue}
+use Rattle.mrp_rows.specs.Table.{Table}
+use Rattle.mrp_net.proofs.Members.{Contains-from_in}
+use Rattle.mrp_view.specs.View.{PlantRows, incoming_lane, outgoing_lane, plant_pair, plant_pairs}
+use Rattle.mrp_record.specs.declared.record.Record.{Record}
+use Rattle.mrp_record.specs.Entries.{contents, is_closed}
+use Rattle.mrp_local.specs.Laws.{IsPairAt}
+use Rattle.mrp_local.proofs.Seeing.{sees_pair}
+use Rattle.mrp_lane.specs.Ends.{End}
+use Rattle.mrp_agent.specs.Reading.{HasDone}
+use Rattle.mrp_agent.specs.Shows.{Shows, is_done}
+use Rattle.mrp_agent.specs.State.{AgentState}
+use Rattle.mrp_agent.proofs.Network.{planned_pairs_have_the_plan}
+use Rattle.mrp_run.specs.Plant.{AtWork, HasFinished, IsFinished, Kept, lanes_from, lanes_to}
+use Rattle.mrp_run.proofs.Held.{lane_there}
+use Rattle.mrp_run.proofs.Placed.{in_there, out_there}
+
+done_there : (N : Table) (p : ℕ) (A : AgentState) (s t : List End) → (w : AtWork N p A s t) → is_done A ≡ true → HasDone A.view w.sent w.taken w.planned → IsFinished N p A s t
+done_there N p A s t w done all = record {
+  done = done;
+  sent = λ k d within.
+      let l : ℕ = (get_or s k d).name.lane in
+      let there : Contains A.view.outgoing (outgoing_lane N l) =
+      subst (λ (V : PlantRows). Contains V.outgoing (outgoing_lane N l)) (sym w.works.view) (out_there N p l (lane_there N (lanes_from N p) w.sent s w.sends_are k d within)) in
+      subst (λ (z : List Record). is_closed (contents z) ≡ true) (sym (w.sends_are.lists k d within)) (all.outgoing (outgoing_lane N l) there);
+  taken = λ k d within.
+      let l : ℕ = (get_or t k d).name.lane in
+      let there : Contains A.view.incoming (incoming_lane N l) =
+      subst (λ (V : PlantRows). Contains V.incoming (incoming_lane N l)) (sym w.works.view) (in_there N p l (lane_there N (lanes_to N p) w.taken t w.takes_are k d within)) in
+      subst (λ (z : List Record). is_closed (contents z) ≡ true) (sym (w.takes_are.lists k d within)) (all.incoming (incoming_lane N l) there);
+  plans = λ x pair.
+      let there : Contains A.view.pairs (plant_pair N x) =
+      subst (λ (V : PlantRows). Contains V.pairs (plant_pair N x)) (sym w.works.view) (Contains-from_in (plant_pairs N p) (plant_pair N x) (sees_pair N p x pair)) in
+      planned_pairs_have_the_plan N w.sized.table w.sized.loop_free p A w.sent w.taken w.planned w.works x pair (all.pairs (plant_pair N x) there);
+}
+
+-- what was kept and is done has finished
+pub has_finished : (A : AgentState) (s t : List End) (B : AgentState) (s2 t2 : List End) → Kept A s t B s2 t2 → (b : Bool) → b ≡ true → b ≡ is_done B
+    → ((sent taken : ℕ → List Record) (planned : ℕ → Bool) → Shows B sent taken planned → (IsTrue b ↔ HasDone B.view sent taken planned))
+    → HasFinished A s t B s2 t2
+has_finished A s t B s2 t2 kept b holds is all N p work =
+    let w : AtWork N p B s2 t2 = kept.works N p work in
+    done_there N p B s2 t2 w (sym is ∙ holds) ((all w.sent w.taken w.planned w.works.shows).0 holds)

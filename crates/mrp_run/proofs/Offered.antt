@@ -1,0 +1,94 @@
+-- A plant sends the record that its agent has next.
+use Rattle.std.proofs.Common.{◌≡◌, ℕ, ◌<◌, Bool, List, [], ◌∷◌, ◌++◌, length, get_or, set, refl, sym, ap, ◌∙◌, subst, Contains}
+use Rattle.std.proofs.lemmas.List.{get_or_read}
+use Rattle.std.proofs.Math.Seq.{map-set_same}
+use Rattle.mrp_rows.specs.Table.{Table}
+use Rattle.mrp_net.specs.Lanes.{lane_at}
+use Rattle.mrp_view.specs.View.{goes_from}
+use Rattle.mrp_record.specs.declared.record.Record.{Record}
+use Rattle.mrp_record.specs.Text.{IsBeginning}
+use Rattle.mrp_events.specs.Loads.{loads}
+use Rattle.mrp_events.specs.State.{changed}
+use Rattle.mrp_lane.specs.Ends.{End, Name, IsNext}
+use Rattle.mrp_agent.specs.Sending.{Continues, IsWithin64}
+use Rattle.mrp_agent.specs.Sent.{GivenIsLegal, IsAppended}
+use Rattle.mrp_agent.specs.Shows.{Shows}
+use Rattle.mrp_agent.specs.State.{AgentState, outgoing_at, outgoing_place}
+use Rattle.mrp_agent.proofs.Network.{sent_is_legal, sent_is_within_64}
+use Rattle.mrp_run.specs.Plant.{AtWork, IsAtWork, Kept, lanes_from}
+use Rattle.mrp_run.proofs.Held.{lane_there, lanes_rise, one_more, put_back}
+use Rattle.mrp_run.proofs.Keeping.{nothing_done}
+use Rattle.mrp_run.proofs.Placed.{IsPlaced, out_placed}
+
+-- its lane has a place among those that go out
+placed : (A : AgentState) (s t : List End) (N : Table) (p : ℕ) (w : AtWork N p A s t) (k : ℕ) (d : End) → k < length s → IsPlaced A.view (get_or s k d).name.lane
+placed A s t N p w k d within =
+    out_placed A.view N p (get_or s k d).name.lane w.works.view (lane_there N (lanes_from N p) w.sent s w.sends_are k d within)
+
+pub goes_out : (A : AgentState) (s t : List End) → IsAtWork A s t → (k l : ℕ) (x : End) → k < length s → x ≡ get_or s k x → l ≡ x.name.lane → outgoing_place A.view l < length A.view.outgoing
+goes_out A s t (N, p, w) k l x within at lane =
+    let is : (get_or s k x).name.lane ≡ l = ap (λ (z : End). z.name.lane) (sym at) ∙ sym lane in
+    subst (λ (n : ℕ). outgoing_place A.view n < length A.view.outgoing) is (placed A s t N p w k x within).within
+
+-- the end x is looked at for its lane, and the record is offered at the end y
+module _ (A : AgentState) (s t : List End) (k l : ℕ) (x y : End) (r : Record) (within : k < length s) (at_x : x ≡ get_or s k x) (at_y : y ≡ get_or s k y) (lane : l ≡ x.name.lane) where
+  same : y ≡ get_or s k x
+  same = get_or_read s k y within at_y x
+
+  of_lane : (get_or s k x).name.lane ≡ l
+  of_lane = ap (λ (z : End). z.name.lane) (sym at_x) ∙ sym lane
+
+  -- the record that the agent has next continues what went through the end
+  pub given_is_next : IsAtWork A s t → GivenIsLegal A (outgoing_place A.view l) r → IsNext y r
+  given_is_next (N, p, w) given =
+      let e : End = get_or s k x in
+      let n : ℕ = e.name.lane in
+      let j : ℕ = outgoing_place A.view n in
+      let place = placed A s t N p w k x within in
+      let here : GivenIsLegal A j r = subst (λ (z : ℕ). GivenIsLegal A (outgoing_place A.view z) r) (sym of_lane) given in
+      let bounded : IsWithin64 A w.taken j = sent_is_within_64 N w.sized p A w.sent w.taken w.planned w.works j place.within in
+      let continues : Continues A w.sent w.taken j r = here w.sent w.taken w.planned w.works.shows bounded in
+      let begins : IsBeginning (loads N (lane_at N (outgoing_at A.view j).number.0)) (w.sent (outgoing_at A.view j).number.0 ++ r ∷ []) =
+      sent_is_legal N w.sized p A w.sent w.taken w.planned w.works j place.within r continues in
+      let on_lane : IsBeginning (loads N (lane_at N n)) (w.sent n ++ r ∷ []) = subst (λ (z : ℕ). IsBeginning (loads N (lane_at N z)) (w.sent z ++ r ∷ [])) place.number begins in
+      let next : IsNext e r =
+      subst (λ (M : Table). IsBeginning (loads M (lane_at M n)) (e.list ++ r ∷ [])) (sym (w.sends_are.network k x within))
+      (subst (λ (z : List Record). IsBeginning (loads N (lane_at N n)) (z ++ r ∷ [])) (sym (w.sends_are.lists k x within)) on_lane) in
+      subst (λ (z : End). IsNext z r) (sym same) next
+
+  -- once it is sent the plant is at work with it
+  pub sent_kept : (e : End) → e.name ≡ y.name → e.list ≡ y.list ++ r ∷ [] → (B : AgentState) → B.view ≡ A.view → IsAppended A B (outgoing_place A.view l) r → Kept A s t B (set s k e) t
+  sent_kept e name_kept list_grown B view appended =
+      let name : e.name ≡ (get_or s k x).name = name_kept ∙ ap (λ (z : End). z.name) same in
+      let list : e.list ≡ (get_or s k x).list ++ r ∷ [] = list_grown ∙ ap (λ (z : End). z.list ++ r ∷ []) same in
+      let n : ℕ = (get_or s k x).name.lane in
+      let here : IsAppended A B (outgoing_place A.view n) r = subst (λ (z : ℕ). IsAppended A B (outgoing_place A.view z) r) (sym of_lane) appended in
+      record {
+        view = view;
+        sends = map-set_same (λ (z : End). z.name) s k e x name;
+        takes = refl;
+        works = λ N p w.
+            let place = placed A s t N p w k x within in
+            let bounded : IsWithin64 A w.taken (outgoing_place A.view n) = sent_is_within_64 N w.sized p A w.sent w.taken w.planned w.works (outgoing_place A.view n) place.within in
+            let shows : Shows B (changed w.sent n (w.sent n ++ r ∷ [])) w.taken w.planned =
+            subst (λ (z : ℕ). Shows B (changed w.sent z (w.sent z ++ r ∷ [])) w.taken w.planned) place.number (here w.sent w.taken w.planned w.works.shows bounded) in
+            record {
+              sized = w.sized;
+              sent = changed w.sent e.name.lane (w.sent e.name.lane ++ r ∷ []);
+              taken = w.taken;
+              planned = w.planned;
+              works = record {
+                view = view ∙ w.works.view;
+                legal = w.works.legal;
+                shows = subst (λ (z : ℕ). Shows B (changed w.sent z (w.sent z ++ r ∷ [])) w.taken w.planned) (sym (ap (λ (n : Name). n.lane) name)) shows;
+              };
+              sends_are = one_more N (lanes_from N p) (lanes_rise N (goes_from N p)) w.sent s w.sends_are k x e r within name list;
+              takes_are = w.takes_are;
+            };
+      }
+
+-- ---- no room
+
+pub refused_kept : (A : AgentState) (s t : List End) (k : ℕ) (y e : End) → y ≡ get_or s k y → e.name ≡ y.name → e.list ≡ y.list → Kept A s t A (set s k e) t
+refused_kept A s t k y e at name list =
+    subst (λ (z : List End). Kept A s t A z t) (sym (put_back s k y e at name list)) (nothing_done A s t)

@@ -1,0 +1,150 @@
+-- The two ends of the last lane taken from their plants.
+use Rattle.std.proofs.Common.{◌≡◌, ◌≢◌, ℕ, suc, ◌+◌, ◌-◌, ◌<◌, List, [], ◌∷◌, ◌++◌, length, get_or, set, Option, None, Some, Vec, Global, refl, sym, subst, ◌∙◌, arith, add-one}
+use Rattle.std.specs.List.{filter}
+use Rattle.std.specs.Option.{option_to_list, IsSomeAnd, MatchOption}
+use Rattle.std.specs.Vec.{vec_len}
+use Rattle.std.proofs.lemmas.Bool.{eq-eqb}
+use Rattle.std.proofs.lemmas.List.{length-set}
+use Rattle.mrp_rows.specs.Table.{Table}
+use Rattle.mrp_net.specs.Lanes.{lanes, lane_at}
+use Rattle.mrp_lane.specs.Ends.{End, Name}
+use Rattle.mrp_run.specs.declared.plant.Plant.{Plant}
+use Rattle.mrp_run.specs.Ends.{AreNames, is_from, is_to, HasEnded, HaveEnded, HaveLeft, HavePlans}
+use Rattle.mrp_run.specs.Plant.{IsClosed}
+use Rattle.mrp_run.proofs.Dealt.{filter_own, filter_other, apart}
+use Rattle.mrp_run.proofs.DealtLists.{each_set, popped}
+
+-- the end that is taken is the one of the name, and its lane is closed
+abbrev pub IsTheLast : Name → Option End → Type 0
+IsTheLast n o = IsSomeAnd o (λ e. (e.name ≡ n) × IsClosed e)
+
+empty : {X : Type 0} (xs : List X) → length xs ≡ 0 → xs ≡ []
+empty [] e = refl
+empty (x ∷ xs) e = absurd (omega (arith, e))
+
+at_none : {X : Type 0} (o : Option X) (P : Type 0) (Q : X → Type 0) → MatchOption o P Q → o ≡ None → P
+at_none None P Q h e = h
+at_none (Some x) P Q h e = absurd (cc)
+
+pub nothing_left : {X Z : Type 0} (v new : Vec X Z) (o : Option X) (Q : X → Type 0) → MatchOption o ((vec_len v ≡ 0) × (vec_len new ≡ 0)) Q → o ≡ None → v.items ≡ []
+nothing_left v new o Q cases none =
+    let size : vec_len v ≡ 0 = (at_none o ((vec_len v ≡ 0) × (vec_len new ≡ 0)) Q cases none).0 in
+    empty v.items (omega (arith, size, v.ok.0))
+
+-- ---- the sender's end
+
+send_popped : (N : Table) (ns ts : List Name) (n : Name) (p : ℕ) (P : Plant) (new : Vec End Global) (o : Option End) → (lane_at N n.lane).sender.0 ≡ p
+    → P.sends.items ≡ new.items ++ option_to_list o → (o ≡ None → P.sends.items ≡ []) → HasEnded N (ns ++ n ∷ []) ts p P → IsTheLast n o × HasEnded N ns ts p (record P { sends = new })
+send_popped N ns ts n p P new o owner parts none ended =
+    let named = ended.dealt.sends_are ∙ filter_own (is_from N p) ns n (eq-eqb (lane_at N n.lane).sender.0 p owner) in
+    let last = popped (λ (e : End). e.name) IsClosed P.sends.items new.items o (filter (is_from N p) ns) n named parts none ended.sent in (
+      last.2,
+      record {
+        dealt = record { sends_are = last.0; takes_are = ended.dealt.takes_are };
+        sent = last.1;
+        taken = ended.taken;
+        plans = ended.plans;
+      },
+    )
+
+send_kept : (N : Table) (ns ts : List Name) (n : Name) (p : ℕ) (P : Plant) → (lane_at N n.lane).sender.0 ≢ p → HasEnded N (ns ++ n ∷ []) ts p P → HasEnded N ns ts p P
+send_kept N ns ts n p P other ended = record {
+  dealt = record {
+    sends_are = ended.dealt.sends_are ∙ filter_other (is_from N p) ns n (apart (lane_at N n.lane).sender.0 p other);
+    takes_are = ended.dealt.takes_are;
+  };
+  sent = ended.sent;
+  taken = ended.taken;
+  plans = ended.plans;
+}
+
+pub sends_popped : (N : Table) (ns ts : List Name) (n : Name) (plants : List Plant) (at : ℕ) (P : Plant) (new : Vec End Global) (o : Option End) → at < length plants → P ≡ get_or plants at P
+    → P.sends.items ≡ new.items ++ option_to_list o → (o ≡ None → P.sends.items ≡ []) → (lane_at N n.lane).sender.0 ≡ at → HaveEnded N (ns ++ n ∷ []) ts plants
+    → IsTheLast n o × HaveEnded N ns ts (set plants at (record P { sends = new }))
+sends_popped N ns ts n plants at P new o within is parts none owner ended =
+    let here = send_popped N ns ts n at P new o owner parts none (subst (HasEnded N (ns ++ n ∷ []) ts at) (sym is) (ended.each at P within)) in (
+      here.0,
+      record {
+        all_plants = length-set plants at (record P { sends = new }) ∙ ended.all_plants;
+        each = each_set (HasEnded N (ns ++ n ∷ []) ts) (HasEnded N ns ts) plants at (record P { sends = new }) within here.1
+            (λ k Q other. send_kept N ns ts n k Q (λ i. other (sym i ∙ owner))) ended.each;
+      },
+    )
+
+-- ---- the receiver's end
+
+take_popped : (N : Table) (ns ts : List Name) (n : Name) (p : ℕ) (P : Plant) (new : Vec End Global) (o : Option End) → (lane_at N n.lane).receiver.0 ≡ p
+    → P.takes.items ≡ new.items ++ option_to_list o → (o ≡ None → P.takes.items ≡ []) → HasEnded N ns (ts ++ n ∷ []) p P → IsTheLast n o × HasEnded N ns ts p (record P { takes = new })
+take_popped N ns ts n p P new o owner parts none ended =
+    let named = ended.dealt.takes_are ∙ filter_own (is_to N p) ts n (eq-eqb (lane_at N n.lane).receiver.0 p owner) in
+    let last = popped (λ (e : End). e.name) IsClosed P.takes.items new.items o (filter (is_to N p) ts) n named parts none ended.taken in (
+      last.2,
+      record {
+        dealt = record { sends_are = ended.dealt.sends_are; takes_are = last.0 };
+        sent = ended.sent;
+        taken = last.1;
+        plans = ended.plans;
+      },
+    )
+
+take_kept : (N : Table) (ns ts : List Name) (n : Name) (p : ℕ) (P : Plant) → (lane_at N n.lane).receiver.0 ≢ p → HasEnded N ns (ts ++ n ∷ []) p P → HasEnded N ns ts p P
+take_kept N ns ts n p P other ended = record {
+  dealt = record {
+    sends_are = ended.dealt.sends_are;
+    takes_are = ended.dealt.takes_are ∙ filter_other (is_to N p) ts n (apart (lane_at N n.lane).receiver.0 p other);
+  };
+  sent = ended.sent;
+  taken = ended.taken;
+  plans = ended.plans;
+}
+
+pub takes_popped : (N : Table) (ns ts : List Name) (n : Name) (plants : List Plant) (at : ℕ) (P : Plant) (new : Vec End Global) (o : Option End) → at < length plants → P ≡ get_or plants at P
+    → P.takes.items ≡ new.items ++ option_to_list o → (o ≡ None → P.takes.items ≡ []) → (lane_at N n.lane).receiver.0 ≡ at → HaveEnded N ns (ts ++ n ∷ []) plants
+    → IsTheLast n o × HaveEnded N ns ts (set plants at (record P { takes = new }))
+takes_popped N ns ts n plants at P new o within is parts none owner ended =
+    let here = take_popped N ns ts n at P new o owner parts none (subst (HasEnded N ns (ts ++ n ∷ []) at) (sym is) (ended.each at P within)) in (
+      here.0,
+      record {
+        all_plants = length-set plants at (record P { takes = new }) ∙ ended.all_plants;
+        each = each_set (HasEnded N ns (ts ++ n ∷ [])) (HasEnded N ns ts) plants at (record P { takes = new }) within here.1
+            (λ k Q other. take_kept N ns ts n k Q (λ i. other (sym i ∙ owner))) ended.each;
+      },
+    )
+
+-- ---- the last lane
+
+-- the name of the last of the lanes, and the names before it
+pub record HaveLast (N : Table) (l : ℕ) (plants : List Plant) : Type 0 where
+  pub before : List Name
+  pub last : Name
+  pub lane : last.lane ≡ l
+  pub network : last.network ≡ N
+  pub first_lanes : AreNames N l before
+  pub ended : HaveEnded N (before ++ last ∷ []) (before ++ last ∷ []) plants
+
+last_of : (N : Table) (l : ℕ) (ns : List Name) (plants : List Plant) → AreNames N (suc l) ns → HaveEnded N ns ns plants → HaveLast N l plants
+last_of N l ns plants (before, n, is, lane, network, first) ended = record {
+  before = before;
+  last = n;
+  lane = lane;
+  network = network;
+  first_lanes = first;
+  ended = subst (λ (z : List Name). HaveEnded N z z plants) is ended;
+}
+
+pub have_last : (N : Table) (l : ℕ) (plants : List Plant) → HaveLeft N (l + 1) plants → HaveLast N l plants
+have_last N l plants left = last_of N l left.names plants (subst (λ (k : ℕ). AreNames N k left.names) (add-one l) left.first_lanes) left.ended
+
+-- before the first lane is taken, and at each
+pub all_left : (N : Table) (ns : List Name) (plants : List Plant) → AreNames N (length (lanes N)) ns → HaveEnded N ns ns plants → HaveLeft N (length (lanes N) - 0) plants
+all_left N ns plants all ended = subst (λ (k : ℕ). HaveLeft N k plants) (omega arith) record { names = ns; first_lanes = all; ended = ended }
+
+pub left_here : (N : Table) (plants : List Plant) (count done : ℕ) → count ≡ length (lanes N) → done < count → HaveLeft N (length (lanes N) - done) plants → HaveLeft N (count - 1 - done + 1) plants
+left_here N plants count done is within left = subst (λ (k : ℕ). HaveLeft N k plants) (omega (arith, is, within)) left
+
+pub left_next : (N : Table) (plants : List Plant) (count done : ℕ) → count ≡ length (lanes N) → done < count → HaveLeft N (count - 1 - done) plants → HaveLeft N (length (lanes N) - (done + 1)) plants
+left_next N plants count done is within left = subst (λ (k : ℕ). HaveLeft N k plants) (omega (arith, is, within)) left
+
+-- the plans are there throughout
+pub have_plans : (N : Table) (plants : List Plant) (count : ℕ) → HaveLeft N count plants → HavePlans N plants
+have_plans N plants count left = record { all_plants = left.ended.all_plants; each = λ k d h. (left.ended.each k d h).plans }

@@ -1,0 +1,104 @@
+-- What reconciling the two ends of a closed lane answers.
+use Rattle.std.proofs.Common.{◌≡◌, ℕ, ◌+◌, ◌-◌, true, List, [], ◌∷◌, ◌++◌, length, reverse, refl, sym, ap, subst, ◌∙◌, arith, append_assoc, take, drop, Result, Ok, Err, IfOk}
+use Rattle.std.proofs.lemmas.List.{length-map, length-reverse, length_push, take_at}
+use Rattle.mrp_rows.specs.Table.{Table}
+use Rattle.mrp_net.specs.Lanes.{lanes, lane_at}
+use Rattle.mrp_record.specs.declared.record.Record.{Record}
+use Rattle.mrp_record.specs.Entries.{content, contents, is_closed}
+use Rattle.mrp_record.specs.Text.{Load, IsBeginning, IsWhole, length_of_text}
+use Rattle.mrp_record.proofs.Beginnings.{closed_is_whole, nothing_follows_closing, texts_have_one_length}
+use Rattle.mrp_events.specs.Loads.{loads}
+use Rattle.mrp_events.proofs.Ordering.{has_closing}
+use Rattle.mrp_lane.specs.declared.joining.Reconciled.{Reconciled}
+use Rattle.mrp_lane.specs.Ends.{End, Name, HasLegalList}
+use Rattle.mrp_lane.specs.Reconciled.{figures_on}
+use Rattle.mrp_lane.specs.Views.{IsLegal}
+use Rattle.mrp_run.specs.Ends.{EachAt}
+use Rattle.mrp_run.specs.Outcome.{IsSettled, AreSettled}
+use Rattle.mrp_run.specs.Plant.{IsClosed}
+use Rattle.mrp_run.proofs.DealtLists.{each_push, each_turned}
+
+-- ---- one lane
+
+none_behind : (xs ys : List Record) → xs ++ ys ≡ [] → (xs ≡ []) × (ys ≡ [])
+none_behind [] ys e = (refl, e)
+none_behind (x ∷ xs) ys e = absurd (cc)
+
+-- where what was taken ends with the closing record, it is the whole text, and nothing else was sent
+pub record IsAll (all : List Load) (sent taken left : List Record) : Type 0 where
+  pub same : taken ≡ sent
+  pub nothing : left ≡ []
+  pub whole : IsWhole all sent
+  pub size : length sent ≡ length_of_text all
+
+pub all_taken : (all : List Load) (sent taken left : List Record) → IsBeginning all sent → is_closed (contents taken) ≡ true → sent ≡ taken ++ left → IsAll all sent taken left
+all_taken all sent taken left legal closed parts =
+    let at = has_closing taken closed in
+    let split : sent ≡ at.before ++ at.closing ∷ (at.after ++ left) = parts ∙ ap (λ (z : List Record). z ++ left) at.is ∙ append_assoc at.before (at.closing ∷ at.after) left in
+    let none = nothing_follows_closing all at.before (at.after ++ left) at.closing at.closes (subst (IsBeginning all) split legal) in
+    let behind = none_behind at.after left none in
+    let is : sent ≡ at.before ++ at.closing ∷ [] = split ∙ ap (λ (z : List Record). at.before ++ at.closing ∷ z) none in
+    let took : taken ≡ at.before ++ at.closing ∷ [] = at.is ∙ ap (λ (z : List Record). at.before ++ at.closing ∷ z) behind.0 in
+    let whole : IsWhole all sent = subst (IsWhole all) (sym is) (closed_is_whole all at.before at.closing at.closes (subst (IsBeginning all) is legal)) in
+    record {
+      same = took ∙ sym is;
+      nothing = behind.1;
+      whole = whole;
+      size = sym (length-map sent content) ∙ texts_have_one_length all (contents sent) whole.text;
+    }
+
+pub settled : (N : Table) (l : ℕ) (n : Name) (send take : End) (r : Reconciled) → n.lane ≡ l → n.network ≡ N → send.name ≡ n → IsClosed take → HasLegalList send
+    → r.lane.0 ≡ send.name.lane → r.sent ≡ length send.list → r.taken ≡ length take.list → send.list ≡ take.list ++ r.left.items
+    → r.figures.items ≡ figures_on send.name.network send.name.lane send.list take.list → IsSettled N l r
+settled N l n send take r lane network name closed legal r_lane r_sent r_taken r_left r_figures =
+    let on : send.name.lane ≡ l = ap (λ (x : Name). x.lane) name ∙ lane in
+    let of : send.name.network ≡ N = ap (λ (x : Name). x.network) name ∙ network in
+    let beginning : IsBeginning (loads N (lane_at N l)) send.list = subst (λ (x : Table × ℕ). IsLegal x.0 x.1 send.list) (λ i. (of i, on i)) legal in
+    let all = all_taken (loads N (lane_at N l)) send.list take.list r.left.items beginning closed r_left in
+    record {
+      lane = r_lane ∙ on;
+      sent = r_sent ∙ all.size;
+      taken = r_taken ∙ ap length all.same ∙ all.size;
+      left = all.nothing;
+      text = send.list;
+      whole = all.whole;
+      figures = r_figures ∙ (λ i. figures_on (of i) (on i) send.list (all.same i));
+    }
+
+pub settled_ok : {E : Type 0} (N : Table) (l : ℕ) (n : Name) (send take : End) (o : Result Reconciled E) → n.lane ≡ l → n.network ≡ N → send.name ≡ n → IsClosed take → HasLegalList send
+    → IfOk o (λ r. r.lane.0 ≡ send.name.lane) → IfOk o (λ r. r.sent ≡ length send.list) → IfOk o (λ r. r.taken ≡ length take.list) → IfOk o (λ r. send.list ≡ take.list ++ r.left.items)
+    → IfOk o (λ r. r.figures.items ≡ figures_on send.name.network send.name.lane send.list take.list) → IfOk o (λ r. IsSettled N l r)
+settled_ok N l n send take (Err e) lane network name closed legal r_lane r_sent r_taken r_left r_figures = tt
+settled_ok N l n send take (Ok r) lane network name closed legal r_lane r_sent r_taken r_left r_figures =
+    settled N l n send take r lane network name closed legal r_lane r_sent r_taken r_left r_figures
+
+pub ok_anyway : {T E : Type 0} (o : Result T E) (P : Type 0) → P → IfOk o (λ _. P)
+ok_anyway (Ok r) P h = h
+ok_anyway (Err e) P h = tt
+
+-- ---- all lanes, from the last on
+
+pub record AreSettledFrom (N : Table) (count done : ℕ) (rs : List Reconciled) : Type 0 where
+  pub size : length rs ≡ done
+  pub each : EachAt (λ k. IsSettled N (count - 1 - k)) rs
+
+pub settled_more : (N : Table) (size count done : ℕ) (rs new : List Reconciled) (r : Reconciled) → new ≡ rs ++ r ∷ [] → size ≡ count → IsSettled N (size - 1 - done) r → AreSettledFrom N count done rs
+    → AreSettledFrom N count (done + 1) new
+settled_more N size count done rs new r grown same here so_far = subst (AreSettledFrom N count (done + 1)) (sym grown) record {
+  size = omega (arith, so_far.size, length_push rs r);
+  each = each_push (λ k. IsSettled N (count - 1 - k)) rs r done so_far.size so_far.each (subst (λ (z : ℕ). IsSettled N (z - 1 - done) r) same here);
+}
+
+pub settled_none : (N : Table) (count : ℕ) (rs : List Reconciled) → rs ≡ [] → AreSettledFrom N count 0 rs
+settled_none N count rs is = subst (AreSettledFrom N count 0) (sym is) record { size = refl; each = λ k d h. absurd (omega (arith, h)) }
+
+-- turned round in place they are in lane order
+pub settled_all : (N : Table) (count done : ℕ) (rs now turned : List Reconciled) (len : ℕ) → count ≡ length (lanes N) → done ≡ count → now ≡ rs → turned ≡ reverse now → len ≡ length rs
+    → AreSettledFrom N (length (lanes N)) done rs → AreSettled N (take len (turned ++ drop (length turned) rs))
+settled_all N count done rs now turned len is all same turns size so_far =
+    let round : turned ≡ reverse rs = turns ∙ ap reverse same in
+    let long : length turned ≡ len = ap length round ∙ length-reverse rs ∙ sym size in
+    subst (AreSettled N) (sym (take_at turned (drop (length turned) rs) len long ∙ round)) record {
+      all = length-reverse rs ∙ so_far.size ∙ all ∙ is;
+      each = each_turned (IsSettled N) rs (length (lanes N)) (so_far.size ∙ all ∙ is) so_far.each;
+    }

@@ -1,0 +1,26 @@
+use Rattle.mrp_run.proofs.Keeping.{planned_kept}
+use Rattle.mrp_run.proofs.running.plan_all.Goals as goal
+
+pub returns-in-Ok-clause-kept : goal.returns-in-Ok-clause-kept
+returns-in-Ok-clause-kept g c =
+    let p = c.args.plant.now in
+    let xs = c.plan_ready.ensures.planned in
+    planned_kept p.agent p.sends.items p.takes.items c.plan_ready.new.agent xs.0 xs.1
+
+pub returns-in-Err-Memory-clause-kept : goal.returns-in-Err-Memory-clause-kept
+returns-in-Err-Memory-clause-kept g c =
+    let p = c.args.plant.now in
+    let xs = c.plan_ready.ensures.planned in
+    planned_kept p.agent p.sends.items p.takes.items c.plan_ready.new.agent xs.0 xs.1
+
+pub returns-in-Err-ThreadRefused-clause-kept : goal.returns-in-Err-ThreadRefused-clause-kept
+returns-in-Err-ThreadRefused-clause-kept g c =
+    let p = c.args.plant.now in
+    let xs = c.plan_ready.ensures.planned in
+    planned_kept p.agent p.sends.items p.takes.items c.plan_ready.new.agent xs.0 xs.1
+
+pub returns-in-Err-GateShut-clause-kept : goal.returns-in-Err-GateShut-clause-kept
+returns-in-Err-GateShut-clause-kept g c =
+    let p = c.args.plant.now in
+    let xs = c.plan_ready.ensures.planned in
+    planned_kept p.agent p.sends.items p.takes.items c.plan_ready.new.agent xs.0 xs.1

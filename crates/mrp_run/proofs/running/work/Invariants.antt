@@ -1,0 +1,7 @@
+use Rattle.std.proofs.Common.{◌≡◌}
+use Rattle.mrp_run.specs.Steps.{Keeps}
+use Rattle.mrp_run.proofs.running.work.Given as goal
+
+-- the turns so far kept the plant at work
+abbrev pub invariant-loop-turn : goal.invariant-loop-turn
+invariant-loop-turn g l = record { kept : Keeps l.fn.plant l.plant; crew : l.crew ≡ l.fn.crew }
