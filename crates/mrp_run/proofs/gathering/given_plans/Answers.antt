@@ -15,7 +15,7 @@ loop-plant-preserved c =
       size = omega (arith, at.invariant.size, ap length pushed, length-append at.given.items (c.into_plans.result ∷ []), length-append at.yielded (plant ∷ []));
       own = λ N have. subst (λ (z : List (Vec PairPlan Global)). AreOwn N z) (sym pushed)
           (given_more N c.args.plants.items at.yielded (into_iter_items at.plant-iterator) _ plant at.given.items c.into_plans.result have at.invariant.whole c.in-Some.ensures.steps.0
-            at.invariant.size c.into_plans.ensures.plans c.into_plans.ensures.all (at.invariant.own N have));
+          at.invariant.size c.into_plans.ensures.plans c.into_plans.ensures.all (at.invariant.own N have));
     }
 
 pub returns : goal.returns

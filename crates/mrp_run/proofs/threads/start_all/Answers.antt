@@ -26,5 +26,5 @@ loop-plant-preserved g c =
       room = omega (arith, at.invariant.room, c.push.ensures.capacity);
       first = subst (AreOfFirst (length c.args.plants.items)) (sym pushed)
           (All-push (λ t. t.promise.number.0 < length c.args.plants.items) at.threads.items thread at.invariant.first
-            (omega (arith, left, size, c.len.ensures, ap (λ n. n.0) c.in-Some-start.ensures.number, at.threads.ok.0)));
+          (omega (arith, left, size, c.len.ensures, ap (λ n. n.0) c.in-Some-start.ensures.number, at.threads.ok.0)));
     }
