@@ -1,11 +1,11 @@
 -- What threads that are joined bring back.
 use Rattle.std.proofs.Common.{◌≡◌, ℕ, ◌<◌, List, [], ◌∷◌, ◌++◌, length, get_or, map, Ok, Err, Option, Some, None, Result, Vec, Global, refl, sym, ap, subst, ◌∙◌, arith, append_assoc, append-nil, length-append, zero, suc}
-use Rattle.std.specs.List.{All, AllZip}
+use Rattle.std.specs.List.{All, AllZip, Contains}
 use Rattle.std.specs.Option.{option_to_list, IfSome}
 use Rattle.std.specs.Result.{IfErr, IfOk, OnOk, result_err}
 use Rattle.std.specs.declared.thread.PromisedHandle.{PromisedHandle}
 use Rattle.std.proofs.lemmas.List.{map-append}
-use Rattle.std.proofs.lemmas.List.Elements.{All-append, All-cons, All-contains, All-head, All-pop, All-push, All-tail}
+use Rattle.std.proofs.lemmas.List.Elements.{All-append, All-cons, All-contains, All-head, All-pop, All-push, All-tail, Contains-append_right}
 use Rattle.mrp_rows.specs.declared.numbers.PlantNo.{PlantNo}
 use Rattle.mrp_run.specs.declared.fault.RunFault.{RunFault}
 use Rattle.mrp_run.specs.declared.fault.RunFault.TheVariants.{Memory, ThreadRefused, GateShut, Stopped}
@@ -151,3 +151,6 @@ pub back_each : (plants : List Plant) (out : Result (Vec Plant Global) RunFault)
     → IfOk out (λ after. EachAt (λ p P. Finishes (get_or plants p P) P) after.items)
 back_each plants (Err fault) all = tt
 back_each plants (Ok after) all = λ k d within. pairs_at Finishes plants after.items all k (get_or after.items k d) d within
+
+pub holds_next : {X : Type 0} (P : X → Type 0) (before rest later all : List X) (x : X) → before ++ rest ≡ all → rest ≡ x ∷ later → All P all → P x
+holds_next P before rest later all x whole next each = All-contains P all x each (subst (λ z. Contains z x) (ap (λ z. before ++ z) (sym next) ∙ whole) (Contains-append_right before (x ∷ later) x (0, omega arith, refl)))

@@ -11,3 +11,5 @@ pub mod Paired
 pub mod PairedSettled
 pub mod JoinedFaults
 pub mod JoinedThreads
+pub mod JoinedNetwork
+pub mod GatheredPlans

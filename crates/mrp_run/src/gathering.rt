@@ -38,7 +38,8 @@ fn given_plans(alloc: Global, plants: Vec<Plant>) -> Result<Vec<Vec<PairPlan>>, 
 {
     let mut given = Vec::with_capacity(alloc, plants.len())?;
     for plant in plants {
-        given.push(plant.agent.into_plans())?;
+        let Plant { agent, .. } = plant;
+        given.push(agent.into_plans())?;
     }
     Ok(given)
 }

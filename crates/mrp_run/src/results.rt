@@ -48,7 +48,9 @@ pub(crate) fn all_of(
     for back in backs {
         match back {
             Ok(plant) => {
-                let _ = plants.push(plant);
+                let Ok(()) = plants.push(plant) else {
+                    unreachable!()
+                };
             }
             Err(why) => worst = Some(with_fault(worst, why)),
         }

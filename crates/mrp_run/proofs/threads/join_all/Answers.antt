@@ -15,6 +15,6 @@ loop-thread-preserved g c =
       room = omega (arith, at.invariant.room, c.push.ensures.capacity);
       finished = subst (λ (z : List Back). AllZip Finished (started (at.yielded ++ thread ∷ [])) z) (sym pushed)
           (subst (λ z. AllZip Finished z (at.backs.items ++ c.join.result ∷ [])) (sym (started_more at.yielded thread))
-            (pairs_more Finished (started at.yielded) at.backs.items thread.promise.plant.value c.join.result at.invariant.finished c.join.ensures.finished));
+          (pairs_more Finished (started at.yielded) at.backs.items thread.promise.plant.value c.join.result at.invariant.finished c.join.ensures.finished));
       first = λ plants each. subst (AreShutOfFirst plants) (sym pushed) (shut_more plants at.yielded thread at.backs.items c.join.result c.join.ensures.fault each at.invariant.first);
     }

@@ -4,8 +4,13 @@ use Rattle.std.proofs.lemmas.List.Elements.{All-push}
 use Rattle.std.specs.Vec.Iter.{into_iter_items}
 use Rattle.mrp_run.specs.declared.plant.Plant.{Plant}
 use Rattle.mrp_run.specs.Joined.{AreOfFirst, started}
-use Rattle.mrp_run.proofs.JoinedThreads.{started_more, whole_next, one_left}
+use Rattle.mrp_run.specs.Steps.{IsAtWork}
+use Rattle.mrp_run.proofs.JoinedThreads.{holds_next, started_more, whole_next, one_left}
 use Rattle.mrp_run.proofs.threads.start_all.Goals as goal
+
+pub start-requires-clause-work : goal.start-requires-clause-work
+start-requires-clause-work g c = λ κs met.
+    holds_next IsAtWork c.loop-plant.yielded (into_iter_items c.loop-plant.plant-iterator) _ c.args.plants.items c.in-Some.plant c.loop-plant.invariant.whole c.in-Some.ensures.steps.0 c.requires.work
 
 pub loop-plant-preserved : goal.loop-plant-preserved
 loop-plant-preserved g c =
@@ -21,5 +26,5 @@ loop-plant-preserved g c =
       room = omega (arith, at.invariant.room, c.push.ensures.capacity);
       first = subst (AreOfFirst (length c.args.plants.items)) (sym pushed)
           (All-push (λ t. t.promise.number.0 < length c.args.plants.items) at.threads.items thread at.invariant.first
-            (omega (arith, left, size, c.len.ensures, ap (λ n. n.0) c.in-Some-start.ensures.number, at.threads.ok.0)));
+          (omega (arith, left, size, c.len.ensures, ap (λ n. n.0) c.in-Some-start.ensures.number, at.threads.ok.0)));
     }
