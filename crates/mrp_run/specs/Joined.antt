@@ -1,5 +1,6 @@
 -- The threads of the plants, and what they bring back.
-use Rattle.std.specs.Prelude.{◌≡◌, ℕ, ◌<◌, ◌≤◌, List, [], map, Option, Some, None, Result, Ok, Err, All, IfOk, IfErr, IfSome, filter_map, unwrap_or, vec_capacity}
+use Rattle.std.specs.Prelude.{◌≡◌, ℕ, ◌<◌, ◌≤◌, List, [], map, Option, Some, None, Result, Ok, Err, All, IfOk, IfErr, IfSome, filter_map, unwrap_or}
+use Rattle.std.specs.Vec.{vec_capacity}
 use Rattle.std.specs.declared.thread.PromisedHandle.{PromisedHandle}
 use Rattle.mrp_run.specs.declared.fault.RunFault.{RunFault}
 use Rattle.mrp_run.specs.declared.fault.RunFault.TheVariants.{Stopped}

@@ -42,7 +42,8 @@ pub struct Outcome {
 /// # Errors
 ///
 /// The lowest fault met, and of shut gates that of the lowest plant: [`RunFault::Memory`] where a growth is
-/// refused, [`RunFault::ThreadRefused`] where no thread could be made, [`RunFault::GateShut`].
+/// refused, [`RunFault::ThreadRefused`] where no thread could be made, [`RunFault::GateShut`] with the plant
+/// of the network for which, or for a worker of which, the gate was shut.
 pub fn run_network<R: Threads + Wait + Sync, G: Gate>(
     rt: &R,
     alloc: Global,
