@@ -1,5 +1,5 @@
 //! Lanes between plants: the two ends in one thread, and each in a thread of its own. With an allocation
-//! refused, each test passes or ends in an error for want of memory; no assertion fails.
+//! refused, a test in one thread passes or ends in an error for want of memory; its assertion never fails.
 
 ghost use Rattle.std.specs.Prelude.{◌≡◌, ◌<◌, ◌≤◌, ◌-◌, ◌*◌, ◌/◌, length, Contains, IfOk};
 ghost use Rattle.mrp_rows.specs.Table.{IsTable, horizon};
