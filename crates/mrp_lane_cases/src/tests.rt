@@ -1,0 +1,3 @@
+//! Lanes as their callers use them.
+
+mod lanes;
