@@ -18,18 +18,6 @@ use std::alloc::Global;
 /// The capacity of a mailbox where nothing depends on it, in records.
 const USUAL_CAPACITY: u64 = 64;
 
-/// The firm of a network after its last event.
-fn driven<'a>(alloc: Global, net: &SizedNet<'a>, capacity: u64) -> Result<Firm<'a>, TextFault>
-    requires capacity { (1 ≤ capacity) × (capacity ≤ MOST_CAPACITY) }
-    ensures network { IfOk result (λ firm. firm.network ≡ net.now.network) }
-    ensures finished { IfOk result (λ firm. firm.left ≡ 0) }
-    ensures fault { IfErr result (λ fault. fault ≡ TextFault.Memory) }
-{
-    let mut firm = Firm::new(alloc, net, capacity)?;
-    firm.drive();
-    Ok(firm)
-}
-
 /// The plan that the plants of a network come to.
 pub(crate) fn driven_plan(
     alloc: Global,
@@ -41,7 +29,7 @@ pub(crate) fn driven_plan(
     ensures fits { IfOk result (Fits net.now.network) }
     ensures fault { IfErr result (λ fault. fault ≡ TextFault.Memory) }
 {
-    let firm = driven(alloc, net, capacity)?;
+    let firm = Firm::driven(alloc, net, capacity)?;
     let plan = firm.into_plan(alloc, net)?;
     Ok(plan)
 }
@@ -55,7 +43,7 @@ pub(crate) fn driven_figures(
     ensures lanes { IfOk result (λ figures. All (IsFigure net.now.network) figures.items) }
     ensures fault { IfErr result (λ fault. fault ≡ TextFault.Memory) }
 {
-    let firm = driven(alloc, net, USUAL_CAPACITY)?;
+    let firm = Firm::driven(alloc, net, USUAL_CAPACITY)?;
     let figures = firm.figures(alloc)?;
     Ok(figures)
 }

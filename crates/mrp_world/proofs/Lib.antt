@@ -15,3 +15,4 @@ pub mod AgentBooks
 pub mod AgentPlans
 pub mod AgentReads
 pub mod AgentGives
+pub mod Drives

@@ -6,3 +6,4 @@ pub mod Gathering
 pub mod Agents
 pub mod Owned
 pub mod AgentStays
+pub mod Driving

@@ -8,6 +8,7 @@
 mod acting;
 mod agents;
 mod counting;
+mod driving;
 mod figures;
 mod gathering;
 pub mod laws;

@@ -63,10 +63,15 @@ impl Mailbox {
         self.records.front().copied()
     }
 
-    /// Drops the first record.
+    /// Drops the first record. One that is alone is taken from the back, so that the next one lies where it
+    /// lay, and room that is never needed is never touched.
     pub(crate) fn drop_first(&mut self)
         ensures { self.new ≡ record { records = drop 1 self.old.records; room = self.old.room } }
     {
+        if self.records.len() == 1 {
+            let _alone = self.records.pop_back();
+            return;
+        }
         let _taken = self.records.pop_front();
     }
 

@@ -4,6 +4,7 @@ ghost use Rattle.mrp_world.specs.declared.world.TheConstants.{MOST_ROOM};
 
 use crate::acting::act_on;
 use crate::counting::steps;
+use crate::driving::{Place, drive_on, first_place, place_of};
 use crate::figures::figures;
 use crate::gathering::{from_the_last, plans_by_plant};
 use crate::looking::look;
@@ -23,17 +24,10 @@ use std::marker::Model;
 /// The greatest capacity of a mailbox, in records.
 pub const MOST_ROOM: u64 = 65_536;
 
-/// Where the last event happened: the next one is looked for from there on.
-#[derive(Clone, Copy)]
-struct Place {
-    lane: usize,
-    plant: usize,
-}
-
 /// All plants of a network with the mailboxes between them.
 ///
 /// A world shows a state of the network's runs. It takes exactly the events that are enabled in it, and
-/// no call takes memory but [`World::new`] and [`World::figures`].
+/// no call takes memory but those that are given an allocator.
 #[derive(Drop)]
 pub struct World<'a, P: Plant> {
     network: &'a Network,
@@ -90,7 +84,37 @@ impl<'a, P: Plant> World<'a, P> {
             plants,
             boxes,
             left,
-            near: Place { lane: 0, plant: 0 },
+            near: first_place(),
+        })
+    }
+
+    /// A world after the last event: as [`World::new`] makes it and [`World::drive`] drives it, but that its
+    /// steps aren't counted first, so that no pair is planned but by its plant.
+    ///
+    /// A mailbox may hold `capacity` records, 1 to [`MOST_ROOM`].
+    ///
+    /// # Errors
+    ///
+    /// [`Memory`] where a growth is refused; then no event has happened.
+    pub fn driven(alloc: Global, net: &SizedNet<'a>, capacity: u64) -> Result<World<'a, P>, Memory>
+        requires capacity { (1 ≤ capacity) × (capacity ≤ MOST_ROOM) }
+        ensures network { IfOk result (λ world. world.network ≡ net.now.network) }
+        ensures capacity { IfOk result (λ world. world.capacity ≡ capacity) }
+        ensures shows { IfOk result (λ world. (s : State) × WorldShows P.shows world s) }
+        ensures finished { IfOk result (λ world. (s : State) → WorldShows P.shows world s → IsFinished world.network s) }
+        ensures left { IfOk result (λ world. world.left ≡ 0) }
+    {
+        let network = net.network();
+        let mut plants = new_plants(alloc, net)?;
+        let mut boxes = new_boxes(alloc, net, capacity)?;
+        let near = drive_on(network, &mut plants, &mut boxes, first_place());
+        Ok(World {
+            network,
+            capacity,
+            plants,
+            boxes,
+            left: 0,
+            near,
         })
     }
 
@@ -109,7 +133,7 @@ impl<'a, P: Plant> World<'a, P> {
             return false;
         }
         self.left -= 1;
-        self.near = near(self.network, event, self.near);
+        self.near = place_of(self.network, event, self.near);
         true
     }
 
@@ -219,43 +243,7 @@ impl<'a, P: Plant> World<'a, P> {
         ensures finished { (t : State) → WorldShows P.shows self.new t → IsFinished self.new.network t }
         ensures left { self.new.left ≡ 0 }
     {
-        for _ in 0..self.left {
-            self.go_on();
-        }
-    }
-
-    /// Lets an enabled event happen, if there is one.
-    fn go_on(&mut self)
-        ensures runs { (events : List Event) × Runs P.shows self.old events self.new }
-        ensures left { self.new.left ≡ self.old.left - 1 }
-    {
-        let _ = &self.network;
-        if let Some(event) = self.enabled() {
-            let _enabled = self.apply(event);
-        }
-    }
-}
-
-/// Where an event happened.
-fn near(network: &Network, event: Event, before: Place) -> Place {
-    match event {
-        Event::Send(lane) | Event::Receive(lane) => {
-            if lane.0 >= network.lanes() {
-                return before;
-            }
-            Place {
-                lane: lane.0,
-                plant: network.lane(lane).receiver.0,
-            }
-        }
-        Event::Plan(x) => {
-            if x.0 >= network.pairs() {
-                return before;
-            }
-            Place {
-                lane: before.lane,
-                plant: network.pair(x).plant.0,
-            }
-        }
+        self.near = drive_on(self.network, &mut self.plants, &mut self.boxes, self.near);
+        self.left = 0;
     }
 }

@@ -1,0 +1,11 @@
+use Rattle.mrp_world.proofs.Drives as drive
+use Rattle.mrp_world.proofs.Looks as look
+use Rattle.mrp_world.proofs.driving.go_on.Goals as goal
+
+pub returns-in_default-clause-rests : goal.returns-in_default-clause-rests
+returns-in_default-clause-rests g c _ =
+    drive.rests_as _ _ _ _ _ _ c.as_slice.ensures.value c.as_slice-2.ensures.value (look.none_gives _ _ c.look-found.ensures.none c.in_default.is)
+
+pub returns-clause-leads : goal.returns-clause-leads
+returns-clause-leads g c _ =
+    drive.goes_on _ _ _ _ _ _ _ _ _ _ c.as_slice.ensures.value c.as_slice-2.ensures.value c.requires.shown c.in-Some.ensures.some c.act_on-acted.ensures
