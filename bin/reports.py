@@ -115,6 +115,17 @@ def parts(file, wanted=lambda plant, item: True):
         raise Refused("the report is empty")
 
 
+def places(file):
+    """Returns where in a report the rows of each pair begin, as a number of bytes."""
+    found, front, place = {}, None, 0
+    for number, line in enumerate(file, 1):
+        if not (front and line.startswith(front)) and line.startswith(b"plan,"):
+            plant, item = (it.decode() for it in fields(PLAN, line, number)[:2])
+            found[plant, item], front = place, f"plan,{plant},{item},".encode()
+        place += len(line)
+    return found
+
+
 class Words(argparse.ArgumentParser):
     """The words of a tool. Its docstring is the help, and wrong words are refused in a line, with status 2."""
 
