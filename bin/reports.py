@@ -162,3 +162,5 @@ def run(main):
             sys.exit(0)
         print(f"bin/{os.path.basename(sys.argv[0])}: {fault}", file=sys.stderr)
         sys.exit(1)
+    except KeyboardInterrupt:
+        sys.exit(130)
