@@ -68,16 +68,20 @@ def room(name):
         yield f"{top}/crates/{name}"
 
 
-def run(words, folder):
-    """Runs a command in a folder, and returns its status and what it said."""
+def run(words, folder, heard=lambda line: None):
+    """Runs a command in a folder, and returns its status and what it said. Each line is heard as it comes."""
     how = {"stdin": subprocess.DEVNULL, "stdout": subprocess.PIPE, "stderr": subprocess.STDOUT}
     with subprocess.Popen(words, cwd=folder, text=True, errors="replace", **how) as child:
         RUNNING.add(child)
         if STOPPED.is_set():
             child.terminate()
-        said = child.communicate()[0]
+        said = []
+        for line in child.stdout:
+            said.append(line)
+            heard(line)
+        child.wait()
         RUNNING.discard(child)
-    return child.returncode, said
+    return child.returncode, "".join(said)
 
 
 def end_with_children():

@@ -1,0 +1,34 @@
+-- Writes the table of mrp: sqlite3 -list -separator , firm.db < table.sql
+-- What was due before the first day counts in period 0, and what is due after the last period is left out.
+CREATE TEMP VIEW wanted AS
+SELECT 'demand' AS kind, plant, item, max(0, CAST((julianday(due) - julianday(first_day)) / days AS INTEGER)) AS period, quantity, forecasts.rowid AS row
+FROM forecasts, calendar
+UNION ALL
+SELECT 'receipt', plant, item, max(0, CAST((julianday(due) - julianday(first_day)) / days AS INTEGER)), quantity, open_orders.rowid
+FROM open_orders, calendar;
+
+CREATE TEMP VIEW under_way AS
+SELECT supplier, customer, item, max(0, CAST((julianday(arrives) - julianday(first_day)) / days AS INTEGER)) AS period, quantity, shipments.rowid AS row
+FROM shipments, calendar
+WHERE received IS NULL;
+
+-- the kinds in their order, and within a kind the rows as they were entered
+SELECT kind, b, c, d, e, f, g, h
+FROM (
+    SELECT 1 AS place, 0 AS row, 'run' AS kind, first_day AS b, days AS c, periods AS d, '' AS e, '' AS f, '' AS g, '' AS h FROM calendar
+    UNION ALL
+    SELECT 2, rowid, 'plant', plant, '', '', '', '', '', '' FROM plants
+    UNION ALL
+    SELECT 3, items.rowid, 'pair', plant, item, supply, lot_rule, lead_time,
+        (SELECT coalesce(sum(quantity), 0) FROM stock WHERE stock.plant = items.plant AND stock.item = items.item), safety_stock
+    FROM items
+    UNION ALL
+    SELECT 4, rowid, 'bill', plant, parent, component, per, '', '', '' FROM bills
+    UNION ALL
+    SELECT CASE kind WHEN 'demand' THEN 5 ELSE 6 END, row, kind, plant, item, period, quantity, '', '', '' FROM wanted, calendar WHERE period < periods
+    UNION ALL
+    SELECT 7, row, 'ship', supplier, customer, item, period, quantity, '', '' FROM under_way, calendar WHERE period < periods
+    UNION ALL
+    SELECT 8, min(rowid), 'cum', supplier, customer, item, sum(quantity), '', '', '' FROM shipments WHERE received IS NOT NULL GROUP BY supplier, customer, item
+)
+ORDER BY place, row;
