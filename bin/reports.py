@@ -41,7 +41,7 @@ class Record(NamedTuple):
 
 
 class Late(NamedTuple):
-    """A late order: due in `period`, and so many periods too short."""
+    """A late order: due in `period`, which is `by` periods before it can come."""
 
     plant: str
     item: str
@@ -64,7 +64,7 @@ class Lane(NamedTuple):
 
 
 def fields(pattern, line, number):
-    """Returns the fields of a row, names and dates as text and the rest as numbers."""
+    """Returns the fields of a row, as bytes."""
     found = pattern.fullmatch(line)
     if not found:
         shown = line[:60].decode(errors="replace").rstrip()
@@ -79,6 +79,13 @@ def record_of(lines, number):
         raise Refused(f"row {number}: the periods of a pair don't count from 0")
     plant, item, _, dates, *figures = zip(*rows)
     return Record(plant[0].decode(), item[0].decode(), [it.decode() for it in dates], *(list(map(int, it)) for it in figures))
+
+
+def day(dates, period):
+    """Returns the first day of a period, of the days of a record."""
+    if period >= len(dates):
+        raise Refused(f"the report has an order in period {period}, and plan rows for {counted(len(dates), 'period')}")
+    return dates[period]
 
 
 def parts(file, wanted=lambda plant, item: True):
