@@ -21,7 +21,8 @@ use std::thread::Threads;
 /// Runs one plant until it is done.
 ///
 /// The ends are those of the plant's lanes in one sized network, in lane order; the agent sees what the plant
-/// sees there, and what it has sent and taken went through these ends. The plant isn't given the network.
+/// sees there, and what it has sent and taken went through these ends. The crew has the plant's workers, and
+/// plans for as many periods. The plant isn't given the network.
 ///
 /// A turn asks the gate, books what lies in the lanes that come in, plans what is ready and offers what the
 /// plant has to send, as far as there is room. Turns count from 1. Before each turn the plant looks whether
