@@ -13,7 +13,7 @@ use Rattle.mrp_group.proofs.Grouping.{range-suc}
 use Rattle.mrp_net.specs.Plan.{rows_at, no_rows, plan_of}
 use Rattle.mrp_net.specs.Sums.{pair_at, no_pair as no_row}
 use Rattle.mrp_view.specs.Seen.{pairs_of_number}
-use Rattle.mrp_view.specs.View.{PlantRows, is_of_plant, plant_pair, plant_pairs, plant_rows}
+use Rattle.mrp_view.specs.View.{PlantRows, is_of_plant, plant_pair, plant_pairs}
 use Rattle.mrp_view.specs.declared.view.PlantPair.{PlantPair}
 use Rattle.mrp_view.proofs.Seeing.{below}
 use Rattle.mrp_view.proofs.Seeing.{numbers_stand_once}
@@ -21,7 +21,7 @@ use Rattle.mrp_loops.specs.Sized.{IsSized}
 use Rattle.mrp_loops.specs.Within.{plan_at}
 use Rattle.mrp_loops.proofs.OnePlan.{one_plan}
 use Rattle.mrp_local.specs.Laws.{IsPairAt}
-use Rattle.mrp_agent.specs.State.{AgentState, no_pair, no_plan, pair_place, plans_of}
+use Rattle.mrp_agent.specs.State.{AgentState, no_pair, no_plan, pair_place}
 use Rattle.mrp_agent.proofs.Looking.{place_is_only}
 use Rattle.mrp_run.specs.declared.plant.Plant.{Plant}
 use Rattle.mrp_run.specs.Ends.{EachAt, HasPlans, HavePlans}

@@ -1,5 +1,5 @@
 -- What the plants of a network are before the first turn, after the joins, and when their ends are paired.
-use Rattle.std.proofs.Common.{◌≡◌, ℕ, ◌<◌, List, length, get_or, refl, sym, subst, ◌∙◌, arith}
+use Rattle.std.proofs.Common.{◌≡◌, List, length, get_or, ◌∙◌, arith}
 use Rattle.std.specs.List.{All}
 use Rattle.mrp_rows.specs.Table.{Table}
 use Rattle.mrp_run.specs.declared.plant.Plant.{Plant}

@@ -1,7 +1,6 @@
 use Rattle.std.proofs.Common.{◌≡◌, ◌++◌, ◌∷◌, [], List, length, length-append, ap, sym, subst, ◌∙◌, arith, Vec, Global}
 use Rattle.std.specs.Vec.Iter.{into_iter_items}
 use Rattle.mrp_netting.specs.declared.plan.PairPlan.{PairPlan}
-use Rattle.mrp_run.specs.declared.plant.Plant.{Plant}
 use Rattle.mrp_run.proofs.GatheredPlans.{AreOwn, given_more}
 use Rattle.mrp_run.proofs.JoinedThreads.{whole_next, none_left}
 use Rattle.mrp_run.proofs.gathering.given_plans.Goals as goal
