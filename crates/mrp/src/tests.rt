@@ -4,7 +4,6 @@
 mod damage;
 mod figures;
 mod firms;
-mod memory;
 mod plans;
 mod refusals;
 mod shipping;
