@@ -3,7 +3,10 @@
 
 ghost use Rattle.std.specs.Prelude.{◌≡◌, length};
 
+mod agent_alone;
+mod agents;
 mod events;
+mod hands;
 mod random;
 mod refusals;
 mod tables;
