@@ -36,7 +36,7 @@ fn main(rt: HostRuntime) -> ExitCode {
     };
     match choose(rt.alloc(), words.as_slice()) {
         Ok(choice) => {
-            let done = answer(rt.alloc(), choice, rt.reader(), &mut rt.stdout());
+            let done = answer(&rt, rt.alloc(), choice, rt.reader(), &mut rt.stdout());
             ended(&rt, &done)
         }
         Err(ChooseFault::Words(error)) => refused(&rt, &error),

@@ -8,9 +8,15 @@ mod plans;
 mod refusals;
 mod shipping;
 mod streams;
+mod threads;
 
-use mrp_text::{TextFault, check_text, cums_text, drive_text, peg_text, status, write_fault};
+use mrp_text::{
+    Gate, Settings, TextFault, check_text, cums_text, drive_text, peg_text, plan_text, status,
+    write_fault,
+};
 use std::alloc::{AllocError, Global};
+use std::sync::Wait;
+use std::thread::Threads;
 
 /// The bicycle: one plant, two wheels to a bicycle.
 pub(crate) const BICYCLE: &str = "run,2026-01-05,7,4,,,,\nplant,P1,,,,,,\n\
@@ -48,10 +54,23 @@ fn text_of(alloc: Global, bytes: &[u8]) -> Result<String, AllocError> {
     String::from_str(alloc, std::str::from_utf8(bytes).unwrap_or("no text"))
 }
 
-/// What `mrp plan` writes for the table, or its fault.
+/// What `mrp plan --single` writes for the table, or its fault.
 pub(crate) fn plan(alloc: Global, table: &str) -> Result<String, AllocError> {
     let mut written = Vec::new(alloc);
     let answer = drive_text(alloc, table.as_bytes(), &mut written, 64);
+    outcome(alloc, written, answer)
+}
+
+/// What `mrp plan` writes for the table, or its fault.
+pub(crate) fn threaded<T: Threads + Wait + Sync, G: Gate>(
+    rt: &T,
+    alloc: Global,
+    table: &str,
+    settings: Settings,
+    gate: &G,
+) -> Result<String, AllocError> {
+    let mut written = Vec::new(alloc);
+    let answer = plan_text(rt, alloc, table.as_bytes(), &mut written, settings, gate);
     outcome(alloc, written, answer)
 }
 

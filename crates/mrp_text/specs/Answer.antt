@@ -1,11 +1,11 @@
 -- What is answered to a choice of words.
-use Rattle.std.specs.Prelude.{ℕ, List, Result, Ok, Err}
+use Rattle.std.specs.Prelude.{ℕ, true, false, List, Result, Ok, Err}
 use Rattle.mrp_rows.specs.Table.{Table}
 use Rattle.mrp_words.specs.declared.words.Choice.{Choice}
 use Rattle.mrp_words.specs.declared.words.Choice.TheVariants.{Plan, Check, Peg, Cums}
 use Rattle.mrp_text.specs.declared.fault.TextFault.{TextFault}
 use Rattle.mrp_text.specs.Fault.{status_of}
-use Rattle.mrp_text.specs.Text.{IsPlanReport, IsCodeReport, IsPegReport, IsCumReport, IsRefusal, IsPegRefusal}
+use Rattle.mrp_text.specs.Text.{IsPlanReport, IsCodeReport, IsPegReport, IsCumReport, IsRefusal, IsRunRefusal, IsPegRefusal}
 
 -- the report that a choice asks for
 abbrev pub IsAnswer : Choice → Table → List ℕ → Type 0
@@ -16,7 +16,8 @@ IsAnswer Cums = IsCumReport
 
 -- what a refusal of the network says to a choice
 abbrev pub IsAnswerRefusal : Choice → Table → TextFault → Type 0
-IsAnswerRefusal (Plan workers capacity single) = IsRefusal
+IsAnswerRefusal (Plan workers capacity true) = IsRefusal
+IsAnswerRefusal (Plan workers capacity false) = IsRunRefusal
 IsAnswerRefusal Check = IsRefusal
 IsAnswerRefusal (Peg plant item period) = IsPegRefusal plant.now item.now period
 IsAnswerRefusal Cums = IsRefusal

@@ -2,3 +2,4 @@ pub mod Answer
 pub mod Fault
 pub mod Lines
 pub mod Text
+pub mod Runs

@@ -1,5 +1,5 @@
 -- What the text functions write, and what their refusals say.
-use Rattle.std.specs.Prelude.{◌≡◌, ℕ, ◌<◌, ◌≤◌, ◌⊎◌, List, [], ◌∷◌, ◌++◌, Option, option_map, Result, Ok, Err, string_bytes}
+use Rattle.std.specs.Prelude.{◌≡◌, ℕ, ◌<◌, ◌≤◌, ◌⊎◌, List, [], ◌∷◌, ◌++◌, Option, Some, option_map, slice_get, Result, Ok, Err, string_bytes}
 use Rattle.std.specs.Io.KnownBytes.{Appends, Keeps}
 use Rattle.csv.specs.Reading.{strip_bom}
 use Rattle.mrp_lot.specs.One.{PlanRows}
@@ -112,6 +112,26 @@ IsRefusal N (fault.NeedTooLarge name) = IsLoopFree N × ((codes : List ℕ) × A
 IsRefusal N fault.WriteFault = Unit {0}
 IsRefusal N fault.Memory = Unit {0}
 IsRefusal N _ = ⊥
+
+-- the name of a plant of the network
+abbrev pub IsPlantNamed : Table → List ℕ → Type 0
+IsPlantNamed N name = (p : ℕ) × (slice_get N.plants p ≡ Some name)
+
+-- what a run of a network by threads meets, which may end without a plan: a thread was refused, a gate was
+-- shut for a plant of the network, a plant used its turns, or memory was refused
+abbrev pub IsRunFault : Table → TextFault → Type 0
+IsRunFault N fault.ThreadRefused = Unit {0}
+IsRunFault N (fault.GateShut name) = IsPlantNamed N (string_bytes name)
+IsRunFault N fault.Stopped = Unit {0}
+IsRunFault N fault.Memory = Unit {0}
+IsRunFault N _ = ⊥
+
+-- what a refusal of a network says that is run by threads where it can be planned
+abbrev pub IsRunRefusal : Table → TextFault → Type 0
+IsRunRefusal N fault.ThreadRefused = IsPlannable N
+IsRunRefusal N (fault.GateShut name) = IsPlannable N × IsPlantNamed N (string_bytes name)
+IsRunRefusal N fault.Stopped = IsPlannable N
+IsRunRefusal N other = IsRefusal N other
 
 -- the same of a question about a pair in a period, which is asked of a network that can be planned:
 -- no such pair; or the pair, and no such period

@@ -7,17 +7,23 @@ ghost use Rattle.mrp_text.specs.Fault.{IsBeforeWriting};
 ghost use Rattle.mrp_text.specs.Text.{Writes, OfTable, IsTextRefusal};
 
 use crate::fault::{TextFault, status};
-use crate::text::{check_text, cums_text, drive_text, peg_text};
+use crate::text::{check_text, cums_text, drive_text, peg_text, plan_text};
+use mrp_agent::NoGate;
+use mrp_run::Settings;
 use mrp_words::Choice;
 use std::alloc::Global;
 use std::io::{Read, Write};
+use std::sync::Wait;
+use std::thread::Threads;
 
 /// Does what was chosen: reads a table and writes the report that the choice asks for.
 ///
 /// # Errors
 ///
-/// As [`TextFault`] says. Nothing is written after a fault of the input.
-pub fn answer<R: Read + Drop, W: Write>(
+/// As [`TextFault`] says. Nothing is written after a fault of the input. A plan that isn't asked for on a
+/// single thread may wait.
+pub fn answer<T: Threads + Wait + Sync, R: Read + Drop, W: Write>(
+    rt: &T,
     alloc: Global,
     choice: Choice<'_>,
     reader: R,
@@ -29,7 +35,19 @@ pub fn answer<R: Read + Drop, W: Write>(
     ensures untouched { IfErr result (λ fault. IsBeforeWriting fault → writer.new ≡ writer.old) }
 {
     match choice {
-        Choice::Plan { capacity, .. } => drive_text(alloc, reader, writer, capacity),
+        Choice::Plan {
+            capacity,
+            single: true,
+            ..
+        } => drive_text(alloc, reader, writer, capacity),
+        Choice::Plan {
+            workers, capacity, ..
+        } => {
+            let Some(settings) = Settings::new(workers, capacity) else {
+                unreachable!()
+            };
+            plan_text(rt, alloc, reader, writer, settings, &NoGate)
+        }
         Choice::Check => check_text(alloc, reader, writer),
         Choice::Peg {
             plant,

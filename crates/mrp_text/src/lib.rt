@@ -1,8 +1,9 @@
 //! The planner as a library: a table from any reader, a report to any writer.
 //!
-//! [`drive_text`] writes the plan, [`check_text`] the low-level codes, [`peg_text`] what a gross
-//! requirement consists of, and [`cums_text`] the cumulative figures of the lanes between plants;
-//! [`answer`] does the one of them that the words of a command line chose.
+//! [`plan_text`] writes the plan, each plant planned in a thread of its own, and [`drive_text`] the same
+//! plan on one thread; [`check_text`] writes the low-level codes, [`peg_text`] what a gross requirement
+//! consists of, and [`cums_text`] the cumulative figures of the lanes between plants; [`answer`] does the
+//! one of them that the words of a command line chose.
 //! Where a text was not written whole, a [`TextFault`] says why: [`write_fault`] writes the line that
 //! reports it, and [`status`] and [`exit_status`] are the statuses with which a program ends.
 //!
@@ -13,9 +14,12 @@ mod answers;
 mod fault;
 mod firm;
 mod lines;
+mod run;
 mod text;
 
 pub use answers::{answer, exit_status};
 pub use fault::{PairName, TextFault, status};
 pub use lines::write_fault;
-pub use text::{check_text, cums_text, drive_text, peg_text};
+pub use mrp_agent::{Gate, NoGate};
+pub use mrp_run::Settings;
+pub use text::{check_text, cums_text, drive_text, peg_text, plan_text};

@@ -5,22 +5,56 @@
 
 ghost use Rattle.std.specs.Prelude.{◌≡◌, ◌≢◌, ◌≤◌, ◌<◌, map, IfOk, IfErr, All};
 ghost use Rattle.mrp_rows.specs.Table.{IsTable, IsPair, horizon};
+ghost use Rattle.mrp_net.specs.Plan.{Fits};
 ghost use Rattle.mrp_loops.specs.Loop.{AreCodes, IsLoopFree};
 ghost use Rattle.mrp_text.specs.Fault.{IsBeforeWriting, IsLate};
 ghost use Rattle.mrp_text.specs.Text.{Writes, OfTable, IsTableOf, IsPlannable, IsPlanReport, IsCodeReport, IsPegReport, IsCumReport, IsPegs, IsCalled, AreCalled};
-ghost use Rattle.mrp_text.specs.Text.{IsLoopRefusal, IsBoundRefusal, IsRefusal, IsPegRefusal, IsReadRefusal, IsTextRefusal};
+ghost use Rattle.mrp_text.specs.Text.{IsLoopRefusal, IsBoundRefusal, IsRefusal, IsRunRefusal, IsPegRefusal, IsReadRefusal, IsTextRefusal};
 ghost use Rattle.mrp_words.specs.declared.words.TheConstants.{MOST_CAPACITY};
 
 use crate::fault::{PairName, TextFault};
 use crate::firm::{driven_figures, driven_plan};
+use crate::run::run_plan;
+use mrp_agent::Gate;
 use mrp_loops::{BoundFault, Levels, LoopFault, SizedNet, bound, check};
 use mrp_net::{Network, PairNo};
-use mrp_plan::{peg, plan_all};
+use mrp_plan::{Plan, peg, plan_all};
 use mrp_report::{code_rows, lane_rows, late_rows, peg_rows, plan_rows};
+use mrp_run::Settings;
 use mrp_tables::read_tables_uncounted;
 use mrp_words::MOST_CAPACITY;
 use std::alloc::Global;
 use std::io::{Read, Write};
+use std::sync::Wait;
+use std::thread::Threads;
+
+/// Reads a table and writes its plan, which every plant plans in a thread of its own with so many
+/// workers: a row for each pair and period, then a row for each late order.
+///
+/// The text is that of [`drive_text`], for every number of workers and every capacity. Before each turn
+/// of a plant and the work of each worker `gate` is asked. The call may wait, and it isn't claimed that
+/// it returns.
+///
+/// # Errors
+///
+/// As [`TextFault`] says. Nothing is written after a fault of the input, nor after
+/// [`TextFault::ThreadRefused`], [`TextFault::GateShut`] and [`TextFault::Stopped`]; after
+/// [`TextFault::WriteFault`] and [`TextFault::Memory`] a front of the text may be.
+pub fn plan_text<T: Threads + Wait + Sync, R: Read + Drop, W: Write, G: Gate>(
+    rt: &T,
+    alloc: Global,
+    reader: R,
+    writer: &mut W,
+    settings: Settings,
+    gate: &G,
+) -> Result<(), TextFault>
+    ensures text { Writes (W.contents writer.old) (W.contents writer.new) result (λ text. OfTable (R.remaining reader) (λ N. IsPlanReport N text)) }
+    ensures refusal { IfErr result (IsTextRefusal (R.remaining reader) IsRunRefusal) }
+    ensures untouched { IfErr result (λ fault. IsBeforeWriting fault → writer.new ≡ writer.old) }
+{
+    let network = network_of(alloc, reader)?;
+    write_run(rt, alloc, &network, writer, settings, gate)
+}
 
 /// Reads a table and writes its plan: a row for each pair and period, then a row for each late order.
 ///
@@ -149,24 +183,43 @@ fn write_plan<W: Write>(
 {
     let levels = levels_of(alloc, network)?;
     let net = sized_of(alloc, network, &levels)?;
-    report_plan(alloc, &net, writer, capacity)
+    let plan = driven_plan(alloc, &net, capacity)?;
+    report_plan(alloc, &net, &plan, writer)
 }
 
-/// Writes the plan rows and the late rows of a sized network.
+/// Writes the plan rows and the late rows of a network that is run by threads.
+fn write_run<T: Threads + Wait + Sync, W: Write, G: Gate>(
+    rt: &T,
+    alloc: Global,
+    network: &Network,
+    writer: &mut W,
+    settings: Settings,
+    gate: &G,
+) -> Result<(), TextFault>
+    ensures text { Writes (W.contents writer.old) (W.contents writer.new) result (IsPlanReport network.now) }
+    ensures refusal { IfErr result (IsRunRefusal network.now) }
+    ensures untouched { IfErr result (λ fault. IsBeforeWriting fault → writer.new ≡ writer.old) }
+{
+    let levels = levels_of(alloc, network)?;
+    let net = sized_of(alloc, network, &levels)?;
+    let plan = run_plan(rt, alloc, &net, settings, gate)?;
+    report_plan(alloc, &net, &plan, writer)
+}
+
+/// Writes the plan rows and the late rows of a plan.
 fn report_plan<W: Write>(
     alloc: Global,
     net: &SizedNet<'_>,
+    plan: &Plan,
     writer: &mut W,
-    capacity: u64,
 ) -> Result<(), TextFault>
-    requires capacity { (1 ≤ capacity) × (capacity ≤ MOST_CAPACITY) }
     requires plannable { IsPlannable net.now.network }
+    requires fits { Fits net.now.network plan.now }
     ensures text { Writes (W.contents writer.old) (W.contents writer.new) result (IsPlanReport net.now.network) }
     ensures fault { IfErr result IsLate }
 {
-    let plan = driven_plan(alloc, net, capacity)?;
-    plan_rows(alloc, net, &plan, writer)?;
-    late_rows(alloc, net, &plan, writer)?;
+    plan_rows(alloc, net, plan, writer)?;
+    late_rows(alloc, net, plan, writer)?;
     Ok(())
 }
 

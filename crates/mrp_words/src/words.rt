@@ -175,7 +175,7 @@ fn workers_option<'a>(alloc: Global) -> Arg<'a>
         .value_name("W")
         .value_parser(value_parser!(u64).range(1..MOST_WORKERS as i64 + 1))
         .default_value("1")
-        .help("Worker threads of each plant, 1 to 64; no effect yet")
+        .help("Workers of each plant, 1 to 64")
 }
 
 /// `--capacity`.
@@ -197,7 +197,7 @@ fn single_flag<'a>(alloc: Global) -> Arg<'a>
     Arg::new(alloc, "single")
         .long("single")
         .action(ArgAction::SetTrue)
-        .help("Plan all plants on one thread; for now always so")
+        .help("Plan all plants on one thread")
 }
 
 /// `check`.

@@ -13,12 +13,13 @@ pub(crate) const FIRM_OF_TWO_CUMS: &str =
     "lane,despatch,B,A,X,100,108,108,0\nlane,schedule,A,B,X,108,130,130,0\n";
 
 /// The same where the figures start anew in period 2.
-const ANEW: &str = "run,2026-01-05,7,4,,,,\nplant,A,,,,,,\nplant,B,,,,,,\n\
+pub(super) const ANEW: &str = "run,2026-01-05,7,4,,,,\nplant,A,,,,,,\nplant,B,,,,,,\n\
 pair,A,X,from:B,lot,1,0,0\npair,B,X,buy,lot,0,0,0\ndemand,A,X,2,30,,,\nship,B,A,X,2,8,,\n\
 cum,B,A,X,100,,,\nreset,B,A,X,2,,,\n";
 
 /// A takes X from B and C, 600 and 400 thousandths of each release, and C has shipped five.
-const SPLIT: &str = "run,2026-01-05,7,1,,,,\nplant,A,,,,,,\nplant,B,,,,,,\nplant,C,,,,,,\n\
+pub(super) const SPLIT: &str =
+    "run,2026-01-05,7,1,,,,\nplant,A,,,,,,\nplant,B,,,,,,\nplant,C,,,,,,\n\
 pair,A,X,from:B:600:C:400,lot,0,0,0\npair,B,X,buy,lot,0,0,0\npair,C,X,buy,lot,0,0,0\n\
 demand,A,X,0,7,,,\nship,C,A,X,0,5,,\n";
 

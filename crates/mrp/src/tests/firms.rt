@@ -2,7 +2,7 @@ use super::{codes, pegs, plan};
 use std::test::Fail;
 
 /// A firm of three plants with sources in both directions: the table of `examples/three_plants.csv`.
-const THREE_PLANTS: &str =
+pub(super) const THREE_PLANTS: &str =
     "run,2026-01-05,7,6,,,,\nplant,NORTH,,,,,,\nplant,SOUTH,,,,,,\nplant,EAST,,,,,,\n\
 pair,NORTH,BIKE,make,lot,1,4,0\npair,NORTH,FRAME,from:SOUTH,lot,1,10,0\n\
 pair,NORTH,WHEEL,make,fixed:50,1,40,10\npair,NORTH,RIM,buy,min:100:20,1,60,0\n\

@@ -2,18 +2,19 @@ use super::{BICYCLE, BICYCLE_PLAN, codes, pegs, plan};
 use std::test::Fail;
 
 /// Two plants: A takes X from B, eight pieces are under way.
-const SHIPPED: &str = "run,2026-01-05,7,4,,,,\nplant,A,,,,,,\nplant,B,,,,,,\n\
+pub(super) const SHIPPED: &str = "run,2026-01-05,7,4,,,,\nplant,A,,,,,,\nplant,B,,,,,,\n\
 pair,A,X,from:B,lot,1,0,0\npair,B,X,buy,lot,0,0,0\ndemand,A,X,2,30,,,\nship,B,A,X,2,8,,\n\
 cum,B,A,X,100,,,\n";
 
 /// Two plants that take from each other, and no loop.
-const RING: &str = "run,2026-01-05,7,1,,,,\nplant,A,,,,,,\nplant,B,,,,,,\n\
+pub(super) const RING: &str = "run,2026-01-05,7,1,,,,\nplant,A,,,,,,\nplant,B,,,,,,\n\
 pair,B,X,from:A,lot,0,0,0\npair,A,X,make,lot,0,0,0\npair,A,Y,from:B,lot,0,0,0\n\
 pair,B,Y,make,lot,0,0,0\npair,B,W,from:A,lot,0,0,0\npair,A,W,buy,lot,0,0,0\nbill,A,X,Y,2,,,\n\
 bill,B,Y,W,3,,,\ndemand,B,X,0,5,,,\n";
 
 /// A supplier with two parents of its own and two customers.
-const SUPPLIER: &str = "run,2026-01-05,7,1,,,,\nplant,S,,,,,,\nplant,C1,,,,,,\nplant,C2,,,,,,\n\
+pub(super) const SUPPLIER: &str =
+    "run,2026-01-05,7,1,,,,\nplant,S,,,,,,\nplant,C1,,,,,,\nplant,C2,,,,,,\n\
 pair,S,P1,make,lot,0,0,0\npair,S,P2,make,lot,0,0,0\npair,S,Z,buy,fixed:50,0,0,0\n\
 pair,C1,Z,from:S,lot,0,0,0\npair,C2,Z,from:S,lot,0,0,0\nbill,S,P1,Z,1,,,\nbill,S,P2,Z,2,,,\n\
 demand,S,P1,0,10,,,\ndemand,S,P2,0,10,,,\ndemand,C1,Z,0,15,,,\ndemand,C2,Z,0,25,,,\n";

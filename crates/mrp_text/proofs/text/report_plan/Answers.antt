@@ -11,8 +11,8 @@ returns-in_err-plan_rows-clause-text g c =
     let p = err_from_is_err_and c.from_residual-in_err-plan_rows.result c.from_residual-in_err-plan_rows.ensures.1 in
     let N = c.args.net.now.network in
     rw p.1
-    (first-fails _ _ (plan_text N c.in_ok-plan.plan) (late_text N c.in_ok-plan.plan) c.in_err-plan_rows.field-0.0 p.0 (IsPlanReport N)
-    (c.requires.plannable, (c.in_ok-plan.plan, c.in_ok-plan.ensures.fits, refl)) c.in_err-plan_rows.ensures.text
+    (first-fails _ _ (plan_text N c.args.plan.now) (late_text N c.args.plan.now) c.in_err-plan_rows.field-0.0 p.0 (IsPlanReport N)
+    (c.requires.plannable, (c.args.plan.now, c.requires.fits, refl)) c.in_err-plan_rows.ensures.text
     (λ same. ap g.W.Write.contents (c.in_err-plan_rows.ensures.untouched (ap Err same))) p.2)
 
 pub returns-in_err-late_rows-clause-text : goal.returns-in_err-late_rows-clause-text
@@ -20,14 +20,14 @@ returns-in_err-late_rows-clause-text g c =
     let p = err_from_is_err_and c.from_residual-in_err-late_rows.result c.from_residual-in_err-late_rows.ensures.1 in
     let N = c.args.net.now.network in
     rw p.1
-    (rest-fails _ _ _ (plan_text N c.in_ok-plan.plan) (late_text N c.in_ok-plan.plan) c.in_err-late_rows.field-0.0 p.0 (IsPlanReport N)
-    (c.requires.plannable, (c.in_ok-plan.plan, c.in_ok-plan.ensures.fits, refl)) c.in_ok-plan_rows.ensures.text c.in_err-late_rows.ensures.text
+    (rest-fails _ _ _ (plan_text N c.args.plan.now) (late_text N c.args.plan.now) c.in_err-late_rows.field-0.0 p.0 (IsPlanReport N)
+    (c.requires.plannable, (c.args.plan.now, c.requires.fits, refl)) c.in_ok-plan_rows.ensures.text c.in_err-late_rows.ensures.text
     (λ same. ap g.W.Write.contents (c.in_err-late_rows.ensures.untouched (ap Err same))) p.2)
 
 pub returns-clause-text : goal.returns-clause-text
 returns-clause-text g c =
     let N = c.args.net.now.network in (
       _,
-      (c.requires.plannable, (c.in_ok-plan.plan, c.in_ok-plan.ensures.fits, refl)),
-      whole-after _ _ _ (plan_text N c.in_ok-plan.plan) (late_text N c.in_ok-plan.plan) c.in_ok-plan_rows.ensures.text c.in_ok-late_rows.ensures.text,
+      (c.requires.plannable, (c.args.plan.now, c.requires.fits, refl)),
+      whole-after _ _ _ (plan_text N c.args.plan.now) (late_text N c.args.plan.now) c.in_ok-plan_rows.ensures.text c.in_ok-late_rows.ensures.text,
     )

@@ -1,0 +1,163 @@
+//! Plans of threads: the bytes that one thread writes, whatever the workers and the capacity.
+
+use super::figures::{ANEW, SPLIT};
+use super::firms::THREE_PLANTS;
+use super::plans::{RING, SHIPPED, SUPPLIER};
+use super::{BICYCLE, plan, threaded};
+use mrp_text::{Gate, NoGate, Settings};
+use std::alloc::Global;
+use std::sync::Wait;
+use std::sync::atomic::{AtomicBool, Ordering};
+use std::test::Fail;
+use std::thread;
+use std::thread::Threads;
+
+/// What is planned by threads here: one plant, two to four of them, a ring, a split source, figures that
+/// start anew, a loop, and a row that is cut.
+const TABLES: [&str; 9] = [
+    BICYCLE,
+    SHIPPED,
+    RING,
+    SUPPLIER,
+    THREE_PLANTS,
+    ANEW,
+    SPLIT,
+    "run,2026-01-05,7,1,,,,\nplant,A,,,,,,\nplant,B,,,,,,\npair,A,X,from:B,lot,0,0,0\n\
+pair,B,X,from:A,lot,0,0,0\n",
+    "run,2026-01-05,7,4,,,,\nplant,A\n",
+];
+
+/// How long a gate looks for the other plant, in looks.
+const LOOKS: u64 = 1_000_000;
+
+/// Shut for the first turn of the plant with this number.
+struct ShutFor {
+    plant: usize,
+}
+
+impl Gate for ShutFor {
+    fn turn(&self, plant: usize, _turn: u64) -> bool {
+        plant != self.plant
+    }
+
+    fn worker(&self, _plant: usize, _worker: u64) -> bool {
+        true
+    }
+}
+
+/// Shut for all workers.
+struct NoWorkers;
+
+impl Gate for NoWorkers {
+    fn turn(&self, _plant: usize, _turn: u64) -> bool {
+        true
+    }
+
+    fn worker(&self, _plant: usize, _worker: u64) -> bool {
+        false
+    }
+}
+
+/// Open to the first turn of each of two plants once the other's was asked.
+#[derive(Drop)]
+struct Together {
+    asked: [AtomicBool; 2],
+}
+
+impl Gate for Together {
+    fn turn(&self, plant: usize, turn: u64) -> bool {
+        if turn != 1 || plant >= 2 {
+            return true;
+        }
+        self.asked[plant].store(true, Ordering::SeqCst);
+        for _ in 0..LOOKS {
+            if self.asked[1 - plant].load(Ordering::SeqCst) {
+                return true;
+            }
+            thread::yield_now();
+        }
+        false
+    }
+
+    fn worker(&self, _plant: usize, _worker: u64) -> bool {
+        true
+    }
+}
+
+/// Whether threads write what one thread writes, for each of the tables.
+fn all_are_the_same<T: Threads + Wait + Sync>(
+    rt: &T,
+    alloc: Global,
+    workers: u64,
+    capacity: u64,
+) -> Result<bool, Fail> {
+    let Some(settings) = Settings::new(workers, capacity) else {
+        return Ok(false);
+    };
+    for table in TABLES {
+        let rows = threaded(rt, alloc, table, settings, &NoGate)?;
+        if rows.as_str() != plan(alloc, table)?.as_str() {
+            return Ok(false);
+        }
+    }
+    Ok(true)
+}
+
+/// What is written of two plants with one worker each, a record a mailbox and this gate.
+fn gated<T: Threads + Wait + Sync, G: Gate>(
+    rt: &T,
+    alloc: Global,
+    gate: &G,
+) -> Result<String, Fail> {
+    let Some(settings) = Settings::new(1, 1) else {
+        return Ok(String::new(alloc));
+    };
+    Ok(threaded(rt, alloc, SHIPPED, settings, gate)?)
+}
+
+#[test]
+fn a_worker_and_a_record(rt: HostRuntime) -> Result<(), Fail> {
+    assert!(rt; all_are_the_same(&rt, rt.alloc(), 1, 1)?);
+    assert!(rt; all_are_the_same(&rt, rt.alloc(), 1, 65_536)?);
+    Ok(())
+}
+
+#[test]
+fn two_workers(rt: HostRuntime) -> Result<(), Fail> {
+    assert!(rt; all_are_the_same(&rt, rt.alloc(), 2, 1)?);
+    assert!(rt; all_are_the_same(&rt, rt.alloc(), 2, 65_536)?);
+    Ok(())
+}
+
+#[test]
+fn all_workers(rt: HostRuntime) -> Result<(), Fail> {
+    assert!(rt; all_are_the_same(&rt, rt.alloc(), 64, 1)?);
+    assert!(rt; all_are_the_same(&rt, rt.alloc(), 64, 65_536)?);
+    Ok(())
+}
+
+#[test]
+fn a_shut_gate_is_named(rt: HostRuntime) -> Result<(), Fail> {
+    let first = gated(&rt, rt.alloc(), &ShutFor { plant: 0 })?;
+    assert_eq!(rt; first.as_str(), "3 mrp: GateShut A\n");
+    let second = gated(&rt, rt.alloc(), &ShutFor { plant: 1 })?;
+    assert_eq!(rt; second.as_str(), "3 mrp: GateShut B\n");
+    Ok(())
+}
+
+#[test]
+fn workers_are_asked_for(rt: HostRuntime) -> Result<(), Fail> {
+    let rows = gated(&rt, rt.alloc(), &NoWorkers)?;
+    assert!(rt; rows.as_str().starts_with("3 mrp: GateShut "));
+    Ok(())
+}
+
+#[test]
+fn plants_take_their_turns_together(rt: HostRuntime) -> Result<(), Fail> {
+    let together = Together {
+        asked: [AtomicBool::new(false), AtomicBool::new(false)],
+    };
+    let rows = gated(&rt, rt.alloc(), &together)?;
+    assert_eq!(rt; rows.as_str(), plan(rt.alloc(), SHIPPED)?.as_str());
+    Ok(())
+}

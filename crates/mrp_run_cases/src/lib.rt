@@ -1,0 +1,5 @@
+//! Networks run by threads.
+#![tactic(auto)]
+
+#[cfg(test)]
+mod tests;

@@ -1,0 +1,59 @@
+//! A network run by a thread for each plant, for its plan.
+
+ghost use Rattle.std.specs.Prelude.{◌<◌, IfOk, IfErr, length};
+ghost use Rattle.mrp_net.specs.Plan.{Fits};
+ghost use Rattle.mrp_run.specs.Worst.{IsFaultIn};
+ghost use Rattle.mrp_text.specs.Runs.{IsOfRun, IsShutFor};
+ghost use Rattle.mrp_text.specs.Text.{IsPlannable, IsRunFault};
+
+use crate::fault::TextFault;
+use mrp_agent::Gate;
+use mrp_loops::SizedNet;
+use mrp_net::{Network, PlantNo};
+use mrp_plan::Plan;
+use mrp_run::{RunFault, Settings, run_network};
+use std::alloc::Global;
+use std::sync::Wait;
+use std::thread::Threads;
+
+/// The plan that the plants of a network come to, each in a thread of its own.
+pub(crate) fn run_plan<T: Threads + Wait + Sync, G: Gate>(
+    rt: &T,
+    alloc: Global,
+    net: &SizedNet<'_>,
+    settings: Settings,
+    gate: &G,
+) -> Result<Plan, TextFault>
+    requires plannable { IsPlannable net.now.network }
+    ensures fits { IfOk result (Fits net.now.network) }
+    ensures fault { IfErr result (IsRunFault net.now.network) }
+{
+    match run_network(rt, alloc, net, settings, gate) {
+        Ok(outcome) => Ok(Plan::gather(net, outcome.plans)),
+        Err(fault) => Err(named(alloc, net.network(), fault)),
+    }
+}
+
+/// The fault of a text that a fault of a run is.
+fn named(alloc: Global, network: &Network, fault: RunFault) -> TextFault
+    requires plant { IsFaultIn network.now fault }
+    ensures { IsOfRun network.now fault result }
+{
+    match fault {
+        RunFault::Memory => TextFault::Memory,
+        RunFault::ThreadRefused => TextFault::ThreadRefused,
+        RunFault::GateShut(plant) => shut_for(alloc, network, plant),
+        RunFault::Stopped => TextFault::Stopped,
+    }
+}
+
+/// The fault of a gate that was shut for a plant.
+fn shut_for(alloc: Global, network: &Network, plant: PlantNo) -> TextFault
+    requires plant { plant.0 < length network.now.plants }
+    ensures { IsShutFor network.now plant result }
+{
+    match String::from_str(alloc, network.plant_name(plant)) {
+        Ok(name) => TextFault::GateShut(name),
+        Err(_) => TextFault::Memory,
+    }
+}
