@@ -5,6 +5,7 @@ mod damage;
 mod figures;
 mod firms;
 mod plans;
+mod random;
 mod refusals;
 mod shipping;
 mod streams;
