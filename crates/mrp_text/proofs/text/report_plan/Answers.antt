@@ -8,7 +8,7 @@ use Rattle.mrp_text.proofs.text.report_plan.Goals as goal
 
 pub returns-in_err-plan_rows-clause-text : goal.returns-in_err-plan_rows-clause-text
 returns-in_err-plan_rows-clause-text g c =
-    let p = err_from_is_err_and c.from_residual-in_err-plan_rows.result c.from_residual-in_err-plan_rows.ensures.1 in
+    let p = err_from_is_err_and c.from_residual.result c.from_residual.ensures.1 in
     let N = c.args.net.now.network in
     rw p.1
     (first-fails _ _ (plan_text N c.args.plan.now) (late_text N c.args.plan.now) c.in_err-plan_rows.field-0.0 p.0 (IsPlanReport N)
