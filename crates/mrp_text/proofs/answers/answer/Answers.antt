@@ -1,7 +1,10 @@
 use Rattle.mrp_text.proofs.answers.answer.Goals as goal
 
-pub returns-in-Plan-clause-text : goal.returns-in-Plan-clause-text
-returns-in-Plan-clause-text g c = rw (c.in-Plan.is) c.drive_text.ensures.text
+pub returns-in-Plan-default-default-true-clause-text : goal.returns-in-Plan-default-default-true-clause-text
+returns-in-Plan-default-default-true-clause-text g c = rw (c.in-Plan-default-default-true.is) c.drive_text.ensures.text
+
+pub returns-in-Some-clause-text : goal.returns-in-Some-clause-text
+returns-in-Some-clause-text g c = rw (c.in-Plan.is) c.plan_text.ensures.text
 
 pub returns-in-Check-clause-text : goal.returns-in-Check-clause-text
 returns-in-Check-clause-text g c = rw (c.in-Check.is) c.check_text.ensures.text
