@@ -1,4 +1,4 @@
-//! Networks run by threads.
+//! Worked cases of networks that are run by threads, one for each plant, in a crate of their own.
 #![tactic(auto)]
 
 #[cfg(test)]
