@@ -5,7 +5,7 @@ _mrp() {
         --workers | --capacity) return ;;
     esac
     if [ "$COMP_CWORD" -eq 1 ]; then
-        words="plan check peg cums --help"
+        words="plan check peg cums --help --version"
     elif [ "${COMP_WORDS[1]}" = plan ]; then
         words="--single --workers --capacity --help"
     else

@@ -1,6 +1,7 @@
 # The words of mrp in fish.
 complete -c mrp -f
 complete -c mrp -l help -d 'Print help'
+complete -c mrp -n __fish_use_subcommand -l version -d 'Print the version'
 complete -c mrp -n __fish_use_subcommand -a plan -d 'Write the plan of each pair, and the late orders'
 complete -c mrp -n __fish_use_subcommand -a check -d 'Write the low-level code of each pair'
 complete -c mrp -n __fish_use_subcommand -a peg -d 'Write what a gross requirement consists of'

@@ -1,16 +1,16 @@
--- With which status the program ends where the words are refused, ask for help or can't be read.
+-- With which status the program ends where the words are refused, ask for help or the version, or can't be read.
 use Rattle.std.specs.Prelude.{◌≡◌, ◌⊎◌, ℕ, Result, Ok, Err}
 use Rattle.std.specs.declared.io.ErrorKind.{ErrorKind}
 use Rattle.std.specs.declared.io.ErrorKind.TheVariants as cause
 use Rattle.clap.specs.declared.error.kind.ErrorKind.{ErrorKind as WordsFault}
 use Rattle.clap.specs.declared.error.kind.ErrorKind.TheVariants as words
 
--- after help: 0 where it was printed, and else 3
+-- after help or the version: 0 where it was printed, and else 3
 abbrev pub help_status : {U E : Type 0} → Result U E → ℕ
 help_status (Ok printed) = 0
 help_status (Err failed) = 3
 
--- after the words were refused: 3 for want of memory, the status of help after help, and else 2
+-- after the words were refused: 3 for want of memory, 0 or 3 after help or the version, and else 2
 abbrev pub IsStatusOfRefusal : WordsFault → ℕ → Type 0
 IsStatusOfRefusal words.OutOfMemory status = status ≡ 3
 IsStatusOfRefusal words.DisplayHelp status = (status ≡ 0) ⊎ (status ≡ 3)

@@ -86,8 +86,8 @@ fn ended(rt: &HostRuntime, done: &Result<(), TextFault>) -> ExitCode
     ExitCode::from(exit_status(done))
 }
 
-/// Prints what `clap` has to say: the status is 0 after help that was printed, 2 where the words
-/// are refused, 3 where memory was refused or help could not be printed.
+/// Prints what `clap` has to say: the status is 0 after help or the version that was printed, 2 where
+/// the words are refused, 3 where memory was refused or help or the version could not be printed.
 fn refused(rt: &HostRuntime, error: &clap::Error) -> ExitCode
     ensures { IsStatusOfRefusal (kind_of error.now) (exit_status result) }
 {
@@ -101,7 +101,7 @@ fn refused(rt: &HostRuntime, error: &clap::Error) -> ExitCode
     after_help(rt, &printed)
 }
 
-/// The status after help: 0 where it was printed, and else 3.
+/// The status after help or the version: 0 where it was printed, and else 3.
 fn after_help(rt: &HostRuntime, printed: &io::Result<()>) -> ExitCode
     ensures { exit_status result ≡ help_status printed.now }
 {

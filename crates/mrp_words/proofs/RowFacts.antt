@@ -17,7 +17,7 @@ use Rattle.clap.specs.Walk.{Held, Names, Outcome, Row, Rule, Step, Text, Waiting
 use Rattle.clap.specs.Faults.{action_fault, bundle_fault, flag_word_fault, flags_fault, long_fault, option_fault, other_fault, react_fault, repeat_fault, settle_fault, short_fault, step_fault, turn_fault, use_fault, values_fault, walk_fault, word_fault}
 use Rattle.clap.specs.Simple.{Shape}
 use Rattle.clap.specs.declared.builder.action.ArgAction.{ArgAction}
-use Rattle.clap.specs.declared.builder.action.ArgAction.TheVariants.{Set, SetTrue, Help}
+use Rattle.clap.specs.declared.builder.action.ArgAction.TheVariants.{Set, SetTrue, Help, Version}
 use Rattle.clap.specs.declared.builder.value_parser.Reading.{Reading}
 use Rattle.clap.specs.declared.builder.value_parser.Reading.TheVariants.{AsWritten}
 use Rattle.clap.specs.declared.builder.value_parser.ValueParser.{ValueParser}
@@ -98,11 +98,12 @@ row_passes c r = list_all (value_known c r.id) r.values && (has_some r.values &&
 abbrev pub rows_pass : List Rule → List Row → Bool
 rows_pass c rows = list_all (row_passes c) rows
 
--- a use of the argument has a value, or asks for help
+-- a use of the argument has a value, or asks for help or the version
 abbrev has_values : ArgAction → Bool → Bool
 has_values Set some = some
 has_values SetTrue some = some
 has_values Help some = true
+has_values Version some = true
 has_values _ some = false
 
 abbrev is_filled : Rule → Bool
@@ -203,6 +204,7 @@ acted c a Set again vs rows of has some e ok =
 acted c a SetTrue again vs rows of has some e ok =
     added c a CommandLine vs (without a.id rows) of (values_passed a.ignore_case (parser_of_value a.parser) vs (next_none (repeat_fault again a.id rows) (values_fault a vs) e)) (some has) (removed c a.id rows ok)
 acted c a Help again vs rows of has some e ok = absurd (no_kind _ _ e)
+acted c a Version again vs rows of has some e ok = absurd (no_kind _ _ e)
 acted c a _ again vs rows of has some e ok = absurd (true≢false (sym has))
 
 pub used_passes : (c : List Rule) (a : Rule) (again : Bool) (values : List Text) (rows : List Row) → IsOf c a → use_fault again a values rows ≡ []

@@ -63,10 +63,12 @@ peg_words = with_rule (with_rule (with_rule (new_app (codes "peg")) plant) item)
 abbrev pub cums_words : App
 cums_words = new_app (codes "cums")
 
--- a program of that name, which has to be given a subcommand
+-- a program of that name, which has a version and has to be given a subcommand
 abbrev pub program_words : Text → App
 program_words name =
-    record (new_app name) { top = record (new_app name).top { subcommand_required = true } }
+    record (new_app name) {
+      top = record (new_app name).top { has_version = true; subcommand_required = true };
+    }
 
 -- the command line
 unfoldable pub mrp : App

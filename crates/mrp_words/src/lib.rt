@@ -7,5 +7,5 @@
 mod laws;
 mod words;
 
-pub use laws::limits_are_numbers;
+pub use laws::{limits_are_numbers, version_is_asked_for};
 pub use words::{Choice, ChooseFault, LAST_PERIOD, MOST_CAPACITY, MOST_WORKERS, choose};

@@ -48,13 +48,16 @@ pub enum Choice<'a> {
 /// Why no choice was made.
 #[derive(Debug, Drop, Error)]
 pub enum ChooseFault {
-    /// The words are refused, or help was asked for: `clap` has the text and says which.
+    /// The words are refused, or ask for help or the version: `clap` has the text and says which.
     #[error("{0}")]
     Words(clap::Error),
     /// A growth was refused.
     #[error("out of memory")]
     Memory,
 }
+
+/// The release, and the kit that proves it (`rt version`), as `--version` prints them.
+const VERSION: &str = "0.1.0, proved with rattle-kit-13b, logic dac8208d650f15bf";
 
 const ABOUT: &str = "Plans the material of all plants of a firm. The table is read from standard\n\
 input, and the report is written to standard output.";
@@ -120,8 +123,8 @@ const CUMS_EXAMPLE: &str = "Example: mrp cums < firm.csv";
 ///
 /// # Errors
 ///
-/// [`ChooseFault::Words`] where `clap` refuses the words, was asked for help or ran out of memory: the
-/// error has one of the kinds that the words have, or `OutOfMemory`. [`ChooseFault::Memory`] where a
+/// [`ChooseFault::Words`] where `clap` refuses the words, was asked for help or the version, or ran out of
+/// memory: the error has one of the kinds that the words have, or `OutOfMemory`. [`ChooseFault::Memory`] where a
 /// growth was refused. Where `clap` takes the words, memory alone is missing.
 pub fn choose<'a>(alloc: Global, words: &'a [&'a str]) -> Result<Choice<'a>, ChooseFault>
     ensures range { IfOk result IsInRange }
@@ -144,6 +147,7 @@ fn program<'a>(alloc: Global) -> Result<Command<'a>, AllocError>
     ensures { IfOk result (λ command. app_of command ≡ mrp) }
 {
     Command::new(alloc, "mrp")
+        .version(VERSION)
         .about(ABOUT)
         .after_help(AFTER)
         .subcommand_required(true)
