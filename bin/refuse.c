@@ -1,9 +1,10 @@
 /* Refuses what a program asks of the machine, at a place. bin/torture builds it, and loads it before the program.
 
-   REFUSE is KIND FIRST LAST HOW. Of the requests of that kind (memory, read, write or thread) those from the FIRST to
-   the LAST, counted from 1, are refused: HOW is fail, or interrupt (a read or write that is to be tried again), or one
-   (a read or write that moves one byte), or none (a write that moves none). Reads are those of standard input, writes
-   those of standard output. COUNTS names a file that gets how often each kind was asked, as four 64-bit numbers. */
+   REFUSE is KIND FIRST LAST HOW PIECE. Of the requests of that kind (memory, read, write or thread) those from the FIRST
+   to the LAST, counted from 1, are refused: HOW is fail, or interrupt (a read or write that is to be tried again), or
+   none (a write that moves no byte). Where PIECE isn't 0, each other read or write moves so many bytes at most. Reads
+   are those of standard input, writes those of standard output. COUNTS names a file that gets how often each kind was
+   asked, as four 64-bit numbers. */
 #define _GNU_SOURCE
 #include <dlfcn.h>
 #include <errno.h>
@@ -22,7 +23,7 @@ enum { MEMORY, READ, WRITE, THREAD, KINDS };
 static const char *const names[KINDS] = {"memory", "read", "write", "thread"};
 static atomic_long own[KINDS], *asked = own;
 static int chosen = KINDS;
-static long first, last;
+static long first, last, piece;
 static char how[16];
 static int (*create)(pthread_t *, const pthread_attr_t *, void *(*)(void *), void *);
 
@@ -41,7 +42,7 @@ __attribute__((constructor)) static void begin(void) {
         asked = shared == MAP_FAILED ? own : shared;
         close(file);
     }
-    if (words && sscanf(words, "%15s %ld %ld %15s", kind, &first, &last, how) == 4)
+    if (words && sscanf(words, "%15s %ld %ld %15s %ld", kind, &first, &last, how, &piece) == 5)
         for (int it = 0; it < KINDS; it++)
             if (!strcmp(kind, names[it]))
                 chosen = it;
@@ -76,12 +77,10 @@ int posix_memalign(void **block, size_t align, size_t size) {
     return 0;
 }
 
-/* Moves bytes, or one, or none, as HOW says. */
+/* Moves bytes, or refuses to, as HOW and PIECE say. */
 static ssize_t move(int kind, long call, int file, void *bytes, size_t size) {
     if (!refused(kind))
-        return syscall(call, file, bytes, size);
-    if (!strcmp(how, "one"))
-        return syscall(call, file, bytes, size ? 1 : 0);
+        return syscall(call, file, bytes, kind == chosen && piece && size > (size_t)piece ? (size_t)piece : size);
     if (!strcmp(how, "none"))
         return 0;
     errno = strcmp(how, "interrupt") ? EIO : EINTR;
@@ -95,6 +94,8 @@ ssize_t read(int file, void *bytes, size_t size) {
 ssize_t write(int file, const void *bytes, size_t size) {
     return file == 1 ? move(WRITE, SYS_write, file, (void *)bytes, size) : syscall(SYS_write, file, bytes, size);
 }
+
+ssize_t __write(int file, const void *bytes, size_t size) { return write(file, bytes, size); }
 
 int pthread_create(pthread_t *thread, const pthread_attr_t *how_made, void *(*work)(void *), void *given) {
     return refused(THREAD) ? EAGAIN : create(thread, how_made, work, given);
