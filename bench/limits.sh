@@ -5,6 +5,8 @@
 #   bench/limits.sh [PROGRAM]
 #
 # PROGRAM is bin/mrp's where it isn't given. It needs awk and GNU time. Exit status: 1 where an answer is wrong.
+# (the conditions are awk's)
+# shellcheck disable=SC2016
 set -eu
 top=$(CDPATH='' cd -- "$(dirname -- "$0")/.." && pwd)
 program=${1:-}

@@ -35,7 +35,7 @@ void *__libc_memalign(size_t, size_t);
 __attribute__((constructor)) static void begin(void) {
     const char *words = getenv("REFUSE"), *counts = getenv("COUNTS");
     char kind[16];
-    create = dlsym(RTLD_NEXT, "pthread_create");
+    *(void **)&create = dlsym(RTLD_NEXT, "pthread_create");
     int file = counts ? open(counts, O_RDWR) : -1;
     if (file >= 0) {
         void *shared = mmap(0, sizeof own, PROT_READ | PROT_WRITE, MAP_SHARED, file, 0);
