@@ -1,0 +1,140 @@
+#!/bin/sh
+# Runs the program over tables at the limits of docs/tables.md and one past them, and prints for each the
+# rows of the table, the command, whether the answer is right, seconds of the whole run and peak memory.
+#
+#   bench/limits.sh [PROGRAM]
+#
+# PROGRAM is bin/mrp's where it isn't given. It needs awk and GNU time. Exit status: 1 where an answer is wrong.
+# (the conditions are awk's)
+# shellcheck disable=SC2016
+set -eu
+top=$(CDPATH='' cd -- "$(dirname -- "$0")/.." && pwd)
+program=${1:-}
+if [ -z "$program" ]; then
+    "$top/bin/mrp" --help >/dev/null
+    program=$top/crates/mrp/out/mrp
+fi
+folder=$(mktemp -d)
+trap 'rm -rf "$folder"' EXIT
+table=$folder/table.csv
+
+# The rows of a table: `run` and plants, pairs, and as many rows of each other kind as asked, of one pair that is
+# taken from another. Each has quantity 1.
+rows() {
+    awk -v plants="$1" -v pairs="$2" -v demands="$3" -v receipts="$4" -v ships="$5" 'BEGIN {
+        print "run,2026-01-05,7,104,,,,"
+        for (i = 0; i < plants; i++) print "plant,P" i ",,,,,,"
+        for (i = 0; i < pairs; i++) print "pair,P" i % 2 ",I" int(i / 2) "," (i ? "buy" : "from:P1") ",lot,0,0,0"
+        for (i = 0; i < demands; i++) print "demand,P0,I0," i % 104 ",1,,,"
+        for (i = 0; i < receipts; i++) print "receipt,P0,I0," i % 104 ",1,,,"
+        for (i = 0; i < ships; i++) print "ship,P1,P0,I0," i % 104 ",1,,"
+    }'
+}
+
+# 20,000 pairs, each made of the next; seven pieces of the first are wanted in the last period.
+chain() {
+    awk 'BEGIN {
+        print "run,2026-01-05,7,104,,,,\nplant,P,,,,,,"
+        for (i = 0; i < 20000; i++) print "pair,P,I" i "," (i < 19999 ? "make" : "buy") ",lot,0,0,0"
+        for (i = 0; i < 19999; i++) print "bill,P,I" i ",I" i + 1 ",1,,,"
+        print "demand,P,I0,103,7,,,"
+    }'
+}
+
+# One pair that goes into 19,999 others, of each of which one piece is wanted in the last period.
+one_for_all() {
+    awk 'BEGIN {
+        print "run,2026-01-05,7,104,,,,\nplant,P,,,,,,\npair,P,ONE,buy,lot,0,0,0"
+        for (i = 1; i < 20000; i++) print "pair,P,I" i ",make,lot,0,0,0"
+        for (i = 1; i < 20000; i++) print "bill,P,I" i ",ONE,1,,,"
+        for (i = 1; i < 20000; i++) print "demand,P,I" i ",103,1,,,"
+    }'
+}
+
+# 10,000 parents of 20 components each, each of which has 20 parents, and so many bill rows more of a last pair.
+bills() {
+    awk -v more="$1" 'BEGIN {
+        print "run,2026-01-05,7,104,,,,\nplant,P,,,,,,"
+        for (i = 0; i < 20000; i++) print "pair,P,I" i "," (i < 10000 ? "make" : "buy") ",lot,0,0,0"
+        for (i = 0; i < 10000; i++) for (k = 0; k < 20; k++) print "bill,P,I" i ",I" 10000 + (i * 20 + k) % 10000 ",1,,,"
+        for (k = 0; k < more; k++) print "bill,P,I0,I" 19999 - k ",1,,,"
+        for (i = 0; i < 10000; i++) print "demand,P,I" i ",103,1,,,"
+    }'
+}
+
+# 64 plants and 312 items: 60 plants take each item from the four others in equal shares, with figures and new starts.
+lanes() {
+    awk 'BEGIN {
+        print "run,2026-01-05,7,104,,,,"
+        for (p = 0; p < 64; p++) print "plant,P" p ",,,,,,"
+        for (i = 0; i < 312; i++) for (p = 0; p < 64; p++)
+            print "pair,P" p ",I" i "," (p < 4 ? "buy" : "from:P0:250:P1:250:P2:250:P3:250") ",lot,0,0,0"
+        for (i = 0; i < 312; i++) for (p = 4; p < 64; p++) print "demand,P" p ",I" i ",103,4,,,"
+        for (i = 0; i < 312; i++) for (p = 4; p < 64; p++) for (q = 0; q < 4; q++) print "cum,P" q ",P" p ",I" i ",1000,,,"
+        for (i = 0; i < 312; i++) for (p = 4; p < 64; p++) for (q = 0; q < 4; q++) print "reset,P" q ",P" p ",I" i ",50,,,"
+    }'
+}
+
+# Every quantity at its limit, and a component of which so many pieces go into each.
+quantities() {
+    lot=1000000000000
+    echo "run,2026-01-05,31,104,,,,"
+    echo "plant,P,,,,,,"
+    echo "pair,P,X,make,fixed:$lot,104,$lot,$lot"
+    echo "pair,P,Y,buy,min:$lot:$lot,104,$lot,$lot"
+    echo "bill,P,X,Y,$1,,,"
+    echo "demand,P,X,103,$lot,,,"
+    echo "receipt,P,Y,0,$lot,,,"
+}
+
+wrong=0
+# Runs a command over the table. Its answer is the line of a fault, or in how many rows of the report a condition of awk holds.
+try() {
+    name=$1 command=$2 wanted=$3 holds=${4:-0}
+    status=0
+    # shellcheck disable=SC2086
+    command time -q -f '%e %M' -o "$folder/time" "$program" $command <"$table" >"$folder/out" 2>"$folder/err" || status=$?
+    said=$(cat "$folder/err")
+    if [ -z "$said" ] && [ "$status" -eq 0 ]; then
+        said=$(awk -F, "$holds { good++ } END { print good + 0, \"of\", NR }" "$folder/out")
+    fi
+    verdict=right
+    [ "$said" = "$wanted" ] || verdict="WRONG, $said in place of $wanted" wrong=1
+    read -r seconds kib <"$folder/time"
+    printf '%-18s %8s  %-34s %6s s %4s MiB  %s\n' "$name" "$(wc -l <"$table")" "$command" "$seconds" $((kib / 1024)) "$verdict"
+}
+
+printf '%-18s %8s  %-34s %8s %8s\n' table rows command seconds memory
+chain >"$table"
+try chain plan "20000 of 2080000" '$4 == 103 && $6 == 7 && $8 == 7 && $9 == 7 && $10 == 0'
+try chain check "20000 of 20000" '$4 == NR - 1'
+one_for_all >"$table"
+try one_for_all plan "20000 of 2080000" '$4 == 103 && $6 == ($3 == "ONE" ? 19999 : 1) && $8 == $6'
+try one_for_all "peg P ONE 103" "19999 of 19999" '$2 == "bill" && $7 == 1'
+bills 0 >"$table"
+try bills plan "20000 of 2080000" '$4 == 103 && $6 == (substr($3, 2) + 0 < 10000 ? 1 : 20) && $8 == $6'
+lanes >"$table"
+for words in "plan --single" "plan --capacity 1" "plan --workers 2 --capacity 65536"; do
+    try lanes "$words" "19968 of 2076672" '$4 == 103 && $6 == (substr($2, 2) + 0 < 4 ? 60 : 4) && $8 == $6'
+done
+try lanes cums "149760 of 149760" '$6 == 1000 && $7 == ($2 == "despatch" ? 1000 : 1001) && $9 == 0'
+rows 2 20000 1000000 1000000 1000000 >"$table"
+try "million of each" plan "208 of 2080000" '$3 == "I0" && $8 == 0 && $9 == 0'
+try "million of each" cums "2 of 2" '$7 == 1000000'
+quantities 1 >"$table"
+try quantities plan "1 of 209" '$1 == "late" && $3 == "X" && $5 == 1000000000000 && $6 == 1'
+quantities 1000000 >"$table"
+try "past the bound" plan "mrp: NeedTooLarge P/Y"
+rows 65 0 0 0 0 >"$table"
+try "65 plants" check "mrp: row 66: TooMany"
+rows 2 20001 0 0 0 >"$table"
+try "20,001 pairs" check "mrp: row 20004: TooMany"
+bills 1 >"$table"
+try "200,001 bills" check "mrp: row 220003: TooMany"
+rows 2 2 1000001 0 0 >"$table"
+try "1,000,001 demands" check "mrp: row 1000006: TooMany"
+rows 2 2 0 1000001 0 >"$table"
+try "1,000,001 receipts" check "mrp: row 1000006: TooMany"
+rows 2 2 0 0 1000001 >"$table"
+try "1,000,001 ships" check "mrp: row 1000006: TooMany"
+exit "$wrong"

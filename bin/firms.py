@@ -1,0 +1,137 @@
+"""Firms made from a source of chance, and damage to their tables: for bin/torture."""
+
+NAMES = ("A", "B", "S", "NORTH", "south", "P-1", "-", "--help", ".", "_x", "007", "1E5", "plan", "a.b-c_d", "X" * 20, "Q2", "Y", "z9", "W", "from")
+QUANTITIES = (1, 2, 5, 7, 30, 99, 1000, 10**6)
+# What is put in the place of a field or of a byte.
+FIELDS = ("", "0", "1", "31", "32", "104", "105", "02", "+1", "1.5", "1000000000000", "1000000000001", "9999999999999999")
+FIELDS += ("A", "B", "X" * 21, "a b", "make", "buy", "lot", "fixed:0", "fixed:7", "periods:105", "min:3:2", "min:1")
+FIELDS += ("from:A", "from:A:500:B:500", "from:B:600:A:300", "2026-02-30", "2199-12-31", '"A"', '"')
+BYTES = b',,,"\r\n\n019ABXx:-._ \x00\x7f\xc3\xff'
+
+
+def table(chance, plants=12, pairs=30):
+    """Returns the table of a firm, as bytes. Nearly all have no loop and stay within the bound."""
+    size = chance.randint(1, plants)
+    names, items = chance.sample(NAMES, size), chance.sample(NAMES, chance.randint(1, 8))
+    kept = chance.sample([(plant, item) for plant in names for item in items], min(chance.randint(1, pairs), size * len(items)))
+    periods = chance.choice((1, 2, 3, 4, 6, 12, 12, 26, 104))
+    quantities = QUANTITIES if chance.random() < 0.9 else (10**12, 1, 10**11)
+    firm = Draft(chance, kept, periods, quantities)
+    run = ("run", chance.choice(("2026-01-05", "1970-01-01", "2028-02-28")), chance.randint(1, 31), periods)
+    rows = [run, *(("plant", it) for it in names), *firm.pair_rows(), *firm.bill_rows()]
+    rows += [*firm.period_rows("demand", kept), *firm.period_rows("receipt", kept), *firm.lane_rows()]
+    return "".join(",".join(map(str, it)) + "," * (8 - len(it)) + "\n" for it in rows).encode()
+
+
+class Draft:
+    """A firm in the making. A pair takes from pairs of a higher rank alone, but now and then from any."""
+
+    def __init__(self, chance, kept, periods, quantities):
+        self.chance, self.kept, self.periods, self.quantities = chance, kept, periods, quantities
+        self.rank = dict(zip(chance.sample(kept, len(kept)), range(len(kept))))
+        self.any_rank = chance.random() < 0.05
+        self.sources = {it: self.some_sources(it) for it in kept}
+        self.made = {it for it in kept if not self.sources[it] and chance.random() < 0.7}
+
+    def above(self, pair, of_item):
+        """Returns the pairs of the same item elsewhere, or the other pairs of the same plant, from which a pair may take."""
+        same = [it for it in self.kept if it[of_item] == pair[of_item] and it[1 - of_item] != pair[1 - of_item]]
+        return [it for it in same if self.any_rank or self.rank[it] > self.rank[pair]]
+
+    def some_sources(self, pair):
+        """Returns the plants that a pair is taken from, at most four."""
+        plants = [plant for plant, _ in self.above(pair, 1)]
+        few = self.chance.choice((0, 1, 1, 2, 3, 4))
+        return self.chance.sample(plants, min(few, len(plants)))
+
+    def supply(self, pair):
+        plants = self.sources[pair]
+        if len(plants) < 2:
+            return f"from:{plants[0]}" if plants else "make" if pair in self.made else "buy"
+        cuts = [0, *sorted(self.chance.sample(range(1, 1000), len(plants) - 1)), 1000]
+        return "from:" + ":".join(f"{plant}:{high - low}" for plant, low, high in zip(plants, cuts, cuts[1:]))
+
+    def rule(self):
+        least, most = self.chance.choice(self.quantities), self.chance.choice(self.quantities)
+        rules = ("lot", f"fixed:{most}", f"periods:{self.chance.choice((1, 2, 3, 104))}", f"min:{most}:{least}", f"min:{least}:{most}")
+        return self.chance.choice(rules)
+
+    def pair_rows(self):
+        for pair in self.kept:
+            stock = [self.chance.choice((0, 0, *self.quantities)) for _ in "12"]
+            yield "pair", *pair, self.supply(pair), self.rule(), self.chance.choice((0, 0, 1, 1, 2, 3, 104)), *stock
+
+    def bill_rows(self):
+        for pair in self.kept:
+            parts = self.above(pair, 0) if pair in self.made else []
+            for _, component in self.chance.sample(parts, min(self.chance.randint(0, 3), len(parts))):
+                yield "bill", *pair, component, self.chance.choice((1, 1, 2, 3, 12, self.quantities[0] // 10**6 or 1))
+
+    def period_rows(self, kind, pairs):
+        """Yields demand or receipt rows, some of them twice."""
+        for _ in range(self.chance.randint(0, 2 * len(pairs))):
+            row = kind, *self.chance.choice(pairs), self.chance.randrange(self.periods), self.chance.choice(self.quantities)
+            yield from [row] * self.chance.choice((1, 1, 1, 2))
+
+    def lane_rows(self):
+        """Returns ship, cum and reset rows. Where figures start anew, shipments stand in the order of their arrival."""
+        lanes = [(source, *pair) for pair in self.kept for source in self.sources[pair]]
+        anew = {it for it in lanes if self.chance.random() < 0.3}
+        ships = [
+            ("ship", *it, self.chance.randrange(self.periods), self.chance.choice(self.quantities))
+            for it in lanes
+            for _ in range(self.chance.choice((0, 0, 1, 2, 5)))
+        ]
+        self.chance.shuffle(ships)
+        ships.sort(key=lambda it: it[4] if it[1:4] in anew else 0)
+        cums = [("cum", *it, self.chance.choice((0, 8, 100, 999 * self.quantities[0]))) for it in lanes if self.chance.random() < 0.4]
+        return [*ships, *cums, *(("reset", *it, self.chance.randrange(self.periods)) for it in lanes if it in anew)]
+
+
+def damaged(chance, text):
+    """Returns a table with one or two damages."""
+    for _ in range(chance.choice((1, 1, 1, 2))):
+        text = chance.choice(DAMAGES)(chance, text)
+    return text
+
+
+def cut(chance, text):
+    return text[: chance.randrange(len(text) + 1)]
+
+
+def changed_byte(chance, text):
+    place = chance.randrange(len(text) + 1)
+    byte = bytes([chance.choice(BYTES) if chance.random() < 0.8 else chance.randrange(256)])
+    return text[:place] + (byte if chance.random() < 0.7 else b"") + text[place + chance.choice((0, 1)) :]
+
+
+def changed_rows(chance, text):
+    """Drops a row, has it twice, or puts it elsewhere."""
+    rows = text.splitlines(keepends=True) or [b""]
+    place = chance.randrange(len(rows))
+    row = rows.pop(place)
+    for it in chance.choice(([], [place, place], [chance.randrange(len(rows) + 1)])):
+        rows.insert(it, row)
+    return b"".join(rows)
+
+
+def swapped_rows(chance, text):
+    rows = text.splitlines(keepends=True) or [b""]
+    place = chance.randrange(len(rows))
+    return b"".join([*rows[:place], *rows[place : place + 2][::-1], *rows[place + 2 :]])
+
+
+def changed_field(chance, text):
+    """Puts another word, or that of some row in the same place or another, in the place of a field."""
+    rows = [it.split(b",") for it in text.split(b"\n")]
+    row, other = chance.choice(rows), chance.choice(rows)
+    place = chance.randrange(len(row))
+    row[place] = chance.choice((chance.choice(FIELDS).encode(), chance.choice(other), *other[place : place + 1]))
+    return b"\n".join(b",".join(it) for it in rows)
+
+
+def other_ends(chance, text):
+    return chance.choice((b"", b"\xef\xbb\xbf", b"\n")) + text.replace(b"\n", chance.choice((b"\r\n", b"\n\n", b"\r")))
+
+
+DAMAGES = (cut, changed_byte, changed_byte, changed_rows, swapped_rows, changed_field, changed_field, changed_field, other_ends)

@@ -1,0 +1,397 @@
+"""What mrp has to answer of a table, by a second planner: for bin/torture, which compares.
+
+It is written for shortness from the manual (docs/tables.md, docs/reports.md, docs/faults.md) and the definitions
+(docs/definitions.md): it plans the whole network at once, on one thread, and has no lanes, records or limits of its own.
+"""
+import re
+from datetime import date, timedelta
+from typing import NamedTuple
+
+COLUMNS = {
+    "run": ("date", "days", "periods"),
+    "plant": ("name",),
+    "pair": ("name", "name", "supply", "rule", "lead", "stock", "stock"),
+    "bill": ("name", "name", "name", "per"),
+    "demand": ("name", "name", "period", "quantity"),
+    "receipt": ("name", "name", "period", "quantity"),
+    "ship": ("name", "name", "name", "period", "quantity"),
+    "cum": ("name", "name", "name", "figure"),
+    "reset": ("name", "name", "name", "period"),
+}
+KINDS = list(COLUMNS)
+RANGES = {
+    "days": (0, 10**16 - 1),
+    "periods": (1, 104),
+    "lead": (0, 104),
+    "stock": (0, 10**12),
+    "per": (1, 10**6),
+    "quantity": (1, 10**12),
+    "figure": (0, 10**15),
+}
+MOST = {"plant": 64, "pair": 20_000, "bill": 200_000, "demand": 10**6, "receipt": 10**6, "ship": 10**6, "cum": 10**6}
+LIMIT = 10**15
+NAME = re.compile(r"[A-Za-z0-9._-]{1,20}")
+NUMBER = re.compile(r"0|[1-9][0-9]{0,15}")
+RULE = re.compile(r"lot|fixed:([^:]*)|periods:([^:]*)|min:([^:]*):([^:]*)")
+
+
+class Refused(Exception):
+    """The table or the question is refused. The text is the line that mrp has to write."""
+
+
+class Answer(NamedTuple):
+    """What a run of the program answers."""
+
+    status: int
+    out: bytes
+    err: bytes
+
+
+class Pair(NamedTuple):
+    """A pair's row. A source is a plant with the running shares, in thousandths, between which its part lies."""
+
+    row: int
+    supply: str
+    sources: list
+    rule: tuple
+    lead: int
+    on_hand: int
+    safety: int
+
+
+class Edge(NamedTuple):
+    """A demander of a pair, and what it asks of a release."""
+
+    pair: tuple
+    per: int
+    low: int
+    high: int
+
+    def part(self, release):
+        return release * self.high // 1000 - release * self.low // 1000
+
+
+class Plan(NamedTuple):
+    """The rows of a pair's plan, a list of figures each."""
+
+    gross: list
+    incoming: list
+    order: list
+    release: list
+    available: list
+
+
+def rows(table):
+    """Yields the rows of a table, each a list of fields, as `csv` reads them."""
+    table = table.removeprefix(b"\xef\xbb\xbf")
+    if b'"' not in table:
+        yield from (it.split(b",") for it in re.split(rb"[\r\n]+", table) if it)
+        return
+    fields, field, state = [], b"", "row"
+    for byte in (table[it : it + 1] for it in range(len(table))):
+        if state == "quoted":
+            state, field = ("closed", field) if byte == b'"' else (state, field + byte)
+        elif byte == b'"' and state in ("row", "start"):
+            state = "quoted"
+        elif byte == b'"' and state == "closed":
+            state, field = "quoted", field + byte
+        elif byte == b",":
+            fields, field, state = [*fields, field], b"", "start"
+        elif byte not in b"\r\n":
+            state, field = "text", field + byte
+        elif state != "row":
+            yield [*fields, field]
+            fields, field, state = [], b"", "row"
+    if state != "row":
+        yield [*fields, field]
+
+
+def number(text, least, most):
+    """Returns the number that a text spells, or nothing where it spells none or one out of range."""
+    return int(text) if NUMBER.fullmatch(text) and least <= int(text) <= most else None
+
+
+def rule_of(text):
+    """Returns the word of a lot rule and its numbers, or nothing."""
+    found = RULE.fullmatch(text)
+    word = text.partition(":")[0]
+    given = [number(it, 1, 104 if word == "periods" else 10**12) for it in found.groups() if it is not None] if found else [None]
+    return None if None in given else (word, *given)
+
+
+def sources_of(text):
+    """Returns the sources that a supply names, with their running shares, or nothing where it is misspelt."""
+    if text in ("make", "buy"):
+        return []
+    word, *parts = text.split(":")
+    plants, shares = parts[::2], [number(it, 1, 999) for it in parts[1::2]] if len(parts) != 1 else [1000]
+    spelled = word == "from" and all(NAME.fullmatch(it) for it in plants) and len(set(plants)) == len(plants) == len(shares) <= 4
+    if not spelled or None in shares or sum(shares) != 1000:
+        return None
+    return [(plant, sum(shares[:it]), sum(shares[: it + 1])) for it, plant in enumerate(plants)]
+
+
+def calendar_fault(first, days, periods):
+    """Returns the fault of a calendar, or nothing."""
+    try:
+        start = date.fromisoformat(first) if re.fullmatch("[0-9]{4}-[0-9]{2}-[0-9]{2}", first) else None
+    except ValueError:
+        start = None
+    if not start or start.year < 1970:
+        return "BadDate"
+    if not 1 <= days <= 31:
+        return "DaysOutOfRange"
+    left = (date(2199, 12, 31) - start).days
+    return "PastEnd" if days * periods - 1 > left else None
+
+
+class Firm:
+    """The firm of a table, and its reports."""
+
+    def __init__(self, table):
+        self.periods, self.kind, self.counts, self.said = 0, None, {}, set()
+        self.plants, self.pairs, self.bills, self.cums, self.ships = [], {}, {}, {}, []
+        self.demand, self.incoming = {}, {}
+        count = 0
+        for count, fields in enumerate(rows(table), 1):
+            fault = self.spelling_fault(fields) or self.fault([it.decode() for it in fields])
+            if fault:
+                raise Refused(f"mrp: row {count}: {fault}")
+            self.add(count, *(it.decode() for it in fields))
+        if not count:
+            raise Refused("mrp: row 0: Empty")
+        for (_, item), pair in self.pairs.items():
+            if any((plant, item) not in self.pairs for plant, _, _ in pair.sources):
+                raise Refused(f"mrp: row {pair.row}: UnknownPair")
+        self.find_edges()
+        self.find_codes()
+        self.find_needs()
+        plans = self.find_plans()
+        self.plans = {it: plans[it] for it in self.pairs}
+
+    def spelling_fault(self, fields):
+        """Returns the first fault of a row that is looked at by itself, but for where it stands."""
+        try:
+            texts = [it.decode() for it in fields]
+        except UnicodeDecodeError:
+            return "NotUtf8"
+        if len(texts) != 8:
+            return "FieldCount"
+        if texts[0] not in COLUMNS:
+            return "UnknownKind"
+        columns = COLUMNS[texts[0]]
+        if any(texts[1 + len(columns) :]):
+            return "FieldCount"
+        place = KINDS.index(texts[0])
+        if (self.kind is None) != (place == 0) or place < (self.kind or 0):
+            return "KindOrder"
+        values = list(zip(columns, texts[1:]))
+        if not all(NAME.fullmatch(it) for column, it in values if column == "name"):
+            return "BadName"
+        ranges = {**RANGES, "period": (0, self.periods - 1)}
+        if any(number(it, *ranges[column]) is None for column, it in values if column in ranges):
+            return "BadNumber"
+        if texts[0] == "pair" and not rule_of(texts[4]):
+            return "BadRule"
+        return "BadSupply" if texts[0] == "pair" and sources_of(texts[3]) is None else None
+
+    def fault(self, texts):
+        """Returns the first fault of a well spelled row beside those above it."""
+        kind, plant, item = texts[:3]
+        if kind == "run":
+            found = calendar_fault(plant, int(item), int(texts[3]))
+            return found and f"CalendarFault {found}"
+        if self.key(texts) in self.said:
+            return "Repeated"
+        moves = kind in ("ship", "cum", "reset")
+        sources = [it for it, _, _ in sources_of(texts[3])] if kind == "pair" else []
+        named = [] if kind == "plant" else [plant, item] if moves else [plant, *sources]
+        if not set(named) <= set(self.plants):
+            return "UnknownPlant"
+        pair = (item, texts[3]) if moves else (plant, item)
+        if kind not in ("plant", "pair") and pair not in self.pairs or kind == "bill" and (plant, texts[3]) not in self.pairs:
+            return "UnknownPair"
+        if kind == "bill" and self.pairs[pair].supply != "make":
+            return "NotMade"
+        if moves and plant not in [it for it, _, _ in self.pairs[pair].sources]:
+            return "NotSourced"
+        if plant in sources:
+            return "SelfSource"
+        if self.counts.get(kind, 0) == MOST.get(kind):
+            return "TooMany"
+        arrivals = [it[1] for it in self.ships if it[0] == tuple(texts[1:4])]
+        return "ResetOrder" if kind == "reset" and arrivals != sorted(arrivals) else None
+
+    @staticmethod
+    def key(texts):
+        """Returns what no second row says again, or nothing where rows may."""
+        sizes = {"plant": 2, "pair": 3, "bill": 4, "cum": 4, "reset": 4}
+        return tuple(texts[: sizes[texts[0]]]) if texts[0] in sizes else None
+
+    def add(self, count, *texts):
+        """Keeps a row that has no fault."""
+        kind, first, second, third, *more = texts
+        self.kind = KINDS.index(kind)
+        self.counts[kind] = self.counts.get(kind, 0) + 1
+        self.said |= {self.key(texts)} - {None}
+        if kind == "run":
+            self.first, self.days, self.periods = date.fromisoformat(first), int(second), int(third)
+        elif kind == "plant":
+            self.plants.append(first)
+        elif kind == "pair":
+            self.pairs[first, second] = Pair(count, third, sources_of(third), rule_of(more[0]), *map(int, more[1:4]))
+            self.demand[first, second], self.incoming[first, second] = [0] * self.periods, [0] * self.periods
+        elif kind == "bill":
+            self.bills[first, second, third] = int(more[0])
+        elif kind in ("demand", "receipt"):
+            (self.demand if kind == "demand" else self.incoming)[first, second][int(third)] += int(more[0])
+        elif kind == "ship":
+            self.ships.append(((first, second, third), int(more[0]), int(more[1])))
+            self.incoming[second, third][int(more[0])] += int(more[1])
+        elif kind == "cum":
+            self.cums[first, second, third] = int(more[0])
+
+    def find_edges(self):
+        """Finds the demanders of each pair, in table order."""
+        self.demanders = {it: [] for it in self.pairs}
+        parents = {}
+        for (plant, parent, component), per in self.bills.items():
+            parents.setdefault((plant, parent), []).append(((plant, component), per))
+        for pair, row in self.pairs.items():
+            for component, per in parents.get(pair, ()):
+                self.demanders[component].append(Edge(pair, per, 0, 1000))
+            for plant, low, high in row.sources:
+                self.demanders[plant, pair[1]].append(Edge(pair, 1, low, high))
+
+    def find_codes(self):
+        """Finds the low-level codes, or refuses the loop that a walk from demander to demander comes to."""
+        self.codes, left = {}, list(self.pairs)
+        while free := [it for it in left if all(edge.pair in self.codes for edge in self.demanders[it])]:
+            for pair in free:
+                self.codes[pair] = max((self.codes[it.pair] + 1 for it in self.demanders[pair]), default=0)
+            left = [it for it in left if it not in self.codes]
+        if not left:
+            return
+        walk = left[:1]
+        while walk[-1] not in walk[:-1]:
+            walk.append(next(it.pair for it in self.demanders[walk[-1]] if it.pair not in self.codes))
+        loop = walk[walk.index(walk[-1]) : -1][::-1]
+        start = loop.index(min(loop, key=list(self.pairs).index))
+        raise Refused("mrp: loop" + "".join(f" {plant}/{item}" for plant, item in loop[start:] + loop[:start]))
+
+    def find_needs(self):
+        """Refuses a firm in which a quantity could pass the limit."""
+        supply, need = {}, {}
+        for pair, row in self.pairs.items():
+            opening = sum(self.cums.get((plant, *pair), 0) for plant, _, _ in row.sources)
+            supply[pair] = row.on_hand + sum(self.incoming[pair]) + opening
+            if supply[pair] > LIMIT:
+                raise Refused("mrp: SupplyTooLarge " + "/".join(pair))
+        for pair in sorted(self.pairs, key=self.codes.get):
+            row = self.pairs[pair]
+            asked = sum(it.per * need[it.pair] for it in self.demanders[pair])
+            need[pair] = sum(self.demand[pair]) + asked + row.safety + (0 if row.rule[0] == "periods" else sum(row.rule[1:]))
+            if supply[pair] + need[pair] > LIMIT:
+                raise Refused("mrp: NeedTooLarge " + "/".join(pair))
+
+    def find_plans(self):
+        """Plans each pair after its demanders."""
+        plans = {}
+        for pair in sorted(self.pairs, key=self.codes.get):
+            edges = [(it, plans[it.pair].release) for it in self.demanders[pair]]
+            gross = [self.demand[pair][t] + sum(it.per * it.part(release[t]) for it, release in edges) for t in range(self.periods)]
+            plans[pair] = self.plan_of(self.pairs[pair], gross, self.incoming[pair])
+        return plans
+
+    def plan_of(self, row, gross, incoming):
+        """Plans one pair."""
+        order, release, available, before = [], [0] * self.periods, [], row.on_hand
+        for t in range(self.periods):
+            net = row.safety + gross[t] - before - incoming[t]
+            order.append(self.lot(row, t, net, gross, incoming) if net > 0 else 0)
+            before += incoming[t] + order[t] - gross[t]
+            available.append(before)
+            release[max(0, t - row.lead)] += order[t]
+        return Plan(gross, incoming, order, release, available)
+
+    def lot(self, row, t, net, gross, incoming):
+        """Returns the planned order that covers a net requirement."""
+        word, *given = row.rule
+        if word == "lot":
+            return net
+        if word == "periods":
+            ends = range(t + 1, min(t + given[0], self.periods) + 1)
+            return max(net + sum(gross[t + 1 : it]) - sum(incoming[t + 1 : it]) for it in ends)
+        lot = given[-1]
+        return -(-max(net, *given[:-1], 0) // lot) * lot
+
+    def plan_report(self):
+        """Yields the fields of the plan rows and late rows."""
+        for pair, plan in self.plans.items():
+            for t, figures in enumerate(zip(*plan)):
+                yield "plan", *pair, t, self.first + timedelta(days=self.days * t), *figures
+        for pair, plan in self.plans.items():
+            for t, quantity in enumerate(plan.order[: self.pairs[pair].lead]):
+                if quantity:
+                    yield "late", *pair, t, quantity, self.pairs[pair].lead - t
+
+    def code_report(self):
+        for pair in self.pairs:
+            yield "code", *pair, self.codes[pair]
+
+    def peg_report(self, plant, item, period):
+        pair, t = (plant, item), int(period)
+        if pair not in self.pairs:
+            raise Refused("mrp: no pair")
+        if t >= self.periods:
+            raise Refused("mrp: no period")
+        own = self.demand[pair][t]
+        terms = [("demand", *pair, own, 1, own)]
+        for edge in self.demanders[pair]:
+            released = edge.part(self.plans[edge.pair].release[t])
+            terms.append(("bill" if edge.pair[0] == plant else "plant", *edge.pair, released, edge.per, released * edge.per))
+        yield from (("peg", *it) for it in terms if it[-1])
+
+    def lane_report(self):
+        """Yields the fields of the lane rows: a customer's suppliers in table order, and despatch before schedule."""
+        for customer in self.plants:
+            taken = {item: row.sources for (plant, item), row in self.pairs.items() if plant == customer and row.sources}
+            for supplier in self.plants:
+                items = {item: (low, high) for item, sources in taken.items() for plant, low, high in sources if plant == supplier}
+                for kind in ("despatch", "schedule"):
+                    for item, shares in items.items():
+                        yield self.lane_row(kind, supplier, customer, item, shares)
+
+    def lane_row(self, kind, supplier, customer, item, shares):
+        opening = self.cums.get((supplier, customer, item), 0)
+        shipped = opening + sum(it[2] for it in self.ships if it[0] == (supplier, customer, item))
+        if kind == "despatch":
+            return "lane", kind, supplier, customer, item, opening, shipped, shipped, 0
+        edge = Edge((customer, item), 1, *shares)
+        called = shipped + sum(edge.part(it) for it in self.plans[edge.pair].release)
+        return "lane", kind, customer, supplier, item, shipped, called, called, 0
+
+
+class Oracle:
+    """What mrp has to answer of a table."""
+
+    def __init__(self, table):
+        try:
+            self.firm, self.refused = Firm(table), None
+        except Refused as line:
+            self.firm, self.refused = None, str(line)
+
+    def answer(self, command, *asked):
+        """Returns the answer to a command: plan, check, peg with a pair and a period, or cums."""
+        if self.refused:
+            return refusal(self.refused)
+        reports = {"plan": Firm.plan_report, "check": Firm.code_report, "peg": Firm.peg_report, "cums": Firm.lane_report}
+        try:
+            fields = list(reports[command](self.firm, *asked))
+        except Refused as line:
+            return refusal(str(line))
+        return Answer(0, "".join(",".join(map(str, it)) + "\n" for it in fields).encode(), b"")
+
+
+def refusal(line):
+    return Answer(1, b"", f"{line}\n".encode())
