@@ -10,6 +10,7 @@ mod refusals;
 mod shipping;
 mod streams;
 mod threads;
+mod words;
 
 use mrp_text::{
     Gate, Settings, TextFault, check_text, cums_text, drive_text, peg_text, plan_text, status,
