@@ -1,0 +1,28 @@
+-- A new agent of a plant of a sized network can be planned for.
+use Rattle.std.proofs.Common.{◌≡◌, ℕ}
+use Rattle.mrp_rows.specs.Table.{Table}
+use Rattle.mrp_net.specs.Lanes.{lane_at}
+use Rattle.mrp_view.specs.View.{plant_rows}
+use Rattle.mrp_loops.specs.Sized.{IsSized}
+use Rattle.mrp_record.proofs.Beginnings.{empty_is_a_beginning}
+use Rattle.mrp_events.specs.Loads.{loads}
+use Rattle.mrp_events.specs.State.{opening_state}
+use Rattle.mrp_agent.specs.Shows.{Shows}
+use Rattle.mrp_agent.specs.State.{AgentState}
+use Rattle.mrp_crew.specs.Planning.{IsPlannable}
+
+pub opening_is_plannable : (N : Table) → IsSized N → (plant : ℕ) (A : AgentState) → A.view ≡ plant_rows N plant
+    → Shows A opening_state.sent opening_state.taken opening_state.planned → IsPlannable A
+opening_is_plannable N sized plant A view shows = record {
+  network = N;
+  sized = sized;
+  plant = plant;
+  sent = opening_state.sent;
+  taken = opening_state.taken;
+  planned = opening_state.planned;
+  works = record {
+    view = view;
+    legal = λ l within receiver. empty_is_a_beginning (loads N (lane_at N l));
+    shows = shows;
+  };
+}
