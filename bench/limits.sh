@@ -1,6 +1,6 @@
 #!/bin/sh
 # Runs the program over tables at the limits of docs/tables.md and one past them, and prints for each the
-# rows of the table, the command, whether the answer is right, seconds of the whole run and peak memory.
+# rows of the table, the command, seconds of processor time, peak memory and whether the answer is right.
 #
 #   bench/limits.sh [PROGRAM]
 #
@@ -75,6 +75,19 @@ lanes() {
     }'
 }
 
+# The same firm with nearly a million rows of each kind: 53 periods want four pieces and get one, and what is on its way
+# comes in the last.
+everything() {
+    lanes | grep -v '^\(demand\|cum\|reset\)'
+    awk 'BEGIN {
+        for (t = 0; t < 53; t++) for (i = 0; i < 312; i++) for (p = 4; p < 64; p++) print "demand,P" p ",I" i "," t ",4,,,"
+        for (t = 0; t < 53; t++) for (i = 0; i < 312; i++) for (p = 4; p < 64; p++) print "receipt,P" p ",I" i "," t ",1,,,"
+        for (k = 0; k < 13; k++) for (i = 0; i < 312; i++) for (p = 4; p < 64; p++) for (q = 0; q < 4; q++)
+            print "ship,P" q ",P" p ",I" i ",103,1,,"
+    }'
+    lanes | grep '^\(cum\|reset\)'
+}
+
 # Every quantity at its limit, and a component of which so many pieces go into each.
 quantities() {
     lot=1000000000000
@@ -93,15 +106,15 @@ try() {
     name=$1 command=$2 wanted=$3 holds=${4:-0}
     status=0
     # shellcheck disable=SC2086
-    command time -q -f '%e %M' -o "$folder/time" "$program" $command <"$table" >"$folder/out" 2>"$folder/err" || status=$?
+    command time -q -f '%U %S %M' -o "$folder/time" "$program" $command <"$table" >"$folder/out" 2>"$folder/err" || status=$?
     said=$(cat "$folder/err")
     if [ -z "$said" ] && [ "$status" -eq 0 ]; then
         said=$(awk -F, "$holds { good++ } END { print good + 0, \"of\", NR }" "$folder/out")
     fi
     verdict=right
     [ "$said" = "$wanted" ] || verdict="WRONG, $said in place of $wanted" wrong=1
-    read -r seconds kib <"$folder/time"
-    printf '%-18s %8s  %-34s %6s s %4s MiB  %s\n' "$name" "$(wc -l <"$table")" "$command" "$seconds" $((kib / 1024)) "$verdict"
+    spent=$(awk '{ printf "%6.2f s %4d MiB", $1 + $2, $3 / 1024 }' "$folder/time")
+    printf '%-18s %8s  %-34s %s  %s\n' "$name" "$(wc -l <"$table")" "$command" "$spent" "$verdict"
 }
 
 printf '%-18s %8s  %-34s %8s %8s\n' table rows command seconds memory
@@ -118,6 +131,12 @@ for words in "plan --single" "plan --capacity 1" "plan --workers 2 --capacity 65
     try lanes "$words" "19968 of 2076672" '$4 == 103 && $6 == (substr($2, 2) + 0 < 4 ? 60 : 4) && $8 == $6'
 done
 try lanes cums "149760 of 149760" '$6 == 1000 && $7 == ($2 == "despatch" ? 1000 : 1001) && $9 == 0'
+everything >"$table"
+parts='$2 == "P0" ? $6 == 0 : $6 == 60 && $8 == 60'
+for words in "plan --single" plan "plan --workers 2 --capacity 65536"; do
+    try everything "$words" "1058304 of 2076672" '$4 < 53 && (substr($2, 2) + 0 < 4 ? ('"$parts"') : $6 == 4 && $7 == 1 && $8 == 3)'
+done
+try everything cums "149760 of 149760" '$2 == "despatch" ? $7 == 1013 : $6 == 1013 && $7 == ($4 == "P0" ? 1013 : 1066)'
 rows 2 20000 1000000 1000000 1000000 >"$table"
 try "million of each" plan "208 of 2080000" '$3 == "I0" && $8 == 0 && $9 == 0'
 try "million of each" cums "2 of 2" '$7 == 1000000'
