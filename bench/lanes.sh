@@ -3,7 +3,10 @@
 # turn. Both make the records before the clock starts. Prints for each capacity a line for each program: the
 # records, the fastest, the middle and the slowest run in microseconds, and records a second by the fastest.
 #
-#   bench/lanes.sh [RECORDS] [RUNS]      1000000 and 40; a tenth of the records at capacity 1
+#   bench/lanes.sh [RECORDS] [RUNS] [ITEMS]      1000000, 40 and 1; a tenth of the records at capacity 1
+#
+# All lines are of the lane's first item. Runs differ much by how the two threads come to meet at the queue, so
+# the middle tells more than the fastest.
 #
 # It needs rustc and awk. CROSSBEAM names a folder with the sources of crossbeam-queue, crossbeam-utils and
 # cfg-if, as Debian's package of crossbeam-queue brings them; without it the plain program has the same queue
@@ -14,6 +17,7 @@ set -eu
 top=$(CDPATH='' cd -- "$(dirname -- "$0")/.." && pwd)
 records=${1:-1000000}
 runs=${2:-40}
+items=${3:-1}
 folder=$(mktemp -d)
 trap 'rm -rf "$folder"' EXIT
 
@@ -29,16 +33,21 @@ any=$(echo "$below" | tr ' ' '|')
 grep -E "^(#|mrp_($any):)" "$top/crates.txt" >"$folder/crates.txt"
 echo "bench_lanes: mrp_qty mrp_rows mrp_tables mrp_net mrp_loops mrp_record mrp_events mrp_cursor mrp_lane atomic_table crossbeam_queue" >>"$folder/crates.txt"
 
-# Two plants: A takes X from B, in so many shipments of one piece, the item end and the closing record less.
+# Two plants: A takes X and the other items from B, and B ships X one by one. The last records are the ends of
+# the items and the closing record.
 make_table() {
-    awk -v records="$1" 'BEGIN {
+    awk -v records="$1" -v items="$items" 'BEGIN {
         print "run,2026-01-05,7,4,,,,\nplant,A,,,,,,\nplant,B,,,,,,"
-        print "pair,A,X,from:B,lot,1,0,0\npair,B,X,buy,lot,0,0,0\ndemand,A,X,2,30,,,"
-        for (n = 3; n <= records; n++) print "ship,B,A,X,2,1,,"
+        for (i = 0; i < items; i++) {
+            item = i == 0 ? "X" : "Y" i
+            print "pair,A," item ",from:B,lot,1,0,0\npair,B," item ",buy,lot,0,0,0"
+        }
+        print "demand,A,X,2,30,,,"
+        for (n = items + 2; n <= records; n++) print "ship,B,A,X,2,1,,"
     }'
 }
 
-make_table 3 >"$folder/table.csv"
+make_table 100 >"$folder/table.csv"
 (cd "$folder/crates/bench_lanes" && rt run -- 1 <"$folder/table.csv" >/dev/null)
 program=$folder/crates/bench_lanes/out/bench_lanes
 
