@@ -31,6 +31,7 @@ cp -a "$top/bench/lanes" "$folder/crates/bench_lanes"
 find "$folder/crates/bench_lanes" -name '*.in' | while read -r file; do mv "$file" "${file%.in}"; done
 any=$(echo "$below" | tr ' ' '|')
 grep -E "^(#|mrp_($any):)" "$top/crates.txt" >"$folder/crates.txt"
+cp "$top/HANDLES" "$folder/"
 echo "bench_lanes: mrp_qty mrp_rows mrp_tables mrp_net mrp_loops mrp_record mrp_events mrp_cursor mrp_lane atomic_table crossbeam_queue" >>"$folder/crates.txt"
 
 # Two plants: A takes X and the other items from B, and B ships X one by one. The last records are the ends of
