@@ -4,6 +4,7 @@
 mod damage;
 mod figures;
 mod firms;
+mod memory;
 mod plans;
 mod random;
 mod refusals;

@@ -41,7 +41,9 @@ pub fn answer<T: Threads + Wait + Sync, R: Read + Drop, W: Write>(
             ..
         } => drive_text(alloc, reader, writer, capacity),
         Choice::Plan {
-            workers, capacity, ..
+            workers,
+            capacity,
+            ..
         } => {
             let Some(settings) = Settings::new(workers, capacity) else {
                 unreachable!()

@@ -1,10 +1,13 @@
+use super::figures::FIRM_OF_TWO;
 use super::{BICYCLE, BICYCLE_PLAN, codes, pegs, plan};
 use std::test::Fail;
 
-/// Two plants: A takes X from B, eight pieces are under way.
-pub(super) const SHIPPED: &str = "run,2026-01-05,7,4,,,,\nplant,A,,,,,,\nplant,B,,,,,,\n\
-pair,A,X,from:B,lot,1,0,0\npair,B,X,buy,lot,0,0,0\ndemand,A,X,2,30,,,\nship,B,A,X,2,8,,\n\
-cum,B,A,X,100,,,\n";
+/// The plan of two plants, eight pieces under way between them: `examples/firm_of_two.plan.csv`.
+pub(crate) const FIRM_OF_TWO_PLAN: &str = "plan,A,X,0,2026-01-05,0,0,0,0,0\n\
+plan,A,X,1,2026-01-12,0,0,0,22,0\nplan,A,X,2,2026-01-19,30,8,22,0,0\n\
+plan,A,X,3,2026-01-26,0,0,0,0,0\nplan,B,X,0,2026-01-05,0,0,0,0,0\n\
+plan,B,X,1,2026-01-12,22,0,22,22,0\nplan,B,X,2,2026-01-19,0,0,0,0,0\n\
+plan,B,X,3,2026-01-26,0,0,0,0,0\n";
 
 /// Two plants that take from each other, and no loop.
 pub(super) const RING: &str = "run,2026-01-05,7,1,,,,\nplant,A,,,,,,\nplant,B,,,,,,\n\
@@ -83,22 +86,18 @@ plan,A,Y,0,2026-01-05,3,0,3,3,0\n";
 #[test]
 fn shipments_come_in_at_the_customer(rt: HostRuntime) -> Result<(), Fail> {
     let alloc = rt.alloc();
-    let rows = "plan,A,X,0,2026-01-05,0,0,0,0,0\nplan,A,X,1,2026-01-12,0,0,0,22,0\n\
-plan,A,X,2,2026-01-19,30,8,22,0,0\nplan,A,X,3,2026-01-26,0,0,0,0,0\n\
-plan,B,X,0,2026-01-05,0,0,0,0,0\nplan,B,X,1,2026-01-12,22,0,22,22,0\n\
-plan,B,X,2,2026-01-19,0,0,0,0,0\nplan,B,X,3,2026-01-26,0,0,0,0,0\n";
-    assert_eq!(rt; plan(alloc, SHIPPED)?.as_str(), rows);
+    assert_eq!(rt; plan(alloc, FIRM_OF_TWO)?.as_str(), FIRM_OF_TWO_PLAN);
     assert_eq!(rt;
-        pegs(alloc, SHIPPED, "A", "X", 2)?.as_str(),
+        pegs(alloc, FIRM_OF_TWO, "A", "X", 2)?.as_str(),
         "peg,demand,A,X,30,1,30\n"
     );
     assert_eq!(rt;
-        pegs(alloc, SHIPPED, "B", "X", 1)?.as_str(),
+        pegs(alloc, FIRM_OF_TWO, "B", "X", 1)?.as_str(),
         "peg,plant,A,X,22,1,22\n"
     );
-    assert_eq!(rt; pegs(alloc, SHIPPED, "B", "X", 0)?.as_str(), "");
+    assert_eq!(rt; pegs(alloc, FIRM_OF_TWO, "B", "X", 0)?.as_str(), "");
     assert_eq!(rt;
-        pegs(alloc, SHIPPED, "B", "X", 4)?.as_str(),
+        pegs(alloc, FIRM_OF_TWO, "B", "X", 4)?.as_str(),
         "1 mrp: no period\n"
     );
     Ok(())

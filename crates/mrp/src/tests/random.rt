@@ -34,6 +34,15 @@ enum Draw {
     Capacity,
 }
 
+/// A kind of rows of which a pair has one at most.
+#[derive(Clone, Copy)]
+enum RowKind {
+    Pair,
+    Bill,
+    Demand,
+    Shipment,
+}
+
 /// A number below `below` that looks random: it mixes the firm's number with all that it is drawn for.
 fn number_below(firm: u64, what: Draw, plant: u64, item: u64, below: u64) -> u64 {
     let mut mixed = firm;
@@ -72,7 +81,8 @@ fn pair_row(alloc: Global, firm: u64, plant: u64, item: u64) -> Result<String, A
 
 /// The row of a bill from a pair that is made to a later item, if there is one.
 fn bill_row(alloc: Global, firm: u64, plant: u64, item: u64) -> Result<String, AllocError> {
-    let below = item + 1 + number_below(firm, Draw::Bill, plant, item, 3);
+    let further = number_below(firm, Draw::Bill, plant, item, 3);
+    let below = item.wrapping_add(1).wrapping_add(further);
     if source(firm, plant, item).is_some() || below >= ITEMS {
         return String::from_str(alloc, "");
     }
@@ -83,7 +93,10 @@ fn bill_row(alloc: Global, firm: u64, plant: u64, item: u64) -> Result<String, A
 fn demand_row(alloc: Global, firm: u64, plant: u64, item: u64) -> Result<String, AllocError> {
     let asked = number_below(firm, Draw::Demand, plant, item, 40);
     let period = asked % 6;
-    format!(in alloc; "demand,P{plant},I{item},{period},{},,,\n", asked + 1)
+    format!(in alloc;
+        "demand,P{plant},I{item},{period},{},,,\n",
+        asked.wrapping_add(1)
+    )
 }
 
 /// The row of a shipment to a pair that takes its item from a plant, if it does.
@@ -93,19 +106,23 @@ fn shipment_row(alloc: Global, firm: u64, plant: u64, item: u64) -> Result<Strin
     };
     let sent = number_below(firm, Draw::Shipment, plant, item, 12);
     let period = sent % 6;
-    format!(in alloc; "ship,P{other},P{plant},I{item},{period},{},,\n", sent + 1)
+    format!(in alloc;
+        "ship,P{other},P{plant},I{item},{period},{},,\n",
+        sent.wrapping_add(1)
+    )
 }
 
 /// Adds a row of a kind for each pair.
-fn add_rows(
-    alloc: Global,
-    table: &mut String,
-    firm: u64,
-    row: fn(Global, u64, u64, u64) -> Result<String, AllocError>,
-) -> Result<(), AllocError> {
+fn add_rows(alloc: Global, table: &mut String, firm: u64, kind: RowKind) -> Result<(), AllocError> {
     for number in 0..PLANTS * ITEMS {
-        let text = row(alloc, firm, number / ITEMS, number % ITEMS)?;
-        table.push_str(text.as_str())?;
+        let (plant, item) = (number / ITEMS, number % ITEMS);
+        let row = match kind {
+            RowKind::Pair => pair_row(alloc, firm, plant, item)?,
+            RowKind::Bill => bill_row(alloc, firm, plant, item)?,
+            RowKind::Demand => demand_row(alloc, firm, plant, item)?,
+            RowKind::Shipment => shipment_row(alloc, firm, plant, item)?,
+        };
+        table.push_str(row.as_str())?;
     }
     Ok(())
 }
@@ -114,17 +131,17 @@ fn add_rows(
 fn table_of(alloc: Global, firm: u64) -> Result<String, AllocError> {
     let mut table = String::from_str(alloc, "run,2026-01-05,7,6,,,,\nplant,P0,,,,,,\n")?;
     table.push_str("plant,P1,,,,,,\nplant,P2,,,,,,\nplant,P3,,,,,,\nplant,P4,,,,,,\n")?;
-    add_rows(alloc, &mut table, firm, pair_row)?;
-    add_rows(alloc, &mut table, firm, bill_row)?;
-    add_rows(alloc, &mut table, firm, demand_row)?;
-    add_rows(alloc, &mut table, firm, shipment_row)?;
+    add_rows(alloc, &mut table, firm, RowKind::Pair)?;
+    add_rows(alloc, &mut table, firm, RowKind::Bill)?;
+    add_rows(alloc, &mut table, firm, RowKind::Demand)?;
+    add_rows(alloc, &mut table, firm, RowKind::Shipment)?;
     Ok(table)
 }
 
 /// Whether the threads of a firm write what one thread writes, and it is a plan.
 fn is_the_same<T: Threads + Wait + Sync>(rt: &T, alloc: Global, firm: u64) -> Result<bool, Fail> {
-    let workers = 1 + number_below(firm, Draw::Workers, 0, 0, 8);
-    let capacity = 1 + number_below(firm, Draw::Capacity, 0, 0, 20);
+    let workers = number_below(firm, Draw::Workers, 0, 0, 8).wrapping_add(1);
+    let capacity = number_below(firm, Draw::Capacity, 0, 0, 20).wrapping_add(1);
     let Some(settings) = Settings::new(workers, capacity) else {
         return Ok(false);
     };

@@ -1,8 +1,8 @@
 //! Plans of threads: the bytes that one thread writes, whatever the workers and the capacity.
 
-use super::figures::{ANEW, SPLIT};
+use super::figures::{ANEW, FIRM_OF_TWO, SPLIT};
 use super::firms::THREE_PLANTS;
-use super::plans::{RING, SHIPPED, SUPPLIER};
+use super::plans::{RING, SUPPLIER};
 use super::{BICYCLE, plan, threaded};
 use mrp_text::{Gate, NoGate, Settings};
 use std::alloc::Global;
@@ -16,7 +16,7 @@ use std::thread::Threads;
 /// start anew, a loop, and a row that is cut.
 const TABLES: [&str; 9] = [
     BICYCLE,
-    SHIPPED,
+    FIRM_OF_TWO,
     RING,
     SUPPLIER,
     THREE_PLANTS,
@@ -112,7 +112,7 @@ fn gated<T: Threads + Wait + Sync, G: Gate>(
     let Some(settings) = Settings::new(1, 1) else {
         return Ok(String::new(alloc));
     };
-    Ok(threaded(rt, alloc, SHIPPED, settings, gate)?)
+    Ok(threaded(rt, alloc, FIRM_OF_TWO, settings, gate)?)
 }
 
 #[test]
@@ -158,6 +158,6 @@ fn plants_take_their_turns_together(rt: HostRuntime) -> Result<(), Fail> {
         asked: [AtomicBool::new(false), AtomicBool::new(false)],
     };
     let rows = gated(&rt, rt.alloc(), &together)?;
-    assert_eq!(rt; rows.as_str(), plan(rt.alloc(), SHIPPED)?.as_str());
+    assert_eq!(rt; rows.as_str(), plan(rt.alloc(), FIRM_OF_TWO)?.as_str());
     Ok(())
 }

@@ -149,16 +149,21 @@ fn ends_so(alloc: Global, net: &SizedNet, capacity: u64, ending: &Ending) -> Res
 }
 
 /// Whether the firm ends so with mailboxes for 1, 2, 64 and 65,536 records.
+fn ends_at_each_capacity(alloc: Global, net: &SizedNet, ending: &Ending) -> Result<bool, Fail> {
+    for capacity in [1, 2, 64, 65_536] {
+        if !ends_so(alloc, net, capacity, ending)? {
+            return Ok(false);
+        }
+    }
+    Ok(true)
+}
+
+/// The same of the firm of the ending's table.
 fn ends(rt: &HostRuntime, ending: &Ending) -> Result<bool, Fail> {
     let network = network(rt, ending.table)?;
     let levels = check(rt.alloc(), &network)?;
     let net = bound(rt.alloc(), &network, &levels)?;
-    Ok(
-        ends_so(rt.alloc(), &net, 1, ending)?
-            && ends_so(rt.alloc(), &net, 2, ending)?
-            && ends_so(rt.alloc(), &net, 64, ending)?
-            && ends_so(rt.alloc(), &net, 65_536, ending)?,
-    )
+    ends_at_each_capacity(rt.alloc(), &net, ending)
 }
 
 #[test]

@@ -3,6 +3,7 @@
 use super::tables::TWO_PLANTS;
 use super::{are_figures, network};
 use mrp_loops::{SizedNet, bound, check};
+use mrp_plan::fits;
 use mrp_world::Firm;
 use std::alloc::Global;
 use std::test::Fail;
@@ -18,13 +19,30 @@ fn ends_or_is_refused(alloc: Global, net: &SizedNet) -> Result<bool, Fail> {
     )
 }
 
+/// Whether the plan that a firm gives at its end, once given, fits the network.
+fn fits_or_is_refused(alloc: Global, net: &SizedNet) -> Result<bool, Fail> {
+    let firm: Firm<'_> = Firm::driven(alloc, net, 2)?;
+    let plan = firm.into_plan(alloc, net)?;
+    Ok(fits(net, &plan))
+}
+
+/// Whether both hold of a firm.
+fn answers_or_is_refused(alloc: Global, net: &SizedNet) -> Result<bool, Fail> {
+    Ok(ends_or_is_refused(alloc, net)? && fits_or_is_refused(alloc, net)?)
+}
+
+/// Whether both hold of the firm of two plants.
+fn two_plants_answer_or_are_refused(rt: &HostRuntime) -> Result<bool, Fail> {
+    let network = network(rt, TWO_PLANTS)?;
+    let levels = check(rt.alloc(), &network)?;
+    let net = bound(rt.alloc(), &network, &levels)?;
+    answers_or_is_refused(rt.alloc(), &net)
+}
+
 /// With an allocation refused this test passes or ends in an error for want of memory; its assertion
 /// never fails.
 #[test]
 fn a_refusal_is_the_only_other_answer(rt: HostRuntime) -> Result<(), Fail> {
-    let network = network(&rt, TWO_PLANTS)?;
-    let levels = check(rt.alloc(), &network)?;
-    let net = bound(rt.alloc(), &network, &levels)?;
-    assert!(rt; ends_or_is_refused(rt.alloc(), &net)?);
+    assert!(rt; two_plants_answer_or_are_refused(&rt)?);
     Ok(())
 }

@@ -5,8 +5,8 @@ ghost use Rattle.std.specs.Prelude.{◌≡◌, length};
 
 use super::network;
 use super::tables::{
-    FOUR_PLANTS, IDLE_RING, LONG_RING, NO_LANES, NO_PLANTS, ONE_SHARED, RESET_AT_RELEASE, RESET_LATER,
-    RING, SHARED, SHARED_AFTER_SHIPMENT, TWO_CUSTOMERS, TWO_PLANTS, TWO_SHIPMENTS,
+    FOUR_PLANTS, IDLE_RING, LONG_RING, NO_LANES, NO_PLANTS, ONE_SHARED, RESET_AT_RELEASE,
+    RESET_LATER, RING, SHARED, SHARED_AFTER_SHIPMENT, TWO_CUSTOMERS, TWO_PLANTS, TWO_SHIPMENTS,
 };
 use mrp_book::LaneFigure;
 use mrp_loops::{SizedNet, bound, check};
@@ -194,7 +194,10 @@ fn ends<R: Threads + Wait + Sync>(rt: &R, alloc: Global, ending: &Ending) -> Res
 fn two_plants_end(rt: HostRuntime) -> Result<(), Fail> {
     let ending = Ending {
         table: TWO_PLANTS,
-        lanes: &[Carried::new(3, &[(100, 108)]), Carried::new(3, &[(108, 130)])],
+        lanes: &[
+            Carried::new(3, &[(100, 108)]),
+            Carried::new(3, &[(108, 130)]),
+        ],
         orders: &[&[0, 0, 22, 0], &[0, 22, 0, 0]],
     };
     assert!(&rt; ends(&rt, rt.alloc(), &ending)?);
@@ -205,7 +208,10 @@ fn two_plants_end(rt: HostRuntime) -> Result<(), Fail> {
 fn two_shipments_end(rt: HostRuntime) -> Result<(), Fail> {
     let ending = Ending {
         table: TWO_SHIPMENTS,
-        lanes: &[Carried::new(4, &[(100, 116)]), Carried::new(3, &[(116, 130)])],
+        lanes: &[
+            Carried::new(4, &[(100, 116)]),
+            Carried::new(3, &[(116, 130)]),
+        ],
         orders: &[&[0, 0, 14, 0], &[0, 14, 0, 0]],
     };
     assert!(&rt; ends(&rt, rt.alloc(), &ending)?);
@@ -217,7 +223,10 @@ fn figures_that_start_anew_end_alike(rt: HostRuntime) -> Result<(), Fail> {
     for table in [RESET_LATER, RESET_AT_RELEASE] {
         let ending = Ending {
             table,
-            lanes: &[Carried::new(4, &[(100, 108)]), Carried::new(4, &[(108, 130)])],
+            lanes: &[
+                Carried::new(4, &[(100, 108)]),
+                Carried::new(4, &[(108, 130)]),
+            ],
             orders: &[&[0, 0, 22, 0], &[0, 22, 0, 0]],
         };
         assert!(&rt; ends(&rt, rt.alloc(), &ending)?);
@@ -267,7 +276,18 @@ fn a_ring_that_goes_round_twice_ends(rt: HostRuntime) -> Result<(), Fail> {
             Carried::new(4, &[(0, 0), (0, 0), (0, 0)]),
             Carried::new(7, &[(0, 5), (0, 30), (0, 60)]),
         ],
-        orders: &[&[5], &[5], &[10], &[10], &[30], &[30], &[30], &[30], &[60], &[60]],
+        orders: &[
+            &[5],
+            &[5],
+            &[10],
+            &[10],
+            &[30],
+            &[30],
+            &[30],
+            &[30],
+            &[60],
+            &[60],
+        ],
     };
     assert!(&rt; ends(&rt, rt.alloc(), &ending)?);
     Ok(())

@@ -19,6 +19,7 @@ const LOOKS: u64 = 1_000_000;
 
 /// The supplier of two customers, and the customers.
 const SUPPLIER: usize = 0;
+
 const CUSTOMERS: [usize; 2] = [1, 2];
 
 /// Shut for one turn of one plant.
