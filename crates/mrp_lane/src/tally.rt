@@ -91,6 +91,10 @@ impl Tally {
     }
 }
 
+/// Room behind the items of a tally, so that those of the two ends, which two threads write, lie in cache
+/// lines of their own.
+const APART: usize = 8;
+
 /// The items of a lane before the first record.
 fn opened(alloc: Global, network: &Network, lane: LaneNo) -> Result<Vec<ItemPieces>, Memory>
     requires sized { IsSized network.now }
@@ -99,7 +103,7 @@ fn opened(alloc: Global, network: &Network, lane: LaneNo) -> Result<Vec<ItemPiec
     ensures once { IfOk result (λ items. IsDistinct is_same_item items.items) }
 {
     let on_lane = network.lane_items(lane);
-    let mut items = Vec::with_capacity(alloc, on_lane.len())?;
+    let mut items = Vec::with_capacity(alloc, on_lane.len().saturating_add(APART))?;
     for item in on_lane {
         items.push(opened_item(network, lane, *item))?;
     }
