@@ -12,6 +12,9 @@ use mrp_world::{Event, Firm, MOST_ROOM};
 use std::alloc::Global;
 use std::test::Fail;
 
+/// How many orders of events each table is tried with, at each of three capacities.
+const ORDERS: u64 = 300;
+
 /// Numbers in an order that looks random, from a linear congruential generator.
 #[derive(Drop)]
 struct Dice {
@@ -173,26 +176,26 @@ fn table_keeps_on(rt: &HostRuntime, table: &str, lists: u64) -> Result<bool, Fai
 
 #[test]
 fn a_ring_in_any_order(rt: HostRuntime) -> Result<(), Fail> {
-    assert!(rt; table_keeps_on(&rt, RING, 100)?);
+    assert!(rt; table_keeps_on(&rt, RING, ORDERS)?);
     Ok(())
 }
 
 #[test]
 fn shares_in_any_order(rt: HostRuntime) -> Result<(), Fail> {
-    assert!(rt; table_keeps_on(&rt, SHARED_AFTER_SHIPMENT, 100)?);
+    assert!(rt; table_keeps_on(&rt, SHARED_AFTER_SHIPMENT, ORDERS)?);
     Ok(())
 }
 
 #[test]
 fn resets_in_any_order(rt: HostRuntime) -> Result<(), Fail> {
     for table in [RESET_LATER, RESET_AT_RELEASE] {
-        assert!(rt; table_keeps_on(&rt, table, 100)?);
+        assert!(rt; table_keeps_on(&rt, table, ORDERS)?);
     }
     Ok(())
 }
 
 #[test]
 fn four_plants_in_any_order(rt: HostRuntime) -> Result<(), Fail> {
-    assert!(rt; table_keeps_on(&rt, FOUR_PLANTS, 100)?);
+    assert!(rt; table_keeps_on(&rt, FOUR_PLANTS, ORDERS)?);
     Ok(())
 }
