@@ -2,6 +2,7 @@
 
 mod endings;
 mod gates;
+mod plants;
 mod tables;
 
 use mrp_net::Network;

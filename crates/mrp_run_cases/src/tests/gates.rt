@@ -24,9 +24,9 @@ const CUSTOMERS: [usize; 2] = [1, 2];
 
 /// Shut for one turn of one plant.
 #[derive(Drop)]
-struct ShutAtTurn {
-    plant: usize,
-    turn: u64,
+pub(super) struct ShutAtTurn {
+    pub(super) plant: usize,
+    pub(super) turn: u64,
 }
 
 impl Gate for ShutAtTurn {
