@@ -10,11 +10,12 @@
 set -eu
 top=$(CDPATH='' cd -- "$(dirname -- "$0")/.." && pwd)
 
-# A firm of 64 plants and 104 periods. A plant has ten levels of 31 items; each that is made is made of ten of
-# the level below, every 50th is taken from the plant after it, and only the first level has demand rows.
+# A firm of 64 plants and 104 periods. A plant has four levels of 32 items; each that is made is made of all items of
+# the level below, every 50th is taken from the plant after it, and only the first level has demand rows. So a pair
+# has 24 bill rows, and nearly as many rows are planned as can be for each that is written.
 make_table() {
     awk 'BEGIN {
-        plants = 64; levels = 10; wide = 31
+        plants = 64; levels = 4; wide = 32
         print "run,2026-01-05,7,104,,,,"
         for (p = 0; p < plants; p++) print "plant,P" p ",,,,,,"
         split("lot fixed:50 periods:4 min:20:5", rules, " ")
@@ -25,8 +26,8 @@ make_table() {
         }
         for (p = 0; p < plants; p++) for (i = 0; i < (levels - 1) * wide; i++) {
             if (i % 50 == 49 && p + 1 < plants) continue
-            for (k = 0; k < 10; k++)
-                print "bill,P" p ",I" i ",I" (int(i / wide) + 1) * wide + (i * 3 + k * 3) % wide ",1,,,"
+            for (k = 0; k < wide; k++)
+                print "bill,P" p ",I" i ",I" (int(i / wide) + 1) * wide + k ",1,,,"
         }
         for (p = 0; p < plants; p++) for (i = 0; i < wide; i++) for (k = 0; k < 5; k++)
             print "demand,P" p ",I" i "," (k * 19 + i) % 104 "," 1 + (i + k) % 9 ",,,"
