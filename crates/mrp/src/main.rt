@@ -19,6 +19,7 @@ use mrp_report::send;
 use mrp_text::{TextFault, answer, exit_status, write_fault};
 use mrp_words::{ChooseFault, choose};
 use std::alloc::AllocError;
+use std::io::IsTerminal;
 use std::process::ExitCode;
 use std::rt::Env;
 use std::{env, io};
@@ -36,6 +37,7 @@ fn main(rt: HostRuntime) -> ExitCode {
     };
     match choose(rt.alloc(), words.as_slice()) {
         Ok(choice) => {
+            await_table(&rt);
             let done = answer(&rt, rt.alloc(), choice, rt.reader(), &mut rt.stdout());
             ended(&rt, &done)
         }
@@ -73,6 +75,17 @@ fn after_the_first(arguments: &[String]) -> &[String]
         arguments
     } else {
         &arguments[1..]
+    }
+}
+
+/// Says that a table is awaited where standard input is a terminal. No clause says when: the kit's
+/// `is_terminal` has none.
+fn await_table(rt: &HostRuntime) {
+    if rt.stdin().is_terminal() {
+        let _ = send(
+            b"mrp: a table is awaited on standard input\n",
+            &mut rt.stderr(),
+        );
     }
 }
 
