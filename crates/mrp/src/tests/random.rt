@@ -19,6 +19,10 @@ const ITEMS: u64 = 6;
 /// The lot rules of a random firm.
 const RULES: [&str; 5] = ["lot", "fixed:7", "periods:2", "min:5:3", "lot"];
 
+/// The most records that the mailboxes of a firm have room for: small rooms in most firms, since records wait
+/// at them.
+const ROOMS: [u64; 4] = [1, 4, 64, 65_536];
+
 /// What is drawn for a pair.
 #[derive(Clone, Copy)]
 enum Draw {
@@ -140,8 +144,9 @@ fn table_of(alloc: Global, firm: u64) -> Result<String, AllocError> {
 
 /// Whether the threads of a firm write what one thread writes, and it is a plan.
 fn is_the_same<T: Threads + Wait + Sync>(rt: &T, alloc: Global, firm: u64) -> Result<bool, Fail> {
-    let workers = number_below(firm, Draw::Workers, 0, 0, 8).wrapping_add(1);
-    let capacity = number_below(firm, Draw::Capacity, 0, 0, 20).wrapping_add(1);
+    let workers = number_below(firm, Draw::Workers, 0, 0, 64).wrapping_add(1);
+    let room = ROOMS.get((firm % 4) as usize).copied().unwrap_or(1);
+    let capacity = number_below(firm, Draw::Capacity, 0, 0, room).wrapping_add(1);
     let Some(settings) = Settings::new(workers, capacity) else {
         return Ok(false);
     };
