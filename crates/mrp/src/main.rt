@@ -3,22 +3,24 @@
 //! The program is thin: words in, one call of the library `mrp_text`, a status out.
 #![tactic(auto)]
 
-ghost use Rattle.std.specs.Prelude.{◌≡◌, ◌≢◌, ◌∷◌, codes, drop, map, IfOk};
+ghost use Rattle.std.specs.Prelude.{◌≡◌, ◌≢◌, ◌∷◌, codes, drop, map, IfOk, IfErr, OnOk};
 ghost use Rattle.std.specs.IoError.{error_kind};
 ghost use Rattle.std.specs.Process.{exit_status};
 ghost use Rattle.std.specs.String.{string_bytes};
 ghost use Rattle.clap.specs.Words.{kind_of};
 ghost use Rattle.mrp_text.specs.Answer.{exit_status_of};
+ghost use Rattle.mrp_text.specs.Lines.{SendsText, fault_line};
 ghost use Rattle.mrp.specs.Ending.{IsStatusOfRefusal, IsStatusOfUnread, help_status};
 
 #[cfg(test)]
 mod tests;
 
 use clap::error::ErrorKind;
-use mrp_report::send;
+use mrp_report::{ReportFault, send};
 use mrp_text::{TextFault, answer, exit_status, write_fault};
 use mrp_words::{ChooseFault, choose};
 use std::alloc::AllocError;
+use std::io::Write;
 use std::process::ExitCode;
 use std::rt::Env;
 use std::{env, io};
@@ -76,14 +78,36 @@ fn after_the_first(arguments: &[String]) -> &[String]
     }
 }
 
+/// How the program ends.
+#[derive(Clone, Copy)]
+struct Ending {
+    /// The status.
+    status: u8,
+    /// What became of the line that reports a fault.
+    told: Result<(), ReportFault>,
+}
+
 /// The status after the work, and the line that reports a fault.
 fn ended(rt: &HostRuntime, done: &Result<(), TextFault>) -> ExitCode
     ensures { exit_status result ≡ exit_status_of done.now }
 {
-    if let Err(fault) = done {
-        let _ = write_fault(fault, &mut rt.stderr());
+    ExitCode::from(ended_to(done, &mut rt.stderr()).status)
+}
+
+/// The same, with the line that reports a fault to this writer.
+fn ended_to<W: Write>(done: &Result<(), TextFault>, writer: &mut W) -> Ending
+    ensures status { result.status ≡ exit_status_of done.now }
+    ensures quiet { OnOk done.now (writer.new ≡ writer.old) }
+    ensures line { IfErr done.now (λ fault. SendsText (W.contents writer.old) (W.contents writer.new) result.told (fault_line fault)) }
+{
+    let told = match done {
+        Ok(()) => Ok(()),
+        Err(fault) => write_fault(fault, writer),
+    };
+    Ending {
+        status: exit_status(done),
+        told,
     }
-    ExitCode::from(exit_status(done))
 }
 
 /// Prints what `clap` has to say: the status is 0 after help or the version that was printed, 2 where
