@@ -2,6 +2,7 @@
 
 mod endings;
 mod gates;
+mod places;
 mod tables;
 
 use mrp_net::Network;
