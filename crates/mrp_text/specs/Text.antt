@@ -10,6 +10,8 @@ use Rattle.mrp_net.specs.Plan.{Fits}
 use Rattle.mrp_loops.specs.Loop.{AreCodes, IsLoopFound, IsLoopFree}
 use Rattle.mrp_loops.specs.Sized.{IsSized}
 use Rattle.mrp_loops.specs.BoundFaults.{IsSupplyTooLarge, IsNeedTooLarge}
+use Rattle.mrp_loops.specs.declared.sized.BoundFault.{BoundFault}
+use Rattle.mrp_loops.specs.declared.sized.BoundFault.TheVariants as bound
 use Rattle.mrp_plan.specs.Peg.{peg_terms}
 use Rattle.mrp_report.specs.Sending.{AppendsFront}
 use Rattle.mrp_report.specs.Lanes.{lane_text}
@@ -102,6 +104,13 @@ IsBoundRefusal N codes (fault.SupplyTooLarge name) = IsSupplyNamed N name
 IsBoundRefusal N codes (fault.NeedTooLarge name) = IsNeedNamed N codes name
 IsBoundRefusal N codes fault.Memory = Unit {0}
 IsBoundRefusal N codes _ = ⊥
+
+-- what a fault of the bound is called where there is memory for the names
+abbrev pub IsOfBound : Table → BoundFault → TextFault → Type 0
+IsOfBound N (bound.SupplyTooLarge x) (fault.SupplyTooLarge name) = IsCalled N x.0 name
+IsOfBound N (bound.NeedTooLarge x) (fault.NeedTooLarge name) = IsCalled N x.0 name
+IsOfBound N bound.Memory told = told ≡ fault.Memory
+IsOfBound N _ _ = ⊥
 
 -- what a refusal of a network says: a loop; or none, and a pair past the bound. Of a failed write
 -- and of refused memory it says nothing. No other fault comes after the table was read

@@ -7,9 +7,10 @@ ghost use Rattle.std.specs.Prelude.{◌≡◌, ◌≢◌, ◌≤◌, ◌<◌, ma
 ghost use Rattle.mrp_rows.specs.Table.{IsTable, IsPair, horizon};
 ghost use Rattle.mrp_net.specs.Plan.{Fits};
 ghost use Rattle.mrp_loops.specs.Loop.{AreCodes, IsLoopFree};
+ghost use Rattle.mrp_loops.specs.BoundFaults.{IsBoundFault};
 ghost use Rattle.mrp_text.specs.Fault.{IsBeforeWriting, IsLate};
 ghost use Rattle.mrp_text.specs.Text.{Writes, OfTable, IsTableOf, IsPlannable, IsPlanReport, IsCodeReport, IsPegReport, IsCumReport, IsPegs, IsCalled, AreCalled};
-ghost use Rattle.mrp_text.specs.Text.{IsLoopRefusal, IsBoundRefusal, IsRefusal, IsRunRefusal, IsPegRefusal, IsReadRefusal, IsTextRefusal};
+ghost use Rattle.mrp_text.specs.Text.{IsLoopRefusal, IsBoundRefusal, IsOfBound, IsRefusal, IsRunRefusal, IsPegRefusal, IsReadRefusal, IsTextRefusal};
 ghost use Rattle.mrp_words.specs.declared.words.TheConstants.{MOST_CAPACITY};
 
 use crate::fault::{PairName, TextFault};
@@ -355,13 +356,28 @@ fn sized_of<'a>(
             let _network = net.network();
             Ok(net)
         }
-        Err(BoundFault::SupplyTooLarge(x)) => {
-            Err(TextFault::SupplyTooLarge(name_of(alloc, network, x)?))
+        Err(fault) => Err(bound_fault(alloc, network, levels, fault)?),
+    }
+}
+
+/// The fault of a text that a fault of the bound is: an error where memory for the names is refused.
+fn bound_fault(
+    alloc: Global,
+    network: &Network,
+    levels: &Levels,
+    fault: BoundFault,
+) -> Result<TextFault, TextFault>
+    requires found { IsBoundFault network.now levels.now fault }
+    ensures refusal { IfOk result (IsBoundRefusal network.now levels.now) }
+    ensures exact { IfOk result (IsOfBound network.now fault) }
+    ensures memory { IfErr result (λ refused. refused ≡ TextFault.Memory) }
+{
+    match fault {
+        BoundFault::SupplyTooLarge(x) => {
+            Ok(TextFault::SupplyTooLarge(name_of(alloc, network, x)?))
         }
-        Err(BoundFault::NeedTooLarge(x)) => {
-            Err(TextFault::NeedTooLarge(name_of(alloc, network, x)?))
-        }
-        Err(BoundFault::Memory) => Err(TextFault::Memory),
+        BoundFault::NeedTooLarge(x) => Ok(TextFault::NeedTooLarge(name_of(alloc, network, x)?)),
+        BoundFault::Memory => Ok(TextFault::Memory),
     }
 }
 
