@@ -566,9 +566,29 @@ fn busy_table(alloc: Global, shipments: u64) -> Result<Vec<u8>, AllocError> {
     Ok(text)
 }
 
+/// The network of a table.
+fn network_of(alloc: Global, text: &[u8]) -> Result<Network, Fail> {
+    Ok(Network::of(alloc, read_tables_uncounted(alloc, text)?)?)
+}
+
+/// Whether the shipments of the busy firm come over a mailbox of that room.
+fn carries_a_million<R: Threads + Wait + Sync>(
+    rt: &R,
+    alloc: Global,
+    capacity: u64,
+) -> Result<bool, Fail>
+    requires { (1 ≤ capacity) × (capacity ≤ 65536) }
+{
+    let text = busy_table(alloc, MANY)?;
+    let network = network_of(alloc, text.as_slice())?;
+    let levels = check(alloc, &network)?;
+    let net = bound(alloc, &network, &levels)?;
+    carries_shipments(rt, alloc, &net, capacity)
+}
+
 #[test]
 fn records_are_left_where_none_is_taken(rt: HostRuntime) -> Result<(), Fail> {
-    let network = Network::of(rt.alloc(), read_tables_uncounted(rt.alloc(), FIRM)?)?;
+    let network = network_of(rt.alloc(), FIRM)?;
     let levels = check(rt.alloc(), &network)?;
     let net = bound(rt.alloc(), &network, &levels)?;
     assert!(rt; leaves_all(&rt, rt.alloc(), &net)?);
@@ -577,7 +597,7 @@ fn records_are_left_where_none_is_taken(rt: HostRuntime) -> Result<(), Fail> {
 
 #[test]
 fn a_lane_of_one_refuses_the_second_record(rt: HostRuntime) -> Result<(), Fail> {
-    let network = Network::of(rt.alloc(), read_tables_uncounted(rt.alloc(), FIRM)?)?;
+    let network = network_of(rt.alloc(), FIRM)?;
     let levels = check(rt.alloc(), &network)?;
     let net = bound(rt.alloc(), &network, &levels)?;
     let plan = plan_all(rt.alloc(), &net)?;
@@ -587,7 +607,7 @@ fn a_lane_of_one_refuses_the_second_record(rt: HostRuntime) -> Result<(), Fail> 
 
 #[test]
 fn one_thread_offers_the_calls_of_a_ring_and_another_takes(rt: HostRuntime) -> Result<(), Fail> {
-    let network = Network::of(rt.alloc(), read_tables_uncounted(rt.alloc(), RING)?)?;
+    let network = network_of(rt.alloc(), RING)?;
     let levels = check(rt.alloc(), &network)?;
     let net = bound(rt.alloc(), &network, &levels)?;
     assert!(rt; carries_the_ring(&rt, rt.alloc(), &net)?);
@@ -596,39 +616,18 @@ fn one_thread_offers_the_calls_of_a_ring_and_another_takes(rt: HostRuntime) -> R
 
 #[test]
 fn a_million_shipments_go_one_by_one(rt: HostRuntime) -> Result<(), Fail> {
-    let text = busy_table(rt.alloc(), MANY)?;
-    let network = Network::of(
-        rt.alloc(),
-        read_tables_uncounted(rt.alloc(), text.as_slice())?,
-    )?;
-    let levels = check(rt.alloc(), &network)?;
-    let net = bound(rt.alloc(), &network, &levels)?;
-    assert!(rt; carries_shipments(&rt, rt.alloc(), &net, 1)?);
+    assert!(rt; carries_a_million(&rt, rt.alloc(), 1)?);
     Ok(())
 }
 
 #[test]
 fn a_million_shipments_go_through_a_lane_of_64(rt: HostRuntime) -> Result<(), Fail> {
-    let text = busy_table(rt.alloc(), MANY)?;
-    let network = Network::of(
-        rt.alloc(),
-        read_tables_uncounted(rt.alloc(), text.as_slice())?,
-    )?;
-    let levels = check(rt.alloc(), &network)?;
-    let net = bound(rt.alloc(), &network, &levels)?;
-    assert!(rt; carries_shipments(&rt, rt.alloc(), &net, 64)?);
+    assert!(rt; carries_a_million(&rt, rt.alloc(), 64)?);
     Ok(())
 }
 
 #[test]
 fn a_million_shipments_go_through_a_lane_of_65536(rt: HostRuntime) -> Result<(), Fail> {
-    let text = busy_table(rt.alloc(), MANY)?;
-    let network = Network::of(
-        rt.alloc(),
-        read_tables_uncounted(rt.alloc(), text.as_slice())?,
-    )?;
-    let levels = check(rt.alloc(), &network)?;
-    let net = bound(rt.alloc(), &network, &levels)?;
-    assert!(rt; carries_shipments(&rt, rt.alloc(), &net, 65_536)?);
+    assert!(rt; carries_a_million(&rt, rt.alloc(), 65_536)?);
     Ok(())
 }
