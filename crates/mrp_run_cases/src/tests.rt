@@ -2,6 +2,8 @@
 
 mod endings;
 mod gates;
+mod places;
+mod stops;
 mod tables;
 
 use mrp_net::Network;

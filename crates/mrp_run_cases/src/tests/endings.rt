@@ -53,10 +53,68 @@ impl<'a> Carried<'a> {
 
 /// What a run comes to: what each lane carried, and the orders of each pair, period by period.
 #[derive(Clone, Copy)]
-struct Ending<'a> {
-    table: &'a str,
+pub(super) struct Ending<'a> {
+    pub(super) table: &'a str,
     lanes: &'a [Carried<'a>],
     orders: &'a [&'a [u64]],
+}
+
+/// What the ring of two plants comes to.
+const RING_ENDING: Ending<'static> = Ending {
+    table: RING,
+    lanes: &[
+        Carried {
+            records: 2,
+            figures: &[(0, 0)],
+        },
+        Carried {
+            records: 3,
+            figures: &[(0, 10)],
+        },
+        Carried {
+            records: 3,
+            figures: &[(0, 0), (0, 0)],
+        },
+        Carried {
+            records: 5,
+            figures: &[(0, 5), (0, 30)],
+        },
+    ],
+    orders: &[&[5], &[5], &[10], &[10], &[30], &[30]],
+};
+
+/// What the ring of two plants comes to.
+pub(super) fn ring() -> Ending<'static> {
+    RING_ENDING
+}
+
+/// What the supplier of two customers comes to.
+const CUSTOMERS_ENDING: Ending<'static> = Ending {
+    table: TWO_CUSTOMERS,
+    lanes: &[
+        Carried {
+            records: 2,
+            figures: &[(0, 0)],
+        },
+        Carried {
+            records: 3,
+            figures: &[(0, 15)],
+        },
+        Carried {
+            records: 2,
+            figures: &[(0, 0)],
+        },
+        Carried {
+            records: 3,
+            figures: &[(0, 25)],
+        },
+    ],
+    orders: &[&[10], &[10], &[100], &[15], &[25]],
+};
+
+/// What the supplier of two customers comes to.
+pub(super) fn two_customers() -> Ending<'static> {
+    CUSTOMERS_ENDING
 }
 
 /// Whether two rows have the same pieces in each period.
@@ -139,7 +197,7 @@ fn are_carried(lanes: &[Reconciled], carried: &[Carried]) -> bool {
 }
 
 /// Whether an outcome is this ending, and its plans are those of the whole network.
-fn is_ending(outcome: &Outcome, network: &Network, whole: &Plan, ending: &Ending) -> bool
+pub(super) fn is_ending(outcome: &Outcome, network: &Network, whole: &Plan, ending: &Ending) -> bool
     requires pairs { length whole.now ≡ length network.now.pairs }
 {
     are_of_the_network(outcome.plans.as_slice(), network, whole)
@@ -236,17 +294,7 @@ fn figures_that_start_anew_end_alike(rt: HostRuntime) -> Result<(), Fail> {
 
 #[test]
 fn a_ring_ends(rt: HostRuntime) -> Result<(), Fail> {
-    let ending = Ending {
-        table: RING,
-        lanes: &[
-            Carried::new(2, &[(0, 0)]),
-            Carried::new(3, &[(0, 10)]),
-            Carried::new(3, &[(0, 0), (0, 0)]),
-            Carried::new(5, &[(0, 5), (0, 30)]),
-        ],
-        orders: &[&[5], &[5], &[10], &[10], &[30], &[30]],
-    };
-    assert!(&rt; ends(&rt, rt.alloc(), &ending)?);
+    assert!(&rt; ends(&rt, rt.alloc(), &ring())?);
     Ok(())
 }
 
@@ -295,17 +343,7 @@ fn a_ring_that_goes_round_twice_ends(rt: HostRuntime) -> Result<(), Fail> {
 
 #[test]
 fn two_customers_end(rt: HostRuntime) -> Result<(), Fail> {
-    let ending = Ending {
-        table: TWO_CUSTOMERS,
-        lanes: &[
-            Carried::new(2, &[(0, 0)]),
-            Carried::new(3, &[(0, 15)]),
-            Carried::new(2, &[(0, 0)]),
-            Carried::new(3, &[(0, 25)]),
-        ],
-        orders: &[&[10], &[10], &[100], &[15], &[25]],
-    };
-    assert!(&rt; ends(&rt, rt.alloc(), &ending)?);
+    assert!(&rt; ends(&rt, rt.alloc(), &two_customers())?);
     Ok(())
 }
 
