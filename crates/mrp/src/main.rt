@@ -94,7 +94,7 @@ fn ended(rt: &HostRuntime, done: &Result<(), TextFault>) -> ExitCode
     ensures { exit_status result ≡ exit_status_of done.now }
 {
     if let Err(fault) = done {
-        write_fault(fault, &mut rt.stderr());
+        let _ = write_fault(fault, &mut rt.stderr());
     }
     ExitCode::from(exit_status(done))
 }
