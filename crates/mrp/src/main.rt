@@ -3,23 +3,24 @@
 //! The program is thin: words in, one call of the library `mrp_text`, a status out.
 #![tactic(auto)]
 
-ghost use Rattle.std.specs.Prelude.{◌≡◌, ◌≢◌, ◌∷◌, codes, drop, map, IfOk};
+ghost use Rattle.std.specs.Prelude.{◌≡◌, ◌≢◌, ◌∷◌, codes, drop, map, IfOk, IfErr, OnOk};
 ghost use Rattle.std.specs.IoError.{error_kind};
 ghost use Rattle.std.specs.Process.{exit_status};
 ghost use Rattle.std.specs.String.{string_bytes};
 ghost use Rattle.clap.specs.Words.{kind_of};
 ghost use Rattle.mrp_text.specs.Answer.{exit_status_of};
-ghost use Rattle.mrp.specs.Ending.{IsStatusOfRefusal, IsStatusOfUnread, help_status};
+ghost use Rattle.mrp_text.specs.Lines.{SendsText, fault_line};
+ghost use Rattle.mrp.specs.Ending.{IsStatusOfUnread, help_status, refusal_status};
 
 #[cfg(test)]
 mod tests;
 
 use clap::error::ErrorKind;
-use mrp_report::send;
+use mrp_report::{ReportFault, send};
 use mrp_text::{TextFault, answer, exit_status, write_fault};
 use mrp_words::{ChooseFault, choose};
 use std::alloc::AllocError;
-use std::io::IsTerminal;
+use std::io::{IsTerminal, Write};
 use std::process::ExitCode;
 use std::rt::Env;
 use std::{env, io};
@@ -41,7 +42,7 @@ fn main(rt: HostRuntime) -> ExitCode {
             let done = answer(&rt, rt.alloc(), choice, rt.reader(), &mut rt.stdout());
             ended(&rt, &done)
         }
-        Err(ChooseFault::Words(error)) => refused(&rt, &error),
+        Err(ChooseFault::Words(error)) => ExitCode::from(refused(&rt, &error).status),
         Err(ChooseFault::Memory) => ended(&rt, &Err(TextFault::Memory)),
     }
 }
@@ -89,39 +90,71 @@ fn await_table(rt: &HostRuntime) {
     }
 }
 
-/// The status after the work, and the line that reports a fault.
+/// How the program ends.
+#[derive(Clone, Copy)]
+struct Ending {
+    /// The status of the process.
+    status: u8,
+    /// Whether what it has to say was written whole.
+    told: Result<(), ReportFault>,
+}
+
+/// The status after the work; the line that reports a fault goes to standard error.
 fn ended(rt: &HostRuntime, done: &Result<(), TextFault>) -> ExitCode
     ensures { exit_status result ≡ exit_status_of done.now }
 {
-    if let Err(fault) = done {
-        write_fault(fault, &mut rt.stderr());
+    ExitCode::from(ended_to(done, &mut rt.stderr()).status)
+}
+
+/// The same, with the line that reports a fault to this writer.
+fn ended_to<W: Write>(done: &Result<(), TextFault>, writer: &mut W) -> Ending
+    ensures status { result.status ≡ exit_status_of done.now }
+    ensures quiet { OnOk done.now (writer.new ≡ writer.old) }
+    ensures line { IfErr done.now (λ fault. SendsText (W.contents writer.old) (W.contents writer.new) result.told (fault_line fault)) }
+{
+    let told = match done {
+        Ok(()) => Ok(()),
+        Err(fault) => write_fault(fault, writer),
+    };
+    Ending {
+        status: exit_status(done),
+        told,
     }
-    ExitCode::from(exit_status(done))
 }
 
 /// Prints what `clap` has to say: the status is 0 after help or the version that was printed, 2 where
 /// the words are refused, 3 where memory was refused or help or the version could not be printed.
-fn refused(rt: &HostRuntime, error: &clap::Error) -> ExitCode
-    ensures { IsStatusOfRefusal (kind_of error.now) (exit_status result) }
+fn refused(rt: &HostRuntime, error: &clap::Error) -> Ending
+    ensures { result.status ≡ refusal_status (kind_of error.now) result.told }
 {
     if error.kind() == ErrorKind::OutOfMemory {
-        return ended(rt, &Err(TextFault::Memory));
+        return ended_to(&Err(TextFault::Memory), &mut rt.stderr());
     }
-    let printed = error.print(rt);
+    let told = match error.print(rt) {
+        Ok(()) => Ok(()),
+        Err(_) => Err(ReportFault::WriteFault),
+    };
     if error.use_stderr() {
-        return ExitCode::from(REFUSED);
+        return Ending {
+            status: REFUSED,
+            told,
+        };
     }
-    after_help(rt, &printed)
+    after_help(told, &mut rt.stderr())
 }
 
-/// The status after help or the version: 0 where it was printed, and else 3.
-fn after_help(rt: &HostRuntime, printed: &io::Result<()>) -> ExitCode
-    ensures { exit_status result ≡ help_status printed.now }
+/// The end after help or the version: the status is 0 where it was printed, and else 3, with the line of
+/// a failed write to this writer.
+fn after_help<W: Write>(told: Result<(), ReportFault>, writer: &mut W) -> Ending
+    ensures status { result.status ≡ help_status told }
+    ensures same { result.told ≡ told }
+    ensures quiet { OnOk told (writer.new ≡ writer.old) }
 {
-    match printed {
-        Ok(()) => ExitCode::from(0),
-        Err(_) => ended(rt, &Err(TextFault::WriteFault)),
-    }
+    let status = match told {
+        Ok(()) => 0,
+        Err(_) => ended_to(&Err(TextFault::WriteFault), writer).status,
+    };
+    Ending { status, told }
 }
 
 /// The status where the arguments can't be read: one that is no text is a word that is refused.

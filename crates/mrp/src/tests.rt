@@ -48,7 +48,7 @@ fn outcome(
     }
     line.push(b'0' + status(&fault).min(9))?;
     line.push(b' ')?;
-    write_fault(&fault, &mut line);
+    let _ = write_fault(&fault, &mut line);
     text_of(alloc, line.as_slice())
 }
 

@@ -1,4 +1,5 @@
 pub mod Answer
+pub mod Checks
 pub mod Fault
 pub mod Lines
 pub mod Text

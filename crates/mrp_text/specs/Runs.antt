@@ -1,4 +1,4 @@
--- The fault of a text after a fault of a run by threads.
+-- The fault of a text after a fault of a run by threads, where there is memory for the name of a plant.
 use Rattle.std.specs.Prelude.{◌≡◌, Some, slice_get, string_bytes}
 use Rattle.mrp_rows.specs.Table.{Table}
 use Rattle.mrp_rows.specs.declared.numbers.PlantNo.{PlantNo}
@@ -7,10 +7,9 @@ use Rattle.mrp_run.specs.declared.fault.RunFault.TheVariants as run
 use Rattle.mrp_text.specs.declared.fault.TextFault.{TextFault}
 use Rattle.mrp_text.specs.declared.fault.TextFault.TheVariants as fault
 
--- the gate was shut for the plant of this name; or memory for the name was refused
+-- the gate was shut for the plant of this name
 abbrev pub IsShutFor : Table → PlantNo → TextFault → Type 0
 IsShutFor N plant (fault.GateShut name) = slice_get N.plants plant.0 ≡ Some (string_bytes name)
-IsShutFor N plant fault.Memory = Unit {0}
 IsShutFor N plant _ = ⊥
 
 abbrev pub IsOfRun : Table → RunFault → TextFault → Type 0

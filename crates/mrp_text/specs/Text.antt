@@ -140,7 +140,12 @@ IsPegRefusal plant item period N fault.NoPair = IsPlannable N × ((x : ℕ) → 
 IsPegRefusal plant item period N fault.NoPeriod = IsPlannable N × ((x : ℕ) × IsNamed N x plant item × (horizon N ≤ period))
 IsPegRefusal plant item period N fault = IsRefusal N fault
 
--- what a fault of reading says: it is the first of the rows
+-- what a refusal of the table says: it is the first fault of the rows
+abbrev pub IsTableRefusal : Option (List ℕ) → TextFault → Type 0
+IsTableRefusal known (fault.Table e) = OfRecords (option_map strip_bom known) (TellsRows (Err e))
+IsTableRefusal known _ = ⊥
+
+-- what a fault of reading says: it is the first of the rows; of refused memory it says nothing
 abbrev pub IsReadRefusal : Option (List ℕ) → TextFault → Type 0
 IsReadRefusal known (fault.Table e) = OfRecords (option_map strip_bom known) (TellsRows (Err e))
 IsReadRefusal known fault.Memory = Unit {0}

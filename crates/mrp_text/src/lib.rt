@@ -21,5 +21,6 @@ pub use answers::{answer, exit_status};
 pub use fault::{PairName, TextFault, status};
 pub use lines::write_fault;
 pub use mrp_agent::{Gate, NoGate};
+pub use mrp_report::ReportFault;
 pub use mrp_run::Settings;
 pub use text::{check_text, cums_text, drive_text, peg_text, plan_text};

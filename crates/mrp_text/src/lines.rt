@@ -1,4 +1,4 @@
-ghost use Rattle.std.specs.Prelude.{◌≡◌};
+ghost use Rattle.std.specs.Prelude.{◌≡◌, IfErr};
 ghost use Rattle.std.specs.List.{flat_map};
 ghost use Rattle.mrp_report.specs.Sending.{AppendsFront};
 ghost use Rattle.mrp_text.specs.Lines.{fault_line, gate_line, SendsText, kind_word, calendar_word, loop_line, loop_word, pair_line, row_line, table_line};
@@ -11,10 +11,19 @@ use mrp_tables::{TableFault, TableFaultKind};
 use std::io::Write;
 
 /// Writes the line that reports the fault, as far as the writer takes it, and takes no memory.
-pub fn write_fault<W: Write>(fault: &TextFault, writer: &mut W)
-    ensures { AppendsFront (W.contents writer.old) (W.contents writer.new) (fault_line fault.now) }
+///
+/// # Errors
+///
+/// [`ReportFault::WriteFault`] where a write fails or takes nothing; a front of the line is written.
+pub fn write_fault<W: Write>(fault: &TextFault, writer: &mut W) -> Result<(), ReportFault>
+    ensures front { AppendsFront (W.contents writer.old) (W.contents writer.new) (fault_line fault.now) }
+    ensures line { SendsText (W.contents writer.old) (W.contents writer.new) result (fault_line fault.now) }
+    ensures fault { IfErr result (λ met. met ≡ ReportFault.WriteFault) }
 {
-    let _ = send_line(fault, writer);
+    match send_line(fault, writer) {
+        Ok(()) => Ok(()),
+        Err(_) => Err(ReportFault::WriteFault),
+    }
 }
 
 /// Sends the line of a fault.

@@ -12,7 +12,7 @@ use mrp_loops::SizedNet;
 use mrp_net::{Network, PlantNo};
 use mrp_plan::Plan;
 use mrp_run::{RunFault, Settings, run_network};
-use std::alloc::Global;
+use std::alloc::{AllocError, Global};
 use std::sync::Wait;
 use std::thread::Threads;
 
@@ -30,30 +30,28 @@ pub(crate) fn run_plan<T: Threads + Wait + Sync, G: Gate>(
 {
     match run_network(rt, alloc, net, settings, gate) {
         Ok(outcome) => Ok(Plan::gather(net, outcome.plans)),
-        Err(fault) => Err(named(alloc, net.network(), fault)),
+        Err(fault) => Err(named(alloc, net.network(), fault)?),
     }
 }
 
-/// The fault of a text that a fault of a run is.
-fn named(alloc: Global, network: &Network, fault: RunFault) -> TextFault
+/// The fault of a text that a fault of a run is; an error where memory for the name of a plant is refused.
+fn named(alloc: Global, network: &Network, fault: RunFault) -> Result<TextFault, AllocError>
     requires plant { IsFaultIn network.now fault }
-    ensures { IsOfRun network.now fault result }
+    ensures { IfOk result (IsOfRun network.now fault) }
 {
     match fault {
-        RunFault::Memory => TextFault::Memory,
-        RunFault::ThreadRefused => TextFault::ThreadRefused,
+        RunFault::Memory => Ok(TextFault::Memory),
+        RunFault::ThreadRefused => Ok(TextFault::ThreadRefused),
         RunFault::GateShut(plant) => shut_for(alloc, network, plant),
-        RunFault::Stopped => TextFault::Stopped,
+        RunFault::Stopped => Ok(TextFault::Stopped),
     }
 }
 
-/// The fault of a gate that was shut for a plant.
-fn shut_for(alloc: Global, network: &Network, plant: PlantNo) -> TextFault
+/// The fault of a gate that was shut for a plant; an error where memory for its name is refused.
+fn shut_for(alloc: Global, network: &Network, plant: PlantNo) -> Result<TextFault, AllocError>
     requires plant { plant.0 < length network.now.plants }
-    ensures { IsShutFor network.now plant result }
+    ensures { IfOk result (IsShutFor network.now plant) }
 {
-    match String::from_str(alloc, network.plant_name(plant)) {
-        Ok(name) => TextFault::GateShut(name),
-        Err(_) => TextFault::Memory,
-    }
+    let name = String::from_str(alloc, network.plant_name(plant))?;
+    Ok(TextFault::GateShut(name))
 }

@@ -9,7 +9,8 @@ ghost use Rattle.mrp_net.specs.Plan.{Fits};
 ghost use Rattle.mrp_loops.specs.Loop.{AreCodes, IsLoopFree};
 ghost use Rattle.mrp_text.specs.Fault.{IsBeforeWriting, IsLate};
 ghost use Rattle.mrp_text.specs.Text.{Writes, OfTable, IsTableOf, IsPlannable, IsPlanReport, IsCodeReport, IsPegReport, IsCumReport, IsPegs, IsCalled, AreCalled};
-ghost use Rattle.mrp_text.specs.Text.{IsLoopRefusal, IsBoundRefusal, IsRefusal, IsRunRefusal, IsPegRefusal, IsReadRefusal, IsTextRefusal};
+ghost use Rattle.mrp_text.specs.Text.{IsLoopRefusal, IsBoundRefusal, IsRefusal, IsRunRefusal, IsPegRefusal, IsTableRefusal, IsReadRefusal, IsTextRefusal};
+ghost use Rattle.mrp_text.specs.Checks.{AreLoopPairs, IsOfLoop, IsBoundPair, IsOfBound};
 ghost use Rattle.mrp_words.specs.declared.words.TheConstants.{MOST_CAPACITY};
 
 use crate::fault::{PairName, TextFault};
@@ -20,10 +21,11 @@ use mrp_loops::{BoundFault, Levels, LoopFault, SizedNet, bound, check};
 use mrp_net::{Network, PairNo};
 use mrp_plan::{Plan, peg, plan_all};
 use mrp_report::{code_rows, lane_rows, late_rows, peg_rows, plan_rows};
+use mrp_rows::Tables;
 use mrp_run::Settings;
 use mrp_tables::read_tables_uncounted;
 use mrp_words::MOST_CAPACITY;
-use std::alloc::Global;
+use std::alloc::{AllocError, Global};
 use std::io::{Read, Write};
 use std::sync::Wait;
 use std::thread::Threads;
@@ -159,14 +161,22 @@ fn network_of<R: Read + Drop>(alloc: Global, reader: R) -> Result<Network, TextF
     ensures rows { IfOk result (IsTableOf (R.remaining reader)) }
     ensures refusal { IfErr result (IsReadRefusal (R.remaining reader)) }
 {
-    let tables = match read_tables_uncounted(alloc, reader) {
-        Ok(tables) => tables,
-        Err(fault) => return Err(TextFault::Table(fault)),
-    };
+    let tables = tables_of(alloc, reader)?;
     let network = Network::of(alloc, tables)?;
     // Every network is that of a table.
     let _pairs = network.pairs();
     Ok(network)
+}
+
+/// The table.
+fn tables_of<R: Read + Drop>(alloc: Global, reader: R) -> Result<Tables, TextFault>
+    ensures rows { IfOk result (IsTableOf (R.remaining reader)) }
+    ensures refusal { IfErr result (IsTableRefusal (R.remaining reader)) }
+{
+    match read_tables_uncounted(alloc, reader) {
+        Ok(tables) => Ok(tables),
+        Err(fault) => Err(TextFault::Table(fault)),
+    }
 }
 
 /// Writes the plan rows and the late rows of a network.
@@ -328,12 +338,20 @@ fn levels_of(alloc: Global, network: &Network) -> Result<Levels, TextFault>
     let _pairs = network.pairs();
     match check(alloc, network) {
         Ok(levels) => Ok(levels),
-        Err(LoopFault::Loop(pairs)) => Err(TextFault::Loop(names_of(
-            alloc,
-            network,
-            pairs.as_slice(),
-        )?)),
-        Err(LoopFault::Memory) => Err(TextFault::Memory),
+        Err(fault) => Err(loop_fault(alloc, network, fault)?),
+    }
+}
+
+/// The fault of a text that a fault of the loop check is; an error where memory for the names is refused.
+fn loop_fault(alloc: Global, network: &Network, fault: LoopFault) -> Result<TextFault, AllocError>
+    requires pairs { AreLoopPairs network.now fault }
+    ensures { IfOk result (IsOfLoop network.now fault) }
+{
+    match fault {
+        LoopFault::Loop(pairs) => {
+            Ok(TextFault::Loop(names_of(alloc, network, pairs.as_slice())?))
+        }
+        LoopFault::Memory => Ok(TextFault::Memory),
     }
 }
 
@@ -355,21 +373,28 @@ fn sized_of<'a>(
             let _network = net.network();
             Ok(net)
         }
-        Err(BoundFault::SupplyTooLarge(x)) => {
-            Err(TextFault::SupplyTooLarge(name_of(alloc, network, x)?))
+        Err(fault) => Err(bound_fault(alloc, network, fault)?),
+    }
+}
+
+/// The fault of a text that a fault of the bound is; an error where memory for the names is refused.
+fn bound_fault(alloc: Global, network: &Network, fault: BoundFault) -> Result<TextFault, AllocError>
+    requires pair { IsBoundPair network.now fault }
+    ensures { IfOk result (IsOfBound network.now fault) }
+{
+    match fault {
+        BoundFault::SupplyTooLarge(x) => {
+            Ok(TextFault::SupplyTooLarge(name_of(alloc, network, x)?))
         }
-        Err(BoundFault::NeedTooLarge(x)) => {
-            Err(TextFault::NeedTooLarge(name_of(alloc, network, x)?))
-        }
-        Err(BoundFault::Memory) => Err(TextFault::Memory),
+        BoundFault::NeedTooLarge(x) => Ok(TextFault::NeedTooLarge(name_of(alloc, network, x)?)),
+        BoundFault::Memory => Ok(TextFault::Memory),
     }
 }
 
 /// The names of pairs.
-fn names_of(alloc: Global, network: &Network, pairs: &[PairNo]) -> Result<Vec<PairName>, TextFault>
+fn names_of(alloc: Global, network: &Network, pairs: &[PairNo]) -> Result<Vec<PairName>, AllocError>
     requires { All (λ x. IsPair network.now x.0) pairs.now }
-    ensures called { IfOk result (λ names. AreCalled network.now (map (λ x. x.0) pairs.now) names.items) }
-    ensures fault { IfErr result (λ fault. fault ≡ TextFault.Memory) }
+    ensures { IfOk result (λ names. AreCalled network.now (map (λ x. x.0) pairs.now) names.items) }
 {
     let mut names = Vec::with_capacity(alloc, pairs.len())?;
     'pairs: for x in pairs {
@@ -379,10 +404,9 @@ fn names_of(alloc: Global, network: &Network, pairs: &[PairNo]) -> Result<Vec<Pa
 }
 
 /// The names of a pair.
-fn name_of(alloc: Global, network: &Network, x: PairNo) -> Result<PairName, TextFault>
+fn name_of(alloc: Global, network: &Network, x: PairNo) -> Result<PairName, AllocError>
     requires { IsPair network.now x.0 }
-    ensures called { IfOk result (IsCalled network.now x.0) }
-    ensures fault { IfErr result (λ fault. fault ≡ TextFault.Memory) }
+    ensures { IfOk result (IsCalled network.now x.0) }
 {
     let (plant, item) = network.pair_name(x);
     let plant = String::from_str(alloc, plant)?;
