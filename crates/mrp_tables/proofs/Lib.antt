@@ -19,3 +19,4 @@ pub mod Whole
 pub mod Starting
 pub mod Arrivals
 pub mod NewPair
+pub mod OneWay

@@ -1,8 +1,12 @@
 //! Laws of the grammar of tables, each the contract of a function that does nothing.
-ghost use Rattle.std.specs.Prelude.{◌≡◌, ◌+◌, ◌*◌, ℕ, List, Ok};
+ghost use Rattle.std.specs.Prelude.{◌≡◌, ◌+◌, ◌*◌, ℕ, List, Ok, Result};
 ghost use Rattle.csv.specs.Reading.{AreRecords, default_config, records};
 ghost use Rattle.csv.specs.declared.parser.State.TheVariants.{StartRecord};
-ghost use Rattle.mrp_tables.specs.Reading.{Reads};
+ghost use Rattle.mrp_cal.specs.Calendar.{CalendarTerms};
+ghost use Rattle.mrp_cal.specs.declared.fault.CalFault.{CalFault};
+ghost use Rattle.mrp_tables.specs.declared.fault.TableFault.{TableFault};
+ghost use Rattle.mrp_tables.specs.Grammar.{RunTerms};
+ghost use Rattle.mrp_tables.specs.Reading.{IsCalendarOf, Reads};
 ghost use Rattle.mrp_rows.specs.Table.{IsTable, Table};
 
 use crate::reading::MAX_TURNS;
@@ -21,4 +25,14 @@ pub fn what_is_read_is_a_table()
 /// The records that the grammar speaks of are all the records of a text.
 pub fn records_are_all_records()
     ensures { (text : List ℕ) → AreRecords default_config StartRecord text (records default_config text) }
+{}
+
+/// A run row has one calendar, or one fault of its calendar.
+pub fn a_run_has_one_calendar()
+    ensures { (t : RunTerms) (a b : Result CalendarTerms CalFault) → IsCalendarOf t a → IsCalendarOf t b → a ≡ b }
+{}
+
+/// Rows are read one way: they make one table, or have one first fault.
+pub fn reads_are_one()
+    ensures { (rows : List (List (List ℕ))) (a b : Result Table TableFault) → Reads rows a → Reads rows b → a ≡ b }
 {}

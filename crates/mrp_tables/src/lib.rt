@@ -18,6 +18,9 @@ mod spelling;
 mod steps;
 
 pub use fault::{TableFault, TableFaultKind};
-pub use laws::{records_are_all_records, turns_are_rows, what_is_read_is_a_table};
+pub use laws::{
+    a_run_has_one_calendar, reads_are_one, records_are_all_records, turns_are_rows,
+    what_is_read_is_a_table,
+};
 pub use reading::{MAX_TURNS, read_tables, read_tables_uncounted};
 pub use steps::Steps;
