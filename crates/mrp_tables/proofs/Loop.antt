@@ -3,6 +3,7 @@ use Rattle.std.proofs.Common.{◌≡◌, ℕ, ◌+◌, Bool, true, false, List, 
 use Rattle.std.specs.List.{list_all}
 use Rattle.std.specs.Str.{is_utf8}
 use Rattle.mrp_tables.specs.Drafts.{TellsAdded}
+use Rattle.mrp_tables.specs.Grammar.{TellsFault}
 use Rattle.mrp_tables.specs.declared.draft.Draft.{Draft}
 use Rattle.mrp_tables.specs.declared.fault.TableFault.{TableFault}
 use Rattle.mrp_tables.specs.declared.fault.TableFaultKind.{TableFaultKind}
@@ -10,7 +11,7 @@ use Rattle.mrp_tables.specs.declared.fault.TableFaultKind.TheVariants as fault
 use Rattle.mrp_tables.specs.declared.kind.Kind.{Kind}
 use Rattle.mrp_rows.specs.Table.{Table}
 use Rattle.mrp_tables.specs.Left.{GoesOn, OfLeft, StartsBadly, state_of, TakesRow, TellsNext, TellsTaken}
-use Rattle.mrp_tables.specs.Reading.{kind_of_row, OfRows, row_after, rows_after}
+use Rattle.mrp_tables.specs.Reading.{kind_of_row, OfRows, row_after, rows_after, UnlessMemory}
 
 -- what holds, also where nothing is to be said
 pub of_rows_from : (k : TableFaultKind) (P Q : Type 0) → (P → Q) → OfRows k P → OfRows k Q
@@ -26,6 +27,17 @@ of_rows e P says = says
 pub of_left_from : (left : Option (List (List (List ℕ)))) (P Q : List (List (List ℕ)) → Type 0) → ((rows : List (List (List ℕ))) → P rows → Q rows) → OfLeft left P → OfLeft left Q
 of_left_from None P Q f says = tt
 of_left_from (Some rows) P Q f says = f rows says
+
+-- what follows from a row's fault
+of_told : {B : Type 0} (k : TableFaultKind) (read : Result B TableFaultKind) (Q : Type 0) → TellsFault read k → (read ≡ Err k → Q) → OfRows k Q
+of_told fault.ReadFault read Q says f = tt
+of_told fault.Memory read Q says f = tt
+of_told e read Q says f = f says
+
+pub of_unless : (k : TableFaultKind) (P Q : Type 0) → (P → Q) → UnlessMemory k P → OfRows k Q
+of_unless fault.ReadFault P Q f says = tt
+of_unless fault.Memory P Q f says = tt
+of_unless e P Q f says = f says
 
 -- a row whose fields aren't all text
 pub kind_no_text : (row : List (List ℕ)) → list_all is_utf8 row ≡ false → kind_of_row row ≡ Err fault.NotUtf8
@@ -66,9 +78,9 @@ row_stops (Some rows) None number s k row takes e = absurd takes
 row_stops (Some rows) (Some rest) number s k row takes e = rows_stop number s k row rest rows e takes
 
 pub stops_row : (before after : Option (List (List (List ℕ)))) (number : ℕ) (s : Table × Kind) (k : TableFaultKind) (row : List (List ℕ)) → TakesRow before after row
-    → OfRows k (row_after s row ≡ Err k) → OfRows k (OfLeft before (λ rows. rows_after number s rows ≡ Err (record { row = number; kind = k })))
-stops_row before after number s k row takes =
-    of_rows_from k (row_after s row ≡ Err k) (OfLeft before (λ rows. rows_after number s rows ≡ Err (record { row = number; kind = k }))) (row_stops before after number s k row takes)
+    → TellsFault (row_after s row) k → OfRows k (OfLeft before (λ rows. rows_after number s rows ≡ Err (record { row = number; kind = k })))
+stops_row before after number s k row takes tells =
+    of_told k (row_after s row) (OfLeft before (λ rows. rows_after number s rows ≡ Err (record { row = number; kind = k }))) tells (row_stops before after number s k row takes)
 
 -- no row more
 pub ends_there : (before : Option (List (List (List ℕ)))) (number : ℕ) (s : Table × Kind) → OfLeft before (λ rows. rows ≡ []) → OfLeft before (λ rows. rows_after number s rows ≡ Ok s.0)

@@ -12,7 +12,7 @@ use Rattle.mrp_tables.specs.declared.kind.Kind.{Kind}
 use Rattle.mrp_tables.specs.declared.kind.Kind.TheVariants as kind
 use Rattle.mrp_rows.specs.Table.{Table}
 use Rattle.mrp_tables.specs.Grammar.{◌>>=◌, may_follow, row_kind, run_terms, RunTerms, TellsFault}
-use Rattle.mrp_tables.specs.Reading.{first_terms, is_run, kind_of_row, OfRows, row_after, row_of_kind, Starts, StartsWith}
+use Rattle.mrp_tables.specs.Reading.{first_terms, is_run, kind_of_row, row_after, row_of_kind, Starts, StartsWith, UnlessMemory}
 
 -- fields that are text pass the test for it
 pub all_text : (fs : List (List ℕ)) → AllText fs → list_all is_utf8 fs ≡ true
@@ -25,11 +25,14 @@ pub text_kind : (row : List (List ℕ)) → AllText row → kind_of_row row ≡ 
 unfolding kind_of_row
 text_kind row text = rw (all_text row text) refl
 
--- what holds of the rows, whatever the fault
-pub of_rows : (e : TableFaultKind) (P : Type 0) → P → OfRows e P
-of_rows fault.ReadFault P h = tt
-of_rows fault.Memory P h = tt
-of_rows _ P h = h
+-- what holds of the row, whatever the fault
+pub unless_memory : (e : TableFaultKind) (P : Type 0) → P → UnlessMemory e P
+unless_memory fault.Memory P h = tt
+unless_memory _ P h = h
+
+pub told : {B : Type 0} (e : TableFaultKind) (read : Result B TableFaultKind) → read ≡ Err e → TellsFault read e
+told fault.Memory read h = tt
+told _ read h = h
 
 module _ (row : List (List ℕ)) (text : AllText row) where
   first-misread : (e : TableFaultKind) → row_kind row ≡ Err e → first_terms row ≡ Err e
@@ -87,10 +90,9 @@ run_kind k h = by (is_run k) (h ∙ ap not (same_run k))
 
 -- ---- the rows after the first
 
-tells_fault : {B : Type 0} (e : TableFaultKind) (read : Result B TableFaultKind) (P : Type 0) → TellsFault read e → (read ≡ Err e → P) → OfRows e P
-tells_fault fault.ReadFault read P h f = tt
-tells_fault fault.Memory read P h f = tt
-tells_fault _ read P h f = f h
+tells_fault : {A B : Type 0} (e : TableFaultKind) (part : Result A TableFaultKind) (read : Result B TableFaultKind) → TellsFault part e → (part ≡ Err e → read ≡ Err e) → TellsFault read e
+tells_fault fault.Memory part read h f = tt
+tells_fault _ part read h f = f h
 
 module _ (N : Table) (last : Kind) (row : List (List ℕ)) (text : AllText row) where
   pub after-bad_kind : (e : TableFaultKind) → row_kind row ≡ Err e → row_after (N, last) row ≡ Err e
@@ -105,8 +107,8 @@ module _ (N : Table) (last : Kind) (row : List (List ℕ)) (text : AllText row) 
   unfolding row_after
   after-kind k made is follows of = rw (text_kind row text, is, follows) (ap (λ (r : Result Table TableFaultKind). let s : Result (Table × Kind) TableFaultKind = r >>= λ M. Ok (M, k) in s) of)
 
-  pub after-fault : (k : Kind) (e : TableFaultKind) → row_kind row ≡ Ok k → may_follow k last ≡ true → TellsFault (row_of_kind k N row) e → OfRows e (row_after (N, last) row ≡ Err e)
-  after-fault k e is follows told = tells_fault e (row_of_kind k N row) (row_after (N, last) row ≡ Err e) told (λ of. after-kind k (Err e) is follows of)
+  pub after-fault : (k : Kind) (e : TableFaultKind) → row_kind row ≡ Ok k → may_follow k last ≡ true → TellsFault (row_of_kind k N row) e → TellsFault (row_after (N, last) row) e
+  after-fault k e is follows tells = tells_fault e (row_of_kind k N row) (row_after (N, last) row) tells (λ of. after-kind k (Err e) is follows of)
 
   pub after-made : (k : Kind) (M : Table) → row_kind row ≡ Ok k → may_follow k last ≡ true → row_of_kind k N row ≡ Ok M → row_after (N, last) row ≡ Ok (M, k)
   after-made k M is follows of = after-kind k (Ok M) is follows of

@@ -17,7 +17,7 @@ use Rattle.mrp_tables.specs.Grammar.{RunTerms}
 use Rattle.mrp_tables.specs.Left.{OfLeft, records_in, StartsBadly, state_of, TakesRow, TellsFirstAt}
 use Rattle.mrp_tables.specs.Reading.{empty_table, first_terms, go_on, IsCalendarOf, IsReadSoFar, OfRecords, OfRows, read_from, Reads, rows_after, started, Starts, StartsWith, TellsRows, waiting}
 use Rattle.mrp_tables.proofs.Keeping.{empty_keeps}
-use Rattle.mrp_tables.proofs.Loop.{kind_no_text, of_left_from, of_rows, of_rows_from}
+use Rattle.mrp_tables.proofs.Loop.{kind_no_text, of_left_from, of_rows, of_rows_from, of_unless}
 
 -- ---- the first row
 
@@ -78,7 +78,7 @@ pub first_fault : (left after : Option (List (List (List ℕ)))) (row : List (Li
 first_fault None after row e takes tells = tt
 first_fault (Some rows) None row e takes tells = absurd takes
 first_fault (Some rows) (Some rest) row e takes tells =
-    of_rows_from e.kind (Starts row (Err e.kind)) (Reads rows (Err e)) (first_reads e row rest rows takes tells.1) tells.0
+    of_unless e.kind (Starts row (Err e.kind)) (Reads rows (Err e)) (first_reads e row rest rows takes tells.1) tells.0
 
 -- ---- the rows after the first
 

@@ -8,10 +8,10 @@ use Rattle.mrp_rows.specs.declared.numbers.PlantNo.{PlantNo}
 use Rattle.mrp_rows.specs.declared.rows.TheConstants.{MOST_PAIRS}
 use Rattle.mrp_rows.specs.Table.{Table}
 use Rattle.mrp_spell.specs.Supplies.{SourceTerms}
-use Rattle.mrp_tables.specs.Grammar.{knows_sources, PairTerms, run_terms, seen, source_row}
+use Rattle.mrp_tables.specs.Grammar.{knows_sources, PairTerms, run_terms, seen, source_row, TellsFault}
 use Rattle.mrp_spell.specs.Supplies.{named_sources}
 use Rattle.mrp_rows.specs.Names.{pair_named, plant_no}
-use Rattle.mrp_tables.specs.Reading.{empty_table, OfRows, row_after, Starts, StartsWith}
+use Rattle.mrp_tables.specs.Reading.{empty_table, row_after, Starts, StartsWith, UnlessMemory}
 
 -- a pair row that fits the rows before it, at that plant
 pub record FitsPair (N : Table) (p : PlantNo) (t : PairTerms) : Type 0 where
@@ -37,9 +37,9 @@ TellsRun calendar row = StartsWith (run_terms row) (seen empty_table calendar)
 -- what the first row makes
 abbrev pub TellsFirst : Result Draft TableFaultKind → List (List ℕ) → Type 0
 TellsFirst (Ok d) row = Starts row (Ok d.lists) × (d.last ≡ kind.Run)
-TellsFirst (Err e) row = OfRows e (Starts row (Err e))
+TellsFirst (Err e) row = UnlessMemory e (Starts row (Err e))
 
 -- what one row more makes
 abbrev pub TellsAdded : Draft → Draft → Result (Unit {0}) TableFaultKind → List (List ℕ) → Type 0
 TellsAdded old new (Ok u) row = row_after (old.lists, old.last) row ≡ Ok (new.lists, new.last)
-TellsAdded old new (Err e) row = OfRows e (row_after (old.lists, old.last) row ≡ Err e)
+TellsAdded old new (Err e) row = TellsFault (row_after (old.lists, old.last) row) e

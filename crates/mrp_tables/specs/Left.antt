@@ -15,7 +15,7 @@ use Rattle.mrp_tables.specs.declared.fault.TableFaultKind.TheVariants as fault
 use Rattle.mrp_tables.specs.declared.kind.Kind.{Kind}
 use Rattle.mrp_tables.specs.declared.kind.Kind.TheVariants as kind
 use Rattle.mrp_rows.specs.Table.{Table}
-use Rattle.mrp_tables.specs.Reading.{IsReadSoFar, OfRows, rows_after, Starts}
+use Rattle.mrp_tables.specs.Reading.{IsReadSoFar, OfRows, rows_after, Starts, UnlessMemory}
 
 -- the records of a text from a state on
 abbrev pub records_in : State → List ℕ → List (List (List ℕ))
@@ -66,7 +66,7 @@ fault_of error.OutOfMemory = fault.Memory
 -- what the first row makes, or its fault
 abbrev pub TellsFirstAt : Result Draft TableFault → List (List ℕ) → Type 0
 TellsFirstAt (Ok d) row = Starts row (Ok d.lists) × (d.last ≡ kind.Run)
-TellsFirstAt (Err e) row = OfRows e.kind (Starts row (Err e.kind)) × (e.row ≡ 1)
+TellsFirstAt (Err e) row = UnlessMemory e.kind (Starts row (Err e.kind)) × (e.row ≡ 1)
 
 -- ---- the rows after the first
 

@@ -147,6 +147,11 @@ OfRows fault.ReadFault says = Unit {0}
 OfRows fault.Memory says = Unit {0}
 OfRows e says = says
 
+-- what a test of a row answers is of the row, but that memory was wanting
+abbrev pub UnlessMemory : TableFaultKind → Type 0 → Type 0
+UnlessMemory fault.Memory says = Unit {0}
+UnlessMemory e says = says
+
 -- the answer is what the rows make, or their first fault
 abbrev pub TellsRows : Result Table TableFault → List (List (List ℕ)) → Type 0
 TellsRows (Ok N) rows = Reads rows (Ok N)

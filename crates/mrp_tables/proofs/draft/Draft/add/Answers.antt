@@ -1,7 +1,7 @@
 use Rattle.std.proofs.Common.{sym, ◌∙◌}
 use Rattle.std.proofs.lemmas.Result.{err_from_is_err_and}
 use Rattle.csv.specs.Records.{fields_of}
-use Rattle.mrp_tables.proofs.Starting.{after-bad_kind, after-bad_order, after-fault, after-made, of_rows}
+use Rattle.mrp_tables.proofs.Starting.{after-bad_kind, after-bad_order, after-fault, after-made, told}
 use Rattle.mrp_tables.proofs.draft.Draft.add.Goals as goal
 
 pub returns-in_err-kind-clause-exact : goal.returns-in_err-kind-clause-exact
@@ -9,7 +9,7 @@ returns-in_err-kind-clause-exact c =
     let p = err_from_is_err_and c.from_residual.result c.from_residual.ensures.1 in
     let self = c.args.self.now in
     let bad = after-bad_kind self.lists self.last (fields_of c.args.row.now) c.requires.text c.in_err-kind.field-0.0 (sym c.row_kind.ensures ∙ c.in_err-kind.was) in
-    rw (p.1, p.2) (of_rows _ _ bad)
+    rw (p.1, p.2) (told _ _ bad)
 
 pub returns-then-not-may_follow-clause-exact : goal.returns-then-not-may_follow-clause-exact
 returns-then-not-may_follow-clause-exact c =
@@ -20,9 +20,9 @@ pub returns-in_err-add_row-clause-exact : goal.returns-in_err-add_row-clause-exa
 returns-in_err-add_row-clause-exact c =
     let p = err_from_is_err_and c.from_residual-in_err-add_row.result c.from_residual-in_err-add_row.ensures.1 in
     let self = c.args.self.now in
-    let told = after-fault self.lists self.last (fields_of c.args.row.now) c.requires.text c.in_ok-kind.kind c.in_err-add_row.field-0.0 (sym c.row_kind.ensures ∙ c.in_ok-kind.was)
+    let tells = after-fault self.lists self.last (fields_of c.args.row.now) c.requires.text c.in_ok-kind.kind c.in_err-add_row.field-0.0 (sym c.row_kind.ensures ∙ c.in_ok-kind.was)
     (sym c.may_follow.ensures ∙ c.if-not-may_follow.false) c.in_err-add_row.ensures.exact in
-    rw (p.1, p.2) told
+    rw (p.1, p.2) tells
 
 pub returns-clause-exact : goal.returns-clause-exact
 returns-clause-exact c =

@@ -4,7 +4,7 @@ use Rattle.csv.specs.Records.{fields_of}
 use Rattle.mrp_rows.specs.Table.{Table}
 use Rattle.mrp_tables.specs.Reading.{Starts}
 use Rattle.mrp_tables.proofs.Arrivals.{no_lanes}
-use Rattle.mrp_tables.proofs.Starting.{first-bad_kind, first-bad_order, first-calendar, of_rows, other_kind, run_kind}
+use Rattle.mrp_tables.proofs.Starting.{first-bad_kind, first-bad_order, first-calendar, other_kind, run_kind, unless_memory}
 use Rattle.mrp_tables.proofs.draft.Draft.first.Goals as goal
 
 pub returns-in_err-row_kind-clause-exact : goal.returns-in_err-row_kind-clause-exact
@@ -12,7 +12,7 @@ returns-in_err-row_kind-clause-exact c =
     let p = err_from_is_err_and c.from_residual.result c.from_residual.ensures.1 in
     let row = fields_of c.args.row.now in
     let bad = first-bad_kind row c.requires.text c.in_err-row_kind.field-0.0 (sym c.row_kind.ensures ∙ c.in_err-row_kind.was) in
-    rw (p.1, p.2) (of_rows _ _ bad)
+    rw (p.1, p.2) (unless_memory _ _ bad)
 
 pub returns-then-ne-clause-exact : goal.returns-then-ne-clause-exact
 returns-then-ne-clause-exact c =
@@ -25,7 +25,7 @@ returns-in_err-calendar-clause-exact c =
     let k = c.in_ok-row_kind.field-0 in
     let row = fields_of c.args.row.now in
     let bad = first-calendar row c.requires.text k _ (sym c.row_kind.ensures ∙ c.in_ok-row_kind.was) (run_kind k c.if-ne.ensures) c.in_err-calendar.ensures.exact in
-    rw (p.1, p.2) (of_rows _ _ bad)
+    rw (p.1, p.2) (unless_memory _ _ bad)
 
 pub returns-clause-exact : goal.returns-clause-exact
 returns-clause-exact c =
