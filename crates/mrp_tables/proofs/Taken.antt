@@ -1,5 +1,5 @@
 -- What a read of a record takes off the rows that a reader has left.
-use Rattle.std.proofs.Common.{◌≡◌, inl, inr, ℕ, Bool, true, false, ◌&&◌, List, [], ◌∷◌, Option, Some, None, option_map, refl}
+use Rattle.std.proofs.Common.{◌≡◌, inl, inr, ℕ, Bool, true, false, ◌&&◌, List, [], ◌∷◌, Option, Some, None, option_map, refl, sym, ◌∙◌}
 use Rattle.std.specs.List.{list_all}
 use Rattle.std.specs.Str.{is_utf8}
 use Rattle.std.proofs.lemmas.Str.{IsUtf8-from_is_utf8}
@@ -13,7 +13,7 @@ use Rattle.csv.specs.declared.parser.State.{State}
 use Rattle.csv.specs.declared.reader.Reader.{Reader}
 use Rattle.mrp_tables.specs.declared.fault.TableFaultKind.{TableFaultKind}
 use Rattle.mrp_tables.specs.declared.fault.TableFaultKind.TheVariants as fault
-use Rattle.mrp_tables.specs.Left.{fault_of, GivesAll, left_of, OfLeft, records_in, StartsBadly, TakesRow}
+use Rattle.mrp_tables.specs.Left.{fault_of, GivesAll, left_of, MayCome, OfLeft, records_in, StartsBadly, TakesRow}
 use Rattle.mrp_tables.specs.Reading.{OfRows}
 use Rattle.mrp_tables.proofs.Records.{none_left, one_left}
 
@@ -88,10 +88,19 @@ explains : {R : Type 0} (rem : R → Option (List ℕ)) (old new : Reader R) (nu
 explains rem old new number (error.Io e) gives r = tt
 explains rem old new number (error.Utf8 pos e) gives r =
     bad_row (left_of rem old) r.1 number (no_text r.1 r.3) (starts old.state new.state (source_of rem old) (pending_of (rem new.rdr) new) r.1 (rw gives.0 at r.2))
-explains rem old new number (error.UnequalLengths pos expected len) gives r = tt
+explains rem old new number (error.UnequalLengths pos expected len) gives r = absurd (false≢true (sym r.0 ∙ gives.3))
 explains rem old new number (error.Serialize text) gives r = tt
 explains rem old new number (error.Deserialize pos e) gives r = tt
 explains rem old new number error.OutOfMemory gives r = tt
+
+-- a reader that gives each record has no error of lengths, and none of values
+pub may_come : {R : Type 0} (rem : R → Option (List ℕ)) (old new : Reader R) (why : ErrorKind) → GivesAll old → ExplainsRead rem old new true why → MayCome why
+may_come rem old new (error.Io e) gives r = tt
+may_come rem old new (error.Utf8 pos e) gives r = tt
+may_come rem old new (error.UnequalLengths pos expected len) gives r = absurd (false≢true (sym r.0 ∙ gives.3))
+may_come rem old new (error.Serialize text) gives r = absurd r
+may_come rem old new (error.Deserialize pos e) gives r = absurd r
+may_come rem old new error.OutOfMemory gives r = tt
 
 pub explains_as : {R : Type 0} (rem : R → Option (List ℕ)) (old new : Reader R) (number : ℕ) (why : ErrorKind) (kind : TableFaultKind) → kind ≡ fault_of why → GivesAll old
     → ExplainsRead rem old new true why → OfRows kind (OfLeft (left_of rem old) (λ rows. StartsBadly number rows (record { row = number; kind = kind })))

@@ -2,7 +2,7 @@
 use Rattle.std.specs.Prelude.{◌≡◌, ℕ, ◌+◌, Bool, true, false, List, [], ◌∷◌, length, Option, Some, None, option_map, Result, Ok, Err}
 use Rattle.std.specs.List.{list_all}
 use Rattle.std.specs.Str.{is_utf8}
-use Rattle.csv.specs.Reading.{default_config, reader_config, reader_state, reader_trim, records_from, Ready, source_of}
+use Rattle.csv.specs.Reading.{default_config, is_flexible, reader_config, reader_state, reader_trim, records_from, Ready, source_of}
 use Rattle.csv.specs.declared.error.ErrorKind.{ErrorKind}
 use Rattle.csv.specs.declared.error.ErrorKind.TheVariants as error
 use Rattle.csv.specs.declared.parser.State.{State}
@@ -25,9 +25,9 @@ records_in s text = records_from default_config (length text + 1) s text
 abbrev pub left_of : {R : Type 0} → (R → Option (List ℕ)) → Reader R → Option (List (List (List ℕ)))
 left_of rem s = option_map (records_in (reader_state s)) (source_of rem s)
 
--- a reader that gives each record of the text as it stands there
+-- a reader that gives each record of the text as it stands there, however many fields it has
 abbrev pub GivesAll : {R : Type 0} → Reader R → Type 0
-GivesAll s = (reader_config s ≡ default_config) × (reader_trim s ≡ trim.None) × Ready s
+GivesAll s = (reader_config s ≡ default_config) × (reader_trim s ≡ trim.None) × Ready s × (is_flexible s ≡ true)
 
 -- of the rows left, where they are known
 abbrev pub OfLeft : Option (List (List (List ℕ))) → (List (List (List ℕ)) → Type 0) → Type 0
@@ -54,11 +54,20 @@ TellsTaken before after number row (Ok true) = TakesRow before after row
 TellsTaken before after number row (Ok false) = OfLeft before (λ rows. rows ≡ [])
 TellsTaken before after number row (Err e) = OfRows e.kind (OfLeft before (λ rows. StartsBadly number rows e))
 
--- what an error of the reading is called
+-- the errors of a reader that gives each record, however many fields it has
+abbrev pub MayCome : ErrorKind → Type 0
+MayCome (error.Io e) = Unit {0}
+MayCome (error.Utf8 pos e) = Unit {0}
+MayCome (error.UnequalLengths pos expected len) = ⊥
+MayCome (error.Serialize text) = ⊥
+MayCome (error.Deserialize pos e) = ⊥
+MayCome error.OutOfMemory = Unit {0}
+
+-- what an error of the reading is called; those that can't come have any name
 abbrev pub fault_of : ErrorKind → TableFaultKind
 fault_of (error.Io e) = fault.ReadFault
 fault_of (error.Utf8 pos e) = fault.NotUtf8
-fault_of (error.UnequalLengths pos expected len) = fault.ReadFault
+fault_of (error.UnequalLengths pos expected len) = fault.FieldCount
 fault_of (error.Serialize text) = fault.ReadFault
 fault_of (error.Deserialize pos e) = fault.ReadFault
 fault_of error.OutOfMemory = fault.Memory

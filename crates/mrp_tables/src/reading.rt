@@ -4,7 +4,7 @@ ghost use Rattle.csv.specs.Records.{AllText, fields_of};
 ghost use Rattle.mrp_tables.specs.Lists.{IsDraft};
 ghost use Rattle.mrp_tables.specs.Reading.{OfRecords, TellsRows, waiting};
 ghost use Rattle.mrp_rows.specs.Turns.{row_count};
-ghost use Rattle.mrp_tables.specs.Left.{fault_of, GivesAll, IsKept, OfLeft, TellsFirstAt, TellsNext, TellsRest, TellsTaken, left_of, state_of};
+ghost use Rattle.mrp_tables.specs.Left.{fault_of, GivesAll, IsKept, MayCome, OfLeft, TellsFirstAt, TellsNext, TellsRest, TellsTaken, left_of, state_of};
 
 use crate::draft::Draft;
 use crate::{Steps, TableFault, TableFaultKind};
@@ -201,13 +201,17 @@ fn next_row<R: Read>(
     }
 }
 
-/// What an error of the reading is called.
+/// What an error of the reading is called. A row of a wrong length is none: rows come as they are.
 fn read_fault(error: &ErrorKind) -> TableFaultKind
+    requires comes { MayCome error.now }
     ensures value { result ≡ fault_of error.now }
 {
     match error {
         ErrorKind::Utf8 { .. } => TableFaultKind::NotUtf8,
         ErrorKind::OutOfMemory => TableFaultKind::Memory,
-        _ => TableFaultKind::ReadFault,
+        ErrorKind::Io(_) => TableFaultKind::ReadFault,
+        ErrorKind::UnequalLengths { .. } => unreachable!(),
+        ErrorKind::Serialize(_) => unreachable!(),
+        ErrorKind::Deserialize { .. } => unreachable!(),
     }
 }
