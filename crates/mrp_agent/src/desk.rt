@@ -9,6 +9,7 @@ use mrp_netting::PairPlan;
 use mrp_qty::{Horizon, Memory, Row};
 use std::alloc::Global;
 use std::marker::Model;
+use std::mem;
 
 /// Rows to draft plans with, and the plan that was drafted last. Contracts see that plan.
 #[derive(Drop)]
@@ -73,10 +74,12 @@ impl Desk {
         );
     }
 
-    /// The plan that was drafted last.
-    pub(crate) fn plan(&self) -> &PairPlan
-        ensures { result.now ≡ self.now }
+    /// Gives the plan that was drafted last for another one of as many periods.
+    pub(crate) fn exchange(&mut self, plan: &mut PairPlan)
+        requires { length plan.old.gross ≡ length self.old.gross }
+        ensures given { plan.new ≡ self.old }
+        ensures taken { self.new ≡ plan.old }
     {
-        &self.plan
+        mem::swap(&mut self.plan, plan);
     }
 }

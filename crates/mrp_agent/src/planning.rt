@@ -57,7 +57,7 @@ impl Agent {
         let params = self.view.pairs()[place].params;
         let edges = self.edges.get(place);
         self.desk.draft(&params, came, called, edges, &self.plans);
-        self.plans[place].copy_from(self.desk.plan());
+        self.desk.exchange(&mut self.plans[place]);
     }
 
     /// Counts the pair at a place as planned, and lets the schedule lanes that have its item send it.

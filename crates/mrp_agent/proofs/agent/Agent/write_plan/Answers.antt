@@ -58,8 +58,8 @@ draft-requires-clause-draft c =
     } in
     can_draft_from A c.args.x _ _ _ c.get-edges.result.now c.deref-3.result.now read c.self.invariant.view c.self.invariant.rooms can
 
-pub copy_from-requires : goal.copy_from-requires
-copy_from-requires c =
+pub exchange-requires : goal.exchange-requires
+exchange-requires c =
     let A : AgentState = the_view c.self.inside in
     let can : CanDraft A c.args.x = subst (λ (a : AgentState). CanDraft a c.args.x) (sym c.self.view_is) c.requires.can in
     let at : c.args.place ≡ pair_place A.view c.args.x.0 = c.requires.place ∙ ap (λ (a : AgentState). pair_place a.view c.args.x.0) (sym c.self.view_is) in
@@ -74,7 +74,7 @@ copy_from-requires c =
     } in
     let written : c.draft.new.self ≡ drafted A c.args.x = c.draft.ensures ∙ draft_is A c.args.x _ _ _ c.get-edges.result.now c.deref-3.result.now read c.self.invariant.view c.self.invariant.rooms can.own in
     let within : c.args.place < length A.plans = omega (arith, own_within A.view c.args.x can.own, at, c.self.invariant.rooms.plans) in
-    same_periods A I c.args.x c.args.place c.index_mut.result.now c.plan.result.now c.self.invariant within c.index_mut.ensures.value (c.plan.ensures ∙ written)
+    same_periods A I c.args.x c.args.place c.index_mut.result.now c.draft.new.self c.self.invariant within c.index_mut.ensures.value written
 
 pub invariant_of-self : goal.invariant_of-self
 invariant_of-self c =
@@ -92,7 +92,10 @@ invariant_of-self c =
     } in
     let written : c.draft.new.self ≡ drafted A c.args.x = c.draft.ensures ∙ draft_is A c.args.x _ _ _ c.get-edges.result.now c.deref-3.result.now read c.self.invariant.view c.self.invariant.rooms can.own in
     let desk : length c.draft.new.self.gross ≡ A.view.horizon = ap (λ (z : PlanRows). length z.gross) written ∙ (drafted_periods A c.args.x).gross in
-    kept_written A I c.args.x c.args.place (length c.draft.new.self.gross) c.copy_from.new.self c.self.invariant (c.copy_from.ensures ∙ c.plan.ensures ∙ written) desk
+    let within : c.args.place < length A.plans = omega (arith, own_within A.view c.args.x can.own, at, c.self.invariant.rooms.plans) in
+    let same : length c.index_mut.result.now.gross ≡ length c.draft.new.self.gross = same_periods A I c.args.x c.args.place c.index_mut.result.now c.draft.new.self c.self.invariant within c.index_mut.ensures.value written in
+    let exchanged : length c.exchange.new.self.gross ≡ A.view.horizon = ap (λ (z : PlanRows). length z.gross) c.exchange.ensures.taken ∙ same ∙ desk in
+    kept_written A I c.args.x c.args.place (length c.exchange.new.self.gross) c.exchange.new.plan c.self.invariant (c.exchange.ensures.given ∙ written) exchanged
 
 pub returns : goal.returns
 returns c =
@@ -109,5 +112,5 @@ returns c =
       plans_are = c.deref-3.ensures.value;
     } in
     let written : c.draft.new.self ≡ drafted A c.args.x = c.draft.ensures ∙ draft_is A c.args.x _ _ _ c.get-edges.result.now c.deref-3.result.now read c.self.invariant.view c.self.invariant.rooms can.own in
-    ap (λ (z : PlanRows). record A { plans = set A.plans c.args.place z }) (c.copy_from.ensures ∙ c.plan.ensures ∙ written)
+    ap (λ (z : PlanRows). record A { plans = set A.plans c.args.place z }) (c.exchange.ensures.given ∙ written)
     ∙ ap (λ (a : AgentState). record a { plans = set a.plans c.args.place (drafted a c.args.x) }) c.self.view_is
