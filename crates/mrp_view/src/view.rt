@@ -227,7 +227,7 @@ impl Model for PlantView {
 }
 
 impl PlantView {
-    ghost use Rattle.std.specs.Prelude.{◌≡◌, ◌==◌, position};
+    ghost use Rattle.std.specs.Prelude.{◌≡◌, ◌==◌, position, Some, IfSome};
 
     /// The number of periods.
     pub fn horizon(&self) -> Horizon
@@ -245,6 +245,31 @@ impl PlantView {
 
     /// The place of a pair among the plant's pairs, or `None` where it is another plant's.
     pub fn place(&self, x: PairNo) -> Option<usize>
+        ensures { result ≡ position (λ p. p.number.0 == x.0) self.now.pairs }
+    {
+        match self.following_place(x) {
+            Some(place) => Some(place),
+            None => self.searched_place(x),
+        }
+    }
+
+    /// The place of a pair where the plant's pairs up to it follow one another in the table, as they mostly
+    /// do: then nothing is searched.
+    fn following_place(&self, x: PairNo) -> Option<usize>
+        ensures { IfSome result (λ place. Some place ≡ position (λ p. p.number.0 == x.0) self.now.pairs) }
+    {
+        let first = self.pairs.first()?;
+        let place = x.0.checked_sub(first.number.0)?;
+        let pair = self.pairs.get(place)?;
+        if pair.number.0 == x.0 {
+            Some(place)
+        } else {
+            None
+        }
+    }
+
+    /// The place of a pair, wherever the plant's pairs stand in the table.
+    fn searched_place(&self, x: PairNo) -> Option<usize>
         ensures { result ≡ position (λ p. p.number.0 == x.0) self.now.pairs }
     {
         let found = self.pairs.binary_search_by_key(&x.0, |pair| pair.number.0);
