@@ -1,10 +1,10 @@
 -- How it is spelled where a pair comes from, and what each plant's share is.
-use Rattle.std.specs.Prelude.{◌≡◌, ◌≤◌, ◌<◌, ℕ, zero, suc, ◌+◌, ◌-◌, ◌==◌, ◌&&◌, nat_le, Bool}
-use Rattle.std.specs.Prelude.{if◌then◌else◌, List, [], ◌∷◌, ◌++◌, codes, length, Option, Some, None, option_map, All}
-use Rattle.std.specs.List.{IsDistinct, list_any}
+use Rattle.std.specs.Prelude.{◌≡◌, ◌≤◌, ◌<◌, ℕ, ◌+◌, ◌-◌, ◌==◌, ◌&&◌, not, nat_le, Bool, true}
+use Rattle.std.specs.Prelude.{if◌then◌else◌, List, [], ◌∷◌, codes, length, Option, Some, None, option_map, All}
+use Rattle.std.specs.List.{IsDistinct, list_all, list_any, slice_split, sum_by}
 use Rattle.std.specs.Str.{bytes_eq}
 use Rattle.mrp_spell.specs.declared.supplies.TheConstants.{MOST_SHARE, MOST_SOURCES_OF_PAIR}
-use Rattle.mrp_spell.specs.Spelling.{cut, is_name, number_within}
+use Rattle.mrp_spell.specs.Spelling.{cut, is_colon, is_name, number_within}
 
 -- one plant that a pair is taken from; its share goes from low to high
 pub record SourceTerms : Type 0 where
@@ -21,44 +21,49 @@ pub data SupplyTerms : Type 0 where
 abbrev pub names_plant : List SourceTerms → List ℕ → Bool
 names_plant sources plant = list_any (λ s. bytes_eq s.plant plant) sources
 
--- a plant with its share, which begins at low, and what is spelled after them
-abbrev pub share_of : List ℕ → ℕ → Option ℕ → Option (List ℕ) → Option (SourceTerms × Option (List ℕ))
-share_of plant low None later = None
-share_of plant low (Some share) later =
-    if is_name plant && nat_le (low + share) MOST_SHARE then Some (record { plant = plant; low = low; high = low + share }, later) else None
+-- a plant that stands before its share, in thousandths
+pub record PlantShare : Type 0 where
+  pub plant : List ℕ
+  pub share : ℕ
 
-abbrev pub share_in : List ℕ → ℕ → List ℕ → Option (List ℕ × List ℕ) → Option (SourceTerms × Option (List ℕ))
-share_in plant low rest None = share_of plant low (number_within rest 1 (MOST_SHARE - 1)) None
-share_in plant low rest (Some q) = share_of plant low (number_within q.0 1 (MOST_SHARE - 1)) (Some q.1)
+-- one plant with its share before others
+abbrev pub share_before : List ℕ → Option ℕ → Option (List PlantShare) → Option (List PlantShare)
+share_before plant None later = None
+share_before plant (Some share) None = None
+share_before plant (Some share) (Some later) = Some (record { plant = plant; share = share } ∷ later)
 
-abbrev pub shared_in : ℕ → Option (List ℕ × List ℕ) → Option (SourceTerms × Option (List ℕ))
-shared_in low None = None
-shared_in low (Some p) = share_in p.0 low p.1 (cut p.1)
+-- plant, share, plant, share ..: a share is a number from 1 to 999
+abbrev pub plant_shares : List (List ℕ) → Option (List PlantShare)
+plant_shares [] = Some []
+plant_shares (plant ∷ []) = None
+plant_shares (plant ∷ share ∷ later) = share_before plant (number_within share 1 (MOST_SHARE - 1)) (plant_shares later)
 
-unfoldable pub shared_source : List ℕ → ℕ → Option (SourceTerms × Option (List ℕ))
-shared_source text low = shared_in low (cut text)
+-- no plant stands there twice
+abbrev pub are_different : List PlantShare → Bool
+are_different [] = true
+are_different (s ∷ ss) = not (list_any (λ t. bytes_eq s.plant t.plant) ss) && are_different ss
 
--- the sources so far, where a text follows them or where their shares are the whole
-abbrev pub shared_rest : List SourceTerms → (List SourceTerms → ℕ → List ℕ → Option (List SourceTerms)) → ℕ → Option (List ℕ) → Option (List SourceTerms)
-shared_rest sources more high None = if high == MOST_SHARE then Some sources else None
-shared_rest sources more high (Some text) = more sources high text
+-- two to four plants, each a name and all different, and shares that are together the whole
+abbrev pub are_whole : List PlantShare → Bool
+are_whole ss =
+    nat_le 2 (length ss) && nat_le (length ss) MOST_SOURCES_OF_PAIR && list_all (λ s. is_name s.plant) ss && are_different ss && sum_by (λ s. s.share) ss == MOST_SHARE
 
--- the same with one source more, which is of another plant
-abbrev pub shared_after : List SourceTerms → (List SourceTerms → ℕ → List ℕ → Option (List SourceTerms))
-    → Option (SourceTerms × Option (List ℕ)) → Option (List SourceTerms)
-shared_after before more None = None
-shared_after before more (Some p) =
-    if names_plant before p.0.plant then None else shared_rest (before ++ p.0 ∷ []) more p.0.high p.1
+-- one source after the other: each share begins where the one before it ends
+abbrev pub in_a_row : ℕ → List PlantShare → List SourceTerms
+in_a_row low [] = []
+in_a_row low (s ∷ ss) = record { plant = s.plant; low = low; high = low + s.share } ∷ in_a_row (low + s.share) ss
 
--- plants with their shares, at most so many, after those before
-unfoldable pub shared_sources : ℕ → List SourceTerms → ℕ → List ℕ → Option (List SourceTerms)
-shared_sources zero before low text = None
-shared_sources (suc n) before low text = shared_after before (shared_sources n) (shared_source text low)
+abbrev pub whole_in_a_row : Option (List PlantShare) → Option (List SourceTerms)
+whole_in_a_row None = None
+whole_in_a_row (Some ss) = if are_whole ss then Some (in_a_row 0 ss) else None
+
+-- plants with their shares: the text is cut at its colons
+unfoldable pub split_sources : List ℕ → Option (List SourceTerms)
+split_sources text = whole_in_a_row (plant_shares (slice_split is_colon text))
 
 -- one plant, or two to four plants with their shares
 unfoldable pub sources_of : List ℕ → Option (List SourceTerms)
-sources_of text =
-    if is_name text then Some (record { plant = text; low = 0; high = MOST_SHARE } ∷ []) else shared_sources MOST_SOURCES_OF_PAIR [] 0 text
+sources_of text = if is_name text then Some (record { plant = text; low = 0; high = MOST_SHARE } ∷ []) else split_sources text
 
 abbrev pub from_terms : Option (List SourceTerms) → Option SupplyTerms
 from_terms sources = option_map FromTerms sources

@@ -3,7 +3,8 @@ ghost use Rattle.std.specs.List.{list_any};
 ghost use Rattle.std.specs.Str.{bytes_eq};
 ghost use Rattle.mrp_spell.specs.Spelled.{share_view, source_view, supply_view, AreSources, HasSources, IsSource, TellsSpelled};
 ghost use Rattle.mrp_spell.specs.Spelling.{number_within};
-ghost use Rattle.mrp_spell.specs.Supplies.{names_plant, share_of, shared_source, shared_sources, sources_of, supply_of};
+ghost use Rattle.mrp_spell.specs.Steps.{share_of, shared_source, sources_with};
+ghost use Rattle.mrp_spell.specs.Supplies.{names_plant, sources_of, supply_of};
 ghost use Rattle.mrp_spell.specs.declared.supplies.TheConstants.{MOST_SHARE};
 ghost use Rattle.mrp_spell.specs.declared.supplies.SupplyFault.TheVariants.{Memory};
 
@@ -118,7 +119,7 @@ fn shared_sources<'r>(
     requires within { low ≤ 1000 }
     requires few { length sources.items + left ≤ 4 }
     requires sources { AreSources sources.items }
-    ensures exact { TellsSpelled (λ found. map source_view found.items) result (shared_sources left (map source_view sources.entry.items) low text.now) }
+    ensures exact { TellsSpelled (λ found. map source_view found.items) result (sources_with left (map source_view sources.entry.items) low text.now) }
     ensures sources { IfOk result (λ found. AreSources found.items) }
 {
     if left == 0 {
@@ -154,7 +155,7 @@ fn all_shared<'r>(
 }
 
 /// The first plant of a text with its share, which begins at `low`, and the text after them.
-#[tactic(auto, unfolding(crate::specs::Supplies::shared_source))]
+#[tactic(auto, unfolding(crate::specs::Steps::shared_source))]
 fn shared_source<'r>(text: &'r str, low: u64) -> Option<(SpelledSource<'r>, Option<&'r str>)>
     requires within { low ≤ 1000 }
     ensures exact { share_view result ≡ shared_source text.now low }

@@ -1,30 +1,30 @@
-use Rattle.std.proofs.Common.{◌+◌, ◌≤◌, length, ◌<◌, ◌-◌, ◌∙◌, ◌++◌, ◌∷◌, [], List, ℕ, Option, None, map, option_map, sym, ap, subst, arith, Bor, Vec, Global}
+use Rattle.std.proofs.Common.{◌+◌, ◌≤◌, length, ◌<◌, ◌-◌, ◌∙◌, ◌∷◌, [], List, ℕ, ◌==◌, if◌then◌else◌, Option, Some, None, map, option_map, sym, ap, subst, arith, Bor, Vec, Global}
 use Rattle.std.proofs.lemmas.List.{length_push, map-append}
 use Rattle.std.proofs.lemmas.Result.{IfOk-weaker}
 use Rattle.mrp_spell.specs.declared.supplies.SpelledSource.{SpelledSource}
 use Rattle.mrp_spell.specs.Spelled.{source_view, AreSources, TellsSpelled}
-use Rattle.mrp_spell.specs.Supplies.{SourceTerms, names_plant, shared_rest, shared_sources}
+use Rattle.mrp_spell.specs.declared.supplies.TheConstants.{MOST_SHARE}
+use Rattle.mrp_spell.specs.Steps.{sources_with}
+use Rattle.mrp_spell.specs.Supplies.{SourceTerms, names_plant}
 use Rattle.mrp_spell.proofs.Apart.{sources_push}
-use Rattle.mrp_spell.proofs.Shares.{shared_sources-go, shared_sources-none, shared_sources-stop, shared_sources-twice}
+use Rattle.mrp_spell.proofs.Shares.{sources_with-last, sources_with-more, sources_with-none, sources_with-stop, sources_with-twice}
 use Rattle.mrp_spell.proofs.supplies.+shared_sources.Goals as goal
 
 abbrev now_of : Option (Bor (List ℕ)) → Option (List ℕ)
 now_of later = option_map (λ t. t.now) later
 
 pub returns-then-left-eq0-clause-exact : goal.returns-then-left-eq0-clause-exact
-returns-then-left-eq0-clause-exact t c = shared_sources-none _ _ _ _ c.if-left-eq0.true
+returns-then-left-eq0-clause-exact t c = sources_with-none _ _ _ _ c.if-left-eq0.true
 
 pub returns-in_default-clause-exact : goal.returns-in_default-clause-exact
 returns-in_default-clause-exact t c =
-    let some : 0 < c.args.left = omega (arith, c.if-left-eq0.false) in
-    shared_sources-stop c.args.left _ c.args.low c.args.text.now some (sym c.in_default.ensures.exact)
+    sources_with-stop c.args.left _ c.args.low c.args.text.now (sym c.in_default.ensures.exact)
 
 pub returns-then-names_plant-clause-exact : goal.returns-then-names_plant-clause-exact
 returns-then-names_plant-clause-exact t c =
-    let some : 0 < c.args.left = omega (arith, c.if-left-eq0.false) in
     let s = source_view c.in-Some.source in
     let named = ap (λ (xs : List SpelledSource). names_plant (map source_view xs) s.plant) (sym c.as_slice.ensures.value) ∙ sym c.names_plant.ensures.exact ∙ c.if-names_plant.true in
-    shared_sources-twice c.args.left _ c.args.low c.args.text.now some s (now_of c.in-Some.later) (sym c.in-Some.ensures.exact) named
+    sources_with-twice c.args.left _ c.args.low c.args.text.now s (now_of c.in-Some.later) (sym c.in-Some.ensures.exact) named
 
 pub returns-in-Some-later-clause-exact : goal.returns-in-Some-later-clause-exact
 returns-in-Some-later-clause-exact t c =
@@ -32,11 +32,10 @@ returns-in-Some-later-clause-exact t c =
     let s = source_view c.in-Some.source in
     let before = map source_view c.args.sources.items in
     let named = ap (λ (xs : List SpelledSource). names_plant (map source_view xs) s.plant) (sym c.as_slice.ensures.value) ∙ sym c.names_plant.ensures.exact ∙ c.if-names_plant.false in
-    let go = shared_sources-go c.args.left before c.args.low c.args.text.now some s (now_of c.in-Some.later) (sym c.in-Some.ensures.exact) named in
+    let is = sym c.in-Some.ensures.exact ∙ ap (λ (l : Option (Bor (List ℕ))). Some (s, now_of l)) c.in-Some-later.is in
+    let go = sources_with-more c.args.left before c.args.low c.args.text.now s c.in-Some-later.later.now some is named in
     let pushed = ap (λ (xs : List SpelledSource). map source_view xs) c.in_ok-push.ensures.items ∙ map-append source_view c.args.sources.items (c.in-Some.source ∷ []) in
-    let total = go
-    ∙ ap (λ (l : Option (Bor (List ℕ))). shared_rest (before ++ s ∷ []) (shared_sources (c.args.left - 1)) s.high (now_of l)) c.in-Some-later.is
-    ∙ ap (λ (xs : List SourceTerms). shared_sources (c.args.left - 1) xs s.high c.in-Some-later.later.now) (sym pushed) in
+    let total = go ∙ ap (λ (xs : List SourceTerms). sources_with (c.args.left - 1) xs s.high c.in-Some-later.later.now) (sym pushed) in
     subst (λ (r : Option (List SourceTerms)). TellsSpelled (λ (found : Vec SpelledSource Global). map source_view found.items) c.shared_sources.result r) (sym total) c.shared_sources.ensures.exact
 
 pub returns-in-None-clause-exact : goal.returns-in-None-clause-exact
@@ -45,11 +44,10 @@ returns-in-None-clause-exact t c =
     let s = source_view c.in-Some.source in
     let before = map source_view c.args.sources.items in
     let named = ap (λ (xs : List SpelledSource). names_plant (map source_view xs) s.plant) (sym c.as_slice.ensures.value) ∙ sym c.names_plant.ensures.exact ∙ c.if-names_plant.false in
-    let go = shared_sources-go c.args.left before c.args.low c.args.text.now some s (now_of c.in-Some.later) (sym c.in-Some.ensures.exact) named in
+    let is = sym c.in-Some.ensures.exact ∙ ap (λ (l : Option (Bor (List ℕ))). Some (s, now_of l)) c.in-None.is in
+    let go = sources_with-last c.args.left before c.args.low c.args.text.now s some is named in
     let pushed = ap (λ (xs : List SpelledSource). map source_view xs) c.in_ok-push.ensures.items ∙ map-append source_view c.args.sources.items (c.in-Some.source ∷ []) in
-    let total = go
-    ∙ ap (λ (l : Option (Bor (List ℕ))). shared_rest (before ++ s ∷ []) (shared_sources (c.args.left - 1)) s.high (now_of l)) c.in-None.is
-    ∙ ap (λ (xs : List SourceTerms). shared_rest xs (shared_sources (c.args.left - 1)) s.high None) (sym pushed) in
+    let total = go ∙ ap (λ (xs : List SourceTerms). let r : Option (List SourceTerms) = if s.high == MOST_SHARE then Some xs else None in r) (sym pushed) in
     subst (λ (r : Option (List SourceTerms)). TellsSpelled (λ (found : Vec SpelledSource Global). map source_view found.items) c.all_shared.result r) (sym total) c.all_shared.ensures.exact
 
 pub shared_sources-requires : goal.shared_sources-requires

@@ -1,7 +1,11 @@
-use Rattle.std.proofs.Common.{◌++◌, ◌∷◌, [], List, refl, sym, ap, ◌∙◌, subst, arith}
+use Rattle.std.proofs.Common.{◌++◌, ◌∷◌, [], List, Option, map, refl, sym, ap, ◌∙◌, subst, arith, Vec, Global}
 use Rattle.mrp_spell.specs.declared.supplies.SpelledSource.{SpelledSource}
-use Rattle.mrp_spell.specs.Spelled.{AreSources, IsSource}
+use Rattle.mrp_spell.specs.declared.supplies.TheConstants.{MOST_SOURCES_OF_PAIR}
+use Rattle.mrp_spell.specs.Spelled.{AreSources, IsSource, source_view, TellsSpelled}
+use Rattle.mrp_spell.specs.Steps.{sources_with}
+use Rattle.mrp_spell.specs.Supplies.{SourceTerms}
 use Rattle.mrp_spell.proofs.Apart.{no_sources, sources_push}
+use Rattle.mrp_spell.proofs.Shares.{sources_of-split}
 use Rattle.mrp_spell.proofs.supplies.sources.Goals as goal
 
 pub returns-then-is_name-clause-sources : goal.returns-then-is_name-clause-sources
@@ -13,3 +17,9 @@ returns-then-is_name-clause-sources c =
 
 pub shared_sources-requires-clause-sources : goal.shared_sources-requires-clause-sources
 shared_sources-requires-clause-sources c = subst AreSources (sym c.in_ok-sources.ensures.items) no_sources
+
+pub returns-clause-exact : goal.returns-clause-exact
+returns-clause-exact c =
+    let none = ap (λ (xs : List SpelledSource). sources_with MOST_SOURCES_OF_PAIR (map source_view xs) 0 c.args.text.now) c.in_ok-sources.ensures.items in
+    let split = sources_of-split c.args.text.now (sym c.is_name.ensures ∙ c.if-is_name.false) in
+    subst (λ (r : Option (List SourceTerms)). TellsSpelled (λ (found : Vec SpelledSource Global). map source_view found.items) c.shared_sources.result r) (none ∙ sym split) c.shared_sources.ensures.exact
