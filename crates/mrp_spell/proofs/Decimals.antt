@@ -60,6 +60,9 @@ first_is (suc n) fits =
     let differs : (get_or (decimal (suc n)) 0 0 == 48) ≡ false = ne_eqb _ 48 (λ e. absurd (omega arith)) in
     rw differs refl
 
+pub decimal_digits : (n : ℕ) → n < 2 ^ 64 → list_all is_ascii_digit (decimal n) ≡ true
+decimal_digits n fits = digits_decimal own n fits
+
 -- the text of a number is read as it
 pub number-written : (n : ℕ) → n < 10 ^ 16 → number_of (decimal n) ≡ Some n
 unfolding number_of

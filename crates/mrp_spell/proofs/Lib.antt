@@ -5,3 +5,4 @@ pub mod Mapped
 pub mod Ranges
 pub mod Shares
 pub mod Wholes
+pub mod Written

@@ -10,7 +10,7 @@ use Rattle.std.proofs.lemmas.List.Sums.{sum_by-cons}
 use Rattle.std.proofs.lemmas.Map.Keys.{IsDistinct-cons}
 use Rattle.mrp_spell.specs.declared.supplies.TheConstants.{MOST_SHARE, MOST_SOURCES_OF_PAIR}
 use Rattle.mrp_spell.specs.Spelling.{cut, is_colon, is_name}
-use Rattle.mrp_spell.specs.Supplies.{are_different, are_whole, AreWhole, BuyTerms, from_terms, FromTerms, in_a_row, is_same_plant, IsShare, IsWholeSupply, MakeTerms, plant_shares, PlantShare, ShareFrom, sources_of, SourceTerms, split_sources, supply_in, supply_of, SupplyTerms, whole_in_a_row}
+use Rattle.mrp_spell.specs.Supplies.{are_different, are_whole, AreWhole, BuyTerms, from_terms, FromTerms, HasName, in_a_row, is_same_plant, IsShare, IsWholeSupply, MakeTerms, plant_shares, PlantShare, ShareFrom, sources_of, SourceTerms, split_sources, supply_in, supply_of, SupplyTerms, whole_in_a_row}
 use Rattle.mrp_spell.proofs.Lists.{All-from_any, All_one, IsDistinct-nil, distinct_one}
 use Rattle.mrp_spell.proofs.Ranges.{same_Some}
 use Rattle.mrp_spell.proofs.Shares.{InRange, shares_in_range}
@@ -33,6 +33,12 @@ row_shares low (s ∷ ss) are fits =
     All-cons IsShare (record { plant = s.plant; low = low; high = low + s.share }) (in_a_row (low + s.share) ss)
     (record { rises = omega (arith, one.0); ends = omega (arith, sums, fits) })
     (row_shares (low + s.share) ss (All-tail InRange s ss are) (omega (arith, sums, fits)))
+
+row_names : (low : ℕ) (ss : List PlantShare) → list_all (λ s. is_name s.plant) ss ≡ true → All HasName (in_a_row low ss)
+row_names low [] e = All-nil HasName
+row_names low (s ∷ ss) e =
+    let parts = and_parts (is_name s.plant) (list_all (λ s. is_name s.plant) ss) e in
+    All-cons HasName (record { plant = s.plant; low = low; high = low + s.share }) (in_a_row (low + s.share) ss) parts.0 (row_names (low + s.share) ss parts.1)
 
 row_new : (plant : List ℕ) (low : ℕ) (ss : List PlantShare) → list_any (λ t. bytes_eq plant t.plant) ss ≡ false → list_any (λ t. bytes_eq plant t.plant) (in_a_row low ss) ≡ false
 row_new plant low [] e = refl
@@ -62,6 +68,7 @@ row_whole ss range e =
     let sums : sum_by (λ s. s.share) ss ≡ MOST_SHARE = eqb-true _ MOST_SHARE a.1 in
     record {
       few = omega (arith, few, row_length 0 ss);
+      names = row_names 0 ss c.1;
       each = row_shares 0 ss range (omega (arith, sums));
       apart = row_apart 0 ss b.1;
       shares = row_follows 0 MOST_SHARE ss (omega (arith, sums));
@@ -81,13 +88,13 @@ split_are text ts e = whole_row (plant_shares (slice_split is_colon text)) ts (s
 
 sources_are : (text : List ℕ) (ss : List SourceTerms) → sources_of text ≡ Some ss → AreWhole ss
 unfolding sources_of
-sources_are text ss e = by (is_name text) e
+sources_are text ss e = by (is_name text) refl e
   where
-    by : (b : Bool) → ◌≡◌ {A = Option (List SourceTerms)} (if b then Some (record { plant = text; low = 0; high = MOST_SHARE } ∷ []) else split_sources text) (Some ss) → AreWhole ss
-    by true e =
+    by : (b : Bool) → is_name text ≡ b → ◌≡◌ {A = Option (List SourceTerms)} (if b then Some (record { plant = text; low = 0; high = MOST_SHARE } ∷ []) else split_sources text) (Some ss) → AreWhole ss
+    by true name e =
         let one : SourceTerms = record { plant = text; low = 0; high = MOST_SHARE } in
-        subst AreWhole (same_Some (one ∷ []) ss e) (record { few = omega arith; each = All_one IsShare one (record { rises = omega arith; ends = omega arith }); apart = distinct_one is_same_plant one; shares = (refl, refl) })
-    by false e = split_are text ss e
+        subst AreWhole (same_Some (one ∷ []) ss e) (record { few = omega arith; names = All_one HasName one name; each = All_one IsShare one (record { rises = omega arith; ends = omega arith }); apart = distinct_one is_same_plant one; shares = (refl, refl) })
+    by false name e = split_are text ss e
 
 -- ---- the supply of a pair row
 

@@ -1,5 +1,5 @@
 -- What the readers of a supply answer, in the words of its spelling.
-use Rattle.std.specs.Prelude.{◌≡◌, ℕ, ◌≤◌, ◌<◌, Bool, List, length, map, All, Option, None, Some, option_map, Result, Ok, Err}
+use Rattle.std.specs.Prelude.{◌≡◌, ◌≢◌, ℕ, ◌≤◌, ◌<◌, Bool, List, length, map, All, Option, None, Some, option_map, Result, Ok, Err}
 use Rattle.std.specs.Borrow.{Bor}
 use Rattle.std.specs.List.{IsDistinct}
 use Rattle.std.specs.Str.{bytes_eq}
@@ -9,7 +9,7 @@ use Rattle.mrp_spell.specs.declared.supplies.SpelledSupply.{SpelledSupply}
 use Rattle.mrp_spell.specs.declared.supplies.SpelledSupply.TheVariants.{Make, Buy, From}
 use Rattle.mrp_spell.specs.declared.supplies.SupplyFault.{SupplyFault}
 use Rattle.mrp_spell.specs.declared.supplies.SupplyFault.TheVariants.{NotASupply, Memory}
-use Rattle.mrp_spell.specs.Supplies.{SourceTerms, SupplyTerms, MakeTerms, BuyTerms, FromTerms}
+use Rattle.mrp_spell.specs.Supplies.{IsWholeSupply, SourceTerms, supply_text, SupplyTerms, MakeTerms, BuyTerms, FromTerms}
 
 -- a share that ends after it begins, and within the whole
 pub record IsSource (s : SpelledSource) : Type 0 where
@@ -53,3 +53,9 @@ abbrev pub TellsSpelled : {A B : Type 0} → (A → B) → Result A SupplyFault 
 TellsSpelled view (Ok x) spelled = spelled ≡ Some (view x)
 TellsSpelled view (Err NotASupply) spelled = spelled ≡ None
 TellsSpelled view (Err Memory) spelled = Unit {0}
+
+-- a supply is answered to its text, and NotASupply to a text that is no supply's
+abbrev pub TellsWritten : List ℕ → Result SpelledSupply SupplyFault → Type 0
+TellsWritten text (Ok x) = (text ≡ supply_text (supply_view x)) × IsWholeSupply (supply_view x)
+TellsWritten text (Err NotASupply) = (supply : SupplyTerms) → IsWholeSupply supply → text ≢ supply_text supply
+TellsWritten text (Err Memory) = Unit {0}

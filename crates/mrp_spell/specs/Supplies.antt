@@ -1,10 +1,10 @@
 -- How it is spelled where a pair comes from, and what each plant's share is.
 use Rattle.std.specs.Prelude.{◌≡◌, ◌≤◌, ◌<◌, ℕ, ◌+◌, ◌-◌, ◌==◌, ◌&&◌, not, nat_le, Bool, true}
-use Rattle.std.specs.Prelude.{if◌then◌else◌, List, [], ◌∷◌, codes, length, Option, Some, None, option_map, All}
-use Rattle.std.specs.List.{IsDistinct, list_all, list_any, slice_split, sum_by}
+use Rattle.std.specs.Prelude.{if◌then◌else◌, List, [], ◌∷◌, ◌++◌, codes, length, Option, Some, None, option_map, All}
+use Rattle.std.specs.List.{IsDistinct, join_with_byte, list_all, list_any, slice_split, sum_by}
 use Rattle.std.specs.Str.{bytes_eq}
 use Rattle.mrp_spell.specs.declared.supplies.TheConstants.{MOST_SHARE, MOST_SOURCES_OF_PAIR}
-use Rattle.mrp_spell.specs.Spelling.{cut, is_colon, is_name, number_within}
+use Rattle.mrp_spell.specs.Spelling.{cut, is_colon, is_name, number_text, number_within}
 
 -- one plant that a pair is taken from; its share goes from low to high
 pub record SourceTerms : Type 0 where
@@ -80,6 +80,25 @@ supply_in text (Some p) =
 unfoldable pub supply_of : List ℕ → Option SupplyTerms
 supply_of text = supply_in text (cut text)
 
+-- ---- the text of a supply
+
+-- each plant before its share
+abbrev pub source_fields : List SourceTerms → List (List ℕ)
+source_fields [] = []
+source_fields (s ∷ ss) = s.plant ∷ number_text (s.high - s.low) ∷ source_fields ss
+
+-- one plant alone, or plants and shares with a colon between each two
+abbrev pub sources_text : List SourceTerms → List ℕ
+sources_text [] = []
+sources_text (s ∷ []) = s.plant
+sources_text (s ∷ t ∷ ss) = join_with_byte 58 (source_fields (s ∷ t ∷ ss))
+
+-- the one text of a supply
+abbrev pub supply_text : SupplyTerms → List ℕ
+supply_text MakeTerms = codes "make"
+supply_text BuyTerms = codes "buy"
+supply_text (FromTerms sources) = codes "from:" ++ sources_text sources
+
 -- the sources that a supply names
 abbrev pub named_sources : SupplyTerms → List SourceTerms
 named_sources MakeTerms = []
@@ -101,9 +120,13 @@ pub record IsShare (s : SourceTerms) : Type 0 where
   pub rises : s.low < s.high
   pub ends : s.high ≤ MOST_SHARE
 
--- at most four plants, all different, each with a share, and the shares are together the whole
+abbrev pub HasName : SourceTerms → Type 0
+HasName s = is_name s.plant ≡ true
+
+-- at most four plants, each a name and all different, each with a share, and the shares are together the whole
 pub record AreWhole (ss : List SourceTerms) : Type 0 where
   pub few : length ss ≤ MOST_SOURCES_OF_PAIR
+  pub names : All HasName ss
   pub each : All IsShare ss
   pub apart : IsDistinct is_same_plant ss
   pub shares : ShareFrom 0 ss MOST_SHARE

@@ -1,7 +1,7 @@
 //! Laws of spelling, each the contract of a function that does nothing.
 ghost use Rattle.std.specs.Prelude.{◌≡◌, ℕ, List, Some};
 ghost use Rattle.mrp_spell.specs.Spelling.{IsShort, number_of, number_text};
-ghost use Rattle.mrp_spell.specs.Supplies.{IsWholeSupply, supply_of, SupplyTerms};
+ghost use Rattle.mrp_spell.specs.Supplies.{IsWholeSupply, supply_of, supply_text, SupplyTerms};
 
 use crate::supplies::{MOST_SHARE, MOST_SOURCES_OF_PAIR};
 
@@ -9,6 +9,13 @@ use crate::supplies::{MOST_SHARE, MOST_SOURCES_OF_PAIR};
 /// shares are together the whole.
 pub fn supplies_are_whole()
     ensures { (text : List ℕ) (supply : SupplyTerms) → supply_of text ≡ Some supply → IsWholeSupply supply }
+{}
+
+/// A supply has one text, and that text is read as it: what stands after `from:` is a plant, or plants
+/// with their shares, as they are written.
+pub fn supplies_have_one_text()
+    ensures read { (supply : SupplyTerms) → IsWholeSupply supply → supply_of (supply_text supply) ≡ Some supply }
+    ensures text { (text : List ℕ) (supply : SupplyTerms) → supply_of text ≡ Some supply → (text ≡ supply_text supply) × IsWholeSupply supply }
 {}
 
 /// A number has one text, and that text is read as it.

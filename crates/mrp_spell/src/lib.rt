@@ -7,7 +7,9 @@ mod numbers;
 mod rules;
 mod supplies;
 
-pub use laws::{limits_are_numbers, numbers_have_one_text, supplies_are_whole};
+pub use laws::{
+    limits_are_numbers, numbers_have_one_text, supplies_are_whole, supplies_have_one_text,
+};
 pub use names::is_name;
 pub use numbers::{number, number_within};
 pub use rules::rule;

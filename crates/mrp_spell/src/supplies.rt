@@ -1,7 +1,7 @@
 ghost use Rattle.std.specs.Prelude.{◌≡◌, ◌+◌, ◌-◌, ◌==◌, ◌≤◌, if◌then◌else◌, length, map, option_map, IfOk, IfSome, Some, None};
 ghost use Rattle.std.specs.List.{list_any};
 ghost use Rattle.std.specs.Str.{bytes_eq};
-ghost use Rattle.mrp_spell.specs.Spelled.{share_view, source_view, supply_view, AreSources, HasSources, IsSource, TellsSpelled};
+ghost use Rattle.mrp_spell.specs.Spelled.{share_view, source_view, supply_view, AreSources, HasSources, IsSource, TellsSpelled, TellsWritten};
 ghost use Rattle.mrp_spell.specs.Spelling.{number_within};
 ghost use Rattle.mrp_spell.specs.Steps.{share_of, shared_source, sources_with};
 ghost use Rattle.mrp_spell.specs.Supplies.{names_plant, sources_of, supply_of};
@@ -65,9 +65,18 @@ pub enum SpelledSupply<'r> {
 }
 
 /// The supply that a text spells: `make`, `buy`, `from:PLANT`, or `from:` with two to four plants,
-/// each followed by its share in thousandths.
-#[tactic(auto, unfolding(crate::specs::Supplies::supply_of))]
+/// each followed by its share in thousandths. Each supply has just one such text.
 pub fn supply<'r>(alloc: Global, text: &'r str) -> Result<SpelledSupply<'r>, SupplyFault>
+    ensures exact { TellsSpelled supply_view result (supply_of text.now) }
+    ensures written { TellsWritten text.now result }
+    ensures sources { IfOk result HasSources }
+{
+    read(alloc, text)
+}
+
+/// The supply that a text spells.
+#[tactic(auto, unfolding(crate::specs::Supplies::supply_of))]
+fn read<'r>(alloc: Global, text: &'r str) -> Result<SpelledSupply<'r>, SupplyFault>
     ensures exact { TellsSpelled supply_view result (supply_of text.now) }
     ensures sources { IfOk result HasSources }
 {
