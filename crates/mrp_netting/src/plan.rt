@@ -1,4 +1,4 @@
-ghost use Rattle.std.specs.Prelude.{◌≡◌, ◌<◌, ◌≤◌, ◌↔◌, length, IsTrue, IfOk, slice_index_or, vec_capacity};
+ghost use Rattle.std.specs.Prelude.{◌≡◌, ◌<◌, ◌≤◌, ◌↔◌, length, IsTrue, IfOk, Some, slice_get, vec_capacity};
 ghost use Rattle.mrp_lot.specs.One.{PlanRows, one, IsWithin};
 ghost use Rattle.mrp_netting.specs.Plan.{AreRows, nothing_planned, late_orders, AreLate};
 
@@ -125,7 +125,7 @@ impl PairPlan {
     /// period.
     pub fn late(&self, i: usize) -> Late
         requires { i < length self.now.late }
-        ensures { result ≡ slice_index_or self.now.late i result }
+        ensures { slice_get self.now.late i ≡ Some result }
     {
         let period = self.late[i];
         Late {
