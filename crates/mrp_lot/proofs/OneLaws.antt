@@ -12,8 +12,9 @@ use Rattle.mrp_lot.specs.declared.rule.Rule.TheVariants.{LotForLot, Fixed, Perio
 use Rattle.mrp_lot.specs.declared.params.PairParams.{PairParams}
 use Rattle.mrp_lot.specs.Lot.{IsRule, rule_quantities, periods_covered, lot_of}
 use Rattle.mrp_lot.proofs.LotLaws.{least_multiple-le, least_multiple-lt}
-use Rattle.mrp_lot.proofs.RangeLaws.{sum_take-suc, sum_drop_take-one, sum_by-range-suc, moved_sum}
-use Rattle.mrp_lot.specs.One.{need_over, greatest_need, net_after, order_after, available_after, balance_before, order_at, release_at, one, IsWithin}
+use Rattle.mrp_lot.proofs.RangeLaws.{sum_take-suc, sum_drop_take-one, sum_by-range-suc, sum_by-range-same, moved_sum}
+use Rattle.mrp_lot.specs.One.{need_over, greatest_need, net_after, order_after, available_after, balance_before, order_at, order_row, release_at, one}
+use Rattle.mrp_lot.specs.One.{IsWithin}
 use Rattle.mrp_lot.specs.Rules.{OrdersAreReleased, ReleasesAreBounded, AvailableCoversSafety, RowsStayWithin}
 
 -- the definitions, opened a step
@@ -167,11 +168,33 @@ balance_before-le pair incoming gross t is within =
       sum_by-take-le (λ (x : ℕ). x) incoming t,
     )
 
+-- the order row, period by period
+pub length-order_row : (pair : PairParams) (incoming gross : List ℕ) → length (order_row pair incoming gross) ≡ length gross
+length-order_row pair incoming gross = length-map-range_with_len (order_at pair incoming gross) 0 (length gross)
+
+pub order_row-at : (pair : PairParams) (incoming gross : List ℕ) (t : ℕ) → t < length gross
+    → slice_index (order_row pair incoming gross) t ≡ order_at pair incoming gross t
+order_row-at pair incoming gross t h = get_or-map-range_with_len (order_at pair incoming gross) 0 (length gross) t t 0 h (omega arith)
+
+-- a release of the plan: its orders that are due a lead time later, or before
+pub release_at-is : (pair : PairParams) (incoming gross : List ℕ) (u : ℕ) → release_at pair incoming gross u
+    ≡ sum_by (λ t. if (t - pair.lead) == u then order_at pair incoming gross t else 0) (range_with_len 0 (length gross))
+unfolding release_at
+release_at-is pair incoming gross u =
+    ap (λ (n : ℕ). sum_by (λ t. if (t - pair.lead) == u then slice_index (order_row pair incoming gross) t else 0) (range_with_len 0 n))
+    (length-order_row pair incoming gross)
+    ∙ sum_by-range-same (λ t. if (t - pair.lead) == u then slice_index (order_row pair incoming gross) t else 0)
+    (λ t. if (t - pair.lead) == u then order_at pair incoming gross t else 0) (length gross)
+    (λ t below. ap (λ (q : ℕ). if (t - pair.lead) == u then q else 0) (order_row-at pair incoming gross t below))
+
 -- what is ordered is released
 pub releases-sum : (pair : PairParams) (incoming gross : List ℕ)
     → sum_by (release_at pair incoming gross) (range_with_len 0 (length gross)) ≡ sum_by (order_at pair incoming gross) (range_with_len 0 (length gross))
-unfolding release_at
-releases-sum pair incoming gross = moved_sum (order_at pair incoming gross) (λ t. t - pair.lead) (length gross) (λ k h. omega arith)
+releases-sum pair incoming gross =
+    sum_by-range-same (release_at pair incoming gross)
+    (λ u. sum_by (λ t. if (t - pair.lead) == u then order_at pair incoming gross t else 0) (range_with_len 0 (length gross))) (length gross)
+    (λ u h. release_at-is pair incoming gross u)
+    ∙ moved_sum (order_at pair incoming gross) (λ t. t - pair.lead) (length gross) (λ k h. omega arith)
 
 pub releases-le : (pair : PairParams) (incoming gross : List ℕ) → IsWithin pair incoming gross
     → sum_by (release_at pair incoming gross) (range_with_len 0 (length gross)) ≤ pair.safety + rule_quantities pair.rule + sum gross
@@ -200,13 +223,27 @@ one-order pair incoming gross = refl
 
 pub one-release : (pair : PairParams) (incoming gross : List ℕ) → (one pair incoming gross).release
     ≡ map (release_at pair incoming gross) (range_with_len 0 (length gross))
-unfolding one
-one-release pair incoming gross = refl
+unfolding one release_at
+one-release pair incoming gross = ap (λ (n : ℕ). map (release_at pair incoming gross) (range_with_len 0 n)) (length-order_row pair incoming gross)
+
+-- each row has a period for each gross requirement
+pub length-one-order : (pair : PairParams) (incoming gross : List ℕ) → length (one pair incoming gross).order ≡ length gross
+length-one-order pair incoming gross =
+    ap (λ (row : List ℕ). length row) (one-order pair incoming gross) ∙ length-map-range_with_len (order_at pair incoming gross) 0 (length gross)
+
+pub length-one-release : (pair : PairParams) (incoming gross : List ℕ) → length (one pair incoming gross).release ≡ length gross
+length-one-release pair incoming gross =
+    ap (λ (row : List ℕ). length row) (one-release pair incoming gross) ∙ length-map-range_with_len (release_at pair incoming gross) 0 (length gross)
 
 pub one-available : (pair : PairParams) (incoming gross : List ℕ)
     → (one pair incoming gross).available ≡ map (λ t. balance_before pair incoming gross (suc t)) (range_with_len 0 (length gross))
 unfolding one
 one-available pair incoming gross = refl
+
+pub length-one-available : (pair : PairParams) (incoming gross : List ℕ) → length (one pair incoming gross).available ≡ length gross
+length-one-available pair incoming gross =
+    ap (λ (row : List ℕ). length row) (one-available pair incoming gross)
+    ∙ length-map-range_with_len (λ t. balance_before pair incoming gross (suc t)) 0 (length gross)
 
 pub one-gross : (pair : PairParams) (incoming gross : List ℕ) → (one pair incoming gross).gross ≡ gross
 unfolding one

@@ -1,17 +1,18 @@
 -- Rows that follow the rules are the plan, and the plan follows them.
-use Rattle.std.specs.Prelude.{◌≡◌, ℕ, ◌+◌, ◌-◌, ◌/◌, ◌≤◌, ◌<◌, ◌==◌, ◌&&◌, nat_lt, if◌then◌else◌}
-use Rattle.std.specs.Prelude.{max, List, length, sum_by, filter_map, slice_index, Option, Some, None, zero, suc}
-use Rattle.std.specs.List.{range_with_len}
-use Rattle.std.proofs.Common.{arith, sym, refl, ◌∙◌, ap}
+use Rattle.std.specs.Prelude.{◌≡◌, ℕ, ◌+◌, ◌-◌, ◌/◌, ◌≤◌, ◌<◌, ◌==◌, min, max, List, length, slice_index, zero, suc}
+use Rattle.std.proofs.Common.{arith, sym, refl, ◌∙◌, ap, ⊎_elim, ne_eqb}
+use Rattle.std.proofs.lemmas.Bool.{cases_lt, cond-false}
 use Rattle.std.proofs.lemmas.List.FromFn.{length-map-range_with_len, get_or-map-range_with_len, fill_by_all}
 use Rattle.mrp_lot.specs.declared.params.PairParams.{PairParams}
 use Rattle.mrp_lot.specs.declared.params.Late.{Late}
-use Rattle.mrp_lot.specs.Lot.{least_multiple_of}
+use Rattle.mrp_lot.specs.declared.rule.Rule.{Rule}
+use Rattle.mrp_lot.specs.declared.rule.Rule.TheVariants.{Periods}
+use Rattle.mrp_lot.specs.Lot.{least_multiple_of, periods_covered, lot_of}
 use Rattle.mrp_lot.proofs.LotLaws.{least_multiple-le, least_multiple-lt, least_multiple-least}
-use Rattle.mrp_lot.specs.One.{PlanRows, one, order_after, order_at, release_at, late_at, balance_before, IsWithin}
-use Rattle.mrp_lot.proofs.OneLaws.{balance_before-zero, balance_before-next, order_at-is, lot-ge, one-order, one-release, one-available}
-use Rattle.mrp_lot.proofs.RangeLaws.{sum_by-range-same, filter_map-range-same}
-use Rattle.mrp_lot.specs.Rules.{balance_in, late_in, FollowsRules, IsLeastMultiple, FixedIsLeast, MinMultipleIsLeast}
+use Rattle.mrp_lot.specs.One.{PlanRows, one, need_over, greatest_need, net_after, order_after, order_at, balance_before, release_row, late_orders, IsWithin}
+use Rattle.mrp_lot.proofs.OneLaws.{balance_before-zero, balance_before-next, order_at-is, lot-ge, one-order, one-available}
+use Rattle.mrp_lot.proofs.OneLaws.{greatest_need-zero, greatest_need-suc, greatest_need-ge}
+use Rattle.mrp_lot.specs.Rules.{balance_in, FollowsRules, IsLeastMultiple, FixedIsLeast, MinMultipleIsLeast, PeriodsIsGreatest}
 use Rattle.mrp_lot.specs.Rules.{FixedIsSmall, MinMultipleIsSmall, LotCovers, PlanFollowsRules, RulesHaveOnePlan}
 
 is_least : (q n : ℕ) → 1 ≤ q → IsLeastMultiple q n (least_multiple_of q n)
@@ -33,6 +34,55 @@ min_multiple-is_least minimum multiple net span some = is_least multiple (max ne
 pub min_multiple-lt : MinMultipleIsSmall
 min_multiple-lt minimum multiple net span some = omega (arith, least_multiple-lt (max net minimum) multiple some)
 
+-- the greatest need is above none of those that it is of, and one of them where it is above 0
+greatest_need-covers : (pair : PairParams) (incoming gross : List ℕ) (before t n most : ℕ) → 1 ≤ n → n ≤ most
+    → need_over pair incoming gross before t n ≤ greatest_need pair incoming gross before t most
+greatest_need-covers pair incoming gross before t n zero some within = absurd (omega arith)
+greatest_need-covers pair incoming gross before t n (suc most) some within =
+    ⊎_elim
+    (λ (fewer : n < suc most). omega (
+      arith,
+      greatest_need-suc pair incoming gross before t most,
+      greatest_need-covers pair incoming gross before t n most some (omega arith),
+    ))
+    (λ (all : suc most ≤ n).
+    let same : n ≡ suc most = omega arith in
+    omega (arith, greatest_need-suc pair incoming gross before t most, ap (need_over pair incoming gross before t) same))
+    (cases_lt n (suc most))
+
+greatest_need-attained : (pair : PairParams) (incoming gross : List ℕ) (before t most : ℕ) → 0 < greatest_need pair incoming gross before t most
+    → (n : ℕ) × (1 ≤ n) × (n ≤ most) × (greatest_need pair incoming gross before t most ≡ need_over pair incoming gross before t n)
+greatest_need-attained pair incoming gross before t zero some = absurd (omega (arith, greatest_need-zero pair incoming gross before t))
+greatest_need-attained pair incoming gross before t (suc most) some =
+    let next = greatest_need-suc pair incoming gross before t most in
+    ⊎_elim
+    (λ (less : need_over pair incoming gross before t (suc most) < greatest_need pair incoming gross before t most).
+    let found = greatest_need-attained pair incoming gross before t most (omega arith) in
+    (found.0, found.1, omega (arith, found.2), omega (arith, next, found.3)))
+    (λ (more : greatest_need pair incoming gross before t most ≤ need_over pair incoming gross before t (suc most)).
+    (suc most, omega arith, omega arith, omega (arith, next)))
+    (cases_lt (need_over pair incoming gross before t (suc most)) (greatest_need pair incoming gross before t most))
+
+-- an order for periods of supply is their greatest need within the horizon
+order_for_periods : (pair : PairParams) (incoming gross : List ℕ) (before t k : ℕ) → pair.rule ≡ Periods k → 0 < net_after pair incoming gross before t
+    → order_after pair incoming gross before t ≡ greatest_need pair incoming gross before t (min k (length gross - t))
+order_for_periods pair incoming gross before t k rule some =
+    let net = net_after pair incoming gross before t in
+    let span : Rule → ℕ = λ r. greatest_need pair incoming gross before t (min (periods_covered r) (length gross - t)) in
+    cond-false (net == 0) 0 (lot_of pair.rule net (span pair.rule)) (ne_eqb net 0 (omega arith))
+    ∙ ap (λ (r : Rule). lot_of r net (span r)) rule
+
+pub periods-is_greatest : PeriodsIsGreatest
+periods-is_greatest pair incoming gross before t k rule one_at_least within some =
+    let most = min k (length gross - t) in
+    let ordered = order_for_periods pair incoming gross before t k rule some in
+    let first = greatest_need-ge pair incoming gross before t most (omega arith) in
+    let found = greatest_need-attained pair incoming gross before t most (omega arith) in
+    record {
+      covers = λ n low high inside. omega (arith, ordered, greatest_need-covers pair incoming gross before t n most low (omega arith));
+      attained = (found.0, found.1, omega (arith, found.2), omega (arith, found.2, within), ordered ∙ found.3);
+    }
+
 pub lot-covers : LotCovers
 lot-covers rule net span is h = lot-ge rule net span is h
 
@@ -52,27 +102,6 @@ same_order pair rows is follows t h =
     follows.order t h ∙ ap (λ (b : ℕ). order_after pair rows.incoming rows.gross b t) (same_balance pair rows is follows t (omega arith))
     ∙ sym (order_at-is pair rows.incoming rows.gross t)
 
-same_release : (pair : PairParams) (rows : PlanRows) → IsWithin pair rows.incoming rows.gross → FollowsRules pair rows
-    → (u : ℕ) → u < length rows.gross → slice_index rows.release u ≡ release_at pair rows.incoming rows.gross u
-unfolding release_at
-same_release pair rows is follows u h =
-    follows.release u h
-    ∙ sum_by-range-same (λ t. if (t - pair.lead) == u then slice_index rows.order t else 0)
-    (λ t. if (t - pair.lead) == u then order_at pair rows.incoming rows.gross t else 0) (length rows.gross)
-    (λ t below. ap (λ (q : ℕ). if (t - pair.lead) == u then q else 0) (same_order pair rows is follows t below))
-
--- a late order, by its period and quantity
-late_with : PairParams → ℕ → ℕ → Option Late
-late_with pair t q = if nat_lt t pair.lead && nat_lt 0 q then Some (record { period = t; quantity = q; by = pair.lead - t }) else None
-
-same_late : (pair : PairParams) (rows : PlanRows) → IsWithin pair rows.incoming rows.gross → FollowsRules pair rows
-    → filter_map (late_in pair rows) (range_with_len 0 (length rows.gross))
-    ≡ filter_map (late_at pair rows.incoming rows.gross) (range_with_len 0 (length rows.gross))
-unfolding late_at late_with
-same_late pair rows is follows =
-    filter_map-range-same {X = Late} (late_in pair rows) (late_at pair rows.incoming rows.gross) (length rows.gross)
-    (λ t h. ap (late_with pair t) (same_order pair rows is follows t h))
-
 -- rows with other lists in place of equal ones
 with_rows : (rows : PlanRows) (order release available : List ℕ) (late : List Late)
     → rows.order ≡ order → rows.release ≡ release → rows.available ≡ available → rows.late ≡ late
@@ -88,10 +117,10 @@ unfolding one
 rules-have_one_plan pair rows is follows =
     let n = length rows.gross in
     let order = fill_by_all (order_at pair rows.incoming rows.gross) rows.order n 0 follows.order_len (λ t h. same_order pair rows is follows t h) in
-    let release = fill_by_all (release_at pair rows.incoming rows.gross) rows.release n 0 follows.release_len (λ t h. same_release pair rows is follows t h) in
+    let release = follows.release ∙ ap (release_row pair.lead) order in
     let available = fill_by_all (λ t. balance_before pair rows.incoming rows.gross (suc t)) rows.available n 0 follows.available_len
     (λ t h. same_balance pair rows is follows (suc t) (omega arith)) in
-    let late = follows.late ∙ same_late pair rows is follows in
+    let late = follows.late ∙ ap (late_orders pair.lead) order in
     with_rows rows _ _ _ _ order release available late
 
 -- the other way round
@@ -107,30 +136,6 @@ plan_order : (pair : PairParams) (incoming gross : List ℕ) (t : ℕ) → t < l
 plan_order pair incoming gross t h =
     ap (λ (xs : List ℕ). slice_index xs t) (one-order pair incoming gross)
     ∙ get_or-map-range_with_len (order_at pair incoming gross) 0 (length gross) t t 0 h (omega arith)
-
-plan_release : (pair : PairParams) (incoming gross : List ℕ) (u : ℕ) → u < length gross
-    → slice_index (one pair incoming gross).release u
-    ≡ sum_by (λ t. if (t - pair.lead) == u then slice_index (one pair incoming gross).order t else 0) (range_with_len 0 (length gross))
-unfolding release_at
-plan_release pair incoming gross u h =
-    ap (λ (xs : List ℕ). slice_index xs u) (one-release pair incoming gross)
-    ∙ get_or-map-range_with_len (release_at pair incoming gross) 0 (length gross) u u 0 h (omega arith)
-    ∙ sum_by-range-same (λ t. if (t - pair.lead) == u then order_at pair incoming gross t else 0)
-    (λ t. if (t - pair.lead) == u then slice_index (one pair incoming gross).order t else 0) (length gross)
-    (λ t below. ap (λ (q : ℕ). if (t - pair.lead) == u then q else 0) (sym (plan_order pair incoming gross t below)))
-
-one-late : (pair : PairParams) (incoming gross : List ℕ) → (one pair incoming gross).late
-    ≡ filter_map (late_at pair incoming gross) (range_with_len 0 (length gross))
-unfolding one
-one-late pair incoming gross = refl
-
-plan_late : (pair : PairParams) (incoming gross : List ℕ)
-    → (one pair incoming gross).late ≡ filter_map (late_in pair (one pair incoming gross)) (range_with_len 0 (length gross))
-unfolding late_at late_with
-plan_late pair incoming gross =
-    one-late pair incoming gross
-    ∙ filter_map-range-same {X = Late} (late_at pair incoming gross) (late_in pair (one pair incoming gross)) (length gross)
-    (λ t h. ap (late_with pair t) (sym (plan_order pair incoming gross t h)))
 
 plan_available : (pair : PairParams) (incoming gross : List ℕ) → IsWithin pair incoming gross → (t : ℕ) → t < length gross
     → slice_index (one pair incoming gross).available t + slice_index gross t
@@ -153,10 +158,9 @@ plan-follows_rules pair incoming gross is =
     record {
       incoming_len = is.periods;
       order_len = length-map-range_with_len (order_at pair incoming gross) 0 n;
-      release_len = length-map-range_with_len (release_at pair incoming gross) 0 n;
       available_len = length-map-range_with_len (λ t. balance_before pair incoming gross (suc t)) 0 n;
       order = λ t h. plan_ordered pair incoming gross t h;
       available = λ t h. plan_available pair incoming gross is t h;
-      release = λ u h. plan_release pair incoming gross u h;
-      late = plan_late pair incoming gross;
+      release = refl;
+      late = refl;
     }

@@ -1,6 +1,15 @@
--- The plan of one pair whose gross requirements and scheduled receipts are given, period by period.
-use Rattle.std.specs.Prelude.{◌≡◌, ℕ, ◌+◌, ◌-◌, ◌≤◌, ◌&&◌, ◌==◌, nat_lt, if◌then◌else◌, min, max, List, length}
-use Rattle.std.specs.Prelude.{map, sum, sum_by, filter_map, take, drop, slice_index, Option, Some, None, zero, suc}
+-- The plan of one pair whose gross requirements and scheduled receipts are given, period by period: the
+-- record of an item in Orlicky's Material Requirements Planning (1975). Its terms are those of the APICS
+-- Dictionary, each beside its definition: gross requirements, scheduled receipts, net requirements,
+-- planned order receipts, planned order releases, projected available balance. The order row comes first,
+-- by net requirement and lot rule; releases and late orders are read off it alone.
+--
+-- Subtraction of ℕ stops at 0. So where safety stock is 0, that projected available is never below it says
+-- nothing, and what says something is the balance without subtraction: what was there, comes in and is
+-- ordered is what is required or stays (`FollowsRules.available`, which each plan within the bound meets by
+-- the law `PlanFollowsRules`). By it no requirement is left open, whatever the safety stock.
+use Rattle.std.specs.Prelude.{◌≡◌, ℕ, ◌+◌, ◌-◌, ◌≤◌, ◌&&◌, ◌==◌, Bool, nat_lt, if◌then◌else◌, min, max, List, length}
+use Rattle.std.specs.Prelude.{map, filter, sum, sum_by, take, drop, slice_index, zero, suc}
 use Rattle.std.specs.List.{range_with_len}
 use Rattle.mrp_qty.specs.declared.quantity.TheConstants.{MOST}
 use Rattle.mrp_lot.specs.declared.rule.TheConstants.{LONGEST_LEAD}
@@ -10,10 +19,15 @@ use Rattle.mrp_lot.specs.Lot.{IsRule, rule_quantities, periods_covered, lot_of}
 
 -- the rows of one pair's plan, and its late orders by rising period
 pub record PlanRows : Type 0 where
+  -- gross requirements
   pub gross : List ℕ
+  -- scheduled receipts
   pub incoming : List ℕ
+  -- planned order receipts
   pub order : List ℕ
+  -- planned order releases
   pub release : List ℕ
+  -- projected available balance
   pub available : List ℕ
   pub late : List Late
 
@@ -42,7 +56,7 @@ order_after pair incoming gross before t =
     let span = greatest_need pair incoming gross before t (min (periods_covered pair.rule) (length gross - t)) in
     if net == 0 then 0 else lot_of pair.rule net span
 
--- projected available after period t. It is never below safety, so the difference cuts nothing off
+-- projected available after period t. The order covers safety and the gross requirement, so the difference cuts nothing off
 abbrev pub available_after : PairParams → List ℕ → List ℕ → ℕ → ℕ → ℕ
 available_after pair incoming gross before t =
     (before + slice_index incoming t + order_after pair incoming gross before t) - slice_index gross t
@@ -56,28 +70,53 @@ balance_before pair incoming gross (suc t) = available_after pair incoming gross
 unfoldable pub order_at : PairParams → List ℕ → List ℕ → ℕ → ℕ
 order_at pair incoming gross t = order_after pair incoming gross (balance_before pair incoming gross t) t
 
--- planned order release of period u: the orders due a lead time later; those due before are released in period 0
-unfoldable pub release_at : PairParams → List ℕ → List ℕ → ℕ → ℕ
-release_at pair incoming gross u =
-    sum_by (λ t. if (t - pair.lead) == u then order_at pair incoming gross t else 0) (range_with_len 0 (length gross))
+-- planned order receipts
+abbrev pub order_row : PairParams → List ℕ → List ℕ → List ℕ
+order_row pair incoming gross = map (order_at pair incoming gross) (range_with_len 0 (length gross))
 
--- the order of period t, where it is due within the lead time
-unfoldable pub late_at : PairParams → List ℕ → List ℕ → ℕ → Option Late
-late_at pair incoming gross t =
-    let quantity = order_at pair incoming gross t in
-    if nat_lt t pair.lead && nat_lt 0 quantity then Some (record { period = t; quantity = quantity; by = pair.lead - t }) else None
+-- projected available
+abbrev pub available_row : PairParams → List ℕ → List ℕ → List ℕ
+available_row pair incoming gross = map (λ t. balance_before pair incoming gross (suc t)) (range_with_len 0 (length gross))
+
+-- what the orders of the first n periods release in period u: those due a lead time later, in period 0 also those due before
+abbrev pub released : ℕ → List ℕ → ℕ → ℕ → ℕ
+released lead order n u = sum_by (λ t. if (t - lead) == u then slice_index order t else 0) (range_with_len 0 n)
+
+-- planned order releases of the given orders
+abbrev pub release_row : ℕ → List ℕ → List ℕ
+release_row lead order = map (released lead order (length order)) (range_with_len 0 (length order))
+
+-- the period has an order, and it is due within the lead time
+abbrev pub is_late : ℕ → List ℕ → ℕ → Bool
+is_late lead order t = nat_lt t lead && nat_lt 0 (slice_index order t)
+
+-- the periods of late orders among the first n
+abbrev pub late_periods : ℕ → List ℕ → ℕ → List ℕ
+late_periods lead order n = filter (is_late lead order) (range_with_len 0 n)
+
+-- the late order of such a period, with how many periods are missing
+abbrev pub late_order : ℕ → List ℕ → ℕ → Late
+late_order lead order t = record { period = t; quantity = slice_index order t; by = lead - t }
+
+-- late orders of the given orders
+abbrev pub late_orders : ℕ → List ℕ → List Late
+late_orders lead order = map (late_order lead order) (late_periods lead order (length order))
+
+-- planned order release of period u in the plan
+unfoldable pub release_at : PairParams → List ℕ → List ℕ → ℕ → ℕ
+release_at pair incoming gross u = released pair.lead (order_row pair incoming gross) (length (order_row pair incoming gross)) u
 
 -- the plan of one pair
 unfoldable pub one : PairParams → List ℕ → List ℕ → PlanRows
 one pair incoming gross =
-    let periods = range_with_len 0 (length gross) in
+    let order = order_row pair incoming gross in
     record {
       gross = gross;
       incoming = incoming;
-      order = map (order_at pair incoming gross) periods;
-      release = map (release_at pair incoming gross) periods;
-      available = map (λ t. balance_before pair incoming gross (suc t)) periods;
-      late = filter_map (late_at pair incoming gross) periods;
+      order = order;
+      release = release_row pair.lead order;
+      available = available_row pair incoming gross;
+      late = late_orders pair.lead order;
     }
 
 -- the rule is in range, the rows are of one horizon, and all quantities together are at most 10^15

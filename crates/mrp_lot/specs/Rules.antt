@@ -1,31 +1,21 @@
 -- A second reading of a pair's plan: the rules as equations, period by period, among rows that are
 -- given, with the balance before a period read off the projected available.
-use Rattle.std.specs.Prelude.{◌≡◌, ℕ, ◌+◌, ◌-◌, ◌*◌, ◌≤◌, ◌<◌, ◌&&◌, ◌==◌, nat_lt, if◌then◌else◌, max}
-use Rattle.std.specs.Prelude.{List, length, sum, sum_by, filter_map, slice_index, All, Option, Some, None, zero, suc}
-use Rattle.std.specs.List.{range_with_len}
+use Rattle.std.specs.Prelude.{◌≡◌, ℕ, ◌+◌, ◌*◌, ◌≤◌, ◌<◌, max, List, length, sum, slice_index, All, zero, suc}
 use Rattle.mrp_qty.specs.declared.quantity.TheConstants.{MOST}
 use Rattle.mrp_lot.specs.declared.rule.Rule.{Rule}
-use Rattle.mrp_lot.specs.declared.rule.Rule.TheVariants.{Fixed, MinMultiple}
+use Rattle.mrp_lot.specs.declared.rule.Rule.TheVariants.{Fixed, Periods, MinMultiple}
 use Rattle.mrp_lot.specs.declared.params.PairParams.{PairParams}
-use Rattle.mrp_lot.specs.declared.params.Late.{Late}
 use Rattle.mrp_lot.specs.Lot.{IsRule, rule_quantities, lot_of}
-use Rattle.mrp_lot.specs.One.{PlanRows, one, order_after, IsWithin}
+use Rattle.mrp_lot.specs.One.{PlanRows, one, need_over, net_after, order_after, release_row, late_orders, IsWithin}
 
 -- on hand before period 0, then the projected available
 abbrev pub balance_in : PairParams → PlanRows → ℕ → ℕ
 balance_in pair rows zero = pair.on_hand
 balance_in pair rows (suc t) = slice_index rows.available t
 
--- the order of period t, where it is due within the lead time
-abbrev pub late_in : PairParams → PlanRows → ℕ → Option Late
-late_in pair rows t =
-    let quantity = slice_index rows.order t in
-    if nat_lt t pair.lead && nat_lt 0 quantity then Some (record { period = t; quantity = quantity; by = pair.lead - t }) else None
-
 pub record FollowsRules (pair : PairParams) (rows : PlanRows) : Type 0 where
   pub incoming_len : length rows.incoming ≡ length rows.gross
   pub order_len : length rows.order ≡ length rows.gross
-  pub release_len : length rows.release ≡ length rows.gross
   pub available_len : length rows.available ≡ length rows.gross
   -- what the lot rule orders for the net requirement
   pub order : (t : ℕ) → t < length rows.gross
@@ -34,9 +24,9 @@ pub record FollowsRules (pair : PairParams) (rows : PlanRows) : Type 0 where
   pub available : (t : ℕ) → t < length rows.gross
       → slice_index rows.available t + slice_index rows.gross t ≡ balance_in pair rows t + slice_index rows.incoming t + slice_index rows.order t
   -- orders are released a lead time before they are due, at the earliest in period 0
-  pub release : (u : ℕ) → u < length rows.gross
-      → slice_index rows.release u ≡ sum_by (λ t. if (t - pair.lead) == u then slice_index rows.order t else 0) (range_with_len 0 (length rows.gross))
-  pub late : rows.late ≡ filter_map (late_in pair rows) (range_with_len 0 (length rows.gross))
+  pub release : rows.release ≡ release_row pair.lead rows.order
+  -- and are late where that would have been before period 0
+  pub late : rows.late ≡ late_orders pair.lead rows.order
 
 -- an order that is a multiple of q and not below n, where no smaller multiple is
 pub record IsLeastMultiple (q n ordered : ℕ) : Type 0 where
@@ -61,10 +51,23 @@ abbrev pub MinMultipleIsSmall : Type 0
 MinMultipleIsSmall = (minimum multiple net span : ℕ) → 1 ≤ multiple
     → lot_of (MinMultiple minimum multiple) net span < net + rule_quantities (MinMultiple minimum multiple)
 
+-- an order that is the greatest need over 1 to k periods from t on, within the horizon
+pub record IsGreatestNeed (pair : PairParams) (incoming gross : List ℕ) (before t k ordered : ℕ) : Type 0 where
+  -- none of them is above it
+  pub covers : (n : ℕ) → 1 ≤ n → n ≤ k → t + n ≤ length gross → need_over pair incoming gross before t n ≤ ordered
+  -- and one of them is it
+  pub attained : (n : ℕ) × (1 ≤ n) × (n ≤ k) × (t + n ≤ length gross) × (ordered ≡ need_over pair incoming gross before t n)
+
+-- periods of supply order the greatest need over so many periods, once there is a net requirement
+abbrev pub PeriodsIsGreatest : Type 0
+PeriodsIsGreatest = (pair : PairParams) (incoming gross : List ℕ) (before t k : ℕ) → pair.rule ≡ Periods k → 1 ≤ k → t < length gross
+    → 0 < net_after pair incoming gross before t → IsGreatestNeed pair incoming gross before t k (order_after pair incoming gross before t)
+
 -- any order covers the net requirement, where the span does
 abbrev pub LotCovers : Type 0
 LotCovers = (rule : Rule) (net span : ℕ) → IsRule rule → net ≤ span → net ≤ lot_of rule net span
 
+-- projected available is never below safety stock; with safety stock 0 this says nothing, and `FollowsRules.available` does
 abbrev pub AvailableCoversSafety : Type 0
 AvailableCoversSafety = (pair : PairParams) (incoming gross : List ℕ) → IsWithin pair incoming gross
     → All (λ stock. pair.safety ≤ stock) (one pair incoming gross).available

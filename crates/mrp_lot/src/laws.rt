@@ -4,7 +4,7 @@
 ghost use Rattle.std.specs.Prelude.{◌≡◌, ◌≤◌, ◌↔◌, ℕ};
 ghost use Rattle.mrp_lot.specs.Lot.{IsRule};
 ghost use Rattle.mrp_lot.specs.declared.rule.Rule.TheVariants.{Fixed, Periods, MinMultiple};
-ghost use Rattle.mrp_lot.specs.Rules.{FixedIsLeast, MinMultipleIsLeast, FixedIsSmall, MinMultipleIsSmall};
+ghost use Rattle.mrp_lot.specs.Rules.{FixedIsLeast, MinMultipleIsLeast, FixedIsSmall, MinMultipleIsSmall, PeriodsIsGreatest};
 ghost use Rattle.mrp_lot.specs.Rules.{LotCovers, AvailableCoversSafety, OrdersAreReleased, ReleasesAreBounded};
 ghost use Rattle.mrp_lot.specs.Rules.{RowsStayWithin, PlanFollowsRules, RulesHaveOnePlan};
 
@@ -23,12 +23,21 @@ pub fn min_multiple_is_least()
     ensures small { MinMultipleIsSmall }
 {}
 
+/// Periods of supply order the greatest need over 1 to so many periods, no further than the horizon:
+/// none of those needs is above the order, and one of them is the order.
+pub fn periods_is_greatest()
+    ensures { PeriodsIsGreatest }
+{}
+
 /// Whatever the rule, an order covers the net requirement.
 pub fn lot_covers()
     ensures { LotCovers }
 {}
 
-/// The projected available of a plan is never below safety stock.
+/// The projected available of a plan is never below safety stock, in pieces.
+///
+/// With a safety stock of 0 this says nothing. That nothing is cut off at 0 is said by
+/// [`rules_have_one_plan`]: what was there, comes in and is ordered is what is required or stays.
 pub fn available_covers_safety()
     ensures { AvailableCoversSafety }
 {}

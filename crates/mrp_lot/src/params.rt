@@ -8,19 +8,19 @@ pub struct PairParams {
     pub rule: Rule,
     /// Periods from release to receipt, 0 to 104.
     pub lead: u64,
-    /// Pieces on hand before period 0.
+    /// Pieces on hand before period 0, 0 to 10^15.
     pub on_hand: Qty,
-    /// Safety stock: pieces below which the projected available never falls.
+    /// Safety stock: pieces below which the projected available never falls, 0 to 10^15.
     pub safety: Qty,
 }
 
 /// An order that would have had to be released before period 0.
 #[derive(Clone, Copy, Debug, PartialEq, Eq)]
 pub struct Late {
-    /// The period of the order's receipt, below the horizon.
+    /// The period of the order's receipt, 0 to 103 and below the horizon.
     pub period: usize,
-    /// How many pieces are ordered, above 0.
+    /// How many pieces are ordered, 1 to 10^15.
     pub quantity: Qty,
-    /// How many periods are missing: lead time less period, above 0.
+    /// How many periods are missing: lead time less period, 1 to 104.
     pub by: u64,
 }

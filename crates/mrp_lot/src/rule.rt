@@ -12,10 +12,10 @@ pub const LONGEST_LEAD: u64 = 104;
 pub enum Rule {
     /// Lot for lot: exactly the net requirement.
     LotForLot,
-    /// Fixed order quantity: as many lots of this quantity as are needed.
+    /// Fixed order quantity: as many lots of this quantity as are needed, 1 to 10^12 pieces each.
     Fixed(u64),
-    /// Period order quantity: enough to cover this many periods.
+    /// Period order quantity: enough to cover this many periods, 1 to 104.
     Periods(u64),
-    /// At least the first quantity, in multiples of the second.
+    /// At least the first quantity, in multiples of the second, each 1 to 10^12 pieces.
     MinMultiple(u64, u64),
 }

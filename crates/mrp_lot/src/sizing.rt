@@ -9,8 +9,8 @@ use mrp_qty::Qty;
 /// itself; a fixed quantity as many lots as are needed; a minimum and a multiple the least multiple
 /// that is below neither; a number of periods `span`, the greatest requirement over those periods.
 ///
-/// Only [`Rule::Periods`] looks at `span`. `net` and the rule's quantities together are at most
-/// 10^15.
+/// Only [`Rule::Periods`] looks at `span`, 0 to 10^15 pieces. `net` and the rule's quantities
+/// together are at most 10^15 pieces, and so is the answer.
 pub fn lot(rule: &Rule, net: Qty, span: Qty) -> Qty
     requires rule { IsRule rule.now }
     requires within { net + rule_quantities rule.now ≤ MOST }

@@ -6,13 +6,13 @@ use Rattle.std.proofs.lemmas.Bool.{cases_lt, cond-false, cond-true}
 use Rattle.std.proofs.lemmas.List.{append-nil, append_assoc, map-append, length-take-le, take_more}
 use Rattle.std.proofs.lemmas.List.FromFn.{get_or-map-range_with_len}
 use Rattle.std.proofs.lemmas.Option.{slice_get_read, slice_get_within, get_or_from_slice_get}
-use Rattle.mrp_lot.specs.One.{PlanRows, one}
+use Rattle.mrp_lot.specs.One.{PlanRows, one, order_row, available_row, released, release_row, is_late, late_periods, late_orders}
 use Rattle.mrp_lot.proofs.RangeLaws.{sum_by-range-suc, sum_by-range-more}
 use Rattle.mrp_lot.specs.declared.params.PairParams.{PairParams}
 use Rattle.mrp_lot.specs.declared.params.Late.{Late}
-use Rattle.mrp_netting.specs.Plan.{AreOrders, order_row, available_row, released, release_row, is_late, late_periods, late_orders}
-use Rattle.mrp_netting.proofs.Lates.{late_orders-is, late_more, filter-range-more}
-use Rattle.mrp_netting.proofs.Plans.{rows_of, from_rows, length-order_row, release_row-is, plan_is}
+use Rattle.mrp_netting.specs.Plan.{AreOrders, late_orders_in}
+use Rattle.mrp_netting.proofs.Lates.{late_more, filter-range-more}
+use Rattle.mrp_netting.proofs.Plans.{rows_of, from_rows, plan_is}
 
 -- an amount of a row that is written for all periods
 pub row_reads : (f : ℕ → ℕ) (row : List ℕ) (n t : ℕ) → row ≡ map f (range_with_len 0 n) → t < n → slice_index row t ≡ f t
@@ -87,8 +87,8 @@ released_all lead order u first n end t is ends low high most =
     (cases_lt n t)
 
 -- with so many late orders found, the next late period has the next late order
-pub late_next : (lead : ℕ) (order : List ℕ) (late : List Late) (found t n : ℕ) → late ≡ late_orders lead order (late_periods lead order n) → t < n → t < lead → 0 < slice_index order t
-    → take found late ≡ late_orders lead order (late_periods lead order t) → found ≤ length late
+pub late_next : (lead : ℕ) (order : List ℕ) (late : List Late) (found t n : ℕ) → late ≡ late_orders_in lead order (late_periods lead order n) → t < n → t < lead → 0 < slice_index order t
+    → take found late ≡ late_orders_in lead order (late_periods lead order t) → found ≤ length late
     → slice_get late found ≡ Some (record { period = t; quantity = slice_index order t; by = lead - t })
 late_next lead order late found t n whole within soon some before there =
     let show : ℕ → Late = λ k. record { period = k; quantity = slice_index order k; by = lead - k } in
@@ -108,9 +108,9 @@ late_next lead order late found t n whole within soon some before there =
 
 -- it was there, so one more is found
 pub late_found : (lead : ℕ) (order : List ℕ) (late : List Late) (found t : ℕ) → t < lead → 0 < slice_index order t
-    → take found late ≡ late_orders lead order (late_periods lead order t)
+    → take found late ≡ late_orders_in lead order (late_periods lead order t)
     → slice_get late found ≡ Some (record { period = t; quantity = slice_index order t; by = lead - t })
-    → take (found + 1) late ≡ late_orders lead order (late_periods lead order (t + 1))
+    → take (found + 1) late ≡ late_orders_in lead order (late_periods lead order (t + 1))
 late_found lead order late found t soon some before is =
     let show : ℕ → Late = λ k. record { period = k; quantity = slice_index order k; by = lead - k } in
     let here : Late = show t in
@@ -122,7 +122,7 @@ late_found lead order late found t soon some before is =
 
 -- the plan is what its orders, balances, releases and late orders say
 pub is_plan-from : (pair : PairParams) (rows : PlanRows) → AreOrders pair rows.incoming rows.gross rows.order rows.available
-    → rows.release ≡ release_row pair.lead rows.order → rows.late ≡ late_orders pair.lead rows.order (late_periods pair.lead rows.order (length rows.order))
+    → rows.release ≡ release_row pair.lead rows.order → rows.late ≡ late_orders pair.lead rows.order
     → rows ≡ one pair rows.incoming rows.gross
 is_plan-from pair rows orders releases lates =
     let whole = plan_is pair rows.incoming rows.gross rows.incoming rows.gross rows.order rows.release rows.available (late_periods pair.lead rows.order (length rows.order))
@@ -137,17 +137,11 @@ is_plan-orders pair rows is = (ap (λ (r : PlanRows). r.order) is, ap (λ (r : P
 
 pub is_plan-releases : (pair : PairParams) (rows : PlanRows) → rows ≡ one pair rows.incoming rows.gross → rows.release ≡ release_row pair.lead rows.order
 unfolding one
-is_plan-releases pair rows is =
-    ap (λ (r : PlanRows). r.release) is ∙ sym (release_row-is pair rows.incoming rows.gross rows.order (ap (λ (r : PlanRows). r.order) is))
+is_plan-releases pair rows is = ap (λ (r : PlanRows). r.release) is ∙ sym (ap (λ (r : PlanRows). release_row pair.lead r.order) is)
 
-pub is_plan-lates : (pair : PairParams) (rows : PlanRows) → rows ≡ one pair rows.incoming rows.gross
-    → rows.late ≡ late_orders pair.lead rows.order (late_periods pair.lead rows.order (length rows.order))
+pub is_plan-lates : (pair : PairParams) (rows : PlanRows) → rows ≡ one pair rows.incoming rows.gross → rows.late ≡ late_orders pair.lead rows.order
 unfolding one
-is_plan-lates pair rows is =
-    let order = ap (λ (r : PlanRows). r.order) is in
-    ap (λ (r : PlanRows). r.late) is
-    ∙ sym (ap (λ (n : ℕ). late_orders pair.lead rows.order (late_periods pair.lead rows.order n)) (length-order_row pair rows.incoming rows.gross rows.order order)
-    ∙ late_orders-is pair rows.incoming rows.gross rows.order order)
+is_plan-lates pair rows is = ap (λ (r : PlanRows). r.late) is ∙ sym (ap (λ (r : PlanRows). late_orders pair.lead r.order) is)
 
 -- equal rows have the orders and balances of equal rows
 orders_along : (pair : PairParams) (incoming gross order available incoming2 gross2 order2 available2 : List ℕ)

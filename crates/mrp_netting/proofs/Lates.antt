@@ -1,16 +1,13 @@
 -- The loop over a pair's orders that are late.
-use Rattle.std.proofs.Common.{◌≡◌, ℕ, ◌+◌, ◌-◌, ◌<◌, ◌≤◌, ◌&&◌, Bool, true, false, cond, min, nat_lt, ⊎_elim, List, [], ◌∷◌, ◌++◌, length, slice_index, filter, map, filter_map, Some, None, Option, zero, suc, sym, refl, ◌∙◌, ap, arith, ltb-true, lt-ltb, le-ltb, add-one, add-zero, get_or, All}
-use Rattle.std.specs.List.{range_with_len, cons_option}
+use Rattle.std.proofs.Common.{◌≡◌, ℕ, ◌+◌, ◌-◌, ◌<◌, ◌≤◌, ◌&&◌, Bool, true, false, cond, min, nat_lt, ⊎_elim, List, [], ◌∷◌, ◌++◌, length, slice_index, filter, zero, suc, sym, refl, ◌∙◌, ap, arith, ltb-true, lt-ltb, le-ltb, add-one, add-zero, get_or, All}
+use Rattle.std.specs.List.{range_with_len}
 use Rattle.std.proofs.lemmas.Bool.{cases_lt, cond-true, cond-false}
 use Rattle.std.proofs.lemmas.List.{append-nil}
 use Rattle.std.proofs.lemmas.List.Elements.{filter-append, All-filter, filter_passes}
-use Rattle.std.proofs.lemmas.List.FromFn.{get_or-range_with_len, length-range_with_len, get_or-map-range_with_len}
+use Rattle.std.proofs.lemmas.List.FromFn.{get_or-range_with_len, length-range_with_len}
 use Rattle.std.proofs.lemmas.List.Sums.{count_by-le-length, length-filter}
-use Rattle.mrp_lot.specs.declared.params.PairParams.{PairParams}
-use Rattle.mrp_lot.specs.One.{order_at, late_at}
-use Rattle.mrp_lot.proofs.RangeLaws.{filter_map-range-same}
-use Rattle.mrp_lot.specs.declared.params.Late.{Late}
-use Rattle.mrp_netting.specs.Plan.{order_row, is_late, late_periods, late_orders, AreLate}
+use Rattle.mrp_lot.specs.One.{is_late, late_periods}
+use Rattle.mrp_netting.specs.Plan.{AreLate}
 
 range_from-suc : (a n j : ℕ) → a + n ≡ j → range_with_len a (suc n) ≡ range_with_len a n ++ (j ∷ [])
 range_from-suc a zero j e = let here : a ≡ j = omega arith in ap (λ (x : ℕ). x ∷ []) here
@@ -88,21 +85,3 @@ are_late lead order k d h =
 pub late_few : (lead : ℕ) (order : List ℕ) → length (late_periods lead order (length order)) ≤ length order
 late_few lead order =
     omega (arith, length-filter (is_late lead order) (range_with_len 0 (length order)), count_by-le-length (is_late lead order) (range_with_len 0 (length order)), length-range_with_len 0 (length order))
-
-map_filter : {X : Type 0} (p : ℕ → Bool) (f : ℕ → X) (xs : List ℕ) → map f (filter p xs) ≡ filter_map (λ x. cond (p x) (Some (f x)) None) xs
-map_filter p f [] = refl
-map_filter {X} p f (x ∷ xs) =
-    let rest = map_filter p f xs in
-    elim (p x) as (λ b. map f (cond b (x ∷ filter p xs) (filter p xs)) ≡ cons_option (cond b (Some (f x)) None) (filter_map (λ y. cond (p y) (Some (f y)) None) xs))
-    [ true ↦ ap (λ (ys : List X). f x ∷ ys) rest | false ↦ rest ]
-
--- the late orders are those of the plan
-pub late_orders-is : (pair : PairParams) (incoming gross order : List ℕ) → order ≡ order_row pair incoming gross
-    → late_orders pair.lead order (late_periods pair.lead order (length gross)) ≡ filter_map (late_at pair incoming gross) (range_with_len 0 (length gross))
-unfolding late_at
-late_orders-is pair incoming gross order e =
-    let late : ℕ → ℕ → Option Late = λ q t. cond (nat_lt t pair.lead && nat_lt 0 q) (Some (record { period = t; quantity = q; by = pair.lead - t })) None in
-    map_filter (is_late pair.lead order) _ (range_with_len 0 (length gross))
-    ∙ filter_map-range-same {X = Late} (λ t. late (slice_index order t) t) (late_at pair incoming gross) (length gross)
-    (λ k h. ap (λ (q : ℕ). late q k)
-    (ap (λ (xs : List ℕ). slice_index xs k) e ∙ get_or-map-range_with_len (order_at pair incoming gross) 0 (length gross) k k 0 h (omega arith)))

@@ -1,16 +1,14 @@
 -- The rows that were written are the plan.
-use Rattle.std.proofs.Common.{◌≡◌, ℕ, ◌-◌, ◌≤◌, ◌==◌, ◌++◌, if◌then◌else◌, Bool, true, cond, List, [], length, slice_index, map, sum, ◌∙◌, ap, arith}
+use Rattle.std.proofs.Common.{◌≡◌, ℕ, ◌≤◌, ◌++◌, Bool, true, cond, List, [], length, sum, ◌∙◌, ap, arith}
 use Rattle.std.specs.List.{range_with_len}
 use Rattle.std.proofs.lemmas.Bool.{cond-true}
-use Rattle.std.proofs.lemmas.List.FromFn.{length-map-range_with_len, get_or-map-range_with_len}
+use Rattle.std.proofs.lemmas.List.FromFn.{length-map-range_with_len}
 use Rattle.std.proofs.lemmas.List.Sums.{sum-map}
 use Rattle.mrp_qty.specs.declared.quantity.TheConstants.{MOST}
 use Rattle.mrp_lot.specs.declared.params.PairParams.{PairParams}
-use Rattle.mrp_lot.specs.One.{PlanRows, one, IsWithin, order_at, release_at}
-use Rattle.mrp_lot.proofs.RangeLaws.{sum_by-range-same, map-range-same}
+use Rattle.mrp_lot.specs.One.{PlanRows, one, IsWithin, order_at, order_row, available_row, release_row, late_periods, late_orders}
 use Rattle.mrp_lot.proofs.OneLaws.{orders-le}
-use Rattle.mrp_netting.specs.Plan.{order_row, available_row, released, release_row, late_periods, late_orders}
-use Rattle.mrp_netting.proofs.Lates.{late_orders-is}
+use Rattle.mrp_netting.specs.Plan.{late_orders_in}
 
 -- what the fields of a plan show
 abbrev pub rows_of : ℕ → List ℕ → List ℕ → List ℕ → List ℕ → List ℕ → List ℕ → PlanRows
@@ -20,7 +18,7 @@ rows_of lead gross incoming order release available late = record {
   order = order;
   release = release;
   available = available;
-  late = late_orders lead order late;
+  late = late_orders_in lead order late;
 }
 
 -- what is written from rows that are read is the plan's
@@ -35,27 +33,14 @@ order_row-le pair incoming gross order is e =
     let all = ap sum e ∙ sum-map (order_at pair incoming gross) (range_with_len 0 (length gross)) in
     omega (arith, all, orders-le pair incoming gross (length gross) is (omega arith), is.total)
 
-pub release_row-is : (pair : PairParams) (incoming gross order : List ℕ) → order ≡ order_row pair incoming gross
-    → release_row pair.lead order ≡ map (release_at pair incoming gross) (range_with_len 0 (length gross))
-unfolding release_at
-release_row-is pair incoming gross order e =
-    let n = length gross in
-    ap (λ (m : ℕ). map (released pair.lead order m) (range_with_len 0 m)) (length-order_row pair incoming gross order e)
-    ∙ map-range-same (released pair.lead order n) (release_at pair incoming gross) n
-    (λ u h. sum_by-range-same (λ t. if (t - pair.lead) == u then slice_index order t else 0)
-    (λ t. if (t - pair.lead) == u then order_at pair incoming gross t else 0) n
-    (λ t below. ap (λ (q : ℕ). if (t - pair.lead) == u then q else 0)
-    (ap (λ (xs : List ℕ). slice_index xs t) e ∙ get_or-map-range_with_len (order_at pair incoming gross) 0 n t t 0 below (omega arith))))
-
 pub plan_is : (pair : PairParams) (incoming gross given asked order release available late : List ℕ)
     → asked ≡ gross → given ≡ incoming → order ≡ order_row pair incoming gross → available ≡ available_row pair incoming gross
     → release ≡ release_row pair.lead order → late ≡ late_periods pair.lead order (length order)
     → rows_of pair.lead asked given order release available late ≡ one pair incoming gross
 unfolding one
 plan_is pair incoming gross given asked order release available late g i o a r l =
-    let releases = r ∙ release_row-is pair incoming gross order o in
-    let n = length-order_row pair incoming gross order o in
-    let lates = ap (late_orders pair.lead order) (l ∙ ap (late_periods pair.lead order) n) ∙ late_orders-is pair incoming gross order o in
+    let releases = r ∙ ap (release_row pair.lead) o in
+    let lates = ap (late_orders_in pair.lead order) l ∙ ap (late_orders pair.lead) o in
     cc
 
 -- equal rows are one plan

@@ -1,11 +1,9 @@
 -- What a plan of one pair keeps.
-use Rattle.std.specs.Prelude.{◌≡◌, ℕ, ◌-◌, ◌<◌, ◌&&◌, ◌==◌, Bool, nat_lt, if◌then◌else◌, List}
-use Rattle.std.specs.Prelude.{[], length, map, sum_by, filter, replicate, slice_index, All, suc}
-use Rattle.std.specs.List.{range_with_len}
+use Rattle.std.specs.Prelude.{◌≡◌, ℕ, ◌<◌, List, [], length, map, replicate, All}
 use Rattle.mrp_qty.specs.Row.{IsRow}
 use Rattle.mrp_lot.specs.declared.params.PairParams.{PairParams}
 use Rattle.mrp_lot.specs.declared.params.Late.{Late}
-use Rattle.mrp_lot.specs.One.{PlanRows, order_at, balance_before}
+use Rattle.mrp_lot.specs.One.{PlanRows, order_row, available_row, late_order}
 
 -- five rows of one horizon
 pub record AreRows (rows : PlanRows) : Type 0 where
@@ -30,37 +28,13 @@ nothing_planned horizon = record {
   late = [];
 }
 
--- planned order receipts
-abbrev pub order_row : PairParams → List ℕ → List ℕ → List ℕ
-order_row pair incoming gross = map (order_at pair incoming gross) (range_with_len 0 (length gross))
-
--- projected available
-abbrev pub available_row : PairParams → List ℕ → List ℕ → List ℕ
-available_row pair incoming gross = map (λ t. balance_before pair incoming gross (suc t)) (range_with_len 0 (length gross))
-
 -- both are given
 abbrev pub AreOrders : PairParams → List ℕ → List ℕ → List ℕ → List ℕ → Type 0
 AreOrders pair incoming gross order available = (order ≡ order_row pair incoming gross) × (available ≡ available_row pair incoming gross)
 
--- what the orders of the first n periods release in period u
-abbrev pub released : ℕ → List ℕ → ℕ → ℕ → ℕ
-released lead order n u = sum_by (λ t. if (t - lead) == u then slice_index order t else 0) (range_with_len 0 n)
-
--- planned order releases of the given orders
-abbrev pub release_row : ℕ → List ℕ → List ℕ
-release_row lead order = map (released lead order (length order)) (range_with_len 0 (length order))
-
--- the period has an order that is due within the lead time
-abbrev pub is_late : ℕ → List ℕ → ℕ → Bool
-is_late lead order t = nat_lt t lead && nat_lt 0 (slice_index order t)
-
--- the periods of late orders among the first n
-abbrev pub late_periods : ℕ → List ℕ → ℕ → List ℕ
-late_periods lead order n = filter (is_late lead order) (range_with_len 0 n)
-
--- the late orders of those periods
-abbrev pub late_orders : ℕ → List ℕ → List ℕ → List Late
-late_orders lead order periods = map (λ t. record { period = t; quantity = slice_index order t; by = lead - t }) periods
+-- the late orders of given periods
+abbrev pub late_orders_in : ℕ → List ℕ → List ℕ → List Late
+late_orders_in lead order periods = map (late_order lead order) periods
 
 -- each late period is one of the horizon, within the lead time
 abbrev pub AreLate : ℕ → List ℕ → List ℕ → Type 0

@@ -3,8 +3,8 @@
 ghost use Rattle.std.specs.Prelude.{◌≡◌, ◌≤◌, ◌<◌, ◌↔◌, IsTrue, Some, length, slice_get, sum};
 ghost use Rattle.mrp_qty.specs.declared.quantity.TheConstants.{MOST};
 ghost use Rattle.mrp_lot.specs.declared.rule.TheConstants.{LONGEST_LEAD};
-ghost use Rattle.mrp_lot.specs.One.{IsWithin};
-ghost use Rattle.mrp_netting.specs.Plan.{AreOrders, released, release_row, late_orders, late_periods};
+ghost use Rattle.mrp_lot.specs.One.{IsWithin, released, release_row, late_orders};
+ghost use Rattle.mrp_netting.specs.Plan.{AreOrders};
 
 use crate::PairPlan;
 use crate::netting::order_and_balance;
@@ -69,8 +69,7 @@ fn released_in(lead: usize, order: &[Qty], u: usize) -> u64
 
 /// Whether the late orders are those of the plan's order row that are due within the lead time.
 pub fn late_follow(lead: u64, plan: &PairPlan) -> bool
-    ensures { IsTrue result ↔
-        (plan.now.late ≡ late_orders lead plan.now.order (late_periods lead plan.now.order (length plan.now.order))) }
+    ensures { IsTrue result ↔ (plan.now.late ≡ late_orders lead plan.now.order) }
 {
     let order = plan.order().as_slice();
     let end = order.len().min(lead as usize);

@@ -1,10 +1,10 @@
 //! The plan of one pair: what is netted, ordered and released, period by period, where the gross
 //! requirements and the scheduled receipts are given.
 //!
-//! [`plan_pair`] writes the rows of material requirements planning (gross requirements, scheduled
-//! receipts, planned order receipts, planned order releases, projected available) into a
-//! [`PairPlan`], which is used again from pair to pair. Contracts see a [`PairPlan`] as its five rows
-//! and the list of its late orders.
+//! [`plan_pair`] writes the rows of Orlicky's material requirements planning, in the terms of the
+//! APICS Dictionary (gross requirements, scheduled receipts, planned order receipts, planned order
+//! releases, projected available balance), into a [`PairPlan`], which is used again from pair to
+//! pair. Contracts see a [`PairPlan`] as its five rows and the list of its late orders.
 #![tactic(auto)]
 
 mod following;

@@ -1,6 +1,6 @@
 ghost use Rattle.std.specs.Prelude.{◌≡◌, ◌<◌, ◌≤◌, ◌↔◌, length, IsTrue, IfOk, Some, slice_get, vec_capacity};
 ghost use Rattle.mrp_lot.specs.One.{PlanRows, one, IsWithin};
-ghost use Rattle.mrp_netting.specs.Plan.{AreRows, nothing_planned, late_orders, AreLate};
+ghost use Rattle.mrp_netting.specs.Plan.{AreRows, nothing_planned, late_orders_in, AreLate};
 
 use crate::following::{late_follow, orders_follow, releases_follow};
 use crate::late::note_late;
@@ -12,6 +12,12 @@ use std::alloc::Global;
 use std::marker::Model;
 
 /// The plan of one pair: five rows of one horizon, and the late orders.
+///
+/// It is the record of Orlicky's material requirements planning, with the APICS Dictionary's terms
+/// for its rows: gross requirements, scheduled receipts, planned order receipts, planned order
+/// releases and projected available balance. Net requirements are not kept: they are what the orders
+/// were sized for. Quantities are 0 to 10^15 pieces, and periods are numbered from 0 to the horizon,
+/// 1 to 104, less 1.
 #[derive(Debug, Drop)]
 pub struct PairPlan {
     gross: Row,
@@ -32,7 +38,7 @@ impl Model for PairPlan {
       order = p.order;
       release = p.release;
       available = p.available;
-      late = late_orders p.lead p.order p.late.items;
+      late = late_orders_in p.lead p.order p.late.items;
     } };
 
     ghost invariant = { λ p.
@@ -42,7 +48,8 @@ impl Model for PairPlan {
 }
 
 impl PairPlan {
-    /// A plan of zeros with no late order, and with room for one a period.
+    /// A plan of zeros with no late order, and with room for one a period. The horizon is 1 to 104
+    /// periods.
     ///
     /// # Errors
     ///
@@ -79,42 +86,44 @@ impl PairPlan {
         self.gross.len()
     }
 
-    /// Gross requirements: what is needed in each period.
+    /// Gross requirements: the pieces that are needed in each period, 0 to 10^15.
     pub fn gross(&self) -> &Row
         ensures { result.now ≡ self.now.gross }
     {
         &self.gross
     }
 
-    /// Scheduled receipts: what comes in from orders that are open already.
+    /// Scheduled receipts: the pieces that come in from orders that are open already, 0 to 10^15.
     pub fn incoming(&self) -> &Row
         ensures { result.now ≡ self.now.incoming }
     {
         &self.incoming
     }
 
-    /// Planned order receipts, by the period in which they are due.
+    /// Planned order receipts in pieces, 0 to 10^15, by the period in which they are due.
     pub fn order(&self) -> &Row
         ensures { result.now ≡ self.now.order }
     {
         &self.order
     }
 
-    /// Planned order releases: the orders a lead time earlier, the late ones in period 0.
+    /// Planned order releases in pieces, 0 to 10^15: the orders a lead time earlier, the late ones in
+    /// period 0.
     pub fn release(&self) -> &Row
         ensures { result.now ≡ self.now.release }
     {
         &self.release
     }
 
-    /// Projected available: the stock after each period, never below safety.
+    /// Projected available balance: the pieces in stock after each period, 0 to 10^15. In the plan of
+    /// [`plan_pair`] they are never below safety stock.
     pub fn available(&self) -> &Row
         ensures { result.now ≡ self.now.available }
     {
         &self.available
     }
 
-    /// How many orders are late.
+    /// How many orders are late, 0 to 104.
     pub fn late_count(&self) -> usize
         ensures { result ≡ length self.now.late }
     {
@@ -122,7 +131,8 @@ impl PairPlan {
     }
 
     /// The late order number `i`, from 0 and below [`late_count`](PairPlan::late_count), by rising
-    /// period.
+    /// period. Its period is 0 to 103, its missing periods are 1 to 104, and together they are the
+    /// lead time.
     pub fn late(&self, i: usize) -> Late
         requires { i < length self.now.late }
         ensures { slice_get self.now.late i ≡ Some result }
@@ -168,8 +178,9 @@ impl PairPlan {
 /// Plans one pair: writes into `into` the rows and the late orders that follow from `params`, the
 /// scheduled receipts and the gross requirements, whatever `into` held.
 ///
-/// The three horizons are equal. On hand, safety stock, the rule's quantities, all receipts and all
-/// gross requirements together are at most 10^15 pieces. Nothing is allocated.
+/// The three horizons are equal. The lead time is 0 to 104 periods; the rule's quantities are 1 to
+/// 10^12 pieces each and its periods of supply 1 to 104. On hand, safety stock, the rule's quantities,
+/// all receipts and all gross requirements together are at most 10^15 pieces. Nothing is allocated.
 pub fn plan_pair(params: &PairParams, incoming: &Row, gross: &Row, into: &mut PairPlan)
     requires within { IsWithin params.now incoming.now gross.now }
     requires room { length into.old.gross ≡ length gross.now }
@@ -192,8 +203,9 @@ pub fn plan_pair(params: &PairParams, incoming: &Row, gross: &Row, into: &mut Pa
 /// Whether the plan is the one that follows from `params`, its scheduled receipts and its gross
 /// requirements: each order, release, projected available and late order.
 ///
-/// On hand, safety stock, the rule's quantities, all receipts and all gross requirements together
-/// are at most 10^15 pieces. Nothing is allocated.
+/// The lead time is 0 to 104 periods; the rule's quantities are 1 to 10^12 pieces each and its periods
+/// of supply 1 to 104. On hand, safety stock, the rule's quantities, all receipts and all gross
+/// requirements together are at most 10^15 pieces. Nothing is allocated.
 pub fn is_plan(params: &PairParams, plan: &PairPlan) -> bool
     requires { IsWithin params.now plan.now.incoming plan.now.gross }
     ensures { IsTrue result ↔ (plan.now ≡ one params.now plan.now.incoming plan.now.gross) }

@@ -8,7 +8,7 @@ use Rattle.std.proofs.lemmas.List.Sums.{sum_by-cons, sum-map}
 use Rattle.std.proofs.Math.Nat.{mul-le-mul_left}
 use Rattle.mrp_lot.specs.Lot.{rule_quantities}
 use Rattle.mrp_lot.specs.One.{PlanRows, IsWithin, one, release_at}
-use Rattle.mrp_lot.proofs.OneLaws.{releases-le}
+use Rattle.mrp_lot.proofs.OneLaws.{releases-le, one-release, length-one-release}
 use Rattle.mrp_lot.proofs.RangeLaws.{map-range-same}
 use Rattle.mrp_rows.specs.Table.{Table, IsTable, horizon}
 use Rattle.mrp_net.specs.Edges.{demanders, edge_need}
@@ -51,9 +51,8 @@ pair_plan-same N old new x same =
 
 -- the plan of a pair has a release for each period, and its gross requirements
 pub pair_plan-release : (N : Table) (table : List PlanRows) (x : ℕ) → length (pair_plan N table x).release ≡ horizon N
-unfolding one
 pair_plan-release N table x =
-    length-map-range_with_len (release_at (params_at N x) (row_of N (incoming N x)) (row_of N (gross N table x))) 0 (length (row_of N (gross N table x)))
+    length-one-release (params_at N x) (row_of N (incoming N x)) (row_of N (gross N table x))
     ∙ length-map-range_with_len (gross N table x) 0 (horizon N)
 
 pub one-gross : (N : Table) (table : List PlanRows) (x : ℕ) → (pair_plan N table x).gross ≡ row_of N (gross N table x)
@@ -67,10 +66,10 @@ one-incoming N table x = refl
 -- its releases together are within what safety, the rule and the gross requirements ask
 pub pair_plan-releases : (N : Table) (table : List PlanRows) (x : ℕ) → IsWithin (params_at N x) (row_of N (incoming N x)) (row_of N (gross N table x))
     → sum (pair_plan N table x).release ≤ (pair_at N x).safety + rule_quantities (pair_at N x).rule + sum (row_of N (gross N table x))
-unfolding one
 pair_plan-releases N table x is =
     omega (
       arith,
+      ap (λ (row : List ℕ). sum row) (one-release (params_at N x) (row_of N (incoming N x)) (row_of N (gross N table x))),
       releases-le (params_at N x) (row_of N (incoming N x)) (row_of N (gross N table x)) is,
       sum-map (release_at (params_at N x) (row_of N (incoming N x)) (row_of N (gross N table x))) (range_with_len 0 (length (row_of N (gross N table x)))),
     )

@@ -14,6 +14,7 @@ use Rattle.std.proofs.lemmas.Result.{IfOk-weaker}
 use Rattle.std.proofs.lemmas.Option.{get_or_from_slice_get}
 use Rattle.std.proofs.lemmas.List.FromFn.{length-map-range_with_len, map-range_with_len_more}
 use Rattle.mrp_lot.specs.One.{PlanRows, one}
+use Rattle.mrp_lot.proofs.OneLaws.{one-gross, one-incoming, length-one-order, length-one-release, length-one-available}
 use Rattle.mrp_lot.specs.declared.params.PairParams.{PairParams}
 use Rattle.mrp_rows.specs.Table.{Table, IsPair, horizon}
 use Rattle.mrp_net.specs.Names.{IsNamed}
@@ -103,13 +104,12 @@ item_is N x plant item named = get_or_from_slice_get N.items _ item [] named.of_
 
 -- the rows of a pair's plan have the periods of its given rows
 one_has : (pair : PairParams) (incoming gross : List ℕ) (n : ℕ) → length incoming ≡ n → length gross ≡ n → HasPeriods (one pair incoming gross) n
-unfolding one
 one_has pair incoming gross n same_incoming same_gross t lt = record {
-  gross = omega arith;
-  incoming = omega arith;
-  order = rw length-map-range_with_len (omega arith);
-  release = rw length-map-range_with_len (omega arith);
-  available = rw length-map-range_with_len (omega arith);
+  gross = omega (arith, ap (λ (row : List ℕ). length row) (one-gross pair incoming gross));
+  incoming = omega (arith, ap (λ (row : List ℕ). length row) (one-incoming pair incoming gross));
+  order = omega (arith, length-one-order pair incoming gross);
+  release = omega (arith, length-one-release pair incoming gross);
+  available = omega (arith, length-one-available pair incoming gross);
 }
 
 -- the plans of a table that fits have the periods of its calendar

@@ -3,7 +3,8 @@ use Rattle.std.proofs.lemmas.Bool.{false≢true}
 use Rattle.std.proofs.lemmas.List.{get_or_read, take_all, length-take-le}
 use Rattle.std.proofs.lemmas.Option.{slice_get_within}
 use Rattle.mrp_lot.specs.declared.params.Late.{Late}
-use Rattle.mrp_netting.specs.Plan.{late_orders, late_periods}
+use Rattle.mrp_lot.specs.One.{late_orders}
+use Rattle.mrp_netting.specs.Plan.{late_orders_in}
 use Rattle.mrp_netting.proofs.Compared.{late_next, late_found}
 use Rattle.mrp_netting.proofs.Lates.{late_same, late_end}
 use Rattle.mrp_netting.proofs.following.late_follow.Goals as goal
@@ -54,7 +55,7 @@ loop-t-preserved c =
       | else-get-gt0 w ↦
           let same = late_same lead order t (omega (arith, here, at, c.get.ensures.value)) in
           rw w.found-is (record {
-            found = c.loop-t.invariant.found ∙ sym (ap (late_orders lead order) same);
+            found = c.loop-t.invariant.found ∙ sym (ap (late_orders_in lead order) same);
             there = c.loop-t.invariant.there;
             few = omega arith;
           })
@@ -68,7 +69,7 @@ returns c =
     let row : c.as_slice-order.result.now ≡ order = c.as_slice-order.ensures.value ∙ c.order.ensures in
     let size = ap (λ (r : List ℕ). length r) row in
     let end = late_end lead order c.loop-t.t (length order) (omega (arith, size, c.min-end.ensures)) in
-    let found : take c.loop-t.found late ≡ late_orders lead order (late_periods lead order (length order)) = c.loop-t.invariant.found ∙ ap (late_orders lead order) end in (
+    let found : take c.loop-t.found late ≡ late_orders lead order = c.loop-t.invariant.found ∙ ap (late_orders_in lead order) end in (
       λ yes.
           let all = eqb-true c.loop-t.found c.late_count.result yes in
           sym (take_all c.loop-t.found late (omega (arith, all, c.late_count.ensures))) ∙ found,
