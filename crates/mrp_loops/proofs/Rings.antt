@@ -1,17 +1,18 @@
 -- A walk upstream that comes to a pair again has a loop behind it, which may begin anywhere.
-use Rattle.std.proofs.Common.{◌≡◌, ◌≢◌, ℕ, ◌+◌, ◌<◌, ◌≤◌, ◌==◌, Bool, true, false, ⊎_elim, List, [], ◌∷◌, ◌++◌, map, reverse, length, get_or, set, take, drop, refl, sym, ap, subst, ◌∙◌, arith, All, IsPermutation}
-use Rattle.std.specs.List.{IsDistinct, AllPairs}
-use Rattle.std.proofs.lemmas.Bool.{ne_eqb, cases_eq, both_ways, eq-eqb}
+use Rattle.std.proofs.Common.{◌≡◌, ◌≢◌, ℕ, ◌+◌, ◌<◌, ◌≤◌, ◌==◌, Bool, true, false, ⊎_elim, List, [], ◌∷◌, ◌++◌, map, reverse, length, get_or, slice_index, set, take, drop, refl, sym, ap, subst, ◌∙◌, arith, All, IsPermutation}
+use Rattle.std.specs.List.{IsDistinct, AllPairs, filter}
+use Rattle.std.proofs.lemmas.Bool.{ne_eqb, cases_eq, cases_lt, both_ways, eq-eqb}
 use Rattle.std.proofs.lemmas.List.{append-nil, append_assoc, map-append, reverse-append, take-append-drop, get_or-drop, get_or-map, length-map, length-drop, drop_more, get_or_default, get_or_read, take-map, drop-map, get_or-set_same, get_or-set_other, length_push}
 use Rattle.std.proofs.lemmas.List.Sorted.{IsPermutation-reverse, IsPermutation-append_comm, IsPermutation-trans, IsPermutation-map, All-permutation}
 use Rattle.std.proofs.lemmas.Map.Keys.{IsDistinct-from_apart, IsDistinct-IsPermutation, apart_from_distinct}
 use Rattle.mrp_rows.specs.Table.{Table, IsTable, IsPair}
 use Rattle.mrp_rows.specs.declared.numbers.PairNo.{PairNo}
 use Rattle.mrp_net.specs.declared.edge.Edge.{Edge}
-use Rattle.mrp_net.specs.Edges.{demanders}
+use Rattle.mrp_net.specs.Edges.{edges, demanders}
 use Rattle.mrp_loops.specs.Taking.{is_in}
-use Rattle.mrp_net.proofs.Members.{In-from_contains}
-use Rattle.mrp_loops.proofs.Edges.{demanders_only, HasEdge-from_in, edge_pairs}
+use Rattle.mrp_group.proofs.Kept.{sorted_rows_rise}
+use Rattle.mrp_net.proofs.Members.{In-from_contains, Contains-from_in}
+use Rattle.mrp_loops.proofs.Edges.{demanders_only, demanders_edge, HasEdge-from_in, edge_pairs}
 use Rattle.mrp_loops.proofs.Taken.{is_in-push_same, is_in-push_other, Apart-push, length-apart}
 use Rattle.std.proofs.lemmas.List.Elements.{Contains-get_or, All-push}
 use Rattle.mrp_loops.specs.Loop.{HasEdge, LeadsTo, IsLoop, IsLoopFound, first_or}
@@ -137,6 +138,30 @@ demander_within N x i d table l =
     let e = get_or (demanders N x) i d in
     let only = demanders_only N x e (In-from_contains (demanders N x) e (Contains-get_or (demanders N x) i d l)) in
     (edge_pairs N table e only.0).0
+
+-- of the demanders of a pair those before i aren't left, so each that is left comes no earlier in the table than that at i
+pub first_demander : (N : Table) (left : List ℕ) (x i : ℕ) (d : Edge) → IsTable N → i < length (demanders N x)
+    → ((k : ℕ) (d : Edge) → k < i → slice_index left (get_or (demanders N x) k d).demander.0 ≡ 0)
+    → (y : ℕ) → HasEdge N y x → 0 < slice_index left y → (get_or (demanders N x) i d).demander.0 ≤ y
+first_demander N left x i d table l none y edge some =
+    let e = demanders_edge N table y x edge in
+    let at = Contains-from_in (demanders N x) e.0 e.1 in
+    let is : (get_or (demanders N x) at.0 d).demander.0 ≡ y = ap (λ (w : Edge). w.demander.0) (get_or_default (demanders N x) at.0 d e.0 at.1 ∙ at.2) ∙ e.2 in
+    ⊎_elim
+    (λ low.
+    let zero_left : slice_index left y ≡ 0 = subst (λ (w : ℕ). slice_index left w ≡ 0) is (none at.0 d low) in
+    absurd (omega arith))
+    (λ high. ⊎_elim
+    (λ later.
+    let rise = sorted_rows_rise Edge (λ (w : Edge). w.demander.0) (length N.pairs) (filter (λ (w : Edge). w.pair.0 == x) (edges N)) i at.0 d later at.1 in
+    let rises : (get_or (demanders N x) i d).demander.0 ≤ (get_or (demanders N x) at.0 d).demander.0 = rise in
+    omega arith)
+    (λ here.
+    let same : at.0 ≡ i = omega arith in
+    let found : (get_or (demanders N x) i d).demander.0 ≡ y = subst (λ (k : ℕ). (get_or (demanders N x) k d).demander.0 ≡ y) same is in
+    omega arith)
+    (cases_lt i at.0))
+    (cases_lt at.0 i)
 
 -- what a step of the walk keeps
 pub seen_more : (N : Table) (visited : List Bool) (path : List PairNo) (x : PairNo) → length visited ≡ length N.pairs → IsPair N x.0

@@ -1,4 +1,4 @@
-ghost use Rattle.std.specs.Prelude.{◌≡◌, ◌<◌, ◌≤◌, length, All, IfOk, IfErr, IfNone, IfSome, slice_index};
+ghost use Rattle.std.specs.Prelude.{◌≡◌, ◌<◌, ◌≤◌, length, take, All, IfOk, IfErr, IfNone, IfSome, slice_index};
 ghost use Rattle.mrp_loops.specs.declared.loops.LoopFault.TheVariants.{Memory};
 ghost use Rattle.mrp_loops.specs.Loop.{IsLoopFree, AreCodes};
 ghost use Rattle.mrp_loops.specs.LoopFaults.{IsLoopFault};
@@ -103,6 +103,7 @@ fn first_left(left: &[usize]) -> Option<usize>
     ensures none { IfNone result (All (λ waiting. waiting ≡ 0) left.now) }
     ensures within { IfSome result (λ x. x < length left.now) }
     ensures some { IfSome result (λ x. 0 < slice_index left.now x) }
+    ensures first { IfSome result (λ x. All (λ waiting. waiting ≡ 0) (take x left.now)) }
 {
     left.iter().position(|waiting| *waiting > 0)
 }

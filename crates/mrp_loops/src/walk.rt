@@ -1,4 +1,4 @@
-ghost use Rattle.std.specs.Prelude.{◌≡◌, ◌<◌, ◌≤◌, true, All, length, map, drop, slice_index, slice_index_or, IfOk};
+ghost use Rattle.std.specs.Prelude.{◌≡◌, ℕ, ◌<◌, ◌≤◌, true, All, length, map, drop, slice_index, slice_index_or, IfOk};
 ghost use Rattle.mrp_rows.specs.Table.{IsPair};
 ghost use Rattle.mrp_loops.specs.Loop.{HasEdge, IsLoopFound};
 ghost use Rattle.mrp_loops.specs.Taking.{is_in};
@@ -62,6 +62,7 @@ fn demander_left(network: &Network, left: &[usize], x: PairNo) -> PairNo
     ensures pair { IsPair network.now result.0 }
     ensures left { 0 < slice_index left.now result.0 }
     ensures edge { HasEdge network.now result.0 x.0 }
+    ensures first { (y : ℕ) → HasEdge network.now y x.0 → 0 < slice_index left.now y → result.0 ≤ y }
 {
     for edge in network.demanders(x) {
         if left[edge.demander.0] > 0 {
