@@ -1,3 +1,5 @@
+//! The agent of a plant: what it keeps, how it is made, and what it answers.
+
 ghost use Rattle.std.specs.Prelude.{◌≡◌, All, IfOk, IfSome};
 ghost use Rattle.std.specs.List.{list_all};
 ghost use Rattle.mrp_agent.specs.Kept.{IsShowing};

@@ -1,3 +1,5 @@
+//! How an agent books a record that has come to it.
+
 ghost use Rattle.std.specs.Prelude.{◌≡◌, ◌==◌, ◌*◌, ◌<◌, ◌≤◌, length, position, IfSome};
 ghost use Rattle.std.specs.List.{position_or_len};
 ghost use Rattle.mrp_agent.specs.After.{came_by, called_by, items_of, with_line, added_at, ended_place, BlockEnded, IsAwaited};

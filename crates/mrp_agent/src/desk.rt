@@ -1,3 +1,5 @@
+//! The desk at which an agent drafts the plan of a pair.
+
 ghost use Rattle.std.specs.Prelude.{◌≡◌, IfOk, length};
 ghost use Rattle.mrp_lot.specs.One.{one};
 ghost use Rattle.mrp_agent.specs.Asking.{HasDraft, grossed};

@@ -1,3 +1,5 @@
+//! The edges of a plant by the places of its pairs, grouped by component.
+
 ghost use Rattle.std.specs.Prelude.{◌≡◌, ◌<◌, ◌≤◌, All, IfOk, length, map};
 ghost use Rattle.mrp_agent.specs.Kept.{parent_edge};
 ghost use Rattle.mrp_agent.specs.Shows.{join_of};

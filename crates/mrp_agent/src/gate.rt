@@ -1,3 +1,5 @@
+//! The gate that is asked before each turn of a plant and each work of a worker.
+
 /// Who is asked before a plant's thread begins a turn, and before a worker of a plant begins its work.
 pub trait Gate: Sync {
     /// Whether a plant may begin a turn. Turns count from 1.

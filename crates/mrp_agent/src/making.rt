@@ -1,3 +1,5 @@
+//! The rooms that an agent takes when it is made, for its whole life.
+
 ghost use Rattle.std.specs.Prelude.{◌≡◌, ℕ, ◌++◌, ◌<◌, ◌≤◌, ◌^◌, [], false, All, IfOk, length, map, replicate, slice_index};
 ghost use Rattle.std.specs.List.{flat_map};
 ghost use Rattle.mrp_qty.specs.declared.quantity.TheConstants.{MOST};

@@ -1,3 +1,5 @@
+//! Where an item stands among those of a lane.
+
 ghost use Rattle.std.specs.Prelude.{◌≡◌, All, IfOk, map};
 ghost use Rattle.mrp_agent.specs.Kept.{HasItemsOnce};
 

@@ -1,3 +1,5 @@
+//! How an agent plans a pair that can be planned.
+
 use crate::Agent;
 use crate::settling::queue_item;
 use mrp_net::PairNo;

@@ -1,3 +1,5 @@
+//! What an agent sends next on a lane, and how it goes on once that is sent.
+
 ghost use Rattle.std.specs.Prelude.{◌≡◌, ◌==◌, ◌<◌, [], length, position};
 ghost use Rattle.std.specs.List.{position_or_len};
 ghost use Rattle.mrp_view.specs.Loads.{load, load_at};

@@ -1,3 +1,5 @@
+//! How an agent keeps a plan that was drafted elsewhere.
+
 ghost use Rattle.std.specs.Prelude.{◌≡◌, length, map};
 ghost use Rattle.mrp_agent.specs.After.{AreSettled, queued_by};
 

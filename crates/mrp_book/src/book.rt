@@ -1,3 +1,5 @@
+//! The book of a lane's receiver: the records that came, as figures.
+
 ghost use Rattle.std.specs.Prelude.{◌≡◌, ◌<◌, IfOk, IfSome};
 ghost use Rattle.std.specs.List.{list_all};
 ghost use Rattle.mrp_book.specs.Figures.{rises_on};

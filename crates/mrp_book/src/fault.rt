@@ -1,3 +1,5 @@
+//! Why a record is refused by a book.
+
 use thiserror::Error;
 
 /// Why a record is refused: the first fault that holds. A refusal changes nothing.

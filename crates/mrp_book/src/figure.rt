@@ -1,3 +1,5 @@
+//! The cumulative figures of an item on a lane.
+
 use mrp_net::{ItemNo, LaneNo};
 use mrp_qty::Qty;
 

@@ -1,3 +1,5 @@
+//! What a book knows of one item of its lane.
+
 ghost use Rattle.std.specs.Prelude.{◌≡◌, ◌+◌, ◌^◌, ◌≤◌, ◌<◌};
 ghost use Rattle.mrp_qty.specs.declared.quantity.TheConstants.{MOST};
 

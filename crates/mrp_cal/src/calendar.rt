@@ -1,3 +1,5 @@
+//! The planning calendar: a first day, days a period, and periods.
+
 ghost use Rattle.std.specs.Prelude.{◌≡◌, ◌<◌, ◌^◌, pos, ◌+ℤ◌, ◌<ℤ◌, ◌≤ℤ◌, IfOk, IfErr, IfSome, MatchOption};
 ghost use Rattle.jiff.specs.Words.{epoch_day, IsEpochDay};
 ghost use Rattle.mrp_cal.specs.DateText.{SpellsDay};

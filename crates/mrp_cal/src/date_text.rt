@@ -1,3 +1,5 @@
+//! The text of a day, yyyy-mm-dd, read and written.
+
 ghost use Rattle.std.specs.Prelude.{◌≡◌, ◌*◌, ◌+◌, ◌-◌, ◌≤◌, ◌↔◌, pos, ◌≤ℤ◌, unsigned_abs, length, slice_index, IsTrue, MatchOption};
 ghost use Rattle.jiff.specs.Types.{Date as Plain};
 ghost use Rattle.jiff.specs.Words.{epoch_day};

@@ -1,3 +1,5 @@
+//! Why a calendar is refused.
+
 use thiserror::Error;
 
 /// Why a calendar is refused.

@@ -1,3 +1,5 @@
+//! Why the work of a crew ended early.
+
 use mrp_qty::Memory;
 use std::alloc::AllocError;
 use thiserror::Error;

@@ -1,3 +1,5 @@
+//! What a sender keeps of an outgoing lane: the next record and what is left to send.
+
 ghost use Rattle.std.specs.Prelude.{◌≡◌, ℕ, IfOk};
 ghost use Rattle.std.specs.List.{range_with_len};
 

@@ -1,3 +1,5 @@
+//! What is left to send of an item.
+
 use mrp_record::ItemNo;
 
 /// The next delivery of an item, as it is still to be sent.

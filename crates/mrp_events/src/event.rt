@@ -1,3 +1,5 @@
+//! The events of a run: a record is sent, a record is received, a pair is planned.
+
 use mrp_net::{LaneNo, PairNo};
 
 /// One step of a run: a record is sent over a lane, the next one of a lane is received, or one pair

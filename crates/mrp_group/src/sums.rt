@@ -1,3 +1,5 @@
+//! Amounts of rows added up by a key.
+
 ghost use Rattle.std.specs.Prelude.{◌≡◌, ℕ, ◌+◌, ◌*◌, ◌<◌, length, All};
 ghost use Rattle.mrp_group.specs.Added.{AddsTotals, AddsAmounts};
 

@@ -1,3 +1,5 @@
+//! The loop check: low-level codes, or a loop.
+
 ghost use Rattle.std.specs.Prelude.{◌≡◌, ◌<◌, ◌≤◌, length, take, All, IfOk, IfErr, IfNone, IfSome, slice_index};
 ghost use Rattle.mrp_loops.specs.declared.loops.LoopFault.TheVariants.{Memory};
 ghost use Rattle.mrp_loops.specs.Loop.{IsLoopFree, AreCodes};

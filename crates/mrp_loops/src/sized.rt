@@ -1,3 +1,5 @@
+//! The bound: a network whose quantities stay at 10^15 pieces and below, or the pair that goes beyond.
+
 ghost use Rattle.std.specs.Prelude.{◌≡◌, ◌≤◌, ℕ, IfOk, IfErr, IfNone, IfSome, map};
 ghost use Rattle.mrp_qty.specs.declared.quantity.TheConstants.{MOST};
 ghost use Rattle.mrp_loops.specs.declared.sized.BoundFault.TheVariants.{Memory};

@@ -1,3 +1,5 @@
+//! How pairs are taken away, demanders first, until each that is left has a demander left.
+
 ghost use Rattle.std.specs.Prelude.{◌≡◌, ◌+◌, ◌<◌, ◌≤◌, ◌-◌, ◌++◌, ◌∷◌, [], ◌==◌, if◌then◌else◌, max, length, take, slice_index};
 ghost use Rattle.std.specs.Prelude.{slice_set, slice_index_or, IfOk, OnOk};
 ghost use Rattle.mrp_loops.specs.Taking.{IsTaken};

@@ -1,3 +1,5 @@
+//! What a pair is planned by, and an order that is late.
+
 use crate::Rule;
 use mrp_qty::Qty;
 

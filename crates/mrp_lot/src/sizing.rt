@@ -1,3 +1,5 @@
+//! How much a lot rule orders for a net requirement.
+
 ghost use Rattle.std.specs.Prelude.{◌≡◌, ◌+◌, ◌≤◌};
 ghost use Rattle.mrp_qty.specs.declared.quantity.TheConstants.{MOST};
 ghost use Rattle.mrp_lot.specs.Lot.{least_multiple_of, lot_of, rule_quantities, IsRule};

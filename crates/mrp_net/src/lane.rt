@@ -1,3 +1,5 @@
+//! A lane between two plants, its kind and its shipments.
+
 use mrp_qty::Qty;
 use mrp_rows::PlantNo;
 

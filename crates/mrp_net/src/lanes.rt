@@ -1,3 +1,5 @@
+//! The lanes of a network, and the items on each.
+
 ghost use Rattle.std.specs.Prelude.{◌≡◌, ◌+◌, ◌*◌, ◌^◌, ◌<◌, ◌++◌, true, length, map, replicate, All, IfOk};
 ghost use Rattle.mrp_rows.specs.Table.{is_taken_from};
 ghost use Rattle.mrp_group.specs.Added.{AddsTotals};

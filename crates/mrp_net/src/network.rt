@@ -1,3 +1,5 @@
+//! The network of a table: its pairs, edges, sums and lanes by their numbers.
+
 ghost use Rattle.std.specs.Prelude.{◌≡◌, ◌<◌, ◌≤◌, ◌^◌, ◌-◌, ◌+◌, ◌*◌, ℕ, true, min};
 ghost use Rattle.std.specs.Prelude.{length, slice_get, Option, Some, None, IfSome, IfNone, IfOk, Contains, All};
 ghost use Rattle.mrp_rows.specs.Table.{Table, IsTable, horizon, IsPair, is_taken_from, pair_no};

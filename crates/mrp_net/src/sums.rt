@@ -1,3 +1,5 @@
+//! Demands and receipts of a table added up by pair and period.
+
 use mrp_group::{AmountOf, KeyOf};
 use mrp_rows::{CumRow, DemandRow, ReceiptRow, ShipRow};
 

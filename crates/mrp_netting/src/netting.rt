@@ -1,3 +1,5 @@
+//! Planned order receipts and projected available, period by period.
+
 ghost use Rattle.std.specs.Prelude.{◌≡◌, ◌+◌, ◌-◌, ◌<◌, ◌≤◌, min, length, suc};
 ghost use Rattle.mrp_qty.specs.declared.quantity.TheConstants.{MOST};
 ghost use Rattle.mrp_lot.specs.One.{IsWithin, greatest_need, order_at, order_after, balance_before, order_row, available_row};

@@ -1,3 +1,5 @@
+//! Planned order releases: orders a lead time earlier.
+
 ghost use Rattle.std.specs.Prelude.{◌≡◌, ◌≤◌, length, sum};
 ghost use Rattle.mrp_qty.specs.declared.quantity.TheConstants.{MOST};
 ghost use Rattle.mrp_lot.specs.One.{release_row};

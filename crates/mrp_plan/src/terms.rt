@@ -1,3 +1,5 @@
+//! A term of a gross requirement, and where it comes from.
+
 use mrp_net::PairNo;
 
 /// Where a requirement comes from.

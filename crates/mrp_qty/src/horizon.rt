@@ -1,3 +1,5 @@
+//! How many periods are planned.
+
 ghost use Rattle.std.specs.Prelude.{◌≡◌, ℕ, ◌≤◌, ◌↔◌, IsSome, IfSome};
 ghost use Rattle.mrp_qty.specs.declared.horizon.TheConstants.{LONGEST};
 

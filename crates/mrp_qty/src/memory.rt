@@ -1,3 +1,5 @@
+//! The fault that memory was refused.
+
 use std::alloc::{AllocError, AllocFailed};
 use thiserror::Error;
 

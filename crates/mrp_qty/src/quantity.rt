@@ -1,3 +1,5 @@
+//! A quantity of pieces, up to 10^15.
+
 ghost use Rattle.std.specs.Prelude.{◌≡◌, ℕ, ◌≤◌, ◌↔◌, IsSome, IfSome, Some, decimal};
 ghost use Rattle.mrp_qty.specs.declared.quantity.TheConstants.{MOST};
 

@@ -1,3 +1,5 @@
+//! The components of each pair, grouped by demander.
+
 ghost use Rattle.std.specs.Prelude.{◌≡◌, ◌<◌, ◌^◌, All, IfOk, Some, length, map, slice_get};
 ghost use Rattle.std.specs.List.{range_with_len};
 ghost use Rattle.mrp_ready.specs.Counts.{components_of};

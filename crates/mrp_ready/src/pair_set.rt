@@ -1,3 +1,5 @@
+//! A set of a plant's pairs, changed in constant time.
+
 ghost use Rattle.std.specs.Prelude.{◌≡◌, ◌<◌, IfOk, IsTrue, ◌↔◌};
 
 use crate::PairNo;

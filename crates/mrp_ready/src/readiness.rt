@@ -1,3 +1,5 @@
+//! Which pairs of a plant can be planned, kept up with each event.
+
 ghost use Rattle.std.specs.Prelude.{◌≡◌, ℕ, ◌<◌, ◌↔◌, IfOk, IsTrue, Contains, length, slice_index};
 
 use crate::PairNo;

@@ -1,3 +1,5 @@
+//! The pairs of a plant in slots, each found by its place.
+
 ghost use Rattle.std.specs.Prelude.{◌≡◌, ◌<◌, IfOk, length, swap, slice_index};
 ghost use Rattle.std.specs.List.{range_with_len};
 ghost use Rattle.mrp_ready.specs.Chosen.{slots_after};

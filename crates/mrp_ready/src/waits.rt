@@ -1,3 +1,5 @@
+//! How much each pair waits for.
+
 ghost use Rattle.std.specs.Prelude.{◌≡◌, ℕ, ◌+◌, ◌^◌, ◌<◌, All, IfOk, length, slice_index};
 ghost use Rattle.mrp_ready.specs.Progress.{times};
 ghost use Rattle.mrp_ready.specs.Counts.{AreCounted, AreFirstCounts};

@@ -1,3 +1,5 @@
+//! The records of a lane: lines, resets, item ends and the closing.
+
 use mrp_rows::ItemNo;
 
 /// One record of a lane.

@@ -1,3 +1,5 @@
+//! Why a report was not written whole.
+
 ghost use Rattle.mrp_report.specs.declared.fault.ReportFault.TheVariants.{Memory};
 ghost use Rattle.std.specs.Prelude.{◌≡◌};
 

@@ -1,3 +1,5 @@
+//! The lane rows: the cumulative figures of each item of each lane.
+
 ghost use Rattle.std.specs.Prelude.{◌≡◌, ◌++◌, ◌<◌, Err, OnOk, IfOk, IfErr, All, length};
 ghost use Rattle.mrp_net.specs.Lanes.{lanes};
 ghost use Rattle.mrp_report.specs.Lanes.{kind_word, lane_row, lane_text, IsFigure};

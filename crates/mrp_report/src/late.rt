@@ -1,3 +1,5 @@
+//! The late rows: each order that should have been released before period 0.
+
 ghost use Rattle.std.specs.Prelude.{◌≡◌, ◌++◌, Err, OnOk, IfOk, IfErr};
 ghost use Rattle.std.specs.List.{flat_map};
 ghost use Rattle.mrp_net.specs.Plan.{Fits};

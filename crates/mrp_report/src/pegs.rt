@@ -1,3 +1,5 @@
+//! The peg rows: the terms of a gross requirement.
+
 ghost use Rattle.std.specs.Prelude.{◌≡◌, ◌++◌, Err, OnOk, IfOk, IfErr, All};
 ghost use Rattle.mrp_rows.specs.Table.{IsPair};
 ghost use Rattle.mrp_report.specs.Rows.{IsBetweenRows, written};

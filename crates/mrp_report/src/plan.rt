@@ -1,3 +1,5 @@
+//! The plan rows: the record of each pair, period by period.
+
 ghost use Rattle.std.specs.Prelude.{◌≡◌, ◌+◌, ◌-◌, ◌++◌, ◌∷◌, ◌<◌, ◌≤◌, map, drop, length, decimal, Err, IfOk, OnOk, IfErr, OnErr};
 ghost use Rattle.csv.specs.Writing.{comma};
 ghost use Rattle.mrp_net.specs.Plan.{Fits};

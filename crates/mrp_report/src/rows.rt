@@ -1,3 +1,5 @@
+//! Rows of csv in a room of their own.
+
 ghost use Rattle.std.specs.Prelude.{◌≡◌, ◌≤◌, ◌++◌, map, IfOk, OnOk, IfErr, [], length};
 ghost use Rattle.mrp_report.specs.Rows.{row, IsBetweenRows, written};
 

@@ -1,3 +1,5 @@
+//! Bytes sent to a writer whole.
+
 ghost use Rattle.std.specs.Prelude.{◌≡◌, OnOk, OnErr, IfErr};
 ghost use Rattle.std.specs.Io.KnownBytes.{Appends};
 ghost use Rattle.mrp_report.specs.Sending.{AppendsFront};

@@ -1,3 +1,5 @@
+//! The rows of a table, with names as numbers, and how many there may be.
+
 ghost use Rattle.std.specs.Prelude.{◌≡◌};
 
 use crate::{ItemNo, PairNo, PlantNo};

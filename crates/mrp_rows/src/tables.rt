@@ -1,3 +1,5 @@
+//! A table that was read, with its readers.
+
 ghost use Rattle.std.specs.Prelude.{◌≡◌};
 
 use crate::{

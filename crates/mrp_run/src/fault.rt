@@ -1,3 +1,5 @@
+//! Why a run by threads ended early.
+
 ghost use Rattle.std.specs.Prelude.{◌≡◌};
 
 use mrp_net::PlantNo;

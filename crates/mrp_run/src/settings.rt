@@ -1,3 +1,5 @@
+//! The settings of a run: the workers of a plant and the room of a mailbox.
+
 use mrp_crew::MOST_WORKERS;
 use mrp_lane::MOST_ROOM;
 use std::marker::Model;

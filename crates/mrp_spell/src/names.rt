@@ -1,3 +1,5 @@
+//! How a name is spelled.
+
 ghost use Rattle.std.specs.Prelude.{◌≡◌};
 ghost use Rattle.std.specs.List.{list_all};
 ghost use Rattle.mrp_spell.specs.Spelling.{is_name, is_name_byte};

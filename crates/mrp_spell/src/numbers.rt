@@ -1,3 +1,5 @@
+//! How a number is spelled.
+
 ghost use Rattle.std.specs.Prelude.{◌≡◌, ◌≢◌, ◌≤◌, ℕ, length, IfSome, MatchOption};
 ghost use Rattle.mrp_spell.specs.Digits.{digits_of};
 ghost use Rattle.mrp_spell.specs.Spelling.{IsShort, number_of, number_text, number_within};

@@ -1,3 +1,5 @@
+//! How a lot rule is spelled.
+
 ghost use Rattle.std.specs.Prelude.{◌≡◌, IfSome};
 ghost use Rattle.mrp_lot.specs.Lot.{IsRule};
 ghost use Rattle.mrp_spell.specs.Spelled.{cut_view};

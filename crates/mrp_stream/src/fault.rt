@@ -1,3 +1,5 @@
+//! Why a text of records is refused.
+
 ghost use Rattle.mrp_stream.specs.declared.fault.RecordFaultKind.TheVariants.{Memory};
 ghost use Rattle.std.specs.Prelude.{◌≡◌};
 

@@ -1,3 +1,5 @@
+//! The kinds of records, by their first field.
+
 /// The kinds of records.
 #[derive(Clone, Copy, Debug, PartialEq, Eq)]
 pub enum Kind {

@@ -1,3 +1,5 @@
+//! What the fields of a record's row spell.
+
 ghost use Rattle.std.specs.Prelude.{◌≡◌, IfOk};
 ghost use Rattle.csv.specs.Records.{fields_of};
 ghost use Rattle.mrp_tables.specs.Grammar.{field, is_free};

@@ -1,3 +1,5 @@
+//! Records written as csv rows.
+
 ghost use Rattle.std.specs.Prelude.{◌≡◌, ◌++◌, ◌∷◌, map, OnOk, OnErr};
 ghost use Rattle.mrp_stream.specs.Rows.{close_fields, end_fields, Grows, HasRow, line_fields, record_text, reset_fields, row};
 

@@ -1,3 +1,5 @@
+//! Bill, demand and receipt rows, tested against the rows before them.
+
 use crate::TableFaultKind;
 use crate::draft::{BillKey, Draft};
 use crate::spelled::{SpelledBill, spelled_amount, spelled_bill};

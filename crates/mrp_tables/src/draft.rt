@@ -1,3 +1,5 @@
+//! The table as far as it is read.
+
 ghost use Rattle.std.specs.Prelude.{◌≡◌, ◌+◌, OnOk, IfOk};
 
 use crate::TableFaultKind;

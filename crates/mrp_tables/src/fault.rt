@@ -1,3 +1,5 @@
+//! Why a table is refused, and at which row.
+
 ghost use Rattle.mrp_tables.specs.declared.fault.TableFaultKind.TheVariants.{Memory};
 ghost use Rattle.std.specs.Prelude.{◌≡◌};
 

@@ -1,3 +1,5 @@
+//! The kinds of rows, by their first field.
+
 /// The kinds of rows, in the order in which they stand in a table.
 #[derive(Clone, Copy, Debug, PartialEq, Eq)]
 pub enum Kind {

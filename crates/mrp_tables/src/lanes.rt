@@ -1,3 +1,5 @@
+//! Shipment, cumulative and reset rows, tested against the rows before them.
+
 ghost use Rattle.std.specs.Prelude.{◌≡◌, IfOk};
 
 use crate::TableFaultKind;

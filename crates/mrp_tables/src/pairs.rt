@@ -1,3 +1,5 @@
+//! Plant and pair rows, tested against the rows before them.
+
 ghost use Rattle.std.specs.Prelude.{◌≡◌, map};
 ghost use Rattle.mrp_spell.specs.Supplies.{named_sources};
 ghost use Rattle.mrp_tables.specs.Grammar.{supply_kind};

@@ -1,3 +1,5 @@
+//! A table read from a text of csv rows.
+
 ghost use Rattle.std.specs.Prelude.{◌≡◌, ◌+◌, ◌≤◌, ◌<◌, true, false, Ok, Err, MatchResult, IfOk, OnOk, option_map};
 ghost use Rattle.csv.specs.Reading.{strip_bom};
 ghost use Rattle.csv.specs.Records.{AllText, fields_of};

@@ -1,3 +1,5 @@
+//! Fields of a row: names and numbers in their ranges.
+
 ghost use Rattle.std.specs.Prelude.{◌≡◌, ◌≤◌, IfOk};
 ghost use Rattle.mrp_rows.specs.Table.{IsName};
 ghost use Rattle.mrp_tables.specs.Grammar.{name_of, ranged, seen};

@@ -1,3 +1,5 @@
+//! The steps of reading, counted for contracts alone.
+
 ghost use Rattle.std.specs.Prelude.{◌≡◌, ◌+◌, ◌<◌, ℕ};
 
 use std::marker::Model;

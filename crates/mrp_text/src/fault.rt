@@ -1,3 +1,5 @@
+//! Why a text was not written whole, and the status that a program ends with then.
+
 ghost use Rattle.std.specs.Prelude.{◌≡◌};
 ghost use Rattle.mrp_text.specs.Fault.{status_of, table_status_of, IsOfReport};
 ghost use Rattle.mrp_text.specs.declared.fault.TextFault.TheVariants.{Memory};

@@ -1,3 +1,5 @@
+//! The line that reports a fault.
+
 ghost use Rattle.std.specs.Prelude.{◌≡◌, IfErr};
 ghost use Rattle.std.specs.List.{flat_map};
 ghost use Rattle.mrp_report.specs.Sending.{AppendsFront};

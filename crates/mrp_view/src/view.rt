@@ -1,3 +1,5 @@
+//! What one plant sees of the network: its pairs, their rows, its lanes.
+
 use mrp_lot::PairParams;
 use mrp_net::{ItemNo, LaneKind, LaneNo, PairNo, Shipment};
 use mrp_qty::{Horizon, Memory};

@@ -1,3 +1,5 @@
+//! How a plant's view is taken from the network.
+
 ghost use Rattle.std.specs.Prelude.{◌≡◌, ◌<◌, ◌≤◌, ◌++◌, length, map, All, Contains, IfOk};
 ghost use Rattle.std.specs.List.{flat_map};
 ghost use Rattle.mrp_rows.specs.Table.{IsPair};

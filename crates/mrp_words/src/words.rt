@@ -1,3 +1,5 @@
+//! The command line: what words choose.
+
 ghost use Rattle.std.specs.Prelude.{◌≡◌, Some, true, false, [], codes, IfOk, IfErr};
 ghost use Rattle.clap.specs.Words.{app_of, fault_of, found_of, rows_of, subcommand_rows_of, takes};
 ghost use Rattle.mrp_words.specs.Choice.{IsChosenBy, IsCommand, IsInRange, IsMeantBy, IsMemory, IsRefusalOf, flag_at, number_at, text_at, texts_of};

@@ -1,3 +1,5 @@
+//! What a world asks of a plant.
+
 use mrp_book::BookFault;
 use mrp_net::{ItemNo, LaneNo, PairNo};
 use mrp_netting::PairPlan;

@@ -1,3 +1,5 @@
+//! The world: all plants and the mailboxes between them, one event at a time.
+
 ghost use Rattle.std.specs.Prelude.{◌≡◌, ◌+◌, ℕ, ◌-◌, ◌≤◌, true, false, All, List, IfOk, IfSome, IfNone, MatchBool, IsTrue, ◌↔◌};
 ghost use Rattle.mrp_rows.specs.Table.{IsPair};
 ghost use Rattle.mrp_world.specs.declared.world.TheConstants.{MOST_ROOM};

@@ -1,3 +1,5 @@
+//! Random firms: the program's reports beside those of a second planner.
+
 use super::{codes, pegs, plan};
 use std::test::Fail;
 

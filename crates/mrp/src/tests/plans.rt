@@ -1,3 +1,5 @@
+//! Plans of worked tables, byte for byte.
+
 use super::figures::FIRM_OF_TWO;
 use super::{BICYCLE, BICYCLE_PLAN, codes, pegs, plan};
 use std::test::Fail;

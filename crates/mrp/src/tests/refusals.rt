@@ -1,3 +1,5 @@
+//! Tables that are refused: the fault, its line and its status.
+
 use super::{codes, plan};
 use std::test::Fail;
 

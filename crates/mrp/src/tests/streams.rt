@@ -1,3 +1,5 @@
+//! Readers and writers that give little, fail or end early.
+
 use super::figures::{FIRM_OF_TWO, FIRM_OF_TWO_CUMS};
 use super::{BICYCLE, BICYCLE_PLAN};
 use mrp_tables::TableFaultKind;

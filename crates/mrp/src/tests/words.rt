@@ -1,3 +1,5 @@
+//! The words of the command line, chosen, refused and helped.
+
 use clap::error::ErrorKind;
 use mrp_words::{ChooseFault, choose};
 use std::test::Fail;

@@ -1,3 +1,5 @@
+//! The command line: words that choose, and words that are refused.
+
 use clap::error::ErrorKind;
 use mrp_words::{Choice, ChooseFault, choose};
 use std::alloc::Global;

@@ -1,3 +1,5 @@
+//! Calendars and the texts of days.
+
 use mrp_cal::{CalFault, Calendar};
 use mrp_qty::Horizon;
 use std::test::Fail;

@@ -1,3 +1,5 @@
+//! Lot rules, each by orders worked by hand.
+
 use mrp_lot::{Rule, lot};
 use mrp_qty::Qty;
 

@@ -1,3 +1,5 @@
+//! The plan of one pair, by records worked by hand.
+
 ghost use Rattle.std.specs.Prelude.{◌≡◌, ◌+◌, ◌≤◌, length, IfOk};
 ghost use Rattle.mrp_lot.specs.Lot.{IsRule, rule_quantities};
 ghost use Rattle.mrp_lot.specs.declared.rule.TheConstants.{LONGEST_LEAD};

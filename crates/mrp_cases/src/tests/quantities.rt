@@ -1,3 +1,5 @@
+//! Quantities, horizons and rows at their limits.
+
 use mrp_qty::{Horizon, Qty, Row};
 use std::test::Fail;
 
