@@ -4,6 +4,9 @@
 #
 #   bench/firm.sh [PLANTS] [PAIRS]      PLANTS is 2 to 64, PAIRS at most 20,000
 #   bench/firm.sh table PLANTS PAIRS    prints the table alone
+#   bench/firm.sh plant [PAIRS]         one plant without lanes, with some eight bill rows a pair and 104 periods:
+#                                       in each of twenty runs the microseconds of planning it at once and of
+#                                       driving it, from the view to the last plan, and their ratio
 #
 # It needs awk and GNU time. The program is built over the crates of the project, which it leaves as they
 # are: they are copied with what is proved of them.
@@ -30,16 +33,30 @@ make_table() {
     }'
 }
 
+# A plant of ten levels, in which each pair that isn't of the last has nine components of the next.
+make_plant() {
+    awk -v pairs="$1" 'BEGIN {
+        periods = 104; level = int(pairs / 10)
+        print "run,2026-01-05,7," periods ",,,,"
+        print "plant,P0,,,,,,"
+        for (k = 0; k < level * 10; k++) print "pair,P0,I" k "," (k < level * 9 ? "make" : "buy") ",lot," k % 3 ",0,0"
+        for (k = 0; k < level * 9; k++) for (j = 0; j < 9; j++)
+            print "bill,P0,I" k ",I" (int(k / level) + 1) * level + (k * 7 + j * 101) % level ",1,,,"
+        for (k = 0; k < level; k++) print "demand,P0,I" k "," k % periods "," 1 + k % 40 ",,,"
+    }'
+}
+
 if [ "${1:-}" = table ]; then
     make_table "$2" "$3"
     exit
 fi
 plants=${1:-64}
 pairs=${2:-20000}
+[ "$plants" != plant ] || alone=yes
 folder=$(mktemp -d)
 trap 'rm -rf "$folder"' EXIT
 
-below="qty cal lot spell rows tables group ready net view loops netting plan record cursor book events local agent world"
+below="qty cal lot spell rows tables group ready net view loops netting gather plan record cursor book events local agent world"
 mkdir "$folder/crates"
 for name in $below; do
     cp -a "$top/crates/mrp_$name" "$folder/crates/"
@@ -51,7 +68,7 @@ any=$(echo "$below" | tr ' ' '|')
 grep -E "^(#|mrp_($any):)" "$top/crates.txt" >"$folder/crates.txt"
 uses=$(echo "$below" | sed 's/[a-z][a-z]*/mrp_&/g')
 echo "bench_firm: $uses" >>"$folder/crates.txt"
-make_table "$plants" "$pairs" >"$folder/table.csv"
+if [ "${alone:-}" ]; then make_plant "$pairs"; else make_table "$plants" "$pairs"; fi >"$folder/table.csv"
 (cd "$folder/crates/bench_firm" && rt run -- plan <"$folder/table.csv" >/dev/null)
 program=$folder/crates/bench_firm/out/bench_firm
 
@@ -63,6 +80,14 @@ measure() {
     done | sort -n | head -n 1 >"$folder/fastest"
     echo "$* $(cat "$folder/out") $(cat "$folder/fastest")"
 }
+
+if [ "${alone:-}" ]; then
+    echo "at_once_us driven_us ratio"
+    for _ in 1 2 3 4 5 6 7 8 9 10 11 12 13 14 15 16 17 18 19 20; do
+        "$program" both 64 <"$folder/table.csv"
+    done | awk '{ printf "%s %s %.2f\n", $1, $2, $2 / $1 }'
+    exit
+fi
 
 echo "what count seconds peak_kib"
 measure plan
