@@ -26,7 +26,8 @@ shared_source text low = shared_in low (cut text)
 -- plants that may come after sources: some, at most so many, all of them new, whose shares fill what is left of the whole
 abbrev pub may_come : ℕ → List SourceTerms → ℕ → List PlantShare → Bool
 may_come left before low ss =
-    nat_le 1 (length ss) && nat_le (length ss) left && list_all (λ s. is_name s.plant && not (names_plant before s.plant)) ss && are_different ss && low + sum_by (λ s. s.share) ss == MOST_SHARE
+    nat_le 1 (length ss) && nat_le (length ss) left && list_all (λ s. is_name s.plant && not (names_plant before s.plant)) ss
+    && are_different ss && low + sum_by (λ s. s.share) ss == MOST_SHARE
 
 abbrev pub with_later : ℕ → List SourceTerms → ℕ → Option (List PlantShare) → Option (List SourceTerms)
 with_later left before low None = None

@@ -46,7 +46,8 @@ are_different (s ∷ ss) = not (list_any (λ t. bytes_eq s.plant t.plant) ss) &&
 -- two to four plants, each a name and all different, and shares that are together the whole
 abbrev pub are_whole : List PlantShare → Bool
 are_whole ss =
-    nat_le 2 (length ss) && nat_le (length ss) MOST_SOURCES_OF_PAIR && list_all (λ s. is_name s.plant) ss && are_different ss && sum_by (λ s. s.share) ss == MOST_SHARE
+    nat_le 2 (length ss) && nat_le (length ss) MOST_SOURCES_OF_PAIR && list_all (λ s. is_name s.plant) ss
+    && are_different ss && sum_by (λ s. s.share) ss == MOST_SHARE
 
 -- one source after the other: each share begins where the one before it ends
 abbrev pub in_a_row : ℕ → List PlantShare → List SourceTerms
