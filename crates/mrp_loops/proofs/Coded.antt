@@ -9,7 +9,7 @@ use Rattle.mrp_rows.specs.Table.{Table, IsTable, IsPair}
 use Rattle.mrp_rows.specs.declared.numbers.PairNo.{PairNo}
 use Rattle.mrp_net.specs.declared.edge.Edge.{Edge}
 use Rattle.mrp_net.specs.Edges.{demanders}
-use Rattle.mrp_loops.specs.Loop.{HasChain, IsLoopFree}
+use Rattle.mrp_loops.specs.Loop.{HasEdge, HasChain, IsLoopFree}
 use Rattle.mrp_loops.specs.Taking.{is_in}
 use Rattle.mrp_loops.proofs.Climbing.{Climbs}
 use Rattle.mrp_loops.specs.Walk.{IsApart}
@@ -48,18 +48,18 @@ chain_from_test N (suc n) x t =
 module _ (N : Table) (table : IsTable N) (free : IsLoopFree N) where
   -- a chain and a path below it visit each pair once
   chain_short : (n : ℕ) (x : PairNo) (path : List PairNo) → All (λ z. IsPair N z.0) path → IsPair N x.0 → IsApart path
-      → is_in path x.0 ≡ false → Climbs N x.0 (reverse path) → HasChain N x.0 n → n + length path < length N.pairs
+      → is_in path x.0 ≡ false → Climbs (HasEdge N) x.0 (reverse path) → HasChain N x.0 n → n + length path < length N.pairs
   chain_short zero x path pairs pair apart new climbs chain =
       let short = path_short N path x pairs pair apart new in omega arith
   chain_short (suc n) x path pairs pair apart new climbs chain =
       let y : PairNo = record { 0 = chain.0 } in
       let path' = path ++ x ∷ [] in
       let apart' = Apart-push path x apart new in
-      let climbs' = climbs_more N path x y climbs chain.1 in
+      let climbs' = climbs_more (HasEdge N) path x y climbs chain.1 in
       ⊎_elim
       (λ again.
       let c = place_in path' y.0 again in
-      absurd (free _ (ring_from_walk N path' y c.0 c.1 (c.2 y) climbs' apart').loop))
+      absurd (free _ (ring_from_walk (HasEdge N) path' y c.0 c.1 (c.2 y) climbs' apart').round))
       (λ new'.
       let rest = chain_short n y path' (All-push (λ (z : PairNo). IsPair N z.0) path x pairs pair) (HasEdge-pairs N table y.0 x.0 chain.1).0 apart' new' climbs' chain.2 in
       omega (arith, length_push path x))

@@ -13,6 +13,7 @@ use Rattle.mrp_loops.specs.Walk.{IsStuck}
 use Rattle.mrp_net.proofs.Members.{Contains-from_in}
 use Rattle.mrp_loops.proofs.Edges.{HasEdge-pairs, demanders_only, edge_pairs}
 use Rattle.mrp_loops.proofs.Taken.{waiting-some, edges_to-none, length-apart}
+use Rattle.mrp_loops.proofs.Leaving.{left_is_counted}
 use Rattle.mrp_loops.proofs.Steps.{longest_taken}
 
 -- where each pair is taken away the codes are the longest chains
@@ -63,6 +64,7 @@ stuck_from_taken N queue left codes taken = record {
       let test : (slice_index left e.0.demander.0 == 0) ≡ false = sym (taken.counted.queued e.0.demander.0 from) ∙ e.2 in
       let ne : slice_index left e.0.demander.0 ≢ 0 = λ z. both_ways (slice_index left e.0.demander.0 == 0) test (eq-eqb (slice_index left e.0.demander.0) 0 z) in
       (e.0, Contains-from_in (demanders N x) e.0 e.1, omega arith);
+  all = left_is_counted N queue left codes taken;
 }
 
 -- a network with codes whose needs are within the bound is sized

@@ -6,6 +6,8 @@ pub mod Steps
 pub mod Codes
 pub mod Climbing
 pub mod Rings
+pub mod Leaving
+pub mod OneWalk
 pub mod Planning
 pub mod Needed
 pub mod Upstream

@@ -1,21 +1,21 @@
 -- A walk upstream that comes to a pair again has a loop behind it, which may begin anywhere.
-use Rattle.std.proofs.Common.{◌≡◌, ◌≢◌, ℕ, ◌+◌, ◌<◌, ◌≤◌, ◌==◌, Bool, true, false, ⊎_elim, List, [], ◌∷◌, ◌++◌, map, reverse, length, get_or, slice_index, set, take, drop, refl, sym, ap, subst, ◌∙◌, arith, All, IsPermutation}
-use Rattle.std.specs.List.{IsDistinct, AllPairs, filter}
-use Rattle.std.proofs.lemmas.Bool.{ne_eqb, cases_eq, cases_lt, both_ways, eq-eqb}
+use Rattle.std.proofs.Common.{◌≡◌, ◌≢◌, ℕ, ◌+◌, ◌<◌, ◌≤◌, ◌==◌, Bool, true, false, ⊎_elim, List, [], ◌∷◌, ◌++◌, map, reverse, length, get_or, set, take, drop, refl, sym, ap, subst, ◌∙◌, arith, All, IsPermutation}
+use Rattle.std.specs.List.{IsDistinct, AllPairs}
+use Rattle.std.proofs.lemmas.Bool.{ne_eqb, cases_eq, both_ways, eq-eqb}
 use Rattle.std.proofs.lemmas.List.{append-nil, append_assoc, map-append, reverse-append, take-append-drop, get_or-drop, get_or-map, length-map, length-drop, drop_more, get_or_default, get_or_read, take-map, drop-map, get_or-set_same, get_or-set_other, length_push}
 use Rattle.std.proofs.lemmas.List.Sorted.{IsPermutation-reverse, IsPermutation-append_comm, IsPermutation-trans, IsPermutation-map, All-permutation}
 use Rattle.std.proofs.lemmas.Map.Keys.{IsDistinct-from_apart, IsDistinct-IsPermutation, apart_from_distinct}
 use Rattle.mrp_rows.specs.Table.{Table, IsTable, IsPair}
 use Rattle.mrp_rows.specs.declared.numbers.PairNo.{PairNo}
 use Rattle.mrp_net.specs.declared.edge.Edge.{Edge}
-use Rattle.mrp_net.specs.Edges.{edges, demanders}
+use Rattle.mrp_net.specs.Edges.{demanders}
 use Rattle.mrp_loops.specs.Taking.{is_in}
-use Rattle.mrp_group.proofs.Kept.{sorted_rows_rise}
-use Rattle.mrp_net.proofs.Members.{In-from_contains, Contains-from_in}
-use Rattle.mrp_loops.proofs.Edges.{demanders_only, demanders_edge, HasEdge-from_in, edge_pairs}
+use Rattle.mrp_net.proofs.Members.{In-from_contains}
+use Rattle.mrp_loops.proofs.Edges.{demanders_only, HasEdge-from_in, edge_pairs}
 use Rattle.mrp_loops.proofs.Taken.{is_in-push_same, is_in-push_other, Apart-push, length-apart}
-use Rattle.std.proofs.lemmas.List.Elements.{Contains-get_or, All-push}
-use Rattle.mrp_loops.specs.Loop.{HasEdge, LeadsTo, IsLoop, IsLoopFound, first_or}
+use Rattle.std.proofs.lemmas.List.Elements.{Contains-get_or, All-push, All-map}
+use Rattle.mrp_loops.specs.Loop.{HasEdge, Leads, IsRound, IsLoop, first_or}
+use Rattle.mrp_loops.specs.Upstream.{ComesFrom, IsMet, IsLoopAnswered}
 use Rattle.mrp_loops.proofs.Climbing.{Climbs}
 use Rattle.mrp_loops.specs.Walk.{IsApart, IsRing}
 
@@ -25,47 +25,56 @@ first_or-append : (us vs : List ℕ) (after : ℕ) → first_or (us ++ vs) after
 first_or-append [] vs after = refl
 first_or-append (u ∷ us) vs after = refl
 
-LeadsTo-split : (N : Table) (us vs : List ℕ) (after : ℕ) → LeadsTo N (us ++ vs) after → LeadsTo N us (first_or vs after) × LeadsTo N vs after
-LeadsTo-split N [] vs after h = (tt, h)
-LeadsTo-split N (u ∷ us) vs after h =
-    let rest = LeadsTo-split N us vs after h.1 in
-    ((subst (λ (x : ℕ). HasEdge N u x) (first_or-append us vs after) h.0, rest.0), rest.1)
+Leads-split : (R : ℕ → ℕ → Type 0) (us vs : List ℕ) (after : ℕ) → Leads R (us ++ vs) after → Leads R us (first_or vs after) × Leads R vs after
+Leads-split R [] vs after h = (tt, h)
+Leads-split R (u ∷ us) vs after h =
+    let rest = Leads-split R us vs after h.1 in
+    ((subst (λ (x : ℕ). R u x) (first_or-append us vs after) h.0, rest.0), rest.1)
 
-LeadsTo-append : (N : Table) (us vs : List ℕ) (after : ℕ) → LeadsTo N us (first_or vs after) → LeadsTo N vs after → LeadsTo N (us ++ vs) after
-LeadsTo-append N [] vs after h k = k
-LeadsTo-append N (u ∷ us) vs after h k =
-    (subst (λ (x : ℕ). HasEdge N u x) (sym (first_or-append us vs after)) h.0, LeadsTo-append N us vs after h.1 k)
+pub Leads-append : (R : ℕ → ℕ → Type 0) (us vs : List ℕ) (after : ℕ) → Leads R us (first_or vs after) → Leads R vs after → Leads R (us ++ vs) after
+Leads-append R [] vs after h k = k
+Leads-append R (u ∷ us) vs after h k =
+    (subst (λ (x : ℕ). R u x) (sym (first_or-append us vs after)) h.0, Leads-append R us vs after h.1 k)
 
--- a loop may begin anywhere
-pub IsLoop-turned : (N : Table) (us vs : List ℕ) → IsLoop N (us ++ vs) → IsLoop N (vs ++ us)
-IsLoop-turned N [] vs h = subst (λ (xs : List ℕ). IsLoop N xs) (sym (append-nil vs)) h
-IsLoop-turned N (u ∷ us) [] h = subst (λ (xs : List ℕ). IsLoop N xs) (append-nil (u ∷ us)) h
-IsLoop-turned N (u ∷ us) (v ∷ vs) h =
-    let parts = LeadsTo-split N (u ∷ us) (v ∷ vs) u h in
-    LeadsTo-append N (v ∷ vs) (u ∷ us) v parts.1 parts.0
+-- a round may begin anywhere
+IsRound-turned : (R : ℕ → ℕ → Type 0) (us vs : List ℕ) → IsRound R (us ++ vs) → IsRound R (vs ++ us)
+IsRound-turned R [] vs h = subst (λ (xs : List ℕ). IsRound R xs) (sym (append-nil vs)) h
+IsRound-turned R (u ∷ us) [] h = subst (λ (xs : List ℕ). IsRound R xs) (append-nil (u ∷ us)) h
+IsRound-turned R (u ∷ us) (v ∷ vs) h =
+    let parts = Leads-split R (u ∷ us) (v ∷ vs) u h in
+    Leads-append R (v ∷ vs) (u ∷ us) v parts.1 parts.0
 
-climb_leads : (N : Table) (a : ℕ) (bs : List PairNo) (x : PairNo) (rest : List PairNo) → Climbs N a (bs ++ x ∷ rest) → LeadsTo N (a ∷ map (λ z. z.0) bs) x.0
-climb_leads N a [] x rest h = (h.0, tt)
-climb_leads N a (b ∷ bs) x rest h = (h.0, climb_leads N b.0 bs x rest h.1)
+-- where the walk goes there is an edge
+walked_edges : (N : Table) (xs : List ℕ) (after : ℕ) → Leads (ComesFrom N) xs after → Leads (HasEdge N) xs after
+walked_edges N [] after h = tt
+walked_edges N (x ∷ xs) after h = (h.0.0.0, walked_edges N xs after h.1)
+
+walked_loop : (N : Table) (xs : List ℕ) → IsRound (ComesFrom N) xs → IsLoop N xs
+walked_loop N [] h = h
+walked_loop N (x ∷ xs) h = walked_edges N (x ∷ xs) x h
+
+climb_leads : (R : ℕ → ℕ → Type 0) (a : ℕ) (bs : List PairNo) (x : PairNo) (rest : List PairNo) → Climbs R a (bs ++ x ∷ rest) → Leads R (a ∷ map (λ z. z.0) bs) x.0
+climb_leads R a [] x rest h = (h.0, tt)
+climb_leads R a (b ∷ bs) x rest h = (h.0, climb_leads R b.0 bs x rest h.1)
 
 -- the walk came back to the pair at `from`
-pub ring_from_walk : (N : Table) (path : List PairNo) (x : PairNo) (from : ℕ) → from < length path → (get_or path from x).0 ≡ x.0
-    → Climbs N x.0 (reverse path) → IsApart path → IsRing N (drop from path)
-ring_from_walk N path x from l at climbs apart =
+pub ring_from_walk : (R : ℕ → ℕ → Type 0) (path : List PairNo) (x : PairNo) (from : ℕ) → from < length path → (get_or path from x).0 ≡ x.0
+    → Climbs R x.0 (reverse path) → IsApart path → IsRing R (drop from path)
+ring_from_walk R path x from l at climbs apart =
     let y : PairNo = get_or path from x in
     let front = take from path in
     let back = drop (from + 1) path in
     let whole : path ≡ front ++ y ∷ back = sym (take-append-drop from path) ∙ ap (λ (q : List PairNo). front ++ q) (drop_more path from x l) in
     let turned : reverse path ≡ reverse back ++ (y ∷ reverse front) =
     ap (λ (q : List PairNo). reverse q) whole ∙ (reverse-append front (y ∷ back) ∙ (ap (λ (q : List PairNo). q ++ reverse front) (reverse-append (y ∷ []) back) ∙ append_assoc (reverse back) (y ∷ []) (reverse front))) in
-    let leads = climb_leads N x.0 (reverse back) y (reverse front) (subst (λ (q : List PairNo). Climbs N x.0 q) turned climbs) in
-    let loop : IsLoop N (y.0 ∷ map (λ z. z.0) (reverse back)) = subst (λ (w : ℕ). LeadsTo N (w ∷ map (λ z. z.0) (reverse back)) y.0) (sym at) leads in
-    let again = IsLoop-turned N (y.0 ∷ []) (map (λ z. z.0) (reverse back)) loop in
+    let leads = climb_leads R x.0 (reverse back) y (reverse front) (subst (λ (q : List PairNo). Climbs R x.0 q) turned climbs) in
+    let loop : IsRound R (y.0 ∷ map (λ z. z.0) (reverse back)) = subst (λ (w : ℕ). Leads R (w ∷ map (λ z. z.0) (reverse back)) y.0) (sym at) leads in
+    let again = IsRound-turned R (y.0 ∷ []) (map (λ z. z.0) (reverse back)) loop in
     let list : map (λ (z : PairNo). z.0) (reverse (drop from path)) ≡ map (λ z. z.0) (reverse back) ++ y.0 ∷ [] =
     ap (λ (q : List PairNo). map (λ (z : PairNo). z.0) (reverse q)) (drop_more path from x l)
     ∙ (ap (λ (q : List PairNo). map (λ (z : PairNo). z.0) q) (reverse-append (y ∷ []) back) ∙ map-append (λ (z : PairNo). z.0) (reverse back) (y ∷ [])) in
     record {
-      loop = rw list again;
+      round = rw list again;
       apart = λ j k d jk kl same. apart (from + j) (from + k) d (omega arith) (omega (arith, length-drop from path))
           (ap (λ (z : PairNo). z.0) (sym (get_or-drop from path j d)) ∙ (same ∙ ap (λ (z : PairNo). z.0) (get_or-drop from path k d)));
     }
@@ -97,16 +106,16 @@ turned_first xs k d l least =
     let first : first_or (drop k xs ++ take k xs) 0 ≡ get_or xs k d = ap (λ (q : List ℕ). first_or (q ++ take k xs) 0) (drop_more xs k d l) in
     rw first moved
 
-pub found_from_ring : (N : Table) (ring turned : List PairNo) (k : ℕ) → IsRing N ring → k < length (reverse ring)
+pub found_from_ring : (N : Table) (ring turned : List PairNo) (k : ℕ) → IsRing (ComesFrom N) ring → All (λ x. IsMet N x.0) ring → k < length (reverse ring)
     → All (λ x. (get_or (reverse ring) k x).0 ≤ x.0) (reverse ring) → turned ≡ drop k (reverse ring) ++ take k (reverse ring)
-    → IsLoopFound N (map (λ x. x.0) turned)
-found_from_ring N ring turned k is l least eq =
+    → IsLoopAnswered N (map (λ x. x.0) turned)
+found_from_ring N ring turned k is met l least eq =
     let numbers = map (λ (z : PairNo). z.0) (reverse ring) in
     let no_pair : PairNo = record { 0 = 0 } in
     let shape : map (λ (x : PairNo). x.0) turned ≡ drop k numbers ++ take k numbers =
     ap (λ (q : List PairNo). map (λ (x : PairNo). x.0) q) eq ∙ (map-append (λ (z : PairNo). z.0) (drop k (reverse ring)) (take k (reverse ring))
     ∙ (ap (λ (q : List ℕ). q ++ map (λ (z : PairNo). z.0) (take k (reverse ring))) (sym (drop-map (λ (z : PairNo). z.0) k (reverse ring))) ∙ ap (λ (q : List ℕ). drop k numbers ++ q) (sym (take-map (λ (z : PairNo). z.0) k (reverse ring))))) in
-    let loop = IsLoop-turned N (take k numbers) (drop k numbers) (subst (λ (q : List ℕ). IsLoop N q) (sym (take-append-drop k numbers)) is.loop) in
+    let round = IsRound-turned (ComesFrom N) (take k numbers) (drop k numbers) (subst (λ (q : List ℕ). IsRound (ComesFrom N) q) (sym (take-append-drop k numbers)) is.round) in
     let distinct = distinct_from_apart ring is.apart in
     let moves = IsPermutation-trans (map (λ (z : PairNo). z.0) ring) numbers (drop k numbers ++ take k numbers)
     (IsPermutation-map (λ (z : PairNo). z.0) ring (reverse ring) (IsPermutation-reverse ring))
@@ -120,10 +129,15 @@ found_from_ring N ring turned k is l least eq =
     let here = least j no_pair within in
     let same : (get_or (reverse ring) k (get_or (reverse ring) j no_pair)).0 ≡ (get_or (reverse ring) k no_pair).0 = ap (λ (z : PairNo). z.0) (get_or_default (reverse ring) k (get_or (reverse ring) j no_pair) no_pair l) in
     omega arith in
+    let numbers_met = All-map (IsMet N) (λ (z : PairNo). z.0) ring met in
+    let all_met = All-permutation (IsMet N) (map (λ (z : PairNo). z.0) ring) (drop k numbers ++ take k numbers) moves numbers_met in
     record {
-      loop = rw shape loop;
-      once = rw shape once;
-      first = rw shape (turned_first numbers k 0 long low);
+      found = record {
+        loop = rw shape (walked_loop N (drop k numbers ++ take k numbers) round);
+        once = rw shape once;
+        first = rw shape (turned_first numbers k 0 long low);
+      };
+      walked = record { met = rw shape all_met; round = rw shape round };
     }
 
 -- a demander that is left, by its place among the demanders
@@ -139,30 +153,6 @@ demander_within N x i d table l =
     let only = demanders_only N x e (In-from_contains (demanders N x) e (Contains-get_or (demanders N x) i d l)) in
     (edge_pairs N table e only.0).0
 
--- of the demanders of a pair those before i aren't left, so each that is left comes no earlier in the table than that at i
-pub first_demander : (N : Table) (left : List ℕ) (x i : ℕ) (d : Edge) → IsTable N → i < length (demanders N x)
-    → ((k : ℕ) (d : Edge) → k < i → slice_index left (get_or (demanders N x) k d).demander.0 ≡ 0)
-    → (y : ℕ) → HasEdge N y x → 0 < slice_index left y → (get_or (demanders N x) i d).demander.0 ≤ y
-first_demander N left x i d table l none y edge some =
-    let e = demanders_edge N table y x edge in
-    let at = Contains-from_in (demanders N x) e.0 e.1 in
-    let is : (get_or (demanders N x) at.0 d).demander.0 ≡ y = ap (λ (w : Edge). w.demander.0) (get_or_default (demanders N x) at.0 d e.0 at.1 ∙ at.2) ∙ e.2 in
-    ⊎_elim
-    (λ low.
-    let zero_left : slice_index left y ≡ 0 = subst (λ (w : ℕ). slice_index left w ≡ 0) is (none at.0 d low) in
-    absurd (omega arith))
-    (λ high. ⊎_elim
-    (λ later.
-    let rise = sorted_rows_rise Edge (λ (w : Edge). w.demander.0) (length N.pairs) (filter (λ (w : Edge). w.pair.0 == x) (edges N)) i at.0 d later at.1 in
-    let rises : (get_or (demanders N x) i d).demander.0 ≤ (get_or (demanders N x) at.0 d).demander.0 = rise in
-    omega arith)
-    (λ here.
-    let same : at.0 ≡ i = omega arith in
-    let found : (get_or (demanders N x) i d).demander.0 ≡ y = subst (λ (k : ℕ). (get_or (demanders N x) k d).demander.0 ≡ y) same is in
-    omega arith)
-    (cases_lt i at.0))
-    (cases_lt at.0 i)
-
 -- what a step of the walk keeps
 pub seen_more : (N : Table) (visited : List Bool) (path : List PairNo) (x : PairNo) → length visited ≡ length N.pairs → IsPair N x.0
     → ((y : ℕ) → IsPair N y → get_or visited y false ≡ is_in path y)
@@ -173,9 +163,9 @@ seen_more N visited path x size at seen y pair = ⊎_elim
     (λ ne. get_or-set_other visited x.0 y true false ne ∙ (seen y pair ∙ sym (is_in-push_other path x y (λ s. ne (sym s)))))
     (cases_eq y x.0)
 
-pub climbs_more : (N : Table) (path : List PairNo) (x z : PairNo) → Climbs N x.0 (reverse path) → HasEdge N z.0 x.0 → Climbs N z.0 (reverse (path ++ x ∷ []))
-climbs_more N path x z climbs edge =
-    subst (λ (q : List PairNo). Climbs N z.0 q) (sym (reverse-append path (x ∷ []))) (edge, climbs)
+pub climbs_more : (R : ℕ → ℕ → Type 0) (path : List PairNo) (x z : PairNo) → Climbs R x.0 (reverse path) → R z.0 x.0 → Climbs R z.0 (reverse (path ++ x ∷ []))
+climbs_more R path x z climbs edge =
+    subst (λ (q : List PairNo). Climbs R z.0 q) (sym (reverse-append path (x ∷ []))) (edge, climbs)
 
 -- a pair that isn't marked is not on the path
 pub not_seen : (N : Table) (path : List PairNo) (visited : List Bool) (x : PairNo) (mark : Bool) → length visited ≡ length N.pairs → ((y : ℕ) → IsPair N y → get_or visited y false ≡ is_in path y) → IsPair N x.0

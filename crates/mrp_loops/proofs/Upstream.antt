@@ -35,7 +35,7 @@ module _ (N : Table) (table : IsTable N) (free : IsLoopFree N) (set : ℕ → Bo
   First = (first : ℕ) × IsPair N first × (set first ≡ true) × ((y : ℕ) → HasEdge N y first → set y ≡ false)
 
   upstream : (m : ℕ) (x : PairNo) (path : List PairNo) → length N.pairs ≡ m + length path → All (λ z. IsPair N z.0) path → IsPair N x.0 → IsApart path
-      → is_in path x.0 ≡ false → Climbs N x.0 (reverse path) → set x.0 ≡ true → First
+      → is_in path x.0 ≡ false → Climbs (HasEdge N) x.0 (reverse path) → set x.0 ≡ true → First
   upstream zero x path size pairs pair apart new climbs here =
       let short = path_short N path x pairs pair apart new in absurd (omega arith)
   upstream (suc m) x path size pairs pair apart new climbs here = ⊎_elim
@@ -45,11 +45,11 @@ module _ (N : Table) (table : IsTable N) (free : IsLoopFree N) (set : ℕ → Bo
       let edge = HasEdge-from_in N e.0 e.0.demander.0 x.0 only.0 refl only.1 in
       let path' = path ++ x ∷ [] in
       let apart' = Apart-push path x apart new in
-      let climbs' = climbs_more N path x e.0.demander climbs edge in
+      let climbs' = climbs_more (HasEdge N) path x e.0.demander climbs edge in
       ⊎_elim
       (λ again.
       let c = place_in path' e.0.demander.0 again in
-      absurd (free _ (ring_from_walk N path' e.0.demander c.0 c.1 (c.2 e.0.demander) climbs' apart').loop))
+      absurd (free _ (ring_from_walk (HasEdge N) path' e.0.demander c.0 c.1 (c.2 e.0.demander) climbs' apart').round))
       (λ new'.
       upstream m e.0.demander path' (omega (arith, length_push path x))
       (All-push (λ (z : PairNo). IsPair N z.0) path x pairs pair) (HasEdge-pairs N table e.0.demander.0 x.0 edge).0 apart' new' climbs' e.2)

@@ -6,6 +6,7 @@ use Rattle.mrp_loops.specs.Loop.{HasEdge, IsLoopFree, AreCodes}
 use Rattle.mrp_loops.specs.Need.{AreNeeds, AreWithin}
 use Rattle.mrp_loops.specs.Order.{code_order}
 use Rattle.mrp_loops.specs.Sized.{IsSized, IsPlanningOrder}
+use Rattle.mrp_loops.specs.Upstream.{IsLoopAnswered}
 
 -- codes rise along edges
 abbrev pub CodesRise : Type 0
@@ -23,6 +24,10 @@ CodesExist = (N : Table) → IsTable N → IsLoopFree N → (codes : List ℕ) �
 -- a network has one list of codes
 abbrev pub CodesAreOne : Type 0
 CodesAreOne = (N : Table) (a b : List ℕ) → AreCodes N a → AreCodes N b → a ≡ b
+
+-- the walk upstream has at most one loop, so which of several is answered is decided
+abbrev pub WalkedLoopIsOne : Type 0
+WalkedLoopIsOne = (N : Table) (a b : List ℕ) → IsLoopAnswered N a → IsLoopAnswered N b → a ≡ b
 
 -- in a set of pairs of a network without loops that isn't empty there is a pair without a demander in
 -- the set

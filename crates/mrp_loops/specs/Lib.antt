@@ -1,6 +1,7 @@
 pub mod Loop
 pub mod LoopFaults
 pub mod Taking
+pub mod Upstream
 pub mod Walk
 pub mod Order
 pub mod Need

@@ -14,15 +14,23 @@ abbrev pub first_or : List ℕ → ℕ → ℕ
 first_or [] after = after
 first_or (x ∷ xs) after = x
 
+-- each of the list stands in a relation to the next, and the last to the one after the list
+abbrev pub Leads : (ℕ → ℕ → Type 0) → List ℕ → ℕ → Type 0
+Leads R [] after = Unit {0}
+Leads R (x ∷ xs) after = R x (first_or xs after) × Leads R xs after
+
+-- the list isn't empty, each of it stands so to the next, and the last to the first
+abbrev pub IsRound : (ℕ → ℕ → Type 0) → List ℕ → Type 0
+IsRound R [] = ⊥
+IsRound R (x ∷ xs) = Leads R (x ∷ xs) x
+
 -- each pair of the list takes from the next, and the last from the one after the list
 abbrev pub LeadsTo : Table → List ℕ → ℕ → Type 0
-LeadsTo N [] after = Unit {0}
-LeadsTo N (x ∷ xs) after = HasEdge N x (first_or xs after) × LeadsTo N xs after
+LeadsTo N pairs after = Leads (HasEdge N) pairs after
 
 -- a list of pairs that isn't empty, each takes from the next, and the last from the first
 abbrev pub IsLoop : Table → List ℕ → Type 0
-IsLoop N [] = ⊥
-IsLoop N (x ∷ xs) = LeadsTo N (x ∷ xs) x
+IsLoop N pairs = IsRound (HasEdge N) pairs
 
 -- a loop as it is answered: no pair stands in it twice, and it begins with its pair that is first in the table
 pub record IsLoopFound (N : Table) (pairs : List ℕ) : Type 0 where

@@ -1,8 +1,8 @@
 //! Laws of codes, of networks without loops, of needs, and of plans. Each is the contract of a function that
 //! does nothing.
 
-ghost use Rattle.mrp_loops.specs.Laws.{CodesRise, CodedIsLoopFree, CodesExist, CodesAreOne, SetsHaveAFirst, DemandersDecide, NeedsExist, NeedsAreOne};
-ghost use Rattle.mrp_loops.specs.Laws.{CodeOrderPlans, PlanningOrdersExist, SizedHasCodes, SizedHasNeeds, OnePlan};
+ghost use Rattle.mrp_loops.specs.Laws.{CodesRise, CodedIsLoopFree, CodesExist, CodesAreOne, WalkedLoopIsOne, SetsHaveAFirst, DemandersDecide};
+ghost use Rattle.mrp_loops.specs.Laws.{NeedsExist, NeedsAreOne, CodeOrderPlans, PlanningOrdersExist, SizedHasCodes, SizedHasNeeds, OnePlan};
 ghost use Rattle.mrp_loops.specs.Within.{ReleasesAreWithinNeed, GrossIsWithinNeed, SupplyAndReleasesAreWithin, FiguresAreWithin, PlansAreWithin};
 ghost use Rattle.mrp_loops.specs.Within.{QuantitiesAreWithin, PlanIsWithin, LaneFiguresAreWithin};
 
@@ -13,6 +13,11 @@ pub fn codes_rise()
     ensures free { CodedIsLoopFree }
     ensures exist { CodesExist }
     ensures one { CodesAreOne }
+{}
+
+/// A network has at most one loop that [`check`](crate::check) may answer: that of the walk upstream.
+pub fn walked_loop_is_one()
+    ensures { WalkedLoopIsOne }
 {}
 
 /// In each set of pairs of a network without loops that isn't empty there is a pair without a

@@ -86,8 +86,10 @@ impl Levels {
 ///
 /// # Errors
 ///
-/// [`LoopFault::Loop`] where the network has a loop, with one of its loops; [`LoopFault::Memory`]
-/// where a growth was refused.
+/// [`LoopFault::Loop`] where the network has a loop; [`LoopFault::Memory`] where a growth was refused.
+///
+/// Of several loops that of the walk upstream is answered: it begins with the first pair in the table
+/// that is left, and goes from a pair to its demander left that is first in the table.
 pub fn check(alloc: Global, network: &Network) -> Result<Levels, LoopFault>
     ensures codes { IfOk result (λ levels. AreCodes network.now levels × IsLoopFree network.now) }
     ensures fault { IfErr result (λ fault. IsLoopFault network.now fault) }

@@ -1,9 +1,9 @@
 //! The walk upstream among the pairs that are left, until one is met twice.
 
-ghost use Rattle.std.specs.Prelude.{◌≡◌, ℕ, ◌<◌, ◌≤◌, true, All, length, map, drop, slice_index, slice_index_or, IfOk};
+ghost use Rattle.std.specs.Prelude.{◌≡◌, ◌<◌, ◌≤◌, true, All, length, map, drop, slice_index, slice_index_or, IfOk};
 ghost use Rattle.mrp_rows.specs.Table.{IsPair};
-ghost use Rattle.mrp_loops.specs.Loop.{HasEdge, IsLoopFound};
 ghost use Rattle.mrp_loops.specs.Taking.{is_in};
+ghost use Rattle.mrp_loops.specs.Upstream.{IsFirst, IsLeft, GoesTo, ComesFrom, IsMet, IsLoopAnswered};
 ghost use Rattle.mrp_loops.specs.Walk.{IsStuck, IsRing};
 
 use mrp_net::{Network, PairNo};
@@ -19,7 +19,7 @@ struct Lasso {
     from: usize,
 }
 
-/// The loop that a walk upstream from `first` ends in, over pairs with a demander left.
+/// The loop that the walk upstream from `first` ends in, over pairs with a demander left.
 pub fn loop_above(
     alloc: Global,
     network: &Network,
@@ -29,7 +29,8 @@ pub fn loop_above(
     requires stuck { IsStuck network.now left.now }
     requires pair { IsPair network.now first.0 }
     requires left { 0 < slice_index left.now first.0 }
-    ensures { IfOk result (λ found. IsLoopFound network.now (map (λ x. x.0) found.items)) }
+    requires first { IsFirst (IsLeft network.now) first.0 }
+    ensures { IfOk result (λ found. IsLoopAnswered network.now (map (λ x. x.0) found.items)) }
 {
     let lasso = walk(alloc, network, left, first)?;
     let path = lasso.path.as_slice();
@@ -41,8 +42,10 @@ fn walk(alloc: Global, network: &Network, left: &[usize], first: PairNo) -> Resu
     requires stuck { IsStuck network.now left.now }
     requires pair { IsPair network.now first.0 }
     requires left { 0 < slice_index left.now first.0 }
+    requires first { IsFirst (IsLeft network.now) first.0 }
     ensures within { IfOk result (λ lasso. lasso.from ≤ length lasso.path.items) }
-    ensures ring { IfOk result (λ lasso. IsRing network.now (drop lasso.from lasso.path.items)) }
+    ensures ring { IfOk result (λ lasso. IsRing (ComesFrom network.now) (drop lasso.from lasso.path.items)) }
+    ensures met { IfOk result (λ lasso. All (λ x. IsMet network.now x.0) (drop lasso.from lasso.path.items)) }
 {
     let mut visited = vec![in alloc; false; left.len()]?;
     let mut path = Vec::with_capacity(alloc, left.len())?;
@@ -63,8 +66,7 @@ fn demander_left(network: &Network, left: &[usize], x: PairNo) -> PairNo
     requires left { 0 < slice_index left.now x.0 }
     ensures pair { IsPair network.now result.0 }
     ensures left { 0 < slice_index left.now result.0 }
-    ensures edge { HasEdge network.now result.0 x.0 }
-    ensures first { (y : ℕ) → HasEdge network.now y x.0 → 0 < slice_index left.now y → result.0 ≤ y }
+    ensures goes { GoesTo network.now x.0 result.0 }
 {
     for edge in network.demanders(x) {
         if left[edge.demander.0] > 0 {
@@ -90,8 +92,9 @@ fn place_of(path: &[PairNo], x: PairNo) -> usize
 
 /// The ring of a walk in the order of its edges, begun with the pair that is first in the table.
 fn turned(alloc: Global, network: &Network, ring: &[PairNo]) -> Result<Vec<PairNo>, Memory>
-    requires { IsRing network.now ring.now }
-    ensures { IfOk result (λ found. IsLoopFound network.now (map (λ x. x.0) found.items)) }
+    requires ring { IsRing (ComesFrom network.now) ring.now }
+    requires met { All (λ x. IsMet network.now x.0) ring.now }
+    ensures { IfOk result (λ found. IsLoopAnswered network.now (map (λ x. x.0) found.items)) }
 {
     let mut found = Vec::from_slice(alloc, ring)?;
     let pairs = found.as_mut_slice();

@@ -19,5 +19,5 @@ loop_pairs N table [] loop = absurd loop
 loop_pairs N table (x ∷ xs) loop = leads_pairs N table (x ∷ xs) x.0 loop
 
 pub found_pairs : (N : Table) → IsTable N → (f : LoopFault) → IsLoopFault N f → AreLoopPairs N f
-found_pairs N table (check.Loop pairs) found = loop_pairs N table pairs.items found.loop
+found_pairs N table (check.Loop pairs) found = loop_pairs N table pairs.items found.found.loop
 found_pairs N table check.Memory found = tt

@@ -7,7 +7,8 @@ use Rattle.mrp_rows.specs.Table.{Table, IsTable, horizon}
 use Rattle.mrp_tables.specs.Reading.{OfRecords, Reads, TellsRows}
 use Rattle.mrp_net.specs.Names.{IsNamed}
 use Rattle.mrp_net.specs.Plan.{Fits}
-use Rattle.mrp_loops.specs.Loop.{AreCodes, IsLoopFound, IsLoopFree}
+use Rattle.mrp_loops.specs.Loop.{AreCodes, IsLoopFree}
+use Rattle.mrp_loops.specs.Upstream.{IsLoopAnswered}
 use Rattle.mrp_loops.specs.Sized.{IsSized}
 use Rattle.mrp_loops.specs.BoundFaults.{IsSupplyTooLarge, IsNeedTooLarge}
 use Rattle.mrp_plan.specs.Peg.{peg_terms}
@@ -77,9 +78,9 @@ AreCalled N [] (name ∷ names) = ⊥
 AreCalled N (x ∷ xs) [] = ⊥
 AreCalled N (x ∷ xs) (name ∷ names) = IsCalled N x name × AreCalled N xs names
 
--- a loop of the network, by the names of its pairs
+-- the loop of the network that is answered, by the names of its pairs
 abbrev pub IsLoopNamed : Table → List PairName → Type 0
-IsLoopNamed N names = (pairs : List ℕ) × IsLoopFound N pairs × AreCalled N pairs names
+IsLoopNamed N names = (pairs : List ℕ) × IsLoopAnswered N pairs × AreCalled N pairs names
 
 -- the first pair in the table whose supply is above the bound
 abbrev pub IsSupplyNamed : Table → PairName → Type 0

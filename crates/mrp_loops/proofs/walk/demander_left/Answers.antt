@@ -3,20 +3,17 @@ use Rattle.std.proofs.lemmas.List.{get_or_default}
 use Rattle.std.proofs.lemmas.Bool.{cases_eq}
 use Rattle.mrp_net.specs.declared.edge.Edge.{Edge}
 use Rattle.mrp_loops.proofs.Steps.{no_edge}
-use Rattle.mrp_loops.proofs.Rings.{demander_edge, first_demander}
+use Rattle.mrp_loops.proofs.Leaving.{goes_to_first}
 use Rattle.mrp_loops.proofs.walk.demander_left.Goals as goal
 
-pub returns-then-left-edge-gt0-clause-edge : goal.returns-then-left-edge-gt0-clause-edge
-returns-then-left-edge-gt0-clause-edge c =
-    rw c.demanders-edge-items.ensures.value
-    (demander_edge c.args.network.now c.args.x.0 c.loop-edge.edge-index no_edge (omega (arith, ap length c.demanders-edge-items.ensures.value)))
-
-pub returns-then-left-edge-gt0-clause-first : goal.returns-then-left-edge-gt0-clause-first
-returns-then-left-edge-gt0-clause-first c =
+pub returns-then-left-edge-gt0-clause-goes : goal.returns-then-left-edge-gt0-clause-goes
+returns-then-left-edge-gt0-clause-goes c =
     let value = c.demanders-edge-items.ensures.value in
-    let none = subst (λ (es : List Edge). (k : ℕ) (d : Edge) → k < c.loop-edge.edge-index → slice_index c.args.left.now (get_or es k d).demander.0 ≡ 0) value c.loop-edge.invariant in
+    let index = c.loop-edge.edge-index in
+    let none = subst (λ (es : List Edge). (k : ℕ) (d : Edge) → k < index → slice_index c.args.left.now (get_or es k d).demander.0 ≡ 0) value c.loop-edge.invariant in
+    let some = subst (λ (es : List Edge). 0 < slice_index c.args.left.now (get_or es index no_edge).demander.0) value c.if-left-edge-gt0.true in
     rw value
-    (first_demander c.args.network.now c.args.left.now c.args.x.0 c.loop-edge.edge-index no_edge c.requires.stuck.table (omega (arith, ap length value)) none)
+    (goes_to_first c.args.network.now c.args.left.now c.args.x.0 index no_edge c.requires.stuck (omega (arith, ap length value)) some none)
 
 pub loop-edge-preserved : goal.loop-edge-preserved
 loop-edge-preserved c = λ k d l. ⊎_elim

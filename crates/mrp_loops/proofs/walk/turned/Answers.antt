@@ -15,7 +15,7 @@ returns c =
     omega (arith, c.rotate_left.ensures.len, c.reverse.ensures.len, c.as_mut_slice-pairs.ensures.len) in
     let whole : take c.in_ok-found.found.len (c.rotate_left.new.self ++ drop (length c.rotate_left.new.self) c.in_ok-found.found.items) ≡ drop k (reverse ring) ++ take k (reverse ring) =
     take_at c.rotate_left.new.self (drop (length c.rotate_left.new.self) c.in_ok-found.found.items) c.in_ok-found.found.len long ∙ turned in
-    found_from_ring c.args.network.now ring _ k c.requires
+    found_from_ring c.args.network.now ring _ k c.requires.ring c.requires.met
     (omega (arith, c.least-first.ensures.within, ap length back))
     (rw (← back) c.least-first.ensures.first)
     whole
