@@ -8,7 +8,7 @@ use Rattle.mrp_rows.specs.Table.{Table}
 use Rattle.mrp_net.proofs.Members.{In, All-in}
 use Rattle.mrp_loops.specs.Laws.{WalkedLoopIsOne}
 use Rattle.mrp_loops.specs.Loop.{Leads, IsRound, first_or}
-use Rattle.mrp_loops.specs.Upstream.{GoesTo, ComesFrom, IsAt, IsLoopAnswered}
+use Rattle.mrp_loops.specs.Upstream.{GoesTo, ComesFrom, IsAt}
 use Rattle.mrp_loops.proofs.Rings.{Leads-append}
 
 -- ---- each step goes to one pair
