@@ -6,4 +6,3 @@ pub mod Ends
 pub mod Outcome
 pub mod Worst
 pub mod Joined
-pub mod Gathered

@@ -1,7 +1,6 @@
 -- What plants of a finished network give.
-use Rattle.std.proofs.Common.{◌≡◌, ℕ, ◌+◌, ◌-◌, ◌<◌, List, [], ◌∷◌, ◌++◌, length, get_or, take, Option, Some, Vec, Global, sym, ap, subst, ◌∙◌, arith, length-append}
-use Rattle.std.specs.Option.{option_to_list}
-use Rattle.std.proofs.lemmas.List.{take_more, length-take}
+use Rattle.std.proofs.Common.{◌≡◌, ℕ, ◌+◌, ◌-◌, ◌<◌, List, [], ◌∷◌, ◌++◌, length, get_or, Vec, Global, sym, ap, subst, ◌∙◌, refl, arith, append_assoc, append-nil, length-append}
+use Rattle.std.proofs.lemmas.List.{get_or_at}
 use Rattle.mrp_lot.specs.One.{PlanRows}
 use Rattle.mrp_netting.specs.declared.plan.PairPlan.{PairPlan}
 use Rattle.mrp_rows.specs.Table.{Table}
@@ -9,25 +8,25 @@ use Rattle.mrp_events.specs.State.{State, IsFinished}
 use Rattle.mrp_world.specs.Gathering.{own_plans, HasPlannedAll}
 use Rattle.mrp_world.specs.Moments.{Moment, Showing, IsAt}
 use Rattle.mrp_world.specs.World.{Held, AreAt}
-use Rattle.mrp_world.proofs.Gathers.{popped, none_or_some}
 use Rattle.mrp_world.proofs.Makes.{each_more}
 use Rattle.mrp_world.proofs.Steps.{moment, plant_is_at}
 
--- the last plant, and those before it
-pub plants_left : {A : Type 0} (plants now new : List A) (found : Option A) (plant : A) (count : ℕ) → count < length plants
-    → now ≡ take (length plants - count) plants → now ≡ new ++ option_to_list found → found ≡ Some plant
-    → (new ≡ take (length plants - (count + 1)) plants) × (plant ≡ get_or plants (length plants - (count + 1)) plant)
-plants_left {A} plants now new found plant count within is parts some =
-    let m : ℕ = length plants - (count + 1) in
-    let before : length plants - count ≡ m + 1 = omega (arith, within) in
-    let whole : now ≡ take m plants ++ get_or plants m plant ∷ [] = is ∙ ap (λ (z : ℕ). take z plants) before ∙ take_more plants m plant (omega (arith, within)) in
-    let last = popped now new (take m plants) found (get_or plants m plant) whole parts (λ none. absurd (none_or_some found plant some none)) in
-    let found_too : found ≡ Some (get_or plants m plant) = last.1 in
-    (last.0, cc)
+-- the plants that have given and those that haven't, one plant further on
+pub plants_next : {A : Type 0} (before rest later plants : List A) (plant : A) → before ++ rest ≡ plants → rest ≡ plant ∷ later
+    → ((before ++ plant ∷ []) ++ later ≡ plants) × (length before < length plants) × (plant ≡ get_or plants (length before) plant)
+plants_next {A} before rest later plants plant whole next =
+    let parts : plants ≡ before ++ plant ∷ later = sym whole ∙ ap (λ (z : List A). before ++ z) next in (
+      append_assoc before (plant ∷ []) later ∙ sym parts,
+      omega (arith, ap length parts, length-append before (plant ∷ later)),
+      sym (ap (λ (z : List A). get_or z (length before) plant) parts ∙ get_or_at before plant later plant (length before) refl),
+    )
 
-pub one_is_left : {A : Type 0} (plants now : List A) (count : ℕ) → count < length plants → now ≡ take (length plants - count) plants → now ≡ [] → ⊥
-one_is_left plants now count within is none =
-    omega (arith, within, ap length is, ap length none, length-take (length plants - count) plants)
+none_of : {A : Type 0} (xs : List A) → length xs ≡ 0 → xs ≡ []
+none_of [] e = refl
+none_of (x ∷ xs) e = absurd (omega (arith, e))
+
+pub all_given : {A : Type 0} (before rest plants : List A) → before ++ rest ≡ plants → length rest ≡ 0 → before ≡ plants
+all_given {A} before rest plants whole none = sym (append-nil before) ∙ ap (λ (z : List A). before ++ z) (sym (none_of rest none)) ∙ whole
 
 -- it gives the plans of its pairs
 pub plant_gives : {A : Type 0} (shows : Showing A) (N : Table) (plants : List A) (some : (capacity : ℕ) × (boxes : List Held) × (s : State) × AreAt shows N capacity plants boxes s × IsFinished N s)
@@ -40,13 +39,14 @@ plant_gives shows N plants some p plant given within is gives =
     (λ x own. some.4.planned x own.pair)
 
 -- one list more
-pub lists_more : (N : Table) (lists new : List (Vec PairPlan Global)) (plants count : ℕ) (list : Vec PairPlan Global) → length lists ≡ count → new ≡ lists ++ list ∷ []
-    → ((k : ℕ) (d : Vec PairPlan Global) → k < length lists → (get_or lists k d).items ≡ own_plans N (plants - 1 - k)) → list.items ≡ own_plans N (plants - (count + 1))
-    → (k : ℕ) (d : Vec PairPlan Global) → k < length new → (get_or new k d).items ≡ own_plans N (plants - 1 - k)
-lists_more N lists new plants count list size grown before here =
-    let place : plants - (count + 1) ≡ plants - 1 - length lists = omega (arith, size) in
-    subst (λ (xs : List (Vec PairPlan Global)). (k : ℕ) (d : Vec PairPlan Global) → k < length xs → (get_or xs k d).items ≡ own_plans N (plants - 1 - k)) (sym grown)
-    (each_more (λ k v. v.items ≡ own_plans N (plants - 1 - k)) lists list before (here ∙ ap (own_plans N) place))
+pub lists_more : (N : Table) (lists new : List (Vec PairPlan Global)) (count : ℕ) (list : Vec PairPlan Global) → length lists ≡ count → new ≡ lists ++ list ∷ []
+    → ((k : ℕ) (d : Vec PairPlan Global) → k < length lists → (get_or lists k d).items ≡ own_plans N k) → list.items ≡ own_plans N count
+    → (k : ℕ) (d : Vec PairPlan Global) → k < length new → (get_or new k d).items ≡ own_plans N k
+lists_more N lists new count list size grown before here =
+    subst (λ (xs : List (Vec PairPlan Global)). (k : ℕ) (d : Vec PairPlan Global) → k < length xs → (get_or xs k d).items ≡ own_plans N k) (sym grown)
+    (each_more (λ k v. v.items ≡ own_plans N k) lists list before (here ∙ ap (own_plans N) (sym size)))
 
-pub one_longer : (lists new : List (Vec PairPlan Global)) (count : ℕ) (list : Vec PairPlan Global) → length lists ≡ count → new ≡ lists ++ list ∷ [] → length new ≡ count + 1
-one_longer lists new count list size grown = omega (arith, size, ap length grown, length-append lists (list ∷ []))
+-- as many plants as the network has
+pub plants_all : {A : Type 0} (shows : Showing A) (N : Table) (plants : List A) → ((capacity : ℕ) × (boxes : List Held) × (s : State) × AreAt shows N capacity plants boxes s × IsFinished N s)
+    → length plants ≡ length N.plants
+plants_all shows N plants some = some.3.shown.all

@@ -6,7 +6,6 @@ pub mod Counts
 pub mod Pieces
 pub mod Holding
 pub mod Lasting
-pub mod Gathers
 pub mod Giving
 pub mod AgentPlaces
 pub mod AgentWorks

@@ -6,7 +6,7 @@ use crate::acting::act_on;
 use crate::counting::steps;
 use crate::driving::{Place, drive_on, first_place, place_of};
 use crate::figures::figures;
-use crate::gathering::{from_the_last, plans_by_plant};
+use crate::gathering::plans_by_plant;
 use crate::looking::look;
 use crate::mailbox::Mailbox;
 use crate::making::{new_boxes, new_plants};
@@ -219,9 +219,8 @@ impl<'a, P: Plant> World<'a, P> {
             plants,
             ..
         } = self;
-        let mut lists = plans_by_plant(alloc, network, plants)?;
-        let mut pairs = from_the_last(alloc, network, lists.as_mut_slice())?;
-        pairs.as_mut_slice().reverse();
+        let lists = plans_by_plant(alloc, network, plants)?;
+        let pairs = mrp_gather::gather(alloc, network, lists)?;
         Ok(Plan::gather(net, pairs))
     }
 
