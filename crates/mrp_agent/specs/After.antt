@@ -1,5 +1,6 @@
 -- The state of an agent after a record is sent or booked, or a pair's plan is settled.
-use Rattle.std.specs.Prelude.{◌≡◌, ℕ, ◌+◌, ◌*◌, ◌<◌, nat_lt, if◌then◌else◌, true, List, length, map, Contains, position, slice_index, slice_index_or, slice_set, ◌==◌, Option, None, Some}
+use Rattle.std.specs.Prelude.{◌≡◌, ℕ, ◌+◌, ◌*◌, ◌<◌, nat_lt, if◌then◌else◌, true, List, length}
+use Rattle.std.specs.Prelude.{map, Contains, position, slice_index, slice_index_or, slice_set, ◌==◌, Option, None, Some}
 use Rattle.mrp_lot.specs.One.{PlanRows}
 use Rattle.mrp_rows.specs.declared.numbers.ItemNo.{ItemNo}
 use Rattle.mrp_net.specs.declared.lane.LaneKind.{LaneKind}
@@ -82,7 +83,8 @@ pub record BlockEnded (place : Option ℕ) (old new : Progress) : Type 0 where
   pub planned : new.planned ≡ old.planned
   pub size : length new.waits ≡ length old.waits
   pub others : (y : ℕ) → Contains old.ready y → Contains new.ready y
-  pub counts : (joins : List Join) (before after : ℕ → ℕ) → Falls place before after → AreCounts old.waits joins old.planned before → AreCounts new.waits joins new.planned after
+  pub counts : (joins : List Join) (before after : ℕ → ℕ) → Falls place before after
+      → AreCounts old.waits joins old.planned before → AreCounts new.waits joins new.planned after
 
 abbrev pub after_booked : AgentState → ℕ → Record → Figures → Progress → AgentState
 after_booked A k r book progress = record A {

@@ -22,4 +22,5 @@ with_sent A sent k r = changed sent (outgoing_at A.view k).number.0 (sent (outgo
 -- the record is appended to what was sent on the lane, and nothing else has changed
 abbrev pub IsAppended : AgentState → AgentState → ℕ → Record → Type 0
 IsAppended old new k r =
-    (sent taken : ℕ → List Record) (planned : ℕ → Bool) → Shows old sent taken planned → IsWithin64 old taken k → Shows new (with_sent old sent k r) taken planned
+    (sent taken : ℕ → List Record) (planned : ℕ → Bool) → Shows old sent taken planned
+    → IsWithin64 old taken k → Shows new (with_sent old sent k r) taken planned

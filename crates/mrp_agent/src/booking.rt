@@ -31,7 +31,8 @@ impl Agent {
         ensures booked { OnOk result ((sent taken : ℕ → List Record) (planned : ℕ → Bool) → Shows self.old sent taken planned
             → Shows self.new sent (changed taken lane.0 (taken lane.0 ++ entry.now ∷ [])) planned) }
         ensures refused { IfErr result (λ fault. (taken : ℕ → List Record) → BooksShow self.old taken
-            → (first_fault (figures (form_of self.old.view (incoming_at self.old.view (incoming_place self.old.view lane.0))) (taken lane.0)) entry.now ≡ Some fault)
+            → (first_fault (figures (form_of self.old.view (incoming_at self.old.view (incoming_place self.old.view lane.0)))
+            (taken lane.0)) entry.now ≡ Some fault)
             × (IsInForm (form_of self.old.view (incoming_at self.old.view (incoming_place self.old.view lane.0))) (taken lane.0 ++ entry.now ∷ []) → ⊥)) }
         ensures unchanged { OnErr result (self.new ≡ self.old) }
     {

@@ -1,6 +1,7 @@
 //! Laws of agents in a network. Each is the contract of a function that does nothing.
 
-ghost use Rattle.mrp_agent.specs.Laws.{NothingLegalIsLeft, PlannedPairsHaveThePlan, SentIsLegal, SentIsWithin64, ViewsCanBePlanned, DraftsAreThePlan, DraftsAreWithin};
+ghost use Rattle.mrp_agent.specs.Laws.{NothingLegalIsLeft, PlannedPairsHaveThePlan, SentIsLegal, SentIsWithin64};
+ghost use Rattle.mrp_agent.specs.Laws.{ViewsCanBePlanned, DraftsAreThePlan, DraftsAreWithin};
 ghost use Rattle.mrp_agent.specs.Reading.{ReceivedFiguresAreCumulative};
 
 /// In a network without loops an agent that has taken legal beginnings keeps the network's plan of each

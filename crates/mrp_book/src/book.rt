@@ -33,7 +33,14 @@ impl Model for Book {
 
     ghost Value = { Figures };
 
-    ghost view = { λ b. record { rising = b.rising; horizon = b.horizon; next = b.next; closed = b.closed; begun = option_map (λ i. i.0) b.begun; items = b.items.items } };
+    ghost view = { λ b. record {
+      rising = b.rising;
+      horizon = b.horizon;
+      next = b.next;
+      closed = b.closed;
+      begun = option_map (λ i. i.0) b.begun;
+      items = b.items.items;
+    } };
 
     ghost invariant = { λ b. IsBook b.next b.keys.keys b.items.items };
 }

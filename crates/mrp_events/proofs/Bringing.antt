@@ -4,7 +4,7 @@ use Rattle.std.specs.List.{AllByRecursion, IsDistinct, filter_map, flat_map, lis
 use Rattle.std.proofs.lemmas.Bool.{cases_Bool, cases_eq, cond-true, cond-false, and_parts, eqb-true, eq-eqb, ne_eqb, both_ways, false≢true}
 use Rattle.std.proofs.lemmas.List.Elements.{filter-append}
 use Rattle.std.proofs.lemmas.List.Sums.{sum_by-cons}
-use Rattle.mrp_lot.specs.RangeLaws.{placed_once, sum_by-ext}
+use Rattle.mrp_lot.proofs.RangeLaws.{placed_once, sum_by-ext}
 use Rattle.mrp_rows.specs.declared.numbers.ItemNo.{ItemNo}
 use Rattle.mrp_rows.specs.declared.rows.SourceRow.{SourceRow}
 use Rattle.mrp_rows.specs.Table.{Table, IsTable, IsPair, horizon, source_pair}
@@ -12,7 +12,9 @@ use Rattle.mrp_net.specs.declared.lane.Lane.{Lane}
 use Rattle.mrp_net.specs.declared.lane.LaneKind.{LaneKind}
 use Rattle.mrp_net.specs.declared.lane.LaneKind.TheVariants.{Despatch, Schedule}
 use Rattle.mrp_net.specs.Lanes.{lanes, lane_at, lane_items, lanes_of, lanes_between, taken_over, item_of, shipments, customer_of, supplier_of}
-use Rattle.mrp_net.specs.Laws.{is_despatch, is_same_item, arriving, over_route, over_plants, asked_by_source}
+use Rattle.mrp_net.specs.LaneLaws.{is_despatch, is_same_item, arriving}
+use Rattle.mrp_net.specs.PlanLaws.{asked_by_source}
+use Rattle.mrp_net.specs.RouteLaws.{over_route, over_plants}
 use Rattle.mrp_net.specs.Plan.{plan_of}
 use Rattle.mrp_net.specs.Sources.{source_on}
 use Rattle.mrp_net.specs.Sums.{pair_at, no_pair}

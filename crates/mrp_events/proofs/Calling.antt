@@ -10,7 +10,7 @@ use Rattle.mrp_net.specs.declared.lane.LaneKind.{LaneKind}
 use Rattle.mrp_net.specs.declared.lane.LaneKind.TheVariants.{Despatch, Schedule}
 use Rattle.mrp_net.specs.Edges.{bill_edge, source_edge}
 use Rattle.mrp_net.specs.Lanes.{lane_items, taken_over, item_of, pair_on, customer_of, supplier_of}
-use Rattle.mrp_net.specs.Laws.{HasSource}
+use Rattle.mrp_net.specs.LaneLaws.{HasSource}
 use Rattle.mrp_net.specs.Sources.{source_on}
 use Rattle.mrp_net.specs.Sums.{pair_at}
 use Rattle.mrp_net.proofs.Behind.{items_have_sources}

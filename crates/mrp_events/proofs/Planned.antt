@@ -9,7 +9,7 @@ use Rattle.mrp_rows.specs.declared.numbers.ItemNo.{ItemNo}
 use Rattle.mrp_rows.specs.declared.rows.BillRow.{BillRow}
 use Rattle.mrp_rows.specs.Table.{Table, IsTable, IsPair, IsBillRow, horizon, plant_at}
 use Rattle.mrp_net.specs.Edges.{bill_edge, source_edge}
-use Rattle.mrp_net.specs.Laws.{asked_by_bill, released}
+use Rattle.mrp_net.specs.PlanLaws.{asked_by_bill, released}
 use Rattle.mrp_net.specs.Plan.{rows_at, plan_of, gross}
 use Rattle.mrp_net.specs.Sums.{pair_at, params_at, row_of, incoming}
 use Rattle.mrp_net.proofs.Covering.{sum_by-same}

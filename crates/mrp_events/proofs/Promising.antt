@@ -7,7 +7,8 @@ use Rattle.mrp_rows.specs.Table.{Table, IsTable, horizon, pair_no}
 use Rattle.mrp_net.specs.declared.lane.Lane.{Lane}
 use Rattle.mrp_net.specs.declared.lane.LaneKind.TheVariants.{Despatch, Schedule}
 use Rattle.mrp_net.specs.Lanes.{lanes, lane_at, lane_items, taken_over, item_of, opening, pair_on, customer_of, supplier_of, figure}
-use Rattle.mrp_net.specs.Laws.{AreBothLanes, released}
+use Rattle.mrp_net.specs.LaneLaws.{AreBothLanes}
+use Rattle.mrp_net.specs.PlanLaws.{released}
 use Rattle.mrp_net.specs.Plan.{rows_at, plan_of}
 use Rattle.mrp_net.specs.Sources.{source_on}
 use Rattle.mrp_net.specs.Sums.{pair_at}

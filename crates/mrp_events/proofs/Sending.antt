@@ -1,6 +1,6 @@
 -- What a plant sees of its lanes says what they carry.
 use Rattle.std.proofs.Common.{◌≡◌, ℕ, ◌+◌, ◌==◌, ◌&&◌, Bool, true, false, cond, List, [], map, filter, refl, sym, ap, ◌∙◌, arith}
-use Rattle.mrp_lot.specs.RangeLaws.{sum_by-ext}
+use Rattle.mrp_lot.proofs.RangeLaws.{sum_by-ext}
 use Rattle.mrp_rows.specs.declared.numbers.ItemNo.{ItemNo}
 use Rattle.mrp_rows.specs.declared.numbers.PlantNo.{PlantNo}
 use Rattle.mrp_rows.specs.Table.{Table, horizon, pair_no}
@@ -10,7 +10,7 @@ use Rattle.mrp_net.specs.declared.lane.LaneKind.TheVariants.{Despatch, Schedule}
 use Rattle.mrp_net.specs.declared.lane.Shipment.{Shipment}
 use Rattle.mrp_view.specs.declared.view.IncomingLane.{IncomingLane}
 use Rattle.mrp_net.specs.Lanes.{lane_at, lane_items, shipments, opening, reset, pair_on, customer_of, supplier_of, figure, shipped_from}
-use Rattle.mrp_net.specs.Laws.{AreBothLanes}
+use Rattle.mrp_net.specs.LaneLaws.{AreBothLanes}
 use Rattle.mrp_net.specs.Sums.{pair_at}
 use Rattle.mrp_view.specs.View.{comes_to, lane_numbers, incoming_item, incoming_lane}
 use Rattle.mrp_net.proofs.Routing.{opening_despatch, opening_schedule, map-map}

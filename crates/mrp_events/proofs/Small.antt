@@ -20,7 +20,7 @@ use Rattle.mrp_net.specs.declared.lane.LaneKind.{LaneKind}
 use Rattle.mrp_net.specs.declared.lane.LaneKind.TheVariants.{Despatch, Schedule}
 use Rattle.mrp_net.specs.declared.lane.Shipment.{Shipment}
 use Rattle.mrp_net.specs.Lanes.{lanes, lanes_of, lanes_between, taken_over, lane_items, supplier_of, figure, shipped_from, ships_from, shipment_of, shipments, opening, reset, pair_on, is_reset_of}
-use Rattle.mrp_net.specs.Laws.{HasSource}
+use Rattle.mrp_net.specs.LaneLaws.{HasSource}
 use Rattle.mrp_net.specs.Plan.{plan_of}
 use Rattle.mrp_net.specs.Sources.{source_on}
 use Rattle.mrp_net.specs.Texts.{longest_block}

@@ -10,7 +10,7 @@ use Rattle.mrp_net.specs.declared.lane.LaneKind.TheVariants.{Despatch, Schedule}
 use Rattle.mrp_net.specs.declared.lane.Shipment.{Shipment}
 use Rattle.mrp_net.specs.Edges.{part, source_edge}
 use Rattle.mrp_net.specs.Lanes.{lanes, lane_items, opening, shipments, reset}
-use Rattle.mrp_net.specs.Laws.{released}
+use Rattle.mrp_net.specs.PlanLaws.{released}
 use Rattle.mrp_net.specs.Plan.{plan_of}
 use Rattle.mrp_net.specs.Sources.{source_on}
 use Rattle.mrp_record.specs.Entries.{Delivery}

@@ -5,7 +5,8 @@ use Rattle.mrp_lot.specs.One.{PlanRows, one}
 use Rattle.mrp_rows.specs.Table.{Table, IsTable, IsPair, horizon}
 use Rattle.mrp_net.specs.declared.lane.LaneKind.{LaneKind}
 use Rattle.mrp_net.specs.Lanes.{lanes, lane_at}
-use Rattle.mrp_net.specs.Laws.{asked_by_bill, is_despatch}
+use Rattle.mrp_net.specs.LaneLaws.{is_despatch}
+use Rattle.mrp_net.specs.PlanLaws.{asked_by_bill}
 use Rattle.mrp_net.specs.Plan.{rows_at, plan_of, gross}
 use Rattle.mrp_net.specs.Sums.{pair_at, params_at, row_of, demand, received, incoming}
 use Rattle.mrp_loops.specs.Loop.{IsLoopFree}

@@ -9,7 +9,8 @@ use Rattle.mrp_net.specs.declared.lane.LaneKind.TheVariants.{Despatch, Schedule}
 use Rattle.mrp_view.specs.declared.view.IncomingItem.{IncomingItem}
 use Rattle.mrp_view.specs.declared.view.IncomingLane.{IncomingLane}
 use Rattle.mrp_net.specs.Lanes.{lanes, lane_at, lane_items, opening, pair_on}
-use Rattle.mrp_net.specs.Laws.{AreBothLanes, released}
+use Rattle.mrp_net.specs.LaneLaws.{AreBothLanes}
+use Rattle.mrp_net.specs.PlanLaws.{released}
 use Rattle.mrp_view.specs.Loads as seen
 use Rattle.mrp_net.specs.Plan.{plan_of}
 use Rattle.mrp_net.specs.Sources.{source_on}

@@ -38,7 +38,8 @@ AreOfOneLane send take = send.name ≡ take.name
 
 -- what an end holds: a pass to its mailbox that is told whose it is, and the counts of its list, which is
 -- a legal beginning of a lane of a sized network
-pub record Holds {Q A : Type 0} (mailbox : Slotted (Option Record) (Doing Record LaneView) Q A) (pass : Pass Record LaneView) (l : ℕ) (list : List Record) (counts : Counts) : Type 0 where
+pub record Holds {Q A : Type 0} (mailbox : Slotted (Option Record) (Doing Record LaneView) Q A)
+    (pass : Pass Record LaneView) (l : ℕ) (list : List Record) (counts : Counts) : Type 0 where
   pub ours : IsPassOf mailbox pass
   pub named : (view pass).named ≡ true
   pub lane : (view pass).lane ≡ l

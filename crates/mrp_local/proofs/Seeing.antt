@@ -13,7 +13,7 @@ use Rattle.mrp_net.specs.declared.edge.Edge.{Edge}
 use Rattle.mrp_net.specs.declared.lane.Lane.{Lane}
 use Rattle.mrp_net.specs.Edges.{demanders}
 use Rattle.mrp_net.specs.Lanes.{lanes, lane_at, lane_items}
-use Rattle.mrp_net.specs.Laws.{is_local}
+use Rattle.mrp_net.specs.EdgeLaws.{is_local}
 use Rattle.mrp_net.specs.Sums.{pair_at, row_of}
 use Rattle.mrp_net.proofs.Members.{In, In-from_contains, Contains-from_in, In-filter, filter_only, In-map, map_only, In-flat_map, flat_map_only, In-range, All-in}
 use Rattle.mrp_net.proofs.Routing.{map-map}

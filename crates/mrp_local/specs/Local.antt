@@ -9,7 +9,7 @@ use Rattle.mrp_rows.specs.declared.numbers.ItemNo.{ItemNo}
 use Rattle.mrp_rows.specs.declared.numbers.PairNo.{PairNo}
 use Rattle.mrp_net.specs.declared.lane.LaneKind.{LaneKind}
 use Rattle.mrp_net.specs.declared.lane.LaneKind.TheVariants.{Despatch, Schedule}
-use Rattle.mrp_net.specs.Laws.{is_despatch}
+use Rattle.mrp_net.specs.LaneLaws.{is_despatch}
 use Rattle.mrp_view.specs.declared.view.IncomingLane.{IncomingLane}
 use Rattle.mrp_view.specs.declared.view.PlantPair.{PlantPair}
 use Rattle.mrp_view.specs.View.{PlantRows}

@@ -1,8 +1,10 @@
 pub mod Counts
 pub mod Edges
 pub mod Taken
+pub mod Passing
 pub mod Steps
 pub mod Codes
+pub mod Climbing
 pub mod Rings
 pub mod Planning
 pub mod Needed

@@ -15,7 +15,8 @@ use Rattle.mrp_loops.proofs.Edges.{demanders_only, HasEdge-from_in, edge_pairs}
 use Rattle.mrp_loops.proofs.Taken.{is_in-push_same, is_in-push_other, Apart-push, length-apart}
 use Rattle.std.proofs.lemmas.List.Elements.{Contains-get_or, All-push}
 use Rattle.mrp_loops.specs.Loop.{HasEdge, LeadsTo, IsLoop, IsLoopFound, first_or}
-use Rattle.mrp_loops.specs.Walk.{Climbs, IsApart, IsRing}
+use Rattle.mrp_loops.proofs.Climbing.{Climbs}
+use Rattle.mrp_loops.specs.Walk.{IsApart, IsRing}
 
 -- ---- loops turned
 

@@ -10,7 +10,8 @@ use Rattle.mrp_rows.specs.declared.numbers.PairNo.{PairNo}
 use Rattle.mrp_net.specs.declared.edge.Edge.{Edge}
 use Rattle.mrp_net.specs.Edges.{demanders, suppliers}
 use Rattle.mrp_loops.specs.Loop.{HasEdge, HasChain}
-use Rattle.mrp_loops.specs.Taking.{is_in, waiting, edges_to, IsTaken, IsPassing, IsBegun}
+use Rattle.mrp_loops.specs.Taking.{is_in, waiting, edges_to, IsTaken}
+use Rattle.mrp_loops.proofs.Passing.{IsPassing, IsBegun}
 use Rattle.mrp_net.proofs.Members.{In-from_contains, All-in}
 use Rattle.mrp_loops.proofs.Edges.{demanders_edge, suppliers_edge, suppliers_only, HasEdge-from_in, edge_pairs}
 use Rattle.mrp_loops.proofs.Taken.{Apart-push, is_in-push_same, is_in-push_other, is_in-at, waiting-none, waiting-more, waiting-zero, edges_to-cons, edges_to-none}

@@ -11,7 +11,8 @@ use Rattle.mrp_net.specs.declared.edge.Edge.{Edge}
 use Rattle.mrp_net.specs.Edges.{demanders}
 use Rattle.mrp_loops.specs.Loop.{HasEdge, IsLoopFree}
 use Rattle.mrp_loops.specs.Taking.{is_in}
-use Rattle.mrp_loops.specs.Walk.{Climbs, IsApart}
+use Rattle.mrp_loops.proofs.Climbing.{Climbs}
+use Rattle.mrp_loops.specs.Walk.{IsApart}
 use Rattle.mrp_loops.specs.Laws.{CodesAreOne, SetsHaveAFirst, DemandersDecide, NeedsAreOne}
 use Rattle.mrp_net.proofs.Members.{In, any_some}
 use Rattle.mrp_loops.proofs.Edges.{demanders_edge, demanders_only, HasEdge-from_in, HasEdge-pairs}

@@ -8,7 +8,7 @@ use Rattle.std.proofs.Math.Nat.{mul-le-mul_left}
 use Rattle.mrp_qty.specs.declared.quantity.TheConstants.{MOST}
 use Rattle.mrp_lot.specs.Lot.{rule_quantities}
 use Rattle.mrp_lot.specs.One.{PlanRows, IsWithin}
-use Rattle.mrp_lot.specs.OneLaws.{one-gross, one-incoming, one-release_sum-le, one-within}
+use Rattle.mrp_lot.proofs.OneLaws.{one-gross, one-incoming, one-release_sum-le, one-within}
 use Rattle.mrp_rows.specs.declared.rows.CumRow.{CumRow}
 use Rattle.mrp_rows.specs.declared.rows.ShipRow.{ShipRow}
 use Rattle.mrp_rows.specs.Table.{Table, IsPair, horizon}

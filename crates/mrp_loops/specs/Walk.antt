@@ -1,21 +1,16 @@
 -- The walk upstream among pairs that can't be taken away.
-use Rattle.std.specs.Prelude.{◌≡◌, ℕ, ◌<◌, List, [], ◌∷◌, map, reverse, length, slice_index, slice_index_or, Contains}
+use Rattle.std.specs.Prelude.{◌≡◌, ℕ, ◌<◌, List, map, reverse, length, slice_index, slice_index_or, Contains}
 use Rattle.mrp_rows.specs.Table.{Table, IsTable, IsPair}
 use Rattle.mrp_rows.specs.declared.numbers.PairNo.{PairNo}
 use Rattle.mrp_net.specs.declared.edge.Edge.{Edge}
 use Rattle.mrp_net.specs.Edges.{demanders}
-use Rattle.mrp_loops.specs.Loop.{HasEdge, IsLoop}
+use Rattle.mrp_loops.specs.Loop.{IsLoop}
 
 -- each pair that is left has a demander that is left
 pub record IsStuck (N : Table) (left : List ℕ) : Type 0 where
   pub table : IsTable N
   pub size : length left ≡ length N.pairs
   pub demander : (x : ℕ) → IsPair N x → 0 < slice_index left x → (e : Edge) × Contains (demanders N x) e × (0 < slice_index left e.demander.0)
-
--- x takes from the first of the list, and each of the list from the next
-abbrev pub Climbs : Table → ℕ → List PairNo → Type 0
-Climbs N x [] = Unit {0}
-Climbs N x (y ∷ ys) = HasEdge N x y.0 × Climbs N y.0 ys
 
 -- no two of the list are one pair
 abbrev pub IsApart : List PairNo → Type 0

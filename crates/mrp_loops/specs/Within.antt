@@ -9,7 +9,7 @@ use Rattle.mrp_rows.specs.Table.{Table, IsPair, horizon}
 use Rattle.mrp_net.specs.declared.lane.Lane.{Lane}
 use Rattle.mrp_net.specs.Edges.{part, source_edge}
 use Rattle.mrp_net.specs.Lanes.{customer_of, supplier_of, item_of, taken_over, figure, shipped_from, opening}
-use Rattle.mrp_net.specs.Laws.{released}
+use Rattle.mrp_net.specs.PlanLaws.{released}
 use Rattle.mrp_net.specs.Plan.{rows_at, plan_of, Fits}
 use Rattle.mrp_net.specs.Sums.{pair_at, params_at, supply}
 use Rattle.mrp_loops.specs.Need.{AreNeeds}

@@ -1,5 +1,6 @@
 -- The plan of one pair whose gross requirements and scheduled receipts are given, period by period.
-use Rattle.std.specs.Prelude.{◌≡◌, ℕ, ◌+◌, ◌-◌, ◌≤◌, ◌&&◌, ◌==◌, nat_lt, if◌then◌else◌, min, max, List, length, map, sum, sum_by, filter_map, take, drop, slice_index, Option, Some, None, zero, suc}
+use Rattle.std.specs.Prelude.{◌≡◌, ℕ, ◌+◌, ◌-◌, ◌≤◌, ◌&&◌, ◌==◌, nat_lt, if◌then◌else◌, min, max, List, length}
+use Rattle.std.specs.Prelude.{map, sum, sum_by, filter_map, take, drop, slice_index, Option, Some, None, zero, suc}
 use Rattle.std.specs.List.{range_with_len}
 use Rattle.mrp_qty.specs.declared.quantity.TheConstants.{MOST}
 use Rattle.mrp_lot.specs.declared.rule.TheConstants.{LONGEST_LEAD}

@@ -1,6 +1,7 @@
 -- A second reading of a pair's plan: the rules as equations, period by period, among rows that are
 -- given, with the balance before a period read off the projected available.
-use Rattle.std.specs.Prelude.{◌≡◌, ℕ, ◌+◌, ◌-◌, ◌*◌, ◌≤◌, ◌<◌, ◌&&◌, ◌==◌, nat_lt, if◌then◌else◌, max, List, length, sum, sum_by, filter_map, slice_index, All, Option, Some, None, zero, suc}
+use Rattle.std.specs.Prelude.{◌≡◌, ℕ, ◌+◌, ◌-◌, ◌*◌, ◌≤◌, ◌<◌, ◌&&◌, ◌==◌, nat_lt, if◌then◌else◌, max}
+use Rattle.std.specs.Prelude.{List, length, sum, sum_by, filter_map, slice_index, All, Option, Some, None, zero, suc}
 use Rattle.std.specs.List.{range_with_len}
 use Rattle.mrp_qty.specs.declared.quantity.TheConstants.{MOST}
 use Rattle.mrp_lot.specs.declared.rule.Rule.{Rule}
@@ -49,7 +50,8 @@ FixedIsLeast = (quantity net span : ℕ) → 1 ≤ quantity → IsLeastMultiple 
 
 -- a minimum and a multiple order the least multiple below neither
 abbrev pub MinMultipleIsLeast : Type 0
-MinMultipleIsLeast = (minimum multiple net span : ℕ) → 1 ≤ multiple → IsLeastMultiple multiple (max net minimum) (lot_of (MinMultiple minimum multiple) net span)
+MinMultipleIsLeast = (minimum multiple net span : ℕ) → 1 ≤ multiple
+    → IsLeastMultiple multiple (max net minimum) (lot_of (MinMultiple minimum multiple) net span)
 
 -- either is below the net requirement and the rule's quantities together
 abbrev pub FixedIsSmall : Type 0

@@ -4,7 +4,9 @@
 ghost use Rattle.std.specs.Prelude.{◌≡◌, ◌≤◌, ◌↔◌, ℕ};
 ghost use Rattle.mrp_lot.specs.Lot.{IsRule};
 ghost use Rattle.mrp_lot.specs.declared.rule.Rule.TheVariants.{Fixed, Periods, MinMultiple};
-ghost use Rattle.mrp_lot.specs.Rules.{FixedIsLeast, MinMultipleIsLeast, FixedIsSmall, MinMultipleIsSmall, LotCovers, AvailableCoversSafety, OrdersAreReleased, ReleasesAreBounded, RowsStayWithin, PlanFollowsRules, RulesHaveOnePlan};
+ghost use Rattle.mrp_lot.specs.Rules.{FixedIsLeast, MinMultipleIsLeast, FixedIsSmall, MinMultipleIsSmall};
+ghost use Rattle.mrp_lot.specs.Rules.{LotCovers, AvailableCoversSafety, OrdersAreReleased, ReleasesAreBounded};
+ghost use Rattle.mrp_lot.specs.Rules.{RowsStayWithin, PlanFollowsRules, RulesHaveOnePlan};
 
 use crate::{LONGEST_LEAD, MOST_IN_RULE};
 

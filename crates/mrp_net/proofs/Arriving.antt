@@ -3,7 +3,7 @@ use Rattle.std.proofs.Common.{◌≡◌, ℕ, ◌+◌, ◌<◌, ◌==◌, ◌&&�
 use Rattle.std.specs.List.{range_with_len, sum_by}
 use Rattle.std.proofs.lemmas.Bool.{cases_eq, cond-true, cond-false, eqb-true, eq-eqb, ne_eqb, and_from, and_parts, false_from_ne_true}
 use Rattle.std.proofs.lemmas.List.Sums.{sum_by-cons}
-use Rattle.mrp_lot.specs.RangeLaws.{placed_once, sum_by-none}
+use Rattle.mrp_lot.proofs.RangeLaws.{placed_once, sum_by-none}
 use Rattle.mrp_rows.specs.declared.numbers.ItemNo.{ItemNo}
 use Rattle.mrp_rows.specs.declared.rows.ShipRow.{ShipRow}
 use Rattle.mrp_rows.specs.declared.rows.SourceRow.{SourceRow}
@@ -13,7 +13,8 @@ use Rattle.mrp_net.specs.declared.lane.LaneKind.TheVariants.{Despatch, Schedule}
 use Rattle.mrp_net.specs.declared.lane.Shipment.{Shipment}
 use Rattle.mrp_group.specs.Groups.{group}
 use Rattle.mrp_net.specs.Lanes.{lanes, lanes_of, lanes_between, taken_over, item_of, lane_items, shipments, shipment_of, ships_from, pair_on, customer_of, supplier_of}
-use Rattle.mrp_net.specs.Laws.{is_despatch, despatches_to, arriving, over_plants, IncomingComesOverLanes, ShipmentsAreOfItems}
+use Rattle.mrp_net.specs.LaneLaws.{is_despatch, despatches_to, arriving, IncomingComesOverLanes, ShipmentsAreOfItems}
+use Rattle.mrp_net.specs.RouteLaws.{over_plants}
 use Rattle.mrp_net.specs.Sums.{pair_at, no_pair, received, shipped}
 use Rattle.mrp_net.proofs.Covering.{sum_by-same, sum-flat_map, sum_groups}
 use Rattle.mrp_net.proofs.Local.{pair_of}

@@ -14,7 +14,9 @@ use Rattle.mrp_net.specs.declared.edge.Edge.{Edge}
 use Rattle.mrp_net.specs.Edges.{edge_need, demanders}
 use Rattle.mrp_group.specs.Groups.{group}
 use Rattle.mrp_net.specs.Lanes.{taken_over, item_of, customer_of, supplier_of}
-use Rattle.mrp_net.specs.Laws.{taken_by, taken_from, over_route, over_plants, RoutesCoverCustomers, RoutesCoverSuppliers, RoutesCoverSources, is_same_item, OneSourceBringsAnItem, LaneItemsStandOnce, PlansLookAtDemanders}
+use Rattle.mrp_net.specs.LaneLaws.{is_same_item, OneSourceBringsAnItem, LaneItemsStandOnce}
+use Rattle.mrp_net.specs.PlanLaws.{PlansLookAtDemanders}
+use Rattle.mrp_net.specs.RouteLaws.{taken_by, taken_from, over_route, over_plants, RoutesCoverCustomers, RoutesCoverSuppliers, RoutesCoverSources}
 use Rattle.mrp_net.specs.Plan.{rows_at, gross}
 use Rattle.mrp_net.specs.Sums.{pair_at, no_pair, demand, incoming, params_at, row_of}
 use Rattle.mrp_group.proofs.Kept.{sum-sorted_by}

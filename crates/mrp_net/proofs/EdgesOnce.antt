@@ -11,7 +11,7 @@ use Rattle.mrp_rows.specs.declared.rows.SourceRow.{SourceRow}
 use Rattle.mrp_rows.specs.Table.{Table, IsTable, is_same_bill, is_same_source}
 use Rattle.mrp_net.specs.declared.edge.Edge.{Edge}
 use Rattle.mrp_net.specs.Edges.{bill_edge, source_edge, edges}
-use Rattle.mrp_net.specs.Laws.{is_local, OneEdgeJoinsTwoPairs, DemandersStandOnce}
+use Rattle.mrp_net.specs.EdgeLaws.{is_local, OneEdgeJoinsTwoPairs, DemandersStandOnce}
 use Rattle.mrp_net.specs.Sums.{pair_at}
 use Rattle.mrp_net.proofs.Local.{bill_edges_are_local, source_edges_cross, source_pairs_are_there}
 use Rattle.mrp_net.proofs.Pieces.{AllPairs-append, AllPairs-map, AllPairs-pieces}

@@ -15,7 +15,8 @@ use Rattle.mrp_net.specs.declared.lane.Lane.{Lane}
 use Rattle.mrp_net.specs.declared.lane.LaneKind.{LaneKind}
 use Rattle.mrp_net.specs.declared.lane.LaneKind.TheVariants.{Despatch, Schedule}
 use Rattle.mrp_net.specs.Lanes.{lanes_of, lanes_between, both_lanes, taken_over, item_of, figure, shipped_from, opening, pair_on, supplier_of}
-use Rattle.mrp_net.specs.Laws.{JoinsTwo, LanesJoinTwoPlants, OpeningsAreSupplied, PartsAreWithin}
+use Rattle.mrp_net.specs.LaneLaws.{JoinsTwo, LanesJoinTwoPlants, OpeningsAreSupplied}
+use Rattle.mrp_net.specs.SupplyLaws.{PartsAreWithin}
 use Rattle.mrp_net.specs.Sources.{no_source}
 use Rattle.mrp_net.specs.Sums.{pair_at, opening_total, shipped_total, supply}
 use Rattle.mrp_net.proofs.Local.{plant_is}

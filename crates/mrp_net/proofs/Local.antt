@@ -16,7 +16,7 @@ use Rattle.mrp_rows.specs.Table.{Table, IsTable, IsPair, pair_no, plant_at, item
 use Rattle.mrp_net.specs.declared.edge.Edge.{Edge}
 use Rattle.mrp_net.specs.Edges.{bill_edge, source_edge, edges}
 use Rattle.mrp_net.specs.Lanes.{item_of}
-use Rattle.mrp_net.specs.Laws.{SourcePairsAreThere, is_local, IsLocalEdge, LocalEdgesAreBills, LocalEdgesAreWhole, LocalDemandersAreWhole, CrossingEdgesAreSources}
+use Rattle.mrp_net.specs.EdgeLaws.{SourcePairsAreThere, is_local, IsLocalEdge, LocalEdgesAreBills, LocalEdgesAreWhole, LocalDemandersAreWhole, CrossingEdgesAreSources}
 use Rattle.mrp_net.specs.Sums.{pair_at, no_pair}
 use Rattle.mrp_net.proofs.Naming.{place_of}
 use Rattle.mrp_net.proofs.Sharing.{share-whole, zero_share}

@@ -4,7 +4,7 @@ use Rattle.std.specs.List.{range_with_len}
 use Rattle.std.proofs.lemmas.Bool.{cases_eq, cond-true, cond-false}
 use Rattle.std.proofs.lemmas.List.FromFn.{get_or-range_with_len, get_or-map-range_with_len, length-range_with_len, length-map-range_with_len}
 use Rattle.std.proofs.lemmas.List.Sums.{sum_by-cons, get_or-le-sum_by, sum-map}
-use Rattle.mrp_lot.specs.RangeLaws.{sum_by-range-suc, sum_by-add, sum_by-none, sum_by-ext}
+use Rattle.mrp_lot.proofs.RangeLaws.{sum_by-range-suc, sum_by-add, sum_by-none, sum_by-ext}
 use Rattle.mrp_rows.specs.Table.{Table, horizon}
 use Rattle.mrp_rows.specs.declared.rows.DemandRow.{DemandRow}
 use Rattle.mrp_rows.specs.declared.rows.ReceiptRow.{ReceiptRow}

@@ -18,7 +18,7 @@ use Rattle.mrp_rows.specs.Table.{Table, IsTable, IsPair, IsSourceRow, AreShares,
 use Rattle.mrp_net.specs.declared.edge.Edge.{Edge}
 use Rattle.mrp_net.specs.Edges.{part, edge_need, bill_edge, source_edge, edges}
 use Rattle.mrp_group.specs.Groups.{sorted_by}
-use Rattle.mrp_net.specs.Laws.{PartsAreWhole, NeedsAreWhole, OthersHaveNoSources, OthersHaveComponents, BoughtHaveNoEdges, PairsAreFound}
+use Rattle.mrp_net.specs.SupplyLaws.{PartsAreWhole, NeedsAreWhole, OthersHaveNoSources, OthersHaveComponents, BoughtHaveNoEdges, PairsAreFound}
 use Rattle.mrp_net.specs.Sums.{pair_at, no_pair}
 use Rattle.mrp_group.proofs.Grouping.{sorted_by-suc}
 use Rattle.mrp_group.proofs.Kept.{sum-sorted_by}

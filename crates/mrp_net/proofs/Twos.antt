@@ -10,7 +10,7 @@ use Rattle.mrp_rows.specs.Table.{Table}
 use Rattle.mrp_net.specs.declared.lane.Lane.{Lane}
 use Rattle.mrp_net.specs.declared.lane.LaneKind.TheVariants.{Despatch, Schedule}
 use Rattle.mrp_net.specs.Lanes.{lanes, lanes_of, lanes_between, both_lanes, lane_at, taken_over, item_of, customer_of, supplier_of}
-use Rattle.mrp_net.specs.Laws.{despatch_lane, schedule_lane, AreBothLanes, LanesComeInTwos, LanesStandOnce, SourcesHaveLanes}
+use Rattle.mrp_net.specs.LaneLaws.{despatch_lane, schedule_lane, AreBothLanes, LanesComeInTwos, LanesStandOnce, SourcesHaveLanes}
 use Rattle.mrp_net.specs.Sums.{pair_at, no_pair}
 use Rattle.mrp_net.proofs.Members.{In, In-from_contains, Contains-from_in, In-filter, In-map, In-flat_map, In-range}
 use Rattle.mrp_net.proofs.Pieces.{All-pieces, AllPairs-pieces}

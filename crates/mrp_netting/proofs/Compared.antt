@@ -7,7 +7,7 @@ use Rattle.std.proofs.lemmas.List.{append-nil, append_assoc, map-append, length-
 use Rattle.std.proofs.lemmas.List.FromFn.{get_or-map-range_with_len}
 use Rattle.std.proofs.lemmas.Option.{slice_get_read, slice_get_within, get_or_from_slice_get}
 use Rattle.mrp_lot.specs.One.{PlanRows, one}
-use Rattle.mrp_lot.specs.RangeLaws.{sum_by-range-suc, sum_by-range-more}
+use Rattle.mrp_lot.proofs.RangeLaws.{sum_by-range-suc, sum_by-range-more}
 use Rattle.mrp_lot.specs.declared.params.PairParams.{PairParams}
 use Rattle.mrp_lot.specs.declared.params.Late.{Late}
 use Rattle.mrp_netting.specs.Plan.{AreOrders, order_row, available_row, released, release_row, is_late, late_periods, late_orders}

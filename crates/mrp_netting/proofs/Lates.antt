@@ -8,7 +8,7 @@ use Rattle.std.proofs.lemmas.List.FromFn.{get_or-range_with_len, length-range_wi
 use Rattle.std.proofs.lemmas.List.Sums.{count_by-le-length, length-filter}
 use Rattle.mrp_lot.specs.declared.params.PairParams.{PairParams}
 use Rattle.mrp_lot.specs.One.{order_at, late_at}
-use Rattle.mrp_lot.specs.RangeLaws.{filter_map-range-same}
+use Rattle.mrp_lot.proofs.RangeLaws.{filter_map-range-same}
 use Rattle.mrp_lot.specs.declared.params.Late.{Late}
 use Rattle.mrp_netting.specs.Plan.{order_row, is_late, late_periods, late_orders, AreLate}
 

@@ -7,8 +7,8 @@ use Rattle.std.proofs.lemmas.List.Sums.{sum-map}
 use Rattle.mrp_qty.specs.declared.quantity.TheConstants.{MOST}
 use Rattle.mrp_lot.specs.declared.params.PairParams.{PairParams}
 use Rattle.mrp_lot.specs.One.{PlanRows, one, IsWithin, order_at, release_at}
-use Rattle.mrp_lot.specs.RangeLaws.{sum_by-range-same, map-range-same}
-use Rattle.mrp_lot.specs.OneLaws.{orders-le}
+use Rattle.mrp_lot.proofs.RangeLaws.{sum_by-range-same, map-range-same}
+use Rattle.mrp_lot.proofs.OneLaws.{orders-le}
 use Rattle.mrp_netting.specs.Plan.{order_row, available_row, released, release_row, late_periods, late_orders}
 use Rattle.mrp_netting.proofs.Lates.{late_orders-is}
 

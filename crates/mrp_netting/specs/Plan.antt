@@ -1,5 +1,6 @@
 -- What a plan of one pair keeps.
-use Rattle.std.specs.Prelude.{◌≡◌, ℕ, ◌-◌, ◌<◌, ◌&&◌, ◌==◌, Bool, nat_lt, if◌then◌else◌, List, [], length, map, sum_by, filter, replicate, slice_index, All, suc}
+use Rattle.std.specs.Prelude.{◌≡◌, ℕ, ◌-◌, ◌<◌, ◌&&◌, ◌==◌, Bool, nat_lt, if◌then◌else◌, List}
+use Rattle.std.specs.Prelude.{[], length, map, sum_by, filter, replicate, slice_index, All, suc}
 use Rattle.std.specs.List.{range_with_len}
 use Rattle.mrp_qty.specs.Row.{IsRow}
 use Rattle.mrp_lot.specs.declared.params.PairParams.{PairParams}

@@ -4,7 +4,7 @@ use Rattle.std.proofs.lemmas.List.{get_or_default}
 use Rattle.std.specs.List.{All}
 use Rattle.std.proofs.lemmas.List.Sums.{sum_by-cons}
 use Rattle.mrp_lot.specs.One.{PlanRows}
-use Rattle.mrp_lot.specs.RangeLaws.{sum_by-range-suc}
+use Rattle.mrp_lot.proofs.RangeLaws.{sum_by-range-suc}
 use Rattle.mrp_net.specs.Edges.{edge_need, part}
 use Rattle.mrp_net.specs.Plan.{rows_at, no_rows}
 use Rattle.mrp_net.specs.declared.edge.Edge.{Edge}

@@ -8,8 +8,8 @@ use Rattle.std.proofs.lemmas.List.Sums.{sum_by-cons, sum-map}
 use Rattle.std.proofs.Math.Nat.{mul-le-mul_left}
 use Rattle.mrp_lot.specs.Lot.{rule_quantities}
 use Rattle.mrp_lot.specs.One.{PlanRows, IsWithin, one, release_at}
-use Rattle.mrp_lot.specs.OneLaws.{releases-le}
-use Rattle.mrp_lot.specs.RangeLaws.{map-range-same}
+use Rattle.mrp_lot.proofs.OneLaws.{releases-le}
+use Rattle.mrp_lot.proofs.RangeLaws.{map-range-same}
 use Rattle.mrp_rows.specs.Table.{Table, IsTable, horizon}
 use Rattle.mrp_net.specs.Edges.{demanders, edge_need}
 use Rattle.mrp_net.specs.Sums.{demand, demand_total, incoming, params_at, pair_at, row_of, no_pair}

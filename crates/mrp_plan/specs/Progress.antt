@@ -20,7 +20,8 @@ pub record CanPlan (N : Table) (table : List PlanRows) (x : ℕ) : Type 0 where
   pub size : length table ≡ length N.pairs
   pub room : length (rows_at table x).gross ≡ horizon N
   pub releases : All (λ e. length (rows_at table e.demander.0).release ≡ horizon N) (demanders N x)
-  pub within : (pair_at N x).on_hand + received_total N x + shipped_total N x + demand_total N x + asked_total table (demanders N x) + (pair_at N x).safety + rule_quantities (pair_at N x).rule ≤ MOST
+  pub within : (pair_at N x).on_hand + received_total N x + shipped_total N x + demand_total N x
+      + asked_total table (demanders N x) + (pair_at N x).safety + rule_quantities (pair_at N x).rule ≤ MOST
 
 -- the first k pairs of the order have their plans, whose releases are within their needs; each place
 -- has room for a plan

@@ -26,7 +26,8 @@ item_name N item = slice_index_or N.items item.0 []
 -- the row of a figure of that lane: opening, shipped, received, and what is in transit
 unfoldable pub figure_row : Table → Lane → LaneFigure → List ℕ
 figure_row N lane figure =
-    row (text_bytes "lane" ∷ kind_word lane.kind ∷ plant_name N lane.sender ∷ plant_name N lane.receiver ∷ item_name N figure.item ∷ decimal figure.opening ∷ decimal figure.shipped ∷ decimal figure.received ∷ decimal (figure.shipped - figure.received) ∷ [])
+    row (text_bytes "lane" ∷ kind_word lane.kind ∷ plant_name N lane.sender ∷ plant_name N lane.receiver ∷ item_name N figure.item
+    ∷ decimal figure.opening ∷ decimal figure.shipped ∷ decimal figure.received ∷ decimal (figure.shipped - figure.received) ∷ [])
 
 abbrev pub lane_row : Table → LaneFigure → List ℕ
 lane_row N figure = figure_row N (lane_at N figure.lane.0) figure

@@ -13,7 +13,8 @@ pair_part plant item = joined (text_bytes "plan" ∷ plant ∷ item ∷ [])
 -- what a row has of its period: the number, the date and the figures
 abbrev pub period_part : List ℕ → Period → List ℕ
 period_part date period =
-    joined (decimal period.number ∷ date ∷ decimal period.gross ∷ decimal period.incoming ∷ decimal period.order ∷ decimal period.release ∷ decimal period.available ∷ [])
+    joined (decimal period.number ∷ date ∷ decimal period.gross ∷ decimal period.incoming
+    ∷ decimal period.order ∷ decimal period.release ∷ decimal period.available ∷ [])
 
 -- a row of these parts
 unfoldable pub parts_row : List ℕ → List ℕ → Period → List ℕ

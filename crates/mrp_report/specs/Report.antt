@@ -28,7 +28,14 @@ pairs_of N = range_with_len 0 (length N.pairs)
 -- planned order release and projected available
 abbrev pub period_at : PlanRows → ℕ → Period
 period_at rows t =
-    record { number = t; gross = slice_index rows.gross t; incoming = slice_index rows.incoming t; order = slice_index rows.order t; release = slice_index rows.release t; available = slice_index rows.available t }
+    record {
+      number = t;
+      gross = slice_index rows.gross t;
+      incoming = slice_index rows.incoming t;
+      order = slice_index rows.order t;
+      release = slice_index rows.release t;
+      available = slice_index rows.available t;
+    }
 
 -- the text of the period's date
 abbrev pub date_at : List (List ℕ) → ℕ → List ℕ
@@ -37,7 +44,8 @@ date_at dates t = slice_index_or dates t []
 -- the row of a pair in a period
 unfoldable pub plan_row : List ℕ → List ℕ → List ℕ → Period → List ℕ
 plan_row plant item date period =
-    row (text_bytes "plan" ∷ plant ∷ item ∷ decimal period.number ∷ date ∷ decimal period.gross ∷ decimal period.incoming ∷ decimal period.order ∷ decimal period.release ∷ decimal period.available ∷ [])
+    row (text_bytes "plan" ∷ plant ∷ item ∷ decimal period.number ∷ date ∷ decimal period.gross ∷ decimal period.incoming
+    ∷ decimal period.order ∷ decimal period.release ∷ decimal period.available ∷ [])
 
 -- a pair's rows, one for each date, in rising period
 unfoldable pub pair_text : List ℕ → List ℕ → List (List ℕ) → PlanRows → List ℕ
@@ -72,7 +80,8 @@ source_word Plant = text_bytes "plant"
 -- the row of a term of a gross requirement
 unfoldable pub peg_row : Table → PegTerm → List ℕ
 peg_row N term =
-    row (text_bytes "peg" ∷ source_word term.source ∷ plant_of N term.pair.0 ∷ item_of N term.pair.0 ∷ decimal term.release ∷ decimal term.per ∷ decimal term.quantity ∷ [])
+    row (text_bytes "peg" ∷ source_word term.source ∷ plant_of N term.pair.0 ∷ item_of N term.pair.0
+    ∷ decimal term.release ∷ decimal term.per ∷ decimal term.quantity ∷ [])
 
 -- the report of the terms, in their order
 unfoldable pub peg_text : Table → List PegTerm → List ℕ

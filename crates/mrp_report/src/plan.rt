@@ -127,8 +127,10 @@ fn send_piece<W: Write>(
     requires dates { report.now.dates.now ≡ dates_of report.now.network.now.calendar }
     requires order { first ≤ end }
     requires pairs { end ≤ length report.now.network.now.pairs }
-    ensures whole { OnOk result (Appends (W.contents out.old) (W.contents out.new) (pairs_text report.now.network.now report.now.plan.now first (end - first))) }
-    ensures front { OnErr result (AppendsFront (W.contents out.old) (W.contents out.new) (pairs_text report.now.network.now report.now.plan.now first (end - first))) }
+    ensures whole { OnOk result (Appends (W.contents out.old) (W.contents out.new)
+        (pairs_text report.now.network.now report.now.plan.now first (end - first))) }
+    ensures front { OnErr result (AppendsFront (W.contents out.old) (W.contents out.new)
+        (pairs_text report.now.network.now report.now.plan.now first (end - first))) }
 {
     let Ok(text) = pairs_text(room, names, report, first, end) else {
         return Err(ReportFault::WriteFault);

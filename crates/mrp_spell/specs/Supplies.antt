@@ -1,5 +1,6 @@
 -- How it is spelled where a pair comes from, and what each plant's share is.
-use Rattle.std.specs.Prelude.{◌≡◌, ◌≤◌, ◌<◌, ℕ, zero, suc, ◌+◌, ◌-◌, ◌==◌, ◌&&◌, nat_le, Bool, if◌then◌else◌, List, [], ◌∷◌, ◌++◌, codes, length, Option, Some, None, option_map, All}
+use Rattle.std.specs.Prelude.{◌≡◌, ◌≤◌, ◌<◌, ℕ, zero, suc, ◌+◌, ◌-◌, ◌==◌, ◌&&◌, nat_le, Bool}
+use Rattle.std.specs.Prelude.{if◌then◌else◌, List, [], ◌∷◌, ◌++◌, codes, length, Option, Some, None, option_map, All}
 use Rattle.std.specs.List.{IsDistinct, list_any}
 use Rattle.std.specs.Str.{bytes_eq}
 use Rattle.mrp_spell.specs.declared.supplies.TheConstants.{MOST_SHARE, MOST_SOURCES_OF_PAIR}
@@ -43,7 +44,8 @@ shared_rest sources more high None = if high == MOST_SHARE then Some sources els
 shared_rest sources more high (Some text) = more sources high text
 
 -- the same with one source more, which is of another plant
-abbrev pub shared_after : List SourceTerms → (List SourceTerms → ℕ → List ℕ → Option (List SourceTerms)) → Option (SourceTerms × Option (List ℕ)) → Option (List SourceTerms)
+abbrev pub shared_after : List SourceTerms → (List SourceTerms → ℕ → List ℕ → Option (List SourceTerms))
+    → Option (SourceTerms × Option (List ℕ)) → Option (List SourceTerms)
 shared_after before more None = None
 shared_after before more (Some p) =
     if names_plant before p.0.plant then None else shared_rest (before ++ p.0 ∷ []) more p.0.high p.1

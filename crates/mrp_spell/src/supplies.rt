@@ -142,7 +142,8 @@ fn all_shared<'r>(
     sources: Vec<SpelledSource<'r>>,
     high: u64,
 ) -> Result<Vec<SpelledSource<'r>>, SupplyFault>
-    ensures exact { TellsSpelled (λ found. map source_view found.items) result (if high == MOST_SHARE then Some (map source_view sources.entry.items) else None) }
+    ensures exact { TellsSpelled (λ found. map source_view found.items) result
+        (if high == MOST_SHARE then Some (map source_view sources.entry.items) else None) }
     ensures same { IfOk result (λ kept. kept.items ≡ sources.entry.items) }
 {
     if high == MOST_SHARE {

@@ -1,6 +1,8 @@
 -- The grammar of a table, row by row. Each row is tested against the table of the rows before it, in
 -- the order of the faults, and then adds to it.
-use Rattle.std.specs.Prelude.{◌≡◌, ℕ, ◌-◌, ◌==◌, ◌&&◌, ◌||◌, not, nat_lt, nat_le, Bool, true, false, if◌then◌else◌, List, [], ◌∷◌, ◌++◌, length, map, codes, Option, Some, None, is_some, option_map, position, slice_get, unwrap_or, Result, Ok, Err, ok_or}
+use Rattle.std.specs.Prelude.{◌≡◌, ℕ, ◌-◌, ◌==◌, ◌&&◌, ◌||◌, not, nat_lt, nat_le, Bool, true}
+use Rattle.std.specs.Prelude.{false, if◌then◌else◌, List, [], ◌∷◌, ◌++◌, length, map, codes, Option, Some}
+use Rattle.std.specs.Prelude.{None, is_some, option_map, position, slice_get, unwrap_or, Result, Ok, Err, ok_or}
 use Rattle.std.specs.List.{list_all, list_any}
 use Rattle.std.specs.Str.{bytes_eq}
 use Rattle.csv.specs.Records.{field_at}
@@ -294,7 +296,12 @@ lane_named N t =
     let from = plant_no N t.from in
     let to = plant_no N t.to in
     let x = pair_named N to t.item in
-    record { from = option_map (λ p. record { 0 = p }) from; to = option_map (λ p. record { 0 = p }) to; pair = option_map (λ p. record { 0 = p }) x; place = source_named N from x }
+    record {
+      from = option_map (λ p. record { 0 = p }) from;
+      to = option_map (λ p. record { 0 = p }) to;
+      pair = option_map (λ p. record { 0 = p }) x;
+      place = source_named N from x;
+    }
 
 unfoldable pub known_lane : NamedLane → Result KnownLane TableFaultKind
 known_lane l = do
@@ -357,7 +364,15 @@ pair_fits N t = do
 -- a pair row with its item's place among the items
 abbrev pub pair_with : List (List ℕ) → PlantNo → PairTerms → PairRow
 pair_with items plant t =
-    record { plant = plant; item = record { 0 = unwrap_or (position (bytes_eq t.item) items) 0 }; supply = supply_kind t.supply; rule = t.rule; lead = t.lead; on_hand = t.on_hand; safety = t.safety }
+    record {
+      plant = plant;
+      item = record { 0 = unwrap_or (position (bytes_eq t.item) items) 0 };
+      supply = supply_kind t.supply;
+      rule = t.rule;
+      lead = t.lead;
+      on_hand = t.on_hand;
+      safety = t.safety;
+    }
 
 -- a source of the pair at a place
 abbrev pub source_row : Table → ℕ → SourceTerms → SourceRow

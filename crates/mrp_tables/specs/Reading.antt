@@ -14,7 +14,8 @@ use Rattle.mrp_rows.specs.declared.rows.SourceRow.{SourceRow}
 use Rattle.mrp_rows.specs.Table.{IsOnce, IsRead, IsSourced, Table}
 use Rattle.mrp_spell.specs.declared.supplies.TheConstants.{MOST_SOURCES_OF_PAIR}
 use Rattle.mrp_rows.specs.Growing.{lacks_pair}
-use Rattle.mrp_tables.specs.Grammar.{◌>>=◌, bill_row, check, cum_row, demand_row, may_follow, pair_row, place_of, plant_row, receipt_row, reset_row, row_kind, run_terms, RunTerms, ship_row}
+use Rattle.mrp_tables.specs.Grammar.{◌>>=◌, bill_row, check, cum_row, demand_row, may_follow, pair_row, place_of}
+use Rattle.mrp_tables.specs.Grammar.{plant_row, receipt_row, reset_row, row_kind, run_terms, RunTerms, ship_row}
 
 -- the kind of a row whose fields are text
 unfoldable pub kind_of_row : List (List ℕ) → Result Kind TableFaultKind
@@ -38,7 +39,19 @@ row_of_kind kind.Reset N row = reset_row N row
 
 -- the table before any row but the run
 abbrev pub empty_table : CalendarTerms → Table
-empty_table c = record { calendar = c; plants = []; items = []; pairs = []; sources = []; bills = []; demands = []; receipts = []; ships = []; cums = []; resets = [] }
+empty_table c = record {
+  calendar = c;
+  plants = [];
+  items = [];
+  pairs = [];
+  sources = [];
+  bills = [];
+  demands = [];
+  receipts = [];
+  ships = [];
+  cums = [];
+  resets = [];
+}
 
 abbrev pub is_run : Kind → Bool
 is_run kind.Run = true

@@ -35,4 +35,12 @@ abbrev pub lane_view : SpelledLane → LaneTerms
 lane_view l = record { from = l.from.now; to = l.to.now; item = l.item.now }
 
 abbrev pub pair_view : SpelledPair → PairTerms
-pair_view p = record { plant = p.plant.now; item = p.item.now; supply = supply_view p.supply; rule = p.rule; lead = p.lead; on_hand = p.on_hand; safety = p.safety }
+pair_view p = record {
+  plant = p.plant.now;
+  item = p.item.now;
+  supply = supply_view p.supply;
+  rule = p.rule;
+  lead = p.lead;
+  on_hand = p.on_hand;
+  safety = p.safety;
+}

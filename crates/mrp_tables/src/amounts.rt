@@ -11,7 +11,8 @@ impl Draft {
     ghost use Rattle.std.specs.Prelude.{◌≡◌, ◌+◌, ◌≤◌, ◌<◌, length, option_map, Some, false, OnOk, IfOk, IfSome};
     ghost use Rattle.csv.specs.Records.{fields_of};
     ghost use Rattle.mrp_rows.specs.declared.rows.TheConstants.{MOST_BILLS, MOST_OF_A_KIND, MOST_PER};
-    ghost use Rattle.mrp_tables.specs.Grammar.{bill_fits, bill_of, bill_row, demand_of, demand_row, has_bill, is_made, known_pair, receipt_of, receipt_row, seen, Tells};
+    ghost use Rattle.mrp_tables.specs.Grammar.{bill_fits, bill_of, bill_row, demand_of, demand_row, has_bill};
+    ghost use Rattle.mrp_tables.specs.Grammar.{is_made, known_pair, receipt_of, receipt_row, seen, Tells};
     ghost use Rattle.mrp_rows.specs.Names.{plant_no};
     ghost use Rattle.mrp_tables.specs.Spelled.{bill_view};
     ghost use Rattle.mrp_rows.specs.Table.{IsBillRow, IsDemandRow, IsReceiptRow};

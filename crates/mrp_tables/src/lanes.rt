@@ -55,7 +55,9 @@ impl Draft {
     ghost use Rattle.std.specs.Prelude.{false, not, IsSome, Some};
     ghost use Rattle.csv.specs.Records.{fields_of};
     ghost use Rattle.mrp_rows.specs.Table.{arrivals, rises_from};
-    ghost use Rattle.mrp_tables.specs.Grammar.{cum_between, cum_of, cum_row, has_cum, has_reset, lane_named, reset_between, reset_of, reset_row, seen, ship_of, ship_row, source_at, source_named, Tells};
+    ghost use Rattle.mrp_tables.specs.Grammar.{cum_between, cum_of, cum_row, has_cum, has_reset};
+    ghost use Rattle.mrp_tables.specs.Grammar.{lane_named, reset_between, reset_of, reset_row, seen};
+    ghost use Rattle.mrp_tables.specs.Grammar.{ship_of, ship_row, source_at, source_named, Tells};
     ghost use Rattle.mrp_tables.specs.Spelled.{lane_view};
     ghost use Rattle.mrp_tables.specs.Lists.{IsDraft, AddsRow, IsNamedLane};
     ghost use Rattle.mrp_rows.specs.Table.{IsRead};

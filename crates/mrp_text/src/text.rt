@@ -8,7 +8,8 @@ ghost use Rattle.mrp_rows.specs.Table.{IsTable, IsPair, horizon};
 ghost use Rattle.mrp_net.specs.Plan.{Fits};
 ghost use Rattle.mrp_loops.specs.Loop.{AreCodes, IsLoopFree};
 ghost use Rattle.mrp_text.specs.Fault.{IsBeforeWriting, IsLate};
-ghost use Rattle.mrp_text.specs.Text.{Writes, OfTable, IsTableOf, IsPlannable, IsPlanReport, IsCodeReport, IsPegReport, IsCumReport, IsPegs, IsCalled, AreCalled};
+ghost use Rattle.mrp_text.specs.Text.{Writes, OfTable, IsTableOf, IsPlannable, IsPlanReport, IsCodeReport};
+ghost use Rattle.mrp_text.specs.Text.{IsPegReport, IsCumReport, IsPegs, IsCalled, AreCalled};
 ghost use Rattle.mrp_text.specs.Text.{IsLoopRefusal, IsBoundRefusal, IsRefusal, IsRunRefusal, IsPegRefusal, IsTableRefusal, IsReadRefusal, IsTextRefusal};
 ghost use Rattle.mrp_text.specs.Checks.{AreLoopPairs, IsOfLoop, IsBoundPair, IsOfBound};
 ghost use Rattle.mrp_words.specs.declared.words.TheConstants.{MOST_CAPACITY};
@@ -127,7 +128,8 @@ pub fn peg_text<R: Read + Drop, W: Write>(
     item: &str,
     period: u64,
 ) -> Result<(), TextFault>
-    ensures text { Writes (W.contents writer.old) (W.contents writer.new) result (λ text. OfTable (R.remaining reader) (λ N. IsPegReport plant.now item.now period N text)) }
+    ensures text { Writes (W.contents writer.old) (W.contents writer.new) result
+        (λ text. OfTable (R.remaining reader) (λ N. IsPegReport plant.now item.now period N text)) }
     ensures refusal { IfErr result (IsTextRefusal (R.remaining reader) (IsPegRefusal plant.now item.now period)) }
     ensures untouched { IfErr result (λ fault. fault ≢ TextFault.WriteFault → writer.new ≡ writer.old) }
 {

@@ -13,7 +13,7 @@ use Rattle.mrp_rows.specs.Table.{Table, IsTable, IsPair, horizon, pair_no}
 use Rattle.mrp_net.specs.declared.edge.Edge.{Edge}
 use Rattle.mrp_view.specs.declared.view.PlantPair.{PlantPair}
 use Rattle.mrp_net.specs.Edges.{demanders, edges, IsEdge}
-use Rattle.mrp_net.specs.Laws.{is_local}
+use Rattle.mrp_net.specs.EdgeLaws.{is_local}
 use Rattle.mrp_view.specs.Seen.{IsOwn, IsOwnOf, IsPlantPair, IsPlantEdge, pairs_of_number, pairs_of_item}
 use Rattle.mrp_net.specs.Sums.{pair_at, no_pair, row_of}
 use Rattle.mrp_view.specs.View.{is_of_plant, plant_pair, plant_pairs, plant_edge, edges_to, plant_edges, plant_amounts, plant_rows}

@@ -14,7 +14,7 @@ use Rattle.mrp_view.specs.declared.view.PlantEdge.{PlantEdge}
 use Rattle.mrp_view.specs.declared.view.PlantPair.{PlantPair}
 use Rattle.mrp_net.specs.Edges.{demanders}
 use Rattle.mrp_net.specs.Lanes.{lanes, lane_at, lane_items, figure, opening, shipments, reset, pair_on, supplier_of}
-use Rattle.mrp_net.specs.Laws.{is_local}
+use Rattle.mrp_net.specs.EdgeLaws.{is_local}
 use Rattle.mrp_view.specs.Loads.{Load}
 use Rattle.mrp_net.specs.Sources.{source_on}
 use Rattle.mrp_net.specs.Sums.{pair_at, params_at, row_of, demand, received}

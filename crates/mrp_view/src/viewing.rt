@@ -3,7 +3,7 @@ ghost use Rattle.std.specs.List.{flat_map};
 ghost use Rattle.mrp_rows.specs.Table.{IsPair};
 ghost use Rattle.mrp_net.specs.Edges.{IsEdge};
 ghost use Rattle.mrp_net.specs.Lanes.{lanes, lane_at, lane_items};
-ghost use Rattle.mrp_net.specs.Laws.{is_local};
+ghost use Rattle.mrp_net.specs.EdgeLaws.{is_local};
 ghost use Rattle.mrp_view.specs.Loads.{bare};
 ghost use Rattle.mrp_net.specs.Sums.{row_of, demand, received};
 ghost use Rattle.mrp_view.specs.View.{plant_pairs, plant_edge, edges_to, plant_rows, incoming_item, incoming_lanes, sent_on, outgoing_item, outgoing_lanes};

@@ -24,7 +24,8 @@ use Rattle.mrp_cursor.specs.Cursor.{Goods}
 use Rattle.mrp_cursor.specs.Shows.{ShowsSent}
 use Rattle.mrp_ready.specs.Counts.{Awaited, AreCounts, open_blocks}
 use Rattle.mrp_local.specs.Goods.{goods_by, goods_of, schedule_goods, IsSendable}
-use Rattle.mrp_local.specs.Local.{amount_at, asked_within, booked_on, is_of_kind, lanes_in, local_gross, local_incoming, local_plan, local_row, pieces_in, AwaitsNothing, IsLocal, IsPlannedLocally}
+use Rattle.mrp_local.specs.Local.{amount_at, asked_within, booked_on, is_of_kind, lanes_in, local_gross, local_incoming}
+use Rattle.mrp_local.specs.Local.{local_plan, local_row, pieces_in, AwaitsNothing, IsLocal, IsPlannedLocally}
 use Rattle.mrp_agent.specs.Shows.{Shows, OutShows, awaited, awaited_on, form_of, joins_of, up_to_last}
 use Rattle.mrp_agent.specs.State.{AgentState, book_at, incoming_at, out_at, outgoing_at, pair_place, plans_of, no_incoming, no_outgoing}
 use Rattle.mrp_agent.proofs.Owning.{own_of_item}
@@ -77,7 +78,8 @@ goods_same Schedule V taken others plans l items same = ap (schedule_goods_on V 
 module _ (A : AgentState) (enough : IsView A.view) (s t : State) (same : AgreeOn A.view s t) where
   own_same : (x : PairNo) → IsOwn A.view x → s.planned x.0 ≡ t.planned x.0
   own_same x (p, there, is) =
-      subst (λ (n : PairNo). s.planned n.0 ≡ t.planned n.0) is (All-contains (λ (q : PlantPair). s.planned q.number.0 ≡ t.planned q.number.0) A.view.pairs p same.pairs there)
+      subst (λ (n : PairNo). s.planned n.0 ≡ t.planned n.0) is
+      (All-contains (λ (q : PlantPair). s.planned q.number.0 ≡ t.planned q.number.0) A.view.pairs p same.pairs there)
 
   booked_same : (kind : LaneKind) (item : ItemNo) (u : ℕ) → booked_on kind A.view s.taken item u ≡ booked_on kind A.view t.taken item u
   booked_same kind item u =
@@ -99,7 +101,8 @@ module _ (A : AgentState) (enough : IsView A.view) (s t : State) (same : AgreeOn
       map_same (local_incoming A.view s.taken p) (local_incoming A.view t.taken p) (range_with_len 0 A.view.horizon)
       (λ u. ap (λ (n : ℕ). amount_at A.view A.view.receipts p.number u + n) (booked_same Despatch p.item u))
 
-  gross_same : (plans : ℕ → PlanRows) (p : PlantPair) → local_row A.view (local_gross A.view s.taken plans p) ≡ local_row A.view (local_gross A.view t.taken plans p)
+  gross_same : (plans : ℕ → PlanRows) (p : PlantPair) → local_row A.view (local_gross A.view s.taken plans p)
+      ≡ local_row A.view (local_gross A.view t.taken plans p)
   gross_same plans p =
       map_same (local_gross A.view s.taken plans p) (local_gross A.view t.taken plans p) (range_with_len 0 A.view.horizon)
       (λ u. ap (λ (n : ℕ). amount_at A.view A.view.demands p.number u + asked_within A.view plans p.number u + n) (booked_same Schedule p.item u))

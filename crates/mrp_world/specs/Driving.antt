@@ -7,6 +7,7 @@ use Rattle.mrp_world.specs.Moments.{Showing}
 use Rattle.mrp_world.specs.World.{Held, AreAt}
 
 -- from each state that they show the events lead to one that they show then
-pub record LeadOn {A : Type 0} (shows : Showing A) (N : Table) (plants : List A) (boxes : List Held) (events : List Event) (new_plants : List A) (new_boxes : List Held) : Type 0 where
+pub record LeadOn {A : Type 0} (shows : Showing A) (N : Table) (plants : List A) (boxes : List Held)
+    (events : List Event) (new_plants : List A) (new_boxes : List Held) : Type 0 where
   pub runs : (capacity : ℕ) (s : State) → AreAt shows N capacity plants boxes s
       → (t : State) × Run N capacity s events t × AreAt shows N capacity new_plants new_boxes t

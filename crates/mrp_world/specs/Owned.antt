@@ -9,7 +9,8 @@ use Rattle.mrp_net.specs.Sums.{pair_at}
 use Rattle.mrp_view.specs.declared.view.IncomingLane.{IncomingLane}
 use Rattle.mrp_view.specs.declared.view.OutgoingLane.{OutgoingLane}
 use Rattle.mrp_view.specs.declared.view.PlantPair.{PlantPair}
-use Rattle.mrp_view.specs.View.{is_of_plant, plant_pair, plant_pairs, comes_to, goes_from, lane_numbers, incoming_lane, incoming_lanes, outgoing_lane, outgoing_lanes}
+use Rattle.mrp_view.specs.View.{is_of_plant, plant_pair, plant_pairs, comes_to, goes_from}
+use Rattle.mrp_view.specs.View.{lane_numbers, incoming_lane, incoming_lanes, outgoing_lane, outgoing_lanes}
 use Rattle.mrp_view.proofs.Seeing.{below}
 use Rattle.mrp_world.specs.Moments.{IsIn, IsOut, IsOwn}
 

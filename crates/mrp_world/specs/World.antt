@@ -78,7 +78,8 @@ abbrev pub MayLead : {A : Type 0} → Showing A → Table → List A → List He
 MayLead shows N plants boxes event = (capacity : ℕ) (s : State) → AreAt shows N capacity plants boxes s → IsEnabled N capacity s event
 
 -- the event is enabled nowhere, and nothing has changed
-pub record StandsStill {A : Type 0} (shows : Showing A) (N : Table) (plants : List A) (boxes : List Held) (event : Event) (new_plants : List A) (new_boxes : List Held) : Type 0 where
+pub record StandsStill {A : Type 0} (shows : Showing A) (N : Table) (plants : List A) (boxes : List Held)
+    (event : Event) (new_plants : List A) (new_boxes : List Held) : Type 0 where
   pub nowhere : LeadNowhere shows N plants boxes event
   pub same_plants : new_plants ≡ plants
   pub same_boxes : new_boxes ≡ boxes

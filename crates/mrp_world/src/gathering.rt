@@ -20,7 +20,8 @@ pub(crate) fn plans_by_plant<P: Plant>(
     network: &Network,
     plants: Vec<P>,
 ) -> Result<Vec<Vec<PairPlan>>, Memory>
-    requires finished { (capacity : ℕ) × (boxes : List Held) × (s : State) × AreAt P.shows network.now capacity plants.items boxes s × IsFinished network.now s }
+    requires finished { (capacity : ℕ) × (boxes : List Held) × (s : State)
+        × AreAt P.shows network.now capacity plants.items boxes s × IsFinished network.now s }
     ensures { IfOk result (λ lists. HaveGiven network.now lists.items (length network.now.pairs)) }
 {
     let mut lists = Vec::with_capacity(alloc, plants.len())?;

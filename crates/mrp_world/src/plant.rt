@@ -59,7 +59,8 @@ pub trait Plant: Drop {
         requires lane { Receives shows self.old lane.0 }
         ensures booked { OnOk result ((m : Moment) (p : ℕ) → IsAt shows m p self.old → IsIn m.network p lane.0 → CanTake m.network m.state lane.0 entry.now
             → shows m.network p (after_take m.state lane.0 entry.now) self.new) }
-        ensures refused { OnErr result ((m : Moment) (p : ℕ) → IsAt shows m p self.old → IsIn m.network p lane.0 → ¬ CanTake m.network m.state lane.0 entry.now) }
+        ensures refused { OnErr result ((m : Moment) (p : ℕ) → IsAt shows m p self.old
+            → IsIn m.network p lane.0 → ¬ CanTake m.network m.state lane.0 entry.now) }
         ensures unchanged { OnErr result (self.new ≡ self.old) };
 
     /// A pair of the plant that can be planned, or `None` where there is none.
@@ -82,7 +83,8 @@ pub trait Plant: Drop {
     fn planned(&self, x: PairNo) -> Option<&PairPlan>
         requires pair { Has shows self.now x.0 }
         ensures planned { IfSome result (λ plan. (m : Moment) (p : ℕ) → IsAt shows m p self.now → IsOwn m.network p x.0 → m.state.planned x.0 ≡ true) }
-        ensures plan { IfSome result (λ plan. (m : Moment) (p : ℕ) → IsAt shows m p self.now → IsOwn m.network p x.0 → plan.now ≡ rows_at (plan_of m.network) x.0) }
+        ensures plan { IfSome result (λ plan. (m : Moment) (p : ℕ) → IsAt shows m p self.now
+            → IsOwn m.network p x.0 → plan.now ≡ rows_at (plan_of m.network) x.0) }
         ensures none { IfNone result ((m : Moment) (p : ℕ) → IsAt shows m p self.now → IsOwn m.network p x.0 → m.state.planned x.0 ≡ false) };
 
     /// The plans of all its pairs, in table order, once all of them are planned. The plant is gone then.

@@ -46,7 +46,13 @@ impl<'a, P: Plant> Model for World<'a, P> {
 
     ghost view = { λ w. record { network = w.network.now; capacity = w.capacity; plants = w.plants.items; boxes = w.boxes.items; left = w.left } };
 
-    ghost invariant = { λ w. IsWorld P.shows (record { network = w.network.now; capacity = w.capacity; plants = w.plants.items; boxes = w.boxes.items; left = w.left }) };
+    ghost invariant = { λ w. IsWorld P.shows (record {
+      network = w.network.now;
+      capacity = w.capacity;
+      plants = w.plants.items;
+      boxes = w.boxes.items;
+      left = w.left;
+    }) };
 }
 
 impl<'a, P: Plant> World<'a, P> {

@@ -1,5 +1,5 @@
 use Rattle.std.proofs.Common.{◌≡◌, replicate}
-use Rattle.mrp_loops.specs.Taking.{IsBegun}
+use Rattle.mrp_loops.proofs.Passing.{IsBegun}
 use Rattle.mrp_loops.proofs.taking.begin.Given as goal
 
 abbrev pub invariant-loop-x : goal.invariant-loop-x

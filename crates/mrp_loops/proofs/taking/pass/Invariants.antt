@@ -1,5 +1,5 @@
 use Rattle.std.proofs.Common.{take, drop}
-use Rattle.mrp_loops.specs.Taking.{IsPassing}
+use Rattle.mrp_loops.proofs.Passing.{IsPassing}
 use Rattle.mrp_loops.proofs.taking.pass.Given as goal
 
 abbrev pub invariant-loop-edge : goal.invariant-loop-edge

@@ -1,7 +1,8 @@
 use Rattle.std.proofs.Common.{◌≡◌, ◌-◌, ◌<◌, ℕ, false, All, reverse, length, get_or, slice_index}
 use Rattle.mrp_rows.specs.Table.{IsPair}
 use Rattle.mrp_loops.specs.Taking.{is_in}
-use Rattle.mrp_loops.specs.Walk.{IsApart, Climbs}
+use Rattle.mrp_loops.specs.Walk.{IsApart}
+use Rattle.mrp_loops.proofs.Climbing.{Climbs}
 use Rattle.mrp_loops.proofs.walk.walk.Given as goal
 
 abbrev pub invariant-loop-visited : goal.invariant-loop-visited

@@ -1,4 +1,4 @@
-use Rattle.mrp_lot.specs.OneLaws.{one-available-ge}
+use Rattle.mrp_lot.proofs.OneLaws.{one-available-ge}
 use Rattle.mrp_lot.proofs.laws.available_covers_safety.Goals as goal
 
 pub returns : goal.returns

@@ -1,4 +1,4 @@
-use Rattle.mrp_lot.specs.RulesLaws.{lot-covers}
+use Rattle.mrp_lot.proofs.RulesLaws.{lot-covers}
 use Rattle.mrp_lot.proofs.laws.lot_covers.Goals as goal
 
 pub returns : goal.returns

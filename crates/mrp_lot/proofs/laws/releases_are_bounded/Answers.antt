@@ -1,4 +1,4 @@
-use Rattle.mrp_lot.specs.OneLaws.{one-release_sum-le}
+use Rattle.mrp_lot.proofs.OneLaws.{one-release_sum-le}
 use Rattle.mrp_lot.proofs.laws.releases_are_bounded.Goals as goal
 
 pub returns : goal.returns

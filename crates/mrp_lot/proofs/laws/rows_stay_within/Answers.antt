@@ -1,4 +1,4 @@
-use Rattle.mrp_lot.specs.OneLaws.{one-within}
+use Rattle.mrp_lot.proofs.OneLaws.{one-within}
 use Rattle.mrp_lot.proofs.laws.rows_stay_within.Goals as goal
 
 pub returns : goal.returns

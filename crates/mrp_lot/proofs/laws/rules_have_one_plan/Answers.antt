@@ -1,4 +1,4 @@
-use Rattle.mrp_lot.specs.RulesLaws.{plan-follows_rules, rules-have_one_plan}
+use Rattle.mrp_lot.proofs.RulesLaws.{plan-follows_rules, rules-have_one_plan}
 use Rattle.mrp_lot.proofs.laws.rules_have_one_plan.Goals as goal
 
 pub returns-clause-follows : goal.returns-clause-follows

@@ -1,5 +1,5 @@
 use Rattle.std.proofs.Common.{◌*◌, ◌∙◌, ap}
-use Rattle.mrp_lot.specs.LotLaws.{least_multiple-from_div_ceil}
+use Rattle.mrp_lot.proofs.LotLaws.{least_multiple-from_div_ceil}
 use Rattle.mrp_lot.proofs.sizing.least_multiple.Goals as goal
 
 pub returns : goal.returns

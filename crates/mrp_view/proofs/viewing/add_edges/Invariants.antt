@@ -1,6 +1,6 @@
 use Rattle.std.proofs.Common.{◌≡◌, ◌++◌, map, take}
 use Rattle.std.specs.List.{filter}
-use Rattle.mrp_net.specs.Laws.{is_local}
+use Rattle.mrp_net.specs.EdgeLaws.{is_local}
 use Rattle.mrp_view.specs.View.{plant_edge}
 use Rattle.mrp_view.proofs.viewing.add_edges.Given as goal
 

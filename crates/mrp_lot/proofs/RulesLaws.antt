@@ -1,16 +1,18 @@
 -- Rows that follow the rules are the plan, and the plan follows them.
-use Rattle.std.specs.Prelude.{◌≡◌, ℕ, ◌+◌, ◌-◌, ◌/◌, ◌≤◌, ◌<◌, ◌==◌, ◌&&◌, nat_lt, if◌then◌else◌, max, List, length, sum_by, filter_map, slice_index, Option, Some, None, zero, suc}
+use Rattle.std.specs.Prelude.{◌≡◌, ℕ, ◌+◌, ◌-◌, ◌/◌, ◌≤◌, ◌<◌, ◌==◌, ◌&&◌, nat_lt, if◌then◌else◌}
+use Rattle.std.specs.Prelude.{max, List, length, sum_by, filter_map, slice_index, Option, Some, None, zero, suc}
 use Rattle.std.specs.List.{range_with_len}
 use Rattle.std.proofs.Common.{arith, sym, refl, ◌∙◌, ap}
 use Rattle.std.proofs.lemmas.List.FromFn.{length-map-range_with_len, get_or-map-range_with_len, fill_by_all}
 use Rattle.mrp_lot.specs.declared.params.PairParams.{PairParams}
 use Rattle.mrp_lot.specs.declared.params.Late.{Late}
 use Rattle.mrp_lot.specs.Lot.{least_multiple_of}
-use Rattle.mrp_lot.specs.LotLaws.{least_multiple-le, least_multiple-lt, least_multiple-least}
+use Rattle.mrp_lot.proofs.LotLaws.{least_multiple-le, least_multiple-lt, least_multiple-least}
 use Rattle.mrp_lot.specs.One.{PlanRows, one, order_after, order_at, release_at, late_at, balance_before, IsWithin}
-use Rattle.mrp_lot.specs.OneLaws.{balance_before-zero, balance_before-next, order_at-is, lot-ge, one-order, one-release, one-available}
-use Rattle.mrp_lot.specs.RangeLaws.{sum_by-range-same, filter_map-range-same}
-use Rattle.mrp_lot.specs.Rules.{balance_in, late_in, FollowsRules, IsLeastMultiple, FixedIsLeast, MinMultipleIsLeast, FixedIsSmall, MinMultipleIsSmall, LotCovers, PlanFollowsRules, RulesHaveOnePlan}
+use Rattle.mrp_lot.proofs.OneLaws.{balance_before-zero, balance_before-next, order_at-is, lot-ge, one-order, one-release, one-available}
+use Rattle.mrp_lot.proofs.RangeLaws.{sum_by-range-same, filter_map-range-same}
+use Rattle.mrp_lot.specs.Rules.{balance_in, late_in, FollowsRules, IsLeastMultiple, FixedIsLeast, MinMultipleIsLeast}
+use Rattle.mrp_lot.specs.Rules.{FixedIsSmall, MinMultipleIsSmall, LotCovers, PlanFollowsRules, RulesHaveOnePlan}
 
 is_least : (q n : ℕ) → 1 ≤ q → IsLeastMultiple q n (least_multiple_of q n)
 is_least q n some = record {
@@ -64,7 +66,8 @@ late_with : PairParams → ℕ → ℕ → Option Late
 late_with pair t q = if nat_lt t pair.lead && nat_lt 0 q then Some (record { period = t; quantity = q; by = pair.lead - t }) else None
 
 same_late : (pair : PairParams) (rows : PlanRows) → IsWithin pair rows.incoming rows.gross → FollowsRules pair rows
-    → filter_map (late_in pair rows) (range_with_len 0 (length rows.gross)) ≡ filter_map (late_at pair rows.incoming rows.gross) (range_with_len 0 (length rows.gross))
+    → filter_map (late_in pair rows) (range_with_len 0 (length rows.gross))
+    ≡ filter_map (late_at pair rows.incoming rows.gross) (range_with_len 0 (length rows.gross))
 unfolding late_at late_with
 same_late pair rows is follows =
     filter_map-range-same {X = Late} (late_in pair rows) (late_at pair rows.incoming rows.gross) (length rows.gross)
@@ -116,7 +119,8 @@ plan_release pair incoming gross u h =
     (λ t. if (t - pair.lead) == u then slice_index (one pair incoming gross).order t else 0) (length gross)
     (λ t below. ap (λ (q : ℕ). if (t - pair.lead) == u then q else 0) (sym (plan_order pair incoming gross t below)))
 
-one-late : (pair : PairParams) (incoming gross : List ℕ) → (one pair incoming gross).late ≡ filter_map (late_at pair incoming gross) (range_with_len 0 (length gross))
+one-late : (pair : PairParams) (incoming gross : List ℕ) → (one pair incoming gross).late
+    ≡ filter_map (late_at pair incoming gross) (range_with_len 0 (length gross))
 unfolding one
 one-late pair incoming gross = refl
 
@@ -132,7 +136,8 @@ plan_available : (pair : PairParams) (incoming gross : List ℕ) → IsWithin pa
     → slice_index (one pair incoming gross).available t + slice_index gross t
     ≡ balance_in pair (one pair incoming gross) t + slice_index incoming t + slice_index (one pair incoming gross).order t
 plan_available pair incoming gross is t h =
-    let after : slice_index (one pair incoming gross).available t ≡ balance_before pair incoming gross (suc t) = plan_balance pair incoming gross (suc t) (omega arith) in
+    let after : slice_index (one pair incoming gross).available t ≡ balance_before pair incoming gross (suc t) =
+    plan_balance pair incoming gross (suc t) (omega arith) in
     omega (arith, after, plan_balance pair incoming gross t (omega arith), plan_order pair incoming gross t h, balance_before-next pair incoming gross t is h)
 
 plan_ordered : (pair : PairParams) (incoming gross : List ℕ) (t : ℕ) → t < length gross

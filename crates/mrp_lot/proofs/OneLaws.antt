@@ -1,5 +1,6 @@
 -- Laws of the plan of one pair.
-use Rattle.std.specs.Prelude.{◌≡◌, ℕ, ◌+◌, ◌-◌, ◌≤◌, ◌<◌, ◌==◌, if◌then◌else◌, min, max, All, List, length, map, get_or, sum, sum_by, take, drop, slice_index, zero, suc}
+use Rattle.std.specs.Prelude.{◌≡◌, ℕ, ◌+◌, ◌-◌, ◌≤◌, ◌<◌, ◌==◌, if◌then◌else◌, min, max, All}
+use Rattle.std.specs.Prelude.{List, length, map, get_or, sum, sum_by, take, drop, slice_index, zero, suc}
 use Rattle.std.specs.List.{range_with_len}
 use Rattle.std.proofs.Common.{arith, sym, refl, ◌∙◌, ap, subst, add-one, eqb-true, eq-eqb}
 use Rattle.std.proofs.lemmas.Bool.{cond_both, false≢true}
@@ -10,8 +11,8 @@ use Rattle.mrp_lot.specs.declared.rule.Rule.{Rule}
 use Rattle.mrp_lot.specs.declared.rule.Rule.TheVariants.{LotForLot, Fixed, Periods, MinMultiple}
 use Rattle.mrp_lot.specs.declared.params.PairParams.{PairParams}
 use Rattle.mrp_lot.specs.Lot.{IsRule, rule_quantities, periods_covered, lot_of}
-use Rattle.mrp_lot.specs.LotLaws.{least_multiple-le, least_multiple-lt}
-use Rattle.mrp_lot.specs.RangeLaws.{sum_take-suc, sum_drop_take-one, sum_by-range-suc, moved_sum}
+use Rattle.mrp_lot.proofs.LotLaws.{least_multiple-le, least_multiple-lt}
+use Rattle.mrp_lot.proofs.RangeLaws.{sum_take-suc, sum_drop_take-one, sum_by-range-suc, moved_sum}
 use Rattle.mrp_lot.specs.One.{need_over, greatest_need, net_after, order_after, available_after, balance_before, order_at, release_at, one, IsWithin}
 use Rattle.mrp_lot.specs.Rules.{OrdersAreReleased, ReleasesAreBounded, AvailableCoversSafety, RowsStayWithin}
 
@@ -113,7 +114,8 @@ order_covers pair incoming gross t is within =
     omega (arith, order_after-ge pair incoming gross (balance_before pair incoming gross t) t is.rule within, order_at-is pair incoming gross t)
 
 pub balance_before-next : (pair : PairParams) (incoming gross : List ℕ) (t : ℕ) → IsWithin pair incoming gross → t < length gross
-    → balance_before pair incoming gross (suc t) + slice_index gross t ≡ balance_before pair incoming gross t + slice_index incoming t + order_at pair incoming gross t
+    → balance_before pair incoming gross (suc t) + slice_index gross t
+    ≡ balance_before pair incoming gross t + slice_index incoming t + order_at pair incoming gross t
 balance_before-next pair incoming gross t is within =
     omega (arith, order_covers pair incoming gross t is within, balance_before-suc pair incoming gross t, order_at-is pair incoming gross t)
 
@@ -125,7 +127,8 @@ safety-le-balance_before pair incoming gross t is within =
 
 -- what was there and came in and was ordered is there still or was required
 pub balance_before-sum : (pair : PairParams) (incoming gross : List ℕ) (t : ℕ) → IsWithin pair incoming gross → t ≤ length gross
-    → balance_before pair incoming gross t + sum (take t gross) ≡ pair.on_hand + sum (take t incoming) + sum_by (order_at pair incoming gross) (range_with_len 0 t)
+    → balance_before pair incoming gross t + sum (take t gross)
+    ≡ pair.on_hand + sum (take t incoming) + sum_by (order_at pair incoming gross) (range_with_len 0 t)
 balance_before-sum pair incoming gross zero is within = omega (arith, balance_before-zero pair incoming gross)
 balance_before-sum pair incoming gross (suc t) is within =
     omega (
@@ -176,9 +179,12 @@ releases-le pair incoming gross is = omega (arith, releases-sum pair incoming gr
 
 -- the same at n + 1, as a loop counts
 pub greatest_need-more : (pair : PairParams) (incoming gross : List ℕ) (before t n : ℕ)
-    → greatest_need pair incoming gross before t (n + 1) ≡ max (greatest_need pair incoming gross before t n) ((pair.safety + sum (take (n + 1) (drop t gross))) - (before + sum (take (n + 1) (drop t incoming))))
+    → greatest_need pair incoming gross before t (n + 1)
+    ≡ max (greatest_need pair incoming gross before t n)
+    ((pair.safety + sum (take (n + 1) (drop t gross))) - (before + sum (take (n + 1) (drop t incoming))))
 greatest_need-more pair incoming gross before t n =
-    subst (λ (m : ℕ). greatest_need pair incoming gross before t m ≡ max (greatest_need pair incoming gross before t n) (need_over pair incoming gross before t m))
+    subst (λ (m : ℕ). greatest_need pair incoming gross before t m
+    ≡ max (greatest_need pair incoming gross before t n) (need_over pair incoming gross before t m))
     (sym (add-one n)) (greatest_need-suc pair incoming gross before t n)
 
 pub balance_before-more : (pair : PairParams) (incoming gross : List ℕ) (t : ℕ)
@@ -187,11 +193,13 @@ balance_before-more pair incoming gross t =
     ap (λ (m : ℕ). balance_before pair incoming gross m) (add-one t) ∙ balance_before-suc pair incoming gross t
 
 -- the rows of the plan, by period and as a whole
-pub one-order : (pair : PairParams) (incoming gross : List ℕ) → (one pair incoming gross).order ≡ map (order_at pair incoming gross) (range_with_len 0 (length gross))
+pub one-order : (pair : PairParams) (incoming gross : List ℕ) → (one pair incoming gross).order
+    ≡ map (order_at pair incoming gross) (range_with_len 0 (length gross))
 unfolding one
 one-order pair incoming gross = refl
 
-pub one-release : (pair : PairParams) (incoming gross : List ℕ) → (one pair incoming gross).release ≡ map (release_at pair incoming gross) (range_with_len 0 (length gross))
+pub one-release : (pair : PairParams) (incoming gross : List ℕ) → (one pair incoming gross).release
+    ≡ map (release_at pair incoming gross) (range_with_len 0 (length gross))
 unfolding one
 one-release pair incoming gross = refl
 

@@ -1,0 +1,4 @@
+pub mod LotLaws
+pub mod OneLaws
+pub mod RangeLaws
+pub mod RulesLaws

@@ -1,0 +1,38 @@
+-- Laws of plans: what the plan of a pair looks at, and where its gross requirements come from.
+use Rattle.std.specs.Prelude.{◌≡◌, ℕ, ◌+◌, ◌*◌, ◌==◌, if◌then◌else◌, List}
+use Rattle.std.specs.Prelude.{sum_by, slice_index, All}
+use Rattle.mrp_lot.specs.One.{PlanRows}
+use Rattle.mrp_rows.specs.declared.rows.BillRow.{BillRow}
+use Rattle.mrp_rows.specs.declared.rows.SourceRow.{SourceRow}
+use Rattle.mrp_rows.specs.Table.{Table, IsTable, IsPair, source_pair}
+use Rattle.mrp_net.specs.Edges.{part, source_edge, demanders}
+use Rattle.mrp_net.specs.Plan.{rows_at, gross, pair_plan}
+use Rattle.mrp_net.specs.Sums.{pair_at, demand}
+use Rattle.mrp_net.specs.RouteLaws.{over_route, over_plants}
+
+-- the plan of a pair looks at the releases of its demanders alone
+abbrev pub PlansLookAtDemanders : Type 0
+PlansLookAtDemanders =
+    (N : Table) (a b : List PlanRows) (x : ℕ)
+    → All (λ e. (rows_at a e.demander.0).release ≡ (rows_at b e.demander.0).release) (demanders N x)
+    → pair_plan N a x ≡ pair_plan N b x
+
+-- the release of a pair in a period
+abbrev pub released : List PlanRows → ℕ → ℕ → ℕ
+released table x t = slice_index (rows_at table x).release t
+
+-- what a component row asks of a pair, and what a source asks of it
+abbrev pub asked_by_bill : List PlanRows → ℕ → ℕ → BillRow → ℕ
+asked_by_bill table x t b = if b.component.0 == x then b.per * released table b.parent.0 t else 0
+
+abbrev pub asked_by_source : Table → List PlanRows → ℕ → ℕ → SourceRow → ℕ
+asked_by_source N table x t s = if source_pair N s == x then part (source_edge N s) (released table s.pair.0 t) else 0
+
+-- gross requirements are the demand rows, what is asked within the plant, and what is asked over the
+-- routes on which the plant is the supplier
+abbrev pub GrossIsLocalAndCalled : Type 0
+GrossIsLocalAndCalled =
+    (N : Table) → IsTable N → (table : List PlanRows) (x t : ℕ) → IsPair N x
+    → gross N table x t
+    ≡ demand N x t + sum_by (asked_by_bill table x t) N.bills
+    + over_plants N (λ customer. over_route N (asked_by_source N table x t) customer (pair_at N x).plant.0)
