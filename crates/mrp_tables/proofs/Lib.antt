@@ -10,6 +10,7 @@ pub mod KeepingRows
 pub mod KeepingSame
 pub mod KeepingShares
 pub mod KeepingSteps
+pub mod Listed
 pub mod Loop
 pub mod Records
 pub mod Taken

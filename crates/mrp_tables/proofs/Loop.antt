@@ -1,5 +1,6 @@
 -- The rows after the first, read one after the other.
-use Rattle.std.proofs.Common.{◌≡◌, ℕ, ◌+◌, Bool, true, false, List, [], ◌∷◌, Option, Some, None, Result, Ok, Err, MatchResult, refl, sym, ap, ◌∙◌}
+use Rattle.std.proofs.Common.{◌≡◌, ℕ, ◌+◌, Bool, true, false, List, [], ◌∷◌, Option, Some, None, Result, Ok, Err, MatchResult, refl, sym, ap, ◌∙◌, ◌++◌, length, append_assoc, length-append, arith}
+use Rattle.std.proofs.lemmas.List.{append-nil}
 use Rattle.std.specs.List.{list_all}
 use Rattle.std.specs.Str.{is_utf8}
 use Rattle.mrp_tables.specs.Drafts.{TellsAdded}
@@ -10,34 +11,30 @@ use Rattle.mrp_tables.specs.declared.fault.TableFaultKind.{TableFaultKind}
 use Rattle.mrp_tables.specs.declared.fault.TableFaultKind.TheVariants as fault
 use Rattle.mrp_tables.specs.declared.kind.Kind.{Kind}
 use Rattle.mrp_rows.specs.Table.{Table}
-use Rattle.mrp_tables.specs.Left.{GoesOn, OfLeft, StartsBadly, state_of, TakesRow, TellsNext, TellsTaken}
+use Rattle.mrp_tables.specs.Left.{GoesOn, HasReadOn, IsSoundTo, OfLeft, StartsBadly, state_of, TakesRow, TellsNext, TellsTaken}
+use Rattle.mrp_tables.proofs.Listed.{later_no_read_fault}
 use Rattle.mrp_tables.specs.Reading.{kind_of_row, OfRows, row_after, rows_after, UnlessMemory}
 
--- what holds, also where nothing is to be said
-pub of_rows_from : (k : TableFaultKind) (P Q : Type 0) → (P → Q) → OfRows k P → OfRows k Q
-of_rows_from fault.ReadFault P Q f says = tt
-of_rows_from fault.Memory P Q f says = tt
-of_rows_from e P Q f says = f says
-
-pub of_rows : (k : TableFaultKind) (P : Type 0) → P → OfRows k P
-of_rows fault.ReadFault P says = tt
-of_rows fault.Memory P says = tt
-of_rows e P says = says
+-- what follows from what is said, of the rows above or of all
+pub of_rows_from : (k : TableFaultKind) (A B P Q : Type 0) → (A → B) → (P → Q) → OfRows k A P → OfRows k B Q
+of_rows_from fault.ReadFault A B P Q f g says = f says
+of_rows_from fault.Memory A B P Q f g says = f says
+of_rows_from e A B P Q f g says = g says
 
 pub of_left_from : (left : Option (List (List (List ℕ)))) (P Q : List (List (List ℕ)) → Type 0) → ((rows : List (List (List ℕ))) → P rows → Q rows) → OfLeft left P → OfLeft left Q
 of_left_from None P Q f says = tt
 of_left_from (Some rows) P Q f says = f rows says
 
 -- what follows from a row's fault
-of_told : {B : Type 0} (k : TableFaultKind) (read : Result B TableFaultKind) (Q : Type 0) → TellsFault read k → (read ≡ Err k → Q) → OfRows k Q
-of_told fault.ReadFault read Q says f = tt
-of_told fault.Memory read Q says f = tt
-of_told e read Q says f = f says
+of_told : {B : Type 0} (k : TableFaultKind) (read : Result B TableFaultKind) (A Q : Type 0) → A → TellsFault read k → (read ≡ Err k → Q) → OfRows k A Q
+of_told fault.ReadFault read A Q above says f = above
+of_told fault.Memory read A Q above says f = above
+of_told e read A Q above says f = f says
 
-pub of_unless : (k : TableFaultKind) (P Q : Type 0) → (P → Q) → UnlessMemory k P → OfRows k Q
-of_unless fault.ReadFault P Q f says = tt
-of_unless fault.Memory P Q f says = tt
-of_unless e P Q f says = f says
+pub of_unless : (k : TableFaultKind) (A P Q : Type 0) → A → (P → Q) → UnlessMemory k P → OfRows k A Q
+of_unless fault.ReadFault A P Q above f says = above
+of_unless fault.Memory A P Q above f says = above
+of_unless e A P Q above f says = f says
 
 -- a row whose fields aren't all text
 pub kind_no_text : (row : List (List ℕ)) → list_all is_utf8 row ≡ false → kind_of_row row ≡ Err fault.NotUtf8
@@ -49,10 +46,10 @@ unfolding row_after
 row_no_text s row bad = rw (kind_no_text row bad) refl
 
 -- one row of the rows
-rows_go : (number : ℕ) (s t : Table × Kind) (row : List (List ℕ)) (rest rows : List (List (List ℕ))) → row_after s row ≡ Ok t → rows ≡ row ∷ rest
-    → rows_after number s rows ≡ rows_after (number + 1) t rest
+row_goes : (number : ℕ) (s t : Table × Kind) (row : List (List ℕ)) (more : List (List (List ℕ))) → row_after s row ≡ Ok t
+    → rows_after number s (row ∷ more) ≡ rows_after (number + 1) t more
 unfolding rows_after
-rows_go number s t row rest rows e same = rw (same, e) refl
+row_goes number s t row more e = rw e refl
 
 rows_stop : (number : ℕ) (s : Table × Kind) (k : TableFaultKind) (row : List (List ℕ)) (rest rows : List (List (List ℕ))) → row_after s row ≡ Err k → rows ≡ row ∷ rest
     → rows_after number s rows ≡ Err (record { row = number; kind = k })
@@ -68,7 +65,7 @@ pub goes_row : (before after : Option (List (List (List ℕ)))) (number : ℕ) (
     → GoesOn before after number s (number + 1) t
 goes_row None after number s t row takes e = tt
 goes_row (Some rows) None number s t row takes e = absurd takes
-goes_row (Some rows) (Some rest) number s t row takes e = rows_go number s t row rest rows e takes
+goes_row (Some rows) (Some rest) number s t row takes e = record { read = row ∷ []; rows_are = takes; next_is = refl; goes = λ more. row_goes number s t row more e }
 
 -- a row with a fault
 row_stops : (before after : Option (List (List (List ℕ)))) (number : ℕ) (s : Table × Kind) (k : TableFaultKind) (row : List (List ℕ)) → TakesRow before after row → row_after s row ≡ Err k
@@ -78,9 +75,9 @@ row_stops (Some rows) None number s k row takes e = absurd takes
 row_stops (Some rows) (Some rest) number s k row takes e = rows_stop number s k row rest rows e takes
 
 pub stops_row : (before after : Option (List (List (List ℕ)))) (number : ℕ) (s : Table × Kind) (k : TableFaultKind) (row : List (List ℕ)) → TakesRow before after row
-    → TellsFault (row_after s row) k → OfRows k (OfLeft before (λ rows. rows_after number s rows ≡ Err (record { row = number; kind = k })))
+    → TellsFault (row_after s row) k → OfRows k (Unit {0}) (OfLeft before (λ rows. rows_after number s rows ≡ Err (record { row = number; kind = k })))
 stops_row before after number s k row takes tells =
-    of_told k (row_after s row) (OfLeft before (λ rows. rows_after number s rows ≡ Err (record { row = number; kind = k }))) tells (row_stops before after number s k row takes)
+    of_told k (row_after s row) (Unit {0}) (OfLeft before (λ rows. rows_after number s rows ≡ Err (record { row = number; kind = k }))) tt tells (row_stops before after number s k row takes)
 
 -- no row more
 pub ends_there : (before : Option (List (List (List ℕ)))) (number : ℕ) (s : Table × Kind) → OfLeft before (λ rows. rows ≡ []) → OfLeft before (λ rows. rows_after number s rows ≡ Ok s.0)
@@ -91,34 +88,51 @@ bad_stops : (number : ℕ) (s : Table × Kind) (e : TableFault) (rows : List (Li
 bad_stops number s e rows bad =
     rows_stop number s fault.NotUtf8 bad.row bad.rest rows (row_no_text s bad.row bad.no_text) bad.rows_are ∙ ap (λ (f : TableFault). Err f) (sym bad.fault_is)
 
-pub bad_there : (before : Option (List (List (List ℕ)))) (number : ℕ) (s : Table × Kind) (e : TableFault) → OfRows e.kind (OfLeft before (λ rows. StartsBadly number rows e))
-    → OfRows e.kind (OfLeft before (λ rows. rows_after number s rows ≡ Err e))
+pub bad_there : (before : Option (List (List (List ℕ)))) (number : ℕ) (s : Table × Kind) (e : TableFault) → OfRows e.kind (Unit {0}) (OfLeft before (λ rows. StartsBadly number rows e))
+    → OfRows e.kind (Unit {0}) (OfLeft before (λ rows. rows_after number s rows ≡ Err e))
 bad_there before number s e =
-    of_rows_from e.kind (OfLeft before (λ rows. StartsBadly number rows e)) (OfLeft before (λ rows. rows_after number s rows ≡ Err e))
+    of_rows_from e.kind (Unit {0}) (Unit {0}) (OfLeft before (λ rows. StartsBadly number rows e)) (OfLeft before (λ rows. rows_after number s rows ≡ Err e)) (λ above. above)
     (of_left_from before (λ rows. StartsBadly number rows e) (λ rows. rows_after number s rows ≡ Err e) (bad_stops number s e))
 
 -- ---- the loop
 
 pub goes_nowhere : (left : Option (List (List (List ℕ)))) (number : ℕ) (s : Table × Kind) → GoesOn left left number s number s
 goes_nowhere None number s = tt
-goes_nowhere (Some rows) number s = refl
+goes_nowhere (Some rows) number s = record { read = []; rows_are = refl; next_is = omega arith; goes = λ more. refl }
 
 pub goes_on_on : (a b c : Option (List (List (List ℕ)))) (n m k : ℕ) (s t u : Table × Kind) → GoesOn a b n s m t → GoesOn b c m t k u → GoesOn a c n s k u
 goes_on_on None b c n m k s t u f g = tt
 goes_on_on (Some xs) None c n m k s t u f g = absurd f
 goes_on_on (Some xs) (Some ys) None n m k s t u f g = absurd g
-goes_on_on (Some xs) (Some ys) (Some zs) n m k s t u f g = f ∙ g
+goes_on_on (Some xs) (Some ys) (Some zs) n m k s t u f g = record {
+  read = f.read ++ g.read;
+  rows_are = f.rows_are ∙ ap (λ (l : List (List (List ℕ))). f.read ++ l) g.rows_are ∙ sym (append_assoc f.read g.read zs);
+  next_is = omega (arith, f.next_is, g.next_is, length-append f.read g.read);
+  goes = λ more. ap (rows_after n s) (append_assoc f.read g.read more) ∙ f.goes (g.read ++ more) ∙ g.goes more;
+}
 
 pub goes_to : (a b : Option (List (List (List ℕ)))) (n m : ℕ) (s t : Table × Kind) (answer : Result Table TableFault) → GoesOn a b n s m t
     → OfLeft b (λ rows. rows_after m t rows ≡ answer) → OfLeft a (λ rows. rows_after n s rows ≡ answer)
 goes_to None b n m s t answer f says = tt
 goes_to (Some xs) None n m s t answer f says = absurd f
-goes_to (Some xs) (Some ys) n m s t answer f says = f ∙ says
+goes_to (Some xs) (Some ys) n m s t answer f says = ap (rows_after n s) f.rows_are ∙ f.goes ys ∙ says
 
-pub goes_to_fault : (a b : Option (List (List (List ℕ)))) (n m : ℕ) (s t : Table × Kind) (e : TableFault) → GoesOn a b n s m t
-    → OfRows e.kind (OfLeft b (λ rows. rows_after m t rows ≡ Err e)) → OfRows e.kind (OfLeft a (λ rows. rows_after n s rows ≡ Err e))
-goes_to_fault a b n m s t e f =
-    of_rows_from e.kind (OfLeft b (λ rows. rows_after m t rows ≡ Err e)) (OfLeft a (λ rows. rows_after n s rows ≡ Err e)) (goes_to a b n m s t (Err e) f)
+-- the rows that were read hold no fault
+read_sound : (n m : ℕ) (s t : Table × Kind) (xs ys : List (List (List ℕ))) (f : HasReadOn xs ys n s m t) → rows_after n s f.read ≡ Ok t.0
+unfolding rows_after
+read_sound n m s t xs ys f = ap (rows_after n s) (sym (append-nil f.read)) ∙ f.goes []
+
+sound_to : (a b : Option (List (List (List ℕ)))) (n m : ℕ) (s t : Table × Kind) (other : ℕ) → other ≡ m → GoesOn a b n s m t → OfLeft a (IsSoundTo n s other)
+sound_to None b n m s t other same f = tt
+sound_to (Some xs) None n m s t other same f = absurd f
+sound_to (Some xs) (Some ys) n m s t other same f =
+    record { above = f.read; rest = ys; made = t.0; rows_are = f.rows_are; other_is = same ∙ f.next_is; no_fault = read_sound n m s t xs ys f }
+
+pub goes_to_fault : (a b : Option (List (List (List ℕ)))) (n m : ℕ) (s t : Table × Kind) (e : TableFault) → e.row ≡ m → GoesOn a b n s m t
+    → OfRows e.kind (Unit {0}) (OfLeft b (λ rows. rows_after m t rows ≡ Err e)) → OfRows e.kind (OfLeft a (IsSoundTo n s e.row)) (OfLeft a (λ rows. rows_after n s rows ≡ Err e))
+goes_to_fault a b n m s t e same f =
+    of_rows_from e.kind (Unit {0}) (OfLeft a (IsSoundTo n s e.row)) (OfLeft b (λ rows. rows_after m t rows ≡ Err e)) (OfLeft a (λ rows. rows_after n s rows ≡ Err e))
+    (λ above. sound_to a b n m s t e.row same f) (goes_to a b n m s t (Err e) f)
 
 -- ---- what the steps answer
 
@@ -139,13 +153,13 @@ pub added : (old new : Draft) (number : ℕ) (row : List (List ℕ)) (answer : R
 added old new number row (Ok v) r u same e tells = tells
 added old new number row (Err k) r u same e tells = absurd (cc)
 
-refused_as : (before : Option (List (List (List ℕ)))) (number : ℕ) (s : Table × Kind) (e f : TableFault) → f ≡ e → OfRows e.kind (OfLeft before (λ rows. rows_after number s rows ≡ Err e))
-    → OfRows f.kind (OfLeft before (λ rows. rows_after number s rows ≡ Err f))
+refused_as : (before : Option (List (List (List ℕ)))) (number : ℕ) (s : Table × Kind) (e f : TableFault) → f ≡ e → OfRows e.kind (Unit {0}) (OfLeft before (λ rows. rows_after number s rows ≡ Err e))
+    → OfRows f.kind (Unit {0}) (OfLeft before (λ rows. rows_after number s rows ≡ Err f))
 refused_as before number s e f same says = rw same says
 
 pub refused : (before after : Option (List (List (List ℕ)))) (old new : Draft) (number : ℕ) (row : List (List ℕ)) (answer : Result (Unit {0}) TableFaultKind) (r : Result (Unit {0}) TableFault) (e : TableFault)
     → MatchResult answer (λ value. r ≡ Ok value) (λ kind. r ≡ Err (record { row = number; kind = kind })) → r ≡ Err e → TellsAdded old new answer row
-    → TakesRow before after row → OfRows e.kind (OfLeft before (λ rows. rows_after number (state_of old) rows ≡ Err e))
+    → TakesRow before after row → OfRows e.kind (Unit {0}) (OfLeft before (λ rows. rows_after number (state_of old) rows ≡ Err e))
 refused before after old new number row (Ok v) r e same is tells takes = absurd (cc)
 refused before after old new number row (Err k) r e same is tells takes =
     let f : e ≡ record { row = number; kind = k } = cc in
@@ -160,3 +174,16 @@ pub next_false : (found : Bool) (a b c : Option (List (List (List ℕ)))) (n m :
     → OfLeft a (λ rows. rows_after n s rows ≡ Ok u.0)
 next_false true a b c n m s t u e goes next = absurd (cc)
 next_false false a b c n m s t u e goes next = goes_to a b n m s t (Ok u.0) goes next
+
+-- a fault of a row is never a failed read
+pub refused_own : (old new : Draft) (number : ℕ) (row : List (List ℕ)) (answer : Result (Unit {0}) TableFaultKind) (r : Result (Unit {0}) TableFault) (e : TableFault)
+    → MatchResult answer (λ value. r ≡ Ok value) (λ kind. r ≡ Err (record { row = number; kind = kind })) → r ≡ Err e → TellsAdded old new answer row → e.kind ≡ fault.ReadFault → ⊥
+refused_own old new number row (Ok v) r e same is tells failed = absurd (cc)
+refused_own old new number row (Err k) r e same is tells failed =
+    let f : e ≡ record { row = number; kind = k } = cc in
+    later_no_read_fault (state_of old) row k tells (sym (ap (λ (x : TableFault). x.kind) f) ∙ failed)
+
+pub refused_at : (number : ℕ) (answer : Result (Unit {0}) TableFaultKind) (r : Result (Unit {0}) TableFault) (e : TableFault)
+    → MatchResult answer (λ value. r ≡ Ok value) (λ kind. r ≡ Err (record { row = number; kind = kind })) → r ≡ Err e → e.row ≡ number
+refused_at number (Ok v) r e same is = absurd (cc)
+refused_at number (Err k) r e same is = let f : e ≡ record { row = number; kind = k } = cc in ap (λ (x : TableFault). x.row) f

@@ -5,7 +5,7 @@ use Rattle.std.specs.Str.{is_utf8}
 use Rattle.std.proofs.lemmas.Str.{IsUtf8-from_is_utf8}
 use Rattle.std.proofs.lemmas.Bool.{cases_Bool, false≢true}
 use Rattle.csv.specs.Machine.{Read, next_record}
-use Rattle.csv.specs.Reading.{default_config, ExplainsRead, NextIs, pending_of, ReadRecord, ReadsNext, source_of}
+use Rattle.csv.specs.Reading.{default_config, ExplainsRead, NextIs, pending_of, ReadRecord, ReadsNext, source_of, stops_reader}
 use Rattle.csv.specs.Records.{AllText}
 use Rattle.csv.specs.declared.error.ErrorKind.{ErrorKind}
 use Rattle.csv.specs.declared.error.ErrorKind.TheVariants as error
@@ -84,7 +84,7 @@ bad_row (Some rows) row number bad s = record { row = row; rest = s.0; rows_are 
 
 -- why a read failed
 explains : {R : Type 0} (rem : R → Option (List ℕ)) (old new : Reader R) (number : ℕ) (why : ErrorKind) → GivesAll old → ExplainsRead rem old new true why
-    → OfRows (fault_of why) (OfLeft (left_of rem old) (λ rows. StartsBadly number rows (record { row = number; kind = fault_of why })))
+    → OfRows (fault_of why) (Unit {0}) (OfLeft (left_of rem old) (λ rows. StartsBadly number rows (record { row = number; kind = fault_of why })))
 explains rem old new number (error.Io e) gives r = tt
 explains rem old new number (error.Utf8 pos e) gives r =
     bad_row (left_of rem old) r.1 number (no_text r.1 r.3) (starts old.state new.state (source_of rem old) (pending_of (rem new.rdr) new) r.1 (rw gives.0 at r.2))
@@ -103,5 +103,14 @@ may_come rem old new (error.Deserialize pos e) gives r = absurd r
 may_come rem old new error.OutOfMemory gives r = tt
 
 pub explains_as : {R : Type 0} (rem : R → Option (List ℕ)) (old new : Reader R) (number : ℕ) (why : ErrorKind) (kind : TableFaultKind) → kind ≡ fault_of why → GivesAll old
-    → ExplainsRead rem old new true why → OfRows kind (OfLeft (left_of rem old) (λ rows. StartsBadly number rows (record { row = number; kind = kind })))
+    → ExplainsRead rem old new true why → OfRows kind (Unit {0}) (OfLeft (left_of rem old) (λ rows. StartsBadly number rows (record { row = number; kind = kind })))
 explains_as rem old new number why kind same gives r = rw same (explains rem old new number why gives r)
+
+-- a failed read stops the reader
+pub stops_at : (why : ErrorKind) → fault_of why ≡ fault.ReadFault → MayCome why → stops_reader why ≡ true
+stops_at (error.Io e) same comes = refl
+stops_at (error.Utf8 pos e) same comes = absurd (cc)
+stops_at (error.UnequalLengths pos expected len) same comes = absurd comes
+stops_at (error.Serialize text) same comes = absurd comes
+stops_at (error.Deserialize pos e) same comes = absurd comes
+stops_at error.OutOfMemory same comes = absurd (cc)

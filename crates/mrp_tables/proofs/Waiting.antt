@@ -1,11 +1,12 @@
 -- The test that waits for the last row.
-use Rattle.std.proofs.Common.{◌≡◌, ℕ, zero, suc, ◌<◌, true, false, List, [], ◌∷◌, length, get_or, position, Some, None, Ok, Err, refl, sym, ap, ◌∙◌, arith}
+use Rattle.std.proofs.Common.{◌≡◌, ℕ, zero, suc, ◌<◌, ◌≤◌, true, false, List, [], ◌∷◌, length, get_or, position, Some, None, Ok, Err, refl, sym, ap, ◌∙◌, arith}
 use Rattle.std.proofs.lemmas.List.Quantifiers.{position-Some}
 use Rattle.mrp_tables.specs.declared.fault.TableFaultKind.TheVariants as fault
 use Rattle.mrp_rows.specs.declared.rows.SourceRow.{SourceRow}
 use Rattle.mrp_rows.specs.Growing.{lacks_pair}
 use Rattle.mrp_tables.specs.Reading.{first_lacking, pair_row_number, waiting}
-use Rattle.mrp_rows.specs.Table.{Table}
+use Rattle.mrp_rows.specs.Table.{IsRead, Table}
+use Rattle.mrp_rows.specs.Turns.{row_count}
 use Rattle.mrp_rows.proofs.Keys.{All-from_position}
 
 none_lacks : (N : Table) (ss : List SourceRow) → ((k : ℕ) (d : SourceRow) → k < length ss → lacks_pair N (get_or ss k d) ≡ false) → first_lacking N ss ≡ None
@@ -38,3 +39,10 @@ one_waits N i d found =
 pub waits_at : (N : Table) (i row : ℕ) (d : SourceRow) → position (lacks_pair N) N.sources ≡ Some i → row ≡ pair_row_number N (get_or N.sources i d).pair.0
     → waiting N ≡ Err (record { row = row; kind = fault.UnknownPair })
 waits_at N i row d found same = one_waits N i d found ∙ ap (λ (r : ℕ). Err (record { row = r; kind = fault.UnknownPair })) (sym same)
+
+-- the row that it names is one of the table's
+pub above_count : (N : Table) (i row : ℕ) (d : SourceRow) → IsRead N → position (lacks_pair N) N.sources ≡ Some i → row ≡ pair_row_number N (get_or N.sources i d).pair.0 → row ≤ row_count N
+above_count N i row d is found same =
+    let p = position-Some (lacks_pair N) N.sources i d found in
+    let here = is.sources i d p.0 in
+    omega (arith, same, here.pair)

@@ -1,5 +1,5 @@
 -- The whole table: the first row, the rows after it, and the test that waits for the last.
-use Rattle.std.proofs.Common.{◌≡◌, ℕ, false, List, [], ◌∷◌, Option, Some, None, Result, Ok, Err, MatchResult, refl, sym, ap, option_map}
+use Rattle.std.proofs.Common.{◌≡◌, ℕ, false, List, [], ◌∷◌, Option, Some, None, Result, Ok, Err, IfErr, MatchResult, refl, sym, ap, ◌∙◌, subst, option_map, arith}
 use Rattle.std.specs.List.{list_all}
 use Rattle.std.specs.Str.{is_utf8}
 use Rattle.csv.specs.declared.parser.State.{State}
@@ -14,10 +14,10 @@ use Rattle.mrp_tables.specs.declared.kind.Kind.{Kind}
 use Rattle.mrp_tables.specs.declared.kind.Kind.TheVariants as kind
 use Rattle.mrp_rows.specs.Table.{Table}
 use Rattle.mrp_tables.specs.Grammar.{RunTerms}
-use Rattle.mrp_tables.specs.Left.{OfLeft, records_in, StartsBadly, state_of, TakesRow, TellsFirstAt}
-use Rattle.mrp_tables.specs.Reading.{empty_table, first_terms, go_on, IsCalendarOf, IsReadSoFar, OfRecords, OfRows, read_from, Reads, rows_after, started, Starts, StartsWith, TellsRows, waiting}
+use Rattle.mrp_tables.specs.Left.{IsSoundTo, OfLeft, records_in, StartsBadly, state_of, TakesRow, TellsFirstAt}
+use Rattle.mrp_tables.specs.Reading.{empty_table, first_lacking, first_terms, go_on, IsCalendarOf, IsReadSoFar, IsSoundAbove, OfRecords, pair_row_number, OfRows, read_from, Reads, rows_after, started, Starts, StartsWith, TellsRows, unless_lacking, waiting}
 use Rattle.mrp_tables.proofs.Keeping.{empty_keeps}
-use Rattle.mrp_tables.proofs.Loop.{kind_no_text, of_left_from, of_rows, of_rows_from, of_unless}
+use Rattle.mrp_tables.proofs.Loop.{kind_no_text, of_left_from, of_rows_from, of_unless}
 
 -- ---- the first row
 
@@ -43,10 +43,18 @@ start_no_text terms e = rw e refl
 
 -- ---- what is said of all rows
 
--- nothing is said of a fault that no row has
-says_under : (left : Option (List (List (List ℕ)))) (k : TableFaultKind) (P : List (List (List ℕ)) → Type 0) → OfRows k (OfLeft left P) → OfLeft left (λ rows. OfRows k (P rows))
-says_under None k P says = tt
-says_under (Some rows) k P says = says
+-- what is said of a fault is said of the rows
+says_under : (left : Option (List (List (List ℕ)))) (k : TableFaultKind) (A P : List (List (List ℕ)) → Type 0) → OfRows k (OfLeft left A) (OfLeft left P) → OfLeft left (λ rows. OfRows k (A rows) (P rows))
+says_under None k A P says = tt
+says_under (Some rows) k A P says = says
+
+-- above the first row there is no fault
+sound_first : (rows : List (List (List ℕ))) (n : ℕ) → n ≡ 1 → IsSoundAbove n rows
+sound_first rows n one = record { above = []; rest = rows; rows_are = refl; number_is = one; no_fault = tt }
+
+left_sound : (left : Option (List (List (List ℕ)))) (n : ℕ) → n ≡ 1 → OfLeft left (IsSoundAbove n)
+left_sound None n one = tt
+left_sound (Some rows) n one = sound_first rows n one
 
 reads_as : (rows : List (List (List ℕ))) (row : List (List ℕ)) (rest : List (List (List ℕ))) (start : Result Table TableFaultKind) (read : Result Table TableFault) → rows ≡ row ∷ rest → Starts row start
     → read ≡ read_from start rest → Reads rows read
@@ -57,10 +65,11 @@ bad_reads : (rows : List (List (List ℕ))) (e : TableFault) → StartsBadly 1 r
 bad_reads rows e bad =
     reads_as rows bad.row bad.rest (Err fault.NotUtf8) (Err e) bad.rows_are (start_no_text (first_terms bad.row) (first_no_text bad.row bad.no_text)) (ap (λ (f : TableFault). Err f) bad.fault_is)
 
-pub bad_first : (left : Option (List (List (List ℕ)))) (e : TableFault) → OfRows e.kind (OfLeft left (λ rows. StartsBadly 1 rows e)) → OfLeft left (TellsRows (Err e))
-bad_first left e bad =
-    says_under left e.kind (λ rows. Reads rows (Err e))
-    (of_rows_from e.kind (OfLeft left (λ rows. StartsBadly 1 rows e)) (OfLeft left (λ rows. Reads rows (Err e))) (of_left_from left (λ rows. StartsBadly 1 rows e) (λ rows. Reads rows (Err e)) (λ rows. bad_reads rows e)) bad)
+pub bad_first : (left : Option (List (List (List ℕ)))) (e : TableFault) → e.row ≡ 1 → OfRows e.kind (Unit {0}) (OfLeft left (λ rows. StartsBadly 1 rows e)) → OfLeft left (TellsRows (Err e))
+bad_first left e one bad =
+    says_under left e.kind (IsSoundAbove e.row) (λ rows. Reads rows (Err e))
+    (of_rows_from e.kind (Unit {0}) (OfLeft left (IsSoundAbove e.row)) (OfLeft left (λ rows. StartsBadly 1 rows e)) (OfLeft left (λ rows. Reads rows (Err e))) (λ above. left_sound left e.row one)
+    (of_left_from left (λ rows. StartsBadly 1 rows e) (λ rows. Reads rows (Err e)) (λ rows. bad_reads rows e)) bad)
 
 -- no row
 empty_reads : (rows : List (List (List ℕ))) → rows ≡ [] → Reads rows (Err (record { row = 0; kind = fault.Empty }))
@@ -78,7 +87,7 @@ pub first_fault : (left after : Option (List (List (List ℕ)))) (row : List (Li
 first_fault None after row e takes tells = tt
 first_fault (Some rows) None row e takes tells = absurd takes
 first_fault (Some rows) (Some rest) row e takes tells =
-    of_unless e.kind (Starts row (Err e.kind)) (Reads rows (Err e)) (first_reads e row rest rows takes tells.1) tells.0
+    of_unless e.kind (IsSoundAbove e.row rows) (Starts row (Err e.kind)) (Reads rows (Err e)) (sound_first rows e.row tells.1) (first_reads e row rest rows takes tells.1) tells.0
 
 -- ---- the rows after the first
 
@@ -90,18 +99,32 @@ rest_reads : (N : Table) (k : Kind) (row : List (List ℕ)) (rest rows : List (L
     → rows_after 2 (N, k) rest ≡ answer → read ≡ go_on answer waiting → Reads rows read
 rest_reads N k row rest rows answer read same starts run after e = reads_as rows row rest (Ok N) read same starts (from_first N k rest answer read run after e)
 
+-- the rows above a later row, with the first
+sound_from : (N : Table) (k : Kind) (row : List (List ℕ)) (rest rows : List (List (List ℕ))) (n : ℕ) → rows ≡ row ∷ rest → Starts row (Ok N) → k ≡ kind.Run → IsSoundTo 2 (N, k) n rest → IsSoundAbove n rows
+sound_from N k row rest rows n same starts run h = record {
+  above = row ∷ h.above;
+  rest = h.rest;
+  rows_are = same ∙ ap (λ (l : List (List (List ℕ))). row ∷ l) h.rows_are;
+  number_is = omega (arith, h.other_is);
+  no_fault = (N, h.made, starts, subst (λ (x : Kind). rows_after 2 (N, x) h.above ≡ Ok h.made) run h.no_fault);
+}
+
 -- a later row with a fault
 pub rest_fault : (left after : Option (List (List (List ℕ)))) (row : List (List ℕ)) (d : Draft) (e : TableFault) → TakesRow left after row → TellsFirstAt (Ok d) row
-    → OfRows e.kind (OfLeft after (λ rows. rows_after 2 (state_of d) rows ≡ Err e)) → OfLeft left (TellsRows (Err e))
+    → OfRows e.kind (OfLeft after (IsSoundTo 2 (state_of d) e.row)) (OfLeft after (λ rows. rows_after 2 (state_of d) rows ≡ Err e)) → OfLeft left (TellsRows (Err e))
 rest_fault None after row d e takes tells rest = tt
 rest_fault (Some rows) None row d e takes tells rest = absurd takes
 rest_fault (Some rows) (Some more) row d e takes tells rest =
-    of_rows_from e.kind (rows_after 2 (state_of d) more ≡ Err e) (Reads rows (Err e)) (λ after. rest_reads d.lists d.last row more rows (Err e) (Err e) takes tells.0 tells.1 after refl) rest
+    of_rows_from e.kind (IsSoundTo 2 (state_of d) e.row more) (IsSoundAbove e.row rows) (rows_after 2 (state_of d) more ≡ Err e) (Reads rows (Err e))
+    (sound_from d.lists d.last row more rows e.row takes tells.0 tells.1) (λ after. rest_reads d.lists d.last row more rows (Err e) (Err e) takes tells.0 tells.1 after refl) rest
 
--- the rows are all there
-whole_tells : (rows : List (List (List ℕ))) (result : Result Table TableFault) → Reads rows result → TellsRows result rows
-whole_tells rows (Ok N) reads = reads
-whole_tells rows (Err e) reads = of_rows e.kind (Reads rows (Err e)) reads
+-- the rows are all there: what is answered then is the table, or the fault that waits
+waits_tells : (N : Table) (o : Option ℕ) (rows : List (List (List ℕ))) → Reads rows (unless_lacking N o) → TellsRows (unless_lacking N o) rows
+waits_tells N None rows reads = reads
+waits_tells N (Some x) rows reads = reads
+
+whole_tells : (N : Table) (rows : List (List (List ℕ))) (result : Result Table TableFault) → result ≡ waiting N → Reads rows result → TellsRows result rows
+whole_tells N rows result same reads = rw same (waits_tells N (first_lacking N N.sources) rows (rw same at reads))
 
 is_waiting : (N : Table) (result : Result Table TableFault) → MatchResult result (λ M. waiting N ≡ Ok M) (λ e. waiting N ≡ Err e) → result ≡ waiting N
 is_waiting N (Ok M) w = sym w
@@ -112,7 +135,20 @@ pub whole : (left after : Option (List (List (List ℕ)))) (row : List (List ℕ
 whole None after row d N result takes tells rest w = tt
 whole (Some rows) None row d N result takes tells rest w = absurd takes
 whole (Some rows) (Some more) row d N result takes tells rest w =
-    whole_tells rows result (rest_reads d.lists d.last row more rows (Ok N) result takes tells.0 tells.1 rest (is_waiting N result w))
+    whole_tells N rows result (is_waiting N result w) (rest_reads d.lists d.last row more rows (Ok N) result takes tells.0 tells.1 rest (is_waiting N result w))
+
+-- the fault that waits is no failed read
+waits_own : (N : Table) (o : Option ℕ) (e : TableFault) → unless_lacking N o ≡ Err e → e.kind ≡ fault.ReadFault → ⊥
+waits_own N None e same failed = cc
+waits_own N (Some x) e same failed =
+    let is : record { row = pair_row_number N x; kind = fault.UnknownPair } ≡ e = cc in
+    let other : fault.UnknownPair ≡ fault.ReadFault = ap (λ (f : TableFault). f.kind) is ∙ failed in
+    cc
+
+pub whole_own : (N : Table) (result : Result Table TableFault) (says : Type 0) → MatchResult result (λ M. waiting N ≡ Ok M) (λ e. waiting N ≡ Err e)
+    → IfErr result (λ e. e.kind ≡ fault.ReadFault → says)
+whole_own N (Ok M) says w = tt
+whole_own N (Err e) says w = λ failed. absurd (waits_own N (first_lacking N N.sources) e w failed)
 
 -- ---- the text
 

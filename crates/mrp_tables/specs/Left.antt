@@ -1,5 +1,5 @@
 -- The rows that a reader has left, and what the steps of the reading answer of them.
-use Rattle.std.specs.Prelude.{◌≡◌, ℕ, ◌+◌, Bool, true, false, List, [], ◌∷◌, length, Option, Some, None, option_map, Result, Ok, Err}
+use Rattle.std.specs.Prelude.{◌≡◌, ℕ, ◌+◌, Bool, true, false, List, [], ◌∷◌, ◌++◌, length, Option, Some, None, option_map, Result, Ok, Err}
 use Rattle.std.specs.List.{list_all}
 use Rattle.std.specs.Str.{is_utf8}
 use Rattle.csv.specs.Reading.{default_config, is_flexible, reader_config, reader_state, reader_trim, records_from, Ready, source_of}
@@ -52,7 +52,7 @@ pub record StartsBadly (number : ℕ) (rows : List (List (List ℕ))) (e : Table
 abbrev pub TellsTaken : Option (List (List (List ℕ))) → Option (List (List (List ℕ))) → ℕ → List (List ℕ) → Result Bool TableFault → Type 0
 TellsTaken before after number row (Ok true) = TakesRow before after row
 TellsTaken before after number row (Ok false) = OfLeft before (λ rows. rows ≡ [])
-TellsTaken before after number row (Err e) = OfRows e.kind (OfLeft before (λ rows. StartsBadly number rows e))
+TellsTaken before after number row (Err e) = OfRows e.kind (Unit {0}) (OfLeft before (λ rows. StartsBadly number rows e))
 
 -- the errors of a reader that gives each record, however many fields it has
 abbrev pub MayCome : ErrorKind → Type 0
@@ -87,19 +87,34 @@ state_of d = (d.lists, d.last)
 abbrev pub IsKept : Draft → Type 0
 IsKept d = IsReadSoFar d.lists d.last
 
--- the rows left, read on from the later state, make what they made before
+-- rows were read off the rows left: what is left makes, from the later state on, what all of them make
+pub record HasReadOn (rows rest : List (List (List ℕ))) (number : ℕ) (s : Table × Kind) (next : ℕ) (t : Table × Kind) : Type 0 where
+  pub read : List (List (List ℕ))
+  pub rows_are : rows ≡ read ++ rest
+  pub next_is : next ≡ number + length read
+  pub goes : (more : List (List (List ℕ))) → rows_after number s (read ++ more) ≡ rows_after next t more
+
 abbrev pub GoesOn : Option (List (List (List ℕ))) → Option (List (List (List ℕ))) → ℕ → Table × Kind → ℕ → Table × Kind → Type 0
 GoesOn None after number s next t = Unit {0}
 GoesOn (Some rows) None number s next t = ⊥
-GoesOn (Some rows) (Some rest) number s next t = rows_after number s rows ≡ rows_after next t rest
+GoesOn (Some rows) (Some rest) number s next t = HasReadOn rows rest number s next t
+
+-- of the rows from that number on, those above another row are all there, and hold no fault
+pub record IsSoundTo (number : ℕ) (s : Table × Kind) (other : ℕ) (rows : List (List (List ℕ))) : Type 0 where
+  pub above : List (List (List ℕ))
+  pub rest : List (List (List ℕ))
+  pub made : Table
+  pub rows_are : rows ≡ above ++ rest
+  pub other_is : other ≡ number + length above
+  pub no_fault : rows_after number s above ≡ Ok made
 
 -- what reading one row more answers
 abbrev pub TellsNext : Option (List (List (List ℕ))) → Option (List (List (List ℕ))) → ℕ → Table × Kind → Table × Kind → Result Bool TableFault → Type 0
 TellsNext before after number s t (Ok true) = GoesOn before after number s (number + 1) t
 TellsNext before after number s t (Ok false) = OfLeft before (λ rows. rows_after number s rows ≡ Ok t.0)
-TellsNext before after number s t (Err e) = OfRows e.kind (OfLeft before (λ rows. rows_after number s rows ≡ Err e))
+TellsNext before after number s t (Err e) = OfRows e.kind (Unit {0}) (OfLeft before (λ rows. rows_after number s rows ≡ Err e))
 
 -- what reading the rest answers
 abbrev pub TellsRest : Option (List (List (List ℕ))) → ℕ → Table × Kind → Table × Kind → Result (Unit {0}) TableFault → Type 0
 TellsRest before number s t (Ok u) = OfLeft before (λ rows. rows_after number s rows ≡ Ok t.0)
-TellsRest before number s t (Err e) = OfRows e.kind (OfLeft before (λ rows. rows_after number s rows ≡ Err e))
+TellsRest before number s t (Err e) = OfRows e.kind (OfLeft before (IsSoundTo number s e.row)) (OfLeft before (λ rows. rows_after number s rows ≡ Err e))

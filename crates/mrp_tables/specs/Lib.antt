@@ -1,4 +1,5 @@
 pub mod Drafts
+pub mod Faults
 pub mod Grammar
 pub mod Left
 pub mod Lists

@@ -1,5 +1,5 @@
 -- The grammar of a whole table: its rows one after the other, and the test that waits for the last.
-use Rattle.std.specs.Prelude.{◌≡◌, ℕ, ◌+◌, ◌*◌, ◌≤◌, ◌<◌, Bool, true, false, if◌then◌else◌, List, [], ◌∷◌, length, Option, Some, None, Result, Ok, Err}
+use Rattle.std.specs.Prelude.{◌≡◌, ℕ, ◌+◌, ◌*◌, ◌≤◌, ◌<◌, Bool, true, false, if◌then◌else◌, List, [], ◌∷◌, ◌++◌, length, Option, Some, None, Result, Ok, Err}
 use Rattle.std.specs.List.{list_all}
 use Rattle.std.specs.Str.{is_utf8}
 use Rattle.csv.specs.Reading.{default_config, records}
@@ -154,21 +154,35 @@ abbrev pub Reads : List (List (List ℕ)) → Result Table TableFault → Type 0
 Reads [] read = read ≡ Err (record { row = 0; kind = fault.Empty })
 Reads (row ∷ rows) read = (start : Result Table TableFaultKind) × Starts row start × (read ≡ read_from start rows)
 
--- that the reader failed, or that memory was wanting, says nothing of the rows
-abbrev pub OfRows : TableFaultKind → Type 0 → Type 0
-OfRows fault.ReadFault says = Unit {0}
-OfRows fault.Memory says = Unit {0}
-OfRows e says = says
+-- rows from the first one on that hold no fault; what waits for the last row is not tested
+abbrev pub HoldNoFault : List (List (List ℕ)) → Type 0
+HoldNoFault [] = Unit {0}
+HoldNoFault (row ∷ rows) = (N : Table) × (M : Table) × Starts row (Ok N) × (rows_after 2 (N, kind.Run) rows ≡ Ok M)
+
+-- the rows above the row of that number are all there, and hold no fault
+pub record IsSoundAbove (number : ℕ) (rows : List (List (List ℕ))) : Type 0 where
+  pub above : List (List (List ℕ))
+  pub rest : List (List (List ℕ))
+  pub rows_are : rows ≡ above ++ rest
+  pub number_is : number ≡ length above + 1
+  pub no_fault : HoldNoFault above
+
+-- that the reader failed, or that memory was wanting, says something of the rows above alone; each other fault is a row's
+abbrev pub OfRows : TableFaultKind → Type 0 → Type 0 → Type 0
+OfRows fault.ReadFault above says = above
+OfRows fault.Memory above says = above
+OfRows e above says = says
 
 -- what a test of a row answers is of the row, but that memory was wanting
 abbrev pub UnlessMemory : TableFaultKind → Type 0 → Type 0
 UnlessMemory fault.Memory says = Unit {0}
 UnlessMemory e says = says
 
--- the answer is what the rows make, or their first fault
+-- the answer is what the rows make, or their first fault; where the reader failed, or memory was wanting, the rows
+-- above the named one hold no fault
 abbrev pub TellsRows : Result Table TableFault → List (List (List ℕ)) → Type 0
 TellsRows (Ok N) rows = Reads rows (Ok N)
-TellsRows (Err e) rows = OfRows e.kind (Reads rows (Err e))
+TellsRows (Err e) rows = OfRows e.kind (IsSoundAbove e.row rows) (Reads rows (Err e))
 
 -- of the records of a text, where it is known
 abbrev pub OfRecords : Option (List ℕ) → (List (List (List ℕ)) → Type 0) → Type 0

@@ -5,6 +5,8 @@ ghost use Rattle.csv.specs.declared.parser.State.TheVariants.{StartRecord};
 ghost use Rattle.mrp_cal.specs.Calendar.{CalendarTerms};
 ghost use Rattle.mrp_cal.specs.declared.fault.CalFault.{CalFault};
 ghost use Rattle.mrp_tables.specs.declared.fault.TableFault.{TableFault};
+ghost use Rattle.mrp_tables.specs.declared.kind.Kind.{Kind};
+ghost use Rattle.mrp_tables.specs.Faults.{faults_of, HasListedFaults, Rise};
 ghost use Rattle.mrp_tables.specs.Grammar.{RunTerms};
 ghost use Rattle.mrp_tables.specs.Reading.{IsCalendarOf, Reads};
 ghost use Rattle.mrp_rows.specs.Table.{IsTable, Table};
@@ -35,4 +37,14 @@ pub fn a_run_has_one_calendar()
 /// Rows are read one way: they make one table, or have one first fault.
 pub fn reads_are_one()
     ensures { (rows : List (List (List ℕ))) (a b : Result Table TableFault) → Reads rows a → Reads rows b → a ≡ b }
+{}
+
+/// The faults of each kind of row are listed in the order of their numbers.
+pub fn faults_rise()
+    ensures { (k : Kind) → Rise (faults_of (Ok k)) }
+{}
+
+/// A row is refused for a fault of its list alone: a first row, and a later one whatever the rows above it.
+pub fn rows_have_listed_faults()
+    ensures { (row : List (List ℕ)) → HasListedFaults row }
 {}

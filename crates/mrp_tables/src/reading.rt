@@ -1,5 +1,5 @@
-ghost use Rattle.std.specs.Prelude.{◌≡◌, ◌+◌, ◌≤◌, ◌<◌, true, false, Ok, Err, MatchResult, IfOk, OnOk, option_map};
-ghost use Rattle.csv.specs.Reading.{strip_bom};
+ghost use Rattle.std.specs.Prelude.{◌≡◌, ◌+◌, ◌≤◌, ◌<◌, max, true, false, Ok, Err, MatchResult, IfOk, IfErr, OnOk, option_map};
+ghost use Rattle.csv.specs.Reading.{has_failed, strip_bom};
 ghost use Rattle.csv.specs.Records.{AllText, fields_of};
 ghost use Rattle.mrp_tables.specs.Lists.{IsDraft};
 ghost use Rattle.mrp_tables.specs.Reading.{OfRecords, TellsRows, waiting};
@@ -18,11 +18,13 @@ use std::sync::ledger::{Blank, Ledger};
 /// The most turns of reading: a row of each kind up to its limit, and the end.
 pub const MAX_TURNS: u64 = 4_300_066;
 
-/// Reads a table. Each turn of reading is one step: one a row, and one for the end of the table.
+/// Reads a table. Each turn of reading is one step: one a row, and one for the end of the table. At a
+/// fault there was a step for each row up to the one that it names, and one at least.
 ///
 /// # Errors
 ///
-/// The first fault of the first row that has one, as [`TableFaultKind`] says.
+/// The first fault of the first row that has one, as [`TableFaultKind`] says. Where the reader failed
+/// or memory was refused, it names the row that was awaited or kept, and those above it have no fault.
 pub fn read_tables<R: Read + Drop, L: Ledger>(
     alloc: Global,
     reader: R,
@@ -30,6 +32,7 @@ pub fn read_tables<R: Read + Drop, L: Ledger>(
 ) -> Result<Tables, TableFault>
     ensures table { OfRecords (option_map strip_bom (R.remaining reader)) (TellsRows result) }
     ensures counted { IfOk result (λ tables. steps.new ≡ steps.old + row_count tables + 1) }
+    ensures least { IfErr result (λ fault. steps.old + max 1 fault.row ≤ steps.new) }
     ensures turns { steps.new ≤ steps.old + MAX_TURNS }
 {
     let mut rows = ReaderBuilder::new()
@@ -69,7 +72,9 @@ fn read_rows<R: Read, L: Ledger>(
 ) -> Result<Tables, TableFault>
     requires gives { GivesAll rows.old }
     ensures table { OfLeft (left_of R.remaining rows.old) (TellsRows result) }
+    ensures failed { IfErr result (λ fault. fault.kind ≡ TableFaultKind.ReadFault → has_failed rows.new ≡ true) }
     ensures counted { IfOk result (λ tables. steps.new ≡ steps.old + row_count tables + 1) }
+    ensures least { IfErr result (λ fault. steps.old + max 1 fault.row ≤ steps.new) }
     ensures turns { steps.new ≤ steps.old + MAX_TURNS }
 {
     let mut row = StringRecord::new(alloc);
@@ -91,6 +96,7 @@ fn accept(draft: Draft) -> Result<Tables, TableFault>
     requires kept { IsKept draft }
     ensures exact { MatchResult result (λ tables. waiting draft.lists ≡ Ok tables) (λ e. waiting draft.lists ≡ Err e) }
     ensures same { IfOk result (λ tables. tables ≡ draft.lists) }
+    ensures above { IfErr result (λ fault. fault.row ≤ row_count draft.lists) }
 {
     if let Some(place) = draft.lists.first_lacking() {
         // The run and the plants stand before the pairs.
@@ -131,9 +137,12 @@ fn read_rest<R: Read, L: Ledger>(
     requires kept { IsKept draft.old }
     requires first { draft.old.rows ≡ 1 }
     ensures exact { TellsRest (left_of R.remaining rows.old) 2 (state_of draft.old) (state_of draft.new) result }
+    ensures failed { IfErr result (λ fault. fault.kind ≡ TableFaultKind.ReadFault → has_failed rows.new ≡ true) }
     ensures draft { OnOk result (IsDraft draft.new) }
     ensures kept { OnOk result (IsKept draft.new) }
     ensures counted { OnOk result (steps.new ≡ steps.old + draft.new.rows) }
+    ensures later { IfErr result (λ fault. 2 ≤ fault.row) }
+    ensures least { IfErr result (λ fault. steps.new + 1 ≡ steps.old + fault.row) }
     ensures turns { steps.new + 1 ≤ steps.old + MAX_TURNS }
 {
     for number in 2..MAX_TURNS + 1 {
@@ -159,6 +168,8 @@ fn read_next<R: Read>(
     requires room { draft.old.rows < 5000000 }
     ensures gives { OnOk result (GivesAll rows.new) }
     ensures exact { TellsNext (left_of R.remaining rows.old) (left_of R.remaining rows.new) number (state_of draft.old) (state_of draft.new) result }
+    ensures number { IfErr result (λ fault. fault.row ≡ number) }
+    ensures failed { IfErr result (λ fault. fault.kind ≡ TableFaultKind.ReadFault → has_failed rows.new ≡ true) }
     ensures draft { OnOk result (IsDraft draft.new) }
     ensures kept { OnOk result (IsKept draft.new) }
     ensures rows { IfOk result (λ found. found ≡ true → draft.new.rows ≡ draft.old.rows + 1) }
@@ -191,6 +202,8 @@ fn next_row<R: Read>(
     ensures gives { OnOk result (GivesAll rows.new) }
     ensures text { OnOk result (AllText (fields_of row.new)) }
     ensures exact { TellsTaken (left_of R.remaining rows.old) (left_of R.remaining rows.new) number (fields_of row.new) result }
+    ensures number { IfErr result (λ fault. fault.row ≡ number) }
+    ensures failed { IfErr result (λ fault. fault.kind ≡ TableFaultKind.ReadFault → has_failed rows.new ≡ true) }
 {
     match rows.read_record(row) {
         Ok(found) => Ok(found),

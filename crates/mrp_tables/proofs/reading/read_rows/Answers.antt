@@ -1,17 +1,19 @@
-use Rattle.std.proofs.Common.{◌≡◌, ◌+◌, ℕ, Result, Ok, Err, IfOk, ap, arith}
+use Rattle.std.proofs.Common.{◌≡◌, ◌+◌, ◌≤◌, max, ℕ, Result, Ok, Err, IfOk, IfErr, ap, arith}
 use Rattle.std.proofs.lemmas.Result.{err_from_is_err_and}
 use Rattle.csv.specs.Records.{fields_of}
 use Rattle.mrp_tables.specs.Left.{left_of}
 use Rattle.mrp_rows.specs.Table.{Table}
+use Rattle.mrp_tables.specs.declared.fault.TableFault.{TableFault}
 use Rattle.mrp_rows.specs.Turns.{row_count}
+use Rattle.mrp_tables.proofs.Listed.{first_no_read_fault}
 use Rattle.mrp_tables.proofs.Loop.{some_there}
-use Rattle.mrp_tables.proofs.Whole.{bad_first, first_fault, rest_fault, whole}
+use Rattle.mrp_tables.proofs.Whole.{bad_first, first_fault, rest_fault, whole, whole_own}
 use Rattle.mrp_tables.proofs.reading.read_rows.Goals as goal
 
 pub returns-in_err-next_row-clause-table : goal.returns-in_err-next_row-clause-table
 returns-in_err-next_row-clause-table g c =
     let p = err_from_is_err_and c.from_residual.result c.from_residual.ensures.1 in
-    rw (p.1, p.2) (bad_first (left_of g.R.Read.remaining c.args.rows.now) _ c.in_err-next_row.ensures.exact)
+    rw (p.1, p.2) (bad_first (left_of g.R.Read.remaining c.args.rows.now) _ c.in_err-next_row.ensures.number c.in_err-next_row.ensures.exact)
 
 pub returns-in_err-draft-clause-table : goal.returns-in_err-draft-clause-table
 returns-in_err-draft-clause-table g c =
@@ -40,3 +42,48 @@ pub returns-clause-counted : goal.returns-clause-counted
 returns-clause-counted g c =
     let rest = c.in_ok-read_rest.ensures in
     counted c.accept.result c.read_rest.new.draft.lists _ _ _ _ c.accept.ensures.same c.tick.ensures rest.counted rest.draft.count
+
+pub returns-in_err-next_row-clause-failed : goal.returns-in_err-next_row-clause-failed
+returns-in_err-next_row-clause-failed g c =
+    let p = err_from_is_err_and c.from_residual.result c.from_residual.ensures.1 in
+    rw (p.1, p.2) c.in_err-next_row.ensures.failed
+
+pub returns-in_err-draft-clause-failed : goal.returns-in_err-draft-clause-failed
+returns-in_err-draft-clause-failed g c =
+    let p = err_from_is_err_and c.from_residual-in_err-draft.result c.from_residual-in_err-draft.ensures.1 in
+    rw (p.1, p.2) (λ failed. absurd (first_no_read_fault (fields_of c.next_row.new.row) _ c.in_err-draft.ensures.exact.0 failed))
+
+pub returns-in_err-read_rest-clause-failed : goal.returns-in_err-read_rest-clause-failed
+returns-in_err-read_rest-clause-failed g c =
+    let p = err_from_is_err_and c.from_residual-in_err-read_rest.result c.from_residual-in_err-read_rest.ensures.1 in
+    rw (p.1, p.2) c.in_err-read_rest.ensures.failed
+
+pub returns-clause-failed : goal.returns-clause-failed
+returns-clause-failed g c = whole_own c.read_rest.new.draft.lists c.accept.result _ c.accept.ensures.exact
+
+-- ---- the turns at a fault
+
+pub returns-in_err-next_row-clause-least : goal.returns-in_err-next_row-clause-least
+returns-in_err-next_row-clause-least g c =
+    let p = err_from_is_err_and c.from_residual.result c.from_residual.ensures.1 in
+    rw (p.1, p.2) (omega (arith, c.in_err-next_row.ensures.number, c.tick.ensures))
+
+pub returns-in_err-draft-clause-least : goal.returns-in_err-draft-clause-least
+returns-in_err-draft-clause-least g c =
+    let p = err_from_is_err_and c.from_residual-in_err-draft.result c.from_residual-in_err-draft.ensures.1 in
+    rw (p.1, p.2) (omega (arith, c.in_err-draft.ensures.exact.1, c.tick.ensures))
+
+pub returns-in_err-read_rest-clause-least : goal.returns-in_err-read_rest-clause-least
+returns-in_err-read_rest-clause-least g c =
+    let p = err_from_is_err_and c.from_residual-in_err-read_rest.result c.from_residual-in_err-read_rest.ensures.1 in
+    rw (p.1, p.2) (omega (arith, c.in_err-read_rest.ensures.least, c.in_err-read_rest.ensures.later, c.tick.ensures))
+
+-- the table is all read, so the row that waits is one of those that were counted
+waited : (r : Result Table TableFault) (N : Table) (new mid old rows : ℕ) → IfErr r (λ e. e.row ≤ row_count N) → mid ≡ old + 1 → new ≡ mid + rows → rows ≡ row_count N → IfErr r (λ e. old + max 1 e.row ≤ new)
+waited (Ok t) N new mid old rows above first more is = tt
+waited (Err e) N new mid old rows above first more is = omega (arith, above, first, more, is)
+
+pub returns-clause-least : goal.returns-clause-least
+returns-clause-least g c =
+    let rest = c.in_ok-read_rest.ensures in
+    waited c.accept.result c.read_rest.new.draft.lists _ _ _ _ c.accept.ensures.above c.tick.ensures rest.counted rest.draft.count
