@@ -11,7 +11,7 @@ use Rattle.mrp_stream.specs.declared.reading.TheConstants.{MOST_RECORDS}
 use Rattle.mrp_stream.specs.Rows.{HasRow, record_fields}
 use Rattle.mrp_stream.specs.Reading.{StartsWithFault}
 
--- what an error of the reading is called
+-- what an error of the reading is called; those that can't come have any name
 abbrev pub fault_of : ErrorKind → RecordFaultKind
 fault_of (error.Io e) = fault.ReadFault
 fault_of (error.Utf8 pos e) = fault.NotUtf8

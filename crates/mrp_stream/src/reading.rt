@@ -1,7 +1,7 @@
 ghost use Rattle.std.specs.Prelude.{true, false, ◌≡◌, ◌+◌, ◌≤◌, length, IfOk, IfErr, OnOk, option_map};
 ghost use Rattle.csv.specs.Reading.{strip_bom};
 ghost use Rattle.csv.specs.Records.{AllText, fields_of};
-ghost use Rattle.mrp_tables.specs.Left.{GivesAll, OfLeft, left_of};
+ghost use Rattle.mrp_tables.specs.Left.{GivesAll, MayCome, OfLeft, left_of};
 ghost use Rattle.mrp_tables.specs.Reading.{OfRecords};
 ghost use Rattle.mrp_stream.specs.Left.{fault_of, is_of_row, TellsNext, TellsTaken};
 ghost use Rattle.mrp_rows.specs.Table.{Table};
@@ -127,13 +127,17 @@ fn take_row<R: Read>(rows: &mut Reader<R>, row: &mut StringRecord) -> Result<boo
     }
 }
 
-/// What an error of the reading is called.
+/// What an error of the reading is called. A row of a wrong length is none: rows come as they are.
 fn read_fault(error: &ErrorKind) -> RecordFaultKind
+    requires comes { MayCome error.now }
     ensures value { result ≡ fault_of error.now }
 {
     match error {
         ErrorKind::Utf8 { .. } => RecordFaultKind::NotUtf8,
         ErrorKind::OutOfMemory => RecordFaultKind::Memory,
-        _ => RecordFaultKind::ReadFault,
+        ErrorKind::Io(_) => RecordFaultKind::ReadFault,
+        ErrorKind::UnequalLengths { .. } => unreachable!(),
+        ErrorKind::Serialize(_) => unreachable!(),
+        ErrorKind::Deserialize { .. } => unreachable!(),
     }
 }
