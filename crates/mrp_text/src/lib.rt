@@ -1,5 +1,9 @@
-//! The planner as a library: a table from any reader, a report to any writer.
+//! **The theorem.** A table has one plan by the rules of material requirements planning, or it is refused.
+//! Where it has one, what a text function writes is exactly the report of that plan. Where it is refused, the
+//! answer is the first fault that holds, and nothing is written. Where the machine fails, what was written is
+//! a front of the right report.
 //!
+//! The planner as a library: a table from any reader, a report to any writer.
 //! [`plan_text`] writes the plan, each plant planned in a thread of its own, and [`drive_text`] the same
 //! plan on one thread; [`check_text`] writes the low-level codes, [`peg_text`] what a gross requirement
 //! consists of, and [`cums_text`] the cumulative figures of the lanes between plants; [`answer`] does the
@@ -14,8 +18,10 @@ mod answers;
 mod fault;
 mod firm;
 mod lines;
+mod network;
 mod run;
 mod text;
+mod writing;
 
 pub use answers::{answer, exit_status};
 pub use fault::{PairName, TextFault, status};

@@ -1,6 +1,6 @@
 use Rattle.std.proofs.Common.{map, take}
 use Rattle.mrp_text.specs.Text.{AreCalled}
-use Rattle.mrp_text.proofs.text.names_of.Given as goal
+use Rattle.mrp_text.proofs.network.names_of.Given as goal
 
 -- the pairs before this one have their names
 abbrev pub invariant-pairs : goal.invariant-pairs

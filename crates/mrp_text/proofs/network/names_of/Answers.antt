@@ -1,6 +1,6 @@
 use Rattle.std.proofs.Common.{arith}
 use Rattle.mrp_text.proofs.NameFacts.{called-next}
-use Rattle.mrp_text.proofs.text.names_of.Goals as goal
+use Rattle.mrp_text.proofs.network.names_of.Goals as goal
 
 pub pairs-preserved : goal.pairs-preserved
 pairs-preserved c =

@@ -4,7 +4,7 @@ use Rattle.mrp_report.proofs.Fronts.{whole-after}
 use Rattle.mrp_report.specs.Report.{late_text, plan_text}
 use Rattle.mrp_text.specs.Text.{IsPlanReport}
 use Rattle.mrp_text.proofs.TextFacts.{first-fails, rest-fails}
-use Rattle.mrp_text.proofs.text.report_plan.Goals as goal
+use Rattle.mrp_text.proofs.writing.report_plan.Goals as goal
 
 pub returns-in_err-plan_rows-clause-text : goal.returns-in_err-plan_rows-clause-text
 returns-in_err-plan_rows-clause-text g c =

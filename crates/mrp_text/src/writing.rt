@@ -1,0 +1,185 @@
+//! What a text function writes of a network: the plan, the codes, the pegs, the figures of the lanes.
+
+ghost use Rattle.std.specs.Prelude.{◌≡◌, ◌≢◌, ◌≤◌, ◌<◌, IfErr};
+ghost use Rattle.mrp_rows.specs.Table.{IsPair, horizon};
+ghost use Rattle.mrp_net.specs.Plan.{Fits};
+ghost use Rattle.mrp_loops.specs.Loop.{AreCodes};
+ghost use Rattle.mrp_text.specs.Fault.{IsBeforeWriting, IsLate};
+ghost use Rattle.mrp_text.specs.Text.{Writes, IsPlannable, IsPlanReport, IsCodeReport};
+ghost use Rattle.mrp_text.specs.Text.{IsPegReport, IsCumReport, IsPegs};
+ghost use Rattle.mrp_text.specs.Text.{IsRefusal, IsRunRefusal, IsPegRefusal};
+ghost use Rattle.mrp_words.specs.declared.words.TheConstants.{MOST_CAPACITY};
+
+use crate::fault::TextFault;
+use crate::firm::{driven_figures, driven_plan};
+use crate::network::{levels_of, sized_of};
+use crate::run::run_plan;
+use mrp_agent::Gate;
+use mrp_loops::{Levels, SizedNet};
+use mrp_net::{Network, PairNo};
+use mrp_plan::{Plan, peg, plan_all};
+use mrp_report::{code_rows, lane_rows, late_rows, peg_rows, plan_rows};
+use mrp_run::Settings;
+use mrp_words::MOST_CAPACITY;
+use std::alloc::Global;
+use std::io::Write;
+use std::sync::Wait;
+use std::thread::Threads;
+
+/// Writes the plan rows and the late rows of a network.
+pub(crate) fn write_plan<W: Write>(
+    alloc: Global,
+    network: &Network,
+    writer: &mut W,
+    capacity: u64,
+) -> Result<(), TextFault>
+    requires capacity { (1 ≤ capacity) × (capacity ≤ MOST_CAPACITY) }
+    ensures text { Writes (W.contents writer.old) (W.contents writer.new) result (IsPlanReport network.now) }
+    ensures refusal { IfErr result (IsRefusal network.now) }
+    ensures untouched { IfErr result (λ fault. IsBeforeWriting fault → writer.new ≡ writer.old) }
+{
+    let levels = levels_of(alloc, network)?;
+    let net = sized_of(alloc, network, &levels)?;
+    let plan = driven_plan(alloc, &net, capacity)?;
+    report_plan(alloc, &net, &plan, writer)
+}
+
+/// Writes the plan rows and the late rows of a network that is run by threads.
+pub(crate) fn write_run<T: Threads + Wait + Sync, W: Write, G: Gate>(
+    rt: &T,
+    alloc: Global,
+    network: &Network,
+    writer: &mut W,
+    settings: Settings,
+    gate: &G,
+) -> Result<(), TextFault>
+    ensures text { Writes (W.contents writer.old) (W.contents writer.new) result (IsPlanReport network.now) }
+    ensures refusal { IfErr result (IsRunRefusal network.now) }
+    ensures untouched { IfErr result (λ fault. IsBeforeWriting fault → writer.new ≡ writer.old) }
+{
+    let levels = levels_of(alloc, network)?;
+    let net = sized_of(alloc, network, &levels)?;
+    let plan = run_plan(rt, alloc, &net, settings, gate)?;
+    report_plan(alloc, &net, &plan, writer)
+}
+
+/// Writes the plan rows and the late rows of a plan.
+fn report_plan<W: Write>(
+    alloc: Global,
+    net: &SizedNet<'_>,
+    plan: &Plan,
+    writer: &mut W,
+) -> Result<(), TextFault>
+    requires plannable { IsPlannable net.now.network }
+    requires fits { Fits net.now.network plan.now }
+    ensures text { Writes (W.contents writer.old) (W.contents writer.new) result (IsPlanReport net.now.network) }
+    ensures fault { IfErr result IsLate }
+{
+    plan_rows(alloc, net, plan, writer)?;
+    late_rows(alloc, net, plan, writer)?;
+    Ok(())
+}
+
+/// Writes the code rows of a network.
+pub(crate) fn write_codes<W: Write>(
+    alloc: Global,
+    network: &Network,
+    writer: &mut W,
+) -> Result<(), TextFault>
+    ensures text { Writes (W.contents writer.old) (W.contents writer.new) result (IsCodeReport network.now) }
+    ensures refusal { IfErr result (IsRefusal network.now) }
+    ensures untouched { IfErr result (λ fault. fault ≢ TextFault.WriteFault → writer.new ≡ writer.old) }
+{
+    let levels = levels_of(alloc, network)?;
+    let _net = sized_of(alloc, network, &levels)?;
+    report_codes(alloc, network, &levels, writer)
+}
+
+/// Writes the code rows of a network that can be planned.
+fn report_codes<W: Write>(
+    alloc: Global,
+    network: &Network,
+    levels: &Levels,
+    writer: &mut W,
+) -> Result<(), TextFault>
+    requires codes { AreCodes network.now levels.now }
+    requires plannable { IsPlannable network.now }
+    ensures text { Writes (W.contents writer.old) (W.contents writer.new) result (IsCodeReport network.now) }
+    ensures fault { IfErr result IsLate }
+    ensures untouched { IfErr result (λ fault. fault ≢ TextFault.WriteFault → writer.new ≡ writer.old) }
+{
+    code_rows(alloc, network, levels, writer)?;
+    Ok(())
+}
+
+/// Writes the peg rows of a pair in a period.
+pub(crate) fn write_pegs<W: Write>(
+    alloc: Global,
+    network: &Network,
+    writer: &mut W,
+    plant: &str,
+    item: &str,
+    period: u64,
+) -> Result<(), TextFault>
+    ensures text { Writes (W.contents writer.old) (W.contents writer.new) result (IsPegReport plant.now item.now period network.now) }
+    ensures refusal { IfErr result (IsPegRefusal plant.now item.now period network.now) }
+    ensures untouched { IfErr result (λ fault. fault ≢ TextFault.WriteFault → writer.new ≡ writer.old) }
+{
+    let levels = levels_of(alloc, network)?;
+    let net = sized_of(alloc, network, &levels)?;
+    let Some(x) = network.find(plant, item) else {
+        return Err(TextFault::NoPair);
+    };
+    if period >= network.horizon().get() {
+        return Err(TextFault::NoPeriod);
+    }
+    report_pegs(alloc, &net, writer, x, period as usize)
+}
+
+/// Writes the peg rows of a pair of a sized network in a period below its horizon.
+fn report_pegs<W: Write>(
+    alloc: Global,
+    net: &SizedNet<'_>,
+    writer: &mut W,
+    x: PairNo,
+    period: usize,
+) -> Result<(), TextFault>
+    requires plannable { IsPlannable net.now.network }
+    requires pair { IsPair net.now.network x.0 }
+    requires period { period < horizon net.now.network }
+    ensures text { Writes (W.contents writer.old) (W.contents writer.new) result (IsPegs net.now.network x.0 period) }
+    ensures fault { IfErr result IsLate }
+    ensures untouched { IfErr result (λ fault. fault ≢ TextFault.WriteFault → writer.new ≡ writer.old) }
+{
+    let plan = plan_all(alloc, net)?;
+    let terms = peg(alloc, net, &plan, x, period)?;
+    peg_rows(alloc, net, terms.as_slice(), writer)?;
+    Ok(())
+}
+
+/// Writes the lane rows of a network.
+pub(crate) fn write_cums<W: Write>(
+    alloc: Global,
+    network: &Network,
+    writer: &mut W,
+) -> Result<(), TextFault>
+    ensures text { Writes (W.contents writer.old) (W.contents writer.new) result (IsCumReport network.now) }
+    ensures refusal { IfErr result (IsRefusal network.now) }
+    ensures untouched { IfErr result (λ fault. fault ≢ TextFault.WriteFault → writer.new ≡ writer.old) }
+{
+    let levels = levels_of(alloc, network)?;
+    let net = sized_of(alloc, network, &levels)?;
+    report_cums(alloc, &net, writer)
+}
+
+/// Writes the lane rows of a sized network.
+fn report_cums<W: Write>(alloc: Global, net: &SizedNet<'_>, writer: &mut W) -> Result<(), TextFault>
+    requires { IsPlannable net.now.network }
+    ensures text { Writes (W.contents writer.old) (W.contents writer.new) result (IsCumReport net.now.network) }
+    ensures fault { IfErr result IsLate }
+    ensures untouched { IfErr result (λ fault. fault ≢ TextFault.WriteFault → writer.new ≡ writer.old) }
+{
+    let figures = driven_figures(alloc, net)?;
+    lane_rows(alloc, net.network(), figures.as_slice(), writer)?;
+    Ok(())
+}
