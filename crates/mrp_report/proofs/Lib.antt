@@ -2,3 +2,6 @@ pub mod RowFacts
 pub mod Fronts
 pub mod PartFacts
 pub mod PieceFacts
+pub mod PlainFacts
+pub mod ReadBack
+pub mod SheetFacts

@@ -32,7 +32,7 @@ fields_joined first [] = append-nil first
 fields_joined first (next ∷ rest) = ap (λ t. first ++ comma ∷ t) (fields_joined next rest)
 
 -- what csv's writer writes of a row of two fields and more
-row_plain : (fields : List (List ℕ)) → 2 ≤ length fields → row_text plain_writer fields ≡ row fields
+pub row_plain : (fields : List (List ℕ)) → 2 ≤ length fields → row_text plain_writer fields ≡ row fields
 unfolding row is_blank
 row_plain [] few = absurd (omega arith)
 row_plain (first ∷ []) few = absurd (omega arith)

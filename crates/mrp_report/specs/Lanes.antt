@@ -23,11 +23,15 @@ plant_name N plant = slice_index_or N.plants plant.0 []
 abbrev pub item_name : Table → ItemNo → List ℕ
 item_name N item = slice_index_or N.items item.0 []
 
--- the row of a figure of that lane: opening, shipped, received, and what is in transit
+-- the fields of the row of a figure of that lane: opening, shipped, received, and what is in transit
+abbrev pub figure_fields : Table → Lane → LaneFigure → List (List ℕ)
+figure_fields N lane figure =
+    text_bytes "lane" ∷ kind_word lane.kind ∷ plant_name N lane.sender ∷ plant_name N lane.receiver ∷ item_name N figure.item
+    ∷ decimal figure.opening ∷ decimal figure.shipped ∷ decimal figure.received ∷ decimal (figure.shipped - figure.received) ∷ []
+
+-- that row
 unfoldable pub figure_row : Table → Lane → LaneFigure → List ℕ
-figure_row N lane figure =
-    row (text_bytes "lane" ∷ kind_word lane.kind ∷ plant_name N lane.sender ∷ plant_name N lane.receiver ∷ item_name N figure.item
-    ∷ decimal figure.opening ∷ decimal figure.shipped ∷ decimal figure.received ∷ decimal (figure.shipped - figure.received) ∷ [])
+figure_row N lane figure = row (figure_fields N lane figure)
 
 abbrev pub lane_row : Table → LaneFigure → List ℕ
 lane_row N figure = figure_row N (lane_at N figure.lane.0) figure

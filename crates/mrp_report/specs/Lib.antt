@@ -4,3 +4,5 @@ pub mod Dates
 pub mod Report
 pub mod Lanes
 pub mod Parts
+pub mod Sheets
+pub mod Laws

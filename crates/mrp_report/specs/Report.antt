@@ -41,11 +41,15 @@ period_at rows t =
 abbrev pub date_at : List (List ℕ) → ℕ → List ℕ
 date_at dates t = slice_index_or dates t []
 
--- the row of a pair in a period
+-- the fields of the row of a pair in a period
+abbrev pub plan_fields : List ℕ → List ℕ → List ℕ → Period → List (List ℕ)
+plan_fields plant item date period =
+    text_bytes "plan" ∷ plant ∷ item ∷ decimal period.number ∷ date ∷ decimal period.gross ∷ decimal period.incoming
+    ∷ decimal period.order ∷ decimal period.release ∷ decimal period.available ∷ []
+
+-- that row
 unfoldable pub plan_row : List ℕ → List ℕ → List ℕ → Period → List ℕ
-plan_row plant item date period =
-    row (text_bytes "plan" ∷ plant ∷ item ∷ decimal period.number ∷ date ∷ decimal period.gross ∷ decimal period.incoming
-    ∷ decimal period.order ∷ decimal period.release ∷ decimal period.available ∷ [])
+plan_row plant item date period = row (plan_fields plant item date period)
 
 -- a pair's rows, one for each date, in rising period
 unfoldable pub pair_text : List ℕ → List ℕ → List (List ℕ) → PlanRows → List ℕ
@@ -62,10 +66,13 @@ unfoldable pub plan_text : Table → List PlanRows → List ℕ
 plan_text N table =
     flat_map (λ x. pair_text (plant_of N x) (item_of N x) (dates_of N.calendar) (rows_at table x)) (pairs_of N)
 
--- the row of a late order
+-- the fields of the row of a late order
+abbrev pub late_fields : List ℕ → List ℕ → Late → List (List ℕ)
+late_fields plant item late = text_bytes "late" ∷ plant ∷ item ∷ decimal late.period ∷ decimal late.quantity ∷ decimal late.by ∷ []
+
+-- that row
 unfoldable pub late_row : List ℕ → List ℕ → Late → List ℕ
-late_row plant item late =
-    row (text_bytes "late" ∷ plant ∷ item ∷ decimal late.period ∷ decimal late.quantity ∷ decimal late.by ∷ [])
+late_row plant item late = row (late_fields plant item late)
 
 -- the report of late orders: those of each pair, in table order and in rising period
 unfoldable pub late_text : Table → List PlanRows → List ℕ
@@ -77,19 +84,27 @@ source_word Demand = text_bytes "demand"
 source_word Bill = text_bytes "bill"
 source_word Plant = text_bytes "plant"
 
--- the row of a term of a gross requirement
+-- the fields of the row of a term of a gross requirement
+abbrev pub peg_fields : Table → PegTerm → List (List ℕ)
+peg_fields N term =
+    text_bytes "peg" ∷ source_word term.source ∷ plant_of N term.pair.0 ∷ item_of N term.pair.0
+    ∷ decimal term.release ∷ decimal term.per ∷ decimal term.quantity ∷ []
+
+-- that row
 unfoldable pub peg_row : Table → PegTerm → List ℕ
-peg_row N term =
-    row (text_bytes "peg" ∷ source_word term.source ∷ plant_of N term.pair.0 ∷ item_of N term.pair.0
-    ∷ decimal term.release ∷ decimal term.per ∷ decimal term.quantity ∷ [])
+peg_row N term = row (peg_fields N term)
 
 -- the report of the terms, in their order
 unfoldable pub peg_text : Table → List PegTerm → List ℕ
 peg_text N terms = flat_map (peg_row N) terms
 
--- the row of a pair's low-level code
+-- the fields of the row of a pair's low-level code
+abbrev pub code_fields : List ℕ → List ℕ → ℕ → List (List ℕ)
+code_fields plant item code = text_bytes "code" ∷ plant ∷ item ∷ decimal code ∷ []
+
+-- that row
 unfoldable pub code_row : List ℕ → List ℕ → ℕ → List ℕ
-code_row plant item code = row (text_bytes "code" ∷ plant ∷ item ∷ decimal code ∷ [])
+code_row plant item code = row (code_fields plant item code)
 
 -- the report of the low-level codes of all pairs, in table order
 unfoldable pub code_text : Table → List ℕ → List ℕ

@@ -1,0 +1,180 @@
+-- Each report is the rows of its sheet.
+use Rattle.std.proofs.Common.{◌≡◌, ◌-◌, ℕ, List, [], ◌∷◌, length, map, All, decimal, codes as text_bytes, refl, arith}
+use Rattle.std.specs.Prelude.{slice_index}
+use Rattle.std.specs.List.{flat_map, range_with_len}
+use Rattle.std.proofs.lemmas.List.Elements.{All-cons, All-nil}
+use Rattle.csv.specs.Reading.{strip_bom}
+use Rattle.mrp_lot.specs.One.{PlanRows}
+use Rattle.mrp_lot.specs.declared.params.Late.{Late}
+use Rattle.mrp_rows.specs.Table.{IsTable, Table}
+use Rattle.mrp_net.specs.Lanes.{lane_at}
+use Rattle.mrp_net.specs.Plan.{rows_at}
+use Rattle.mrp_net.specs.Sums.{pair_at}
+use Rattle.mrp_net.specs.declared.lane.Lane.{Lane}
+use Rattle.mrp_net.specs.declared.lane.LaneKind.{LaneKind}
+use Rattle.mrp_net.specs.declared.lane.LaneKind.TheVariants.{Despatch, Schedule}
+use Rattle.mrp_plan.specs.declared.terms.PegTerm.{PegTerm}
+use Rattle.mrp_plan.specs.declared.terms.PegSource.{PegSource}
+use Rattle.mrp_plan.specs.declared.terms.PegSource.TheVariants.{Demand, Bill, Plant}
+use Rattle.mrp_book.specs.declared.figure.LaneFigure.{LaneFigure}
+use Rattle.mrp_report.specs.declared.plan.Period.{Period}
+use Rattle.mrp_report.specs.Dates.{dates_of}
+use Rattle.mrp_report.specs.Lanes.{figure_fields, figure_row, kind_word, lane_row, lane_text}
+use Rattle.mrp_report.specs.Laws.{CodesAreReadBack, FiguresAreReadBack, LateOrdersAreReadBack, PlanIsReadBack, TermsAreReadBack}
+use Rattle.mrp_report.specs.Report.{code_fields, code_row, code_text, date_at, item_of, late_fields, late_row, late_text, pair_text, pairs_of, peg_fields, peg_row, peg_text, period_at, plan_fields, plan_row, plan_text, plant_of, source_word}
+use Rattle.mrp_report.specs.Rows.{row}
+use Rattle.mrp_report.specs.Sheets.{IsPlain, Sheet, code_sheet, lane_sheet, late_sheet, pair_sheet, peg_sheet, plan_sheet}
+use Rattle.mrp_report.proofs.PlainFacts.{dates_plain, item_plain, number_plain, plant_plain}
+use Rattle.mrp_report.proofs.ReadBack.{IsRow, all_each, all_map, row_each, rows_each, sheet_read}
+
+-- plain fields, one by one
+record ArePlain (fields : List (List ℕ)) : Type 0 where
+  all : All IsPlain fields
+
+more : {field : List ℕ} {rest : List (List ℕ)} → IsPlain field → ArePlain rest → ArePlain (field ∷ rest)
+more {field = field} {rest = rest} plain are = record { all = All-cons IsPlain field rest plain are.all }
+
+number : (n : ℕ) {rest : List (List ℕ)} → ArePlain rest → ArePlain (decimal n ∷ rest)
+number n {rest = rest} are = record { all = All-cons IsPlain (decimal n) rest (number_plain n) are.all }
+
+none : ArePlain []
+none = record { all = All-nil IsPlain }
+
+-- ---- the plan
+
+plan_is_row : (plant item date : List ℕ) (period : Period) → IsPlain plant → IsPlain item → IsPlain date → IsRow (plan_fields plant item date period)
+unfolding row strip_bom
+plan_is_row plant item date period p i d = record {
+  plain =
+      let are : ArePlain (plan_fields plant item date period) =
+      more refl (more p (more i (number period.number (more d (number period.gross (number period.incoming
+      (number period.order (number period.release (number period.available none))))))))) in
+      are.all;
+  many = omega arith;
+  front = λ rest. refl;
+}
+
+pair_is_sheet : (plant item : List ℕ) (dates : List (List ℕ)) (rows : PlanRows) → pair_text plant item dates rows ≡ flat_map row (pair_sheet plant item dates rows)
+unfolding pair_text plan_row
+pair_is_sheet plant item dates rows = row_each (λ t. plan_fields plant item (date_at dates t) (period_at rows t)) (range_with_len 0 (length dates))
+
+plan_is_sheet : (N : Table) (table : List PlanRows) → plan_text N table ≡ flat_map row (plan_sheet N table)
+unfolding plan_text
+plan_is_sheet N table =
+    rows_each (λ x. pair_text (plant_of N x) (item_of N x) (dates_of N.calendar) (rows_at table x))
+    (λ x. pair_sheet (plant_of N x) (item_of N x) (dates_of N.calendar) (rows_at table x))
+    (λ x. pair_is_sheet (plant_of N x) (item_of N x) (dates_of N.calendar) (rows_at table x)) (pairs_of N)
+
+pub plan_is_read : PlanIsReadBack
+plan_is_read N is table =
+    sheet_read (plan_text N table) (plan_sheet N table) (plan_is_sheet N table)
+    (all_each (λ x. pair_sheet (plant_of N x) (item_of N x) (dates_of N.calendar) (rows_at table x))
+    (λ x. all_map (λ t. plan_fields (plant_of N x) (item_of N x) (date_at (dates_of N.calendar) t) (period_at (rows_at table x) t))
+    (λ t. plan_is_row (plant_of N x) (item_of N x) (date_at (dates_of N.calendar) t) (period_at (rows_at table x) t)
+    (plant_plain N is (pair_at N x).plant.0) (item_plain N is (pair_at N x).item.0) (dates_plain N.calendar t))
+    (range_with_len 0 (length (dates_of N.calendar))))
+    (pairs_of N))
+
+-- ---- late orders
+
+late_is_row : (plant item : List ℕ) (late : Late) → IsPlain plant → IsPlain item → IsRow (late_fields plant item late)
+unfolding row strip_bom
+late_is_row plant item late p i = record {
+  plain = let are : ArePlain (late_fields plant item late) = more refl (more p (more i (number late.period (number late.quantity (number late.by none))))) in are.all;
+  many = omega arith;
+  front = λ rest. refl;
+}
+
+orders_are_sheet : (plant item : List ℕ) (late : List Late) → flat_map (late_row plant item) late ≡ flat_map row (map (late_fields plant item) late)
+unfolding late_row
+orders_are_sheet plant item late = row_each (late_fields plant item) late
+
+late_is_sheet : (N : Table) (table : List PlanRows) → late_text N table ≡ flat_map row (late_sheet N table)
+unfolding late_text
+late_is_sheet N table =
+    rows_each (λ x. flat_map (late_row (plant_of N x) (item_of N x)) (rows_at table x).late)
+    (λ x. map (late_fields (plant_of N x) (item_of N x)) (rows_at table x).late)
+    (λ x. orders_are_sheet (plant_of N x) (item_of N x) (rows_at table x).late) (pairs_of N)
+
+pub late_is_read : LateOrdersAreReadBack
+late_is_read N is table =
+    sheet_read (late_text N table) (late_sheet N table) (late_is_sheet N table)
+    (all_each (λ x. map (late_fields (plant_of N x) (item_of N x)) (rows_at table x).late)
+    (λ x. all_map (late_fields (plant_of N x) (item_of N x))
+    (λ late. late_is_row (plant_of N x) (item_of N x) late (plant_plain N is (pair_at N x).plant.0) (item_plain N is (pair_at N x).item.0))
+    (rows_at table x).late)
+    (pairs_of N))
+
+-- ---- terms of a gross requirement
+
+source_plain : (source : PegSource) → IsPlain (source_word source)
+source_plain Demand = refl
+source_plain Bill = refl
+source_plain Plant = refl
+
+peg_is_row : (N : Table) → IsTable N → (term : PegTerm) → IsRow (peg_fields N term)
+unfolding row strip_bom
+peg_is_row N is term = record {
+  plain =
+      let are : ArePlain (peg_fields N term) =
+      more refl (more (source_plain term.source) (more (plant_plain N is (pair_at N term.pair.0).plant.0) (more (item_plain N is (pair_at N term.pair.0).item.0)
+      (number term.release (number term.per (number term.quantity none)))))) in
+      are.all;
+  many = omega arith;
+  front = λ rest. refl;
+}
+
+peg_is_sheet : (N : Table) (terms : List PegTerm) → peg_text N terms ≡ flat_map row (peg_sheet N terms)
+unfolding peg_text peg_row
+peg_is_sheet N terms = row_each (peg_fields N) terms
+
+pub peg_is_read : TermsAreReadBack
+peg_is_read N is terms = sheet_read (peg_text N terms) (peg_sheet N terms) (peg_is_sheet N terms) (all_map (peg_fields N) (peg_is_row N is) terms)
+
+-- ---- low-level codes
+
+code_is_row : (plant item : List ℕ) (code : ℕ) → IsPlain plant → IsPlain item → IsRow (code_fields plant item code)
+unfolding row strip_bom
+code_is_row plant item code p i = record {
+  plain = let are : ArePlain (code_fields plant item code) = more refl (more p (more i (number code none))) in are.all;
+  many = omega arith;
+  front = λ rest. refl;
+}
+
+code_is_sheet : (N : Table) (levels : List ℕ) → code_text N levels ≡ flat_map row (code_sheet N levels)
+unfolding code_text code_row
+code_is_sheet N levels = row_each (λ x. code_fields (plant_of N x) (item_of N x) (slice_index levels x)) (pairs_of N)
+
+pub code_is_read : CodesAreReadBack
+code_is_read N is levels =
+    sheet_read (code_text N levels) (code_sheet N levels) (code_is_sheet N levels)
+    (all_map (λ x. code_fields (plant_of N x) (item_of N x) (slice_index levels x))
+    (λ x. code_is_row (plant_of N x) (item_of N x) (slice_index levels x) (plant_plain N is (pair_at N x).plant.0) (item_plain N is (pair_at N x).item.0))
+    (pairs_of N))
+
+-- ---- figures of lanes
+
+kind_plain : (kind : LaneKind) → IsPlain (kind_word kind)
+kind_plain Despatch = refl
+kind_plain Schedule = refl
+
+figure_is_row : (N : Table) → IsTable N → (lane : Lane) (figure : LaneFigure) → IsRow (figure_fields N lane figure)
+unfolding row strip_bom
+figure_is_row N is lane figure = record {
+  plain =
+      let are : ArePlain (figure_fields N lane figure) =
+      more refl (more (kind_plain lane.kind) (more (plant_plain N is lane.sender.0) (more (plant_plain N is lane.receiver.0) (more (item_plain N is figure.item.0)
+      (number figure.opening (number figure.shipped (number figure.received (number (figure.shipped - figure.received) none)))))))) in
+      are.all;
+  many = omega arith;
+  front = λ rest. refl;
+}
+
+lane_is_sheet : (N : Table) (figures : List LaneFigure) → lane_text N figures ≡ flat_map row (lane_sheet N figures)
+unfolding lane_text figure_row
+lane_is_sheet N figures = row_each (λ figure. figure_fields N (lane_at N figure.lane.0) figure) figures
+
+pub lane_is_read : FiguresAreReadBack
+lane_is_read N is figures =
+    sheet_read (lane_text N figures) (lane_sheet N figures) (lane_is_sheet N figures)
+    (all_map (λ figure. figure_fields N (lane_at N figure.lane.0) figure) (λ figure. figure_is_row N is (lane_at N figure.lane.0) figure) figures)

@@ -1,0 +1,25 @@
+-- The reports of an accepted table are read back: what a spreadsheet shows of them is the fields that
+-- their rows are made of.
+use Rattle.std.specs.Prelude.{ℕ, List}
+use Rattle.mrp_lot.specs.One.{PlanRows}
+use Rattle.mrp_rows.specs.Table.{IsTable, Table}
+use Rattle.mrp_plan.specs.declared.terms.PegTerm.{PegTerm}
+use Rattle.mrp_book.specs.declared.figure.LaneFigure.{LaneFigure}
+use Rattle.mrp_report.specs.Lanes.{lane_text}
+use Rattle.mrp_report.specs.Report.{code_text, late_text, peg_text, plan_text}
+use Rattle.mrp_report.specs.Sheets.{IsReadAs, code_sheet, lane_sheet, late_sheet, peg_sheet, plan_sheet}
+
+abbrev pub PlanIsReadBack : Type 0
+PlanIsReadBack = (N : Table) → IsTable N → (table : List PlanRows) → IsReadAs (plan_text N table) (plan_sheet N table)
+
+abbrev pub LateOrdersAreReadBack : Type 0
+LateOrdersAreReadBack = (N : Table) → IsTable N → (table : List PlanRows) → IsReadAs (late_text N table) (late_sheet N table)
+
+abbrev pub TermsAreReadBack : Type 0
+TermsAreReadBack = (N : Table) → IsTable N → (terms : List PegTerm) → IsReadAs (peg_text N terms) (peg_sheet N terms)
+
+abbrev pub CodesAreReadBack : Type 0
+CodesAreReadBack = (N : Table) → IsTable N → (codes : List ℕ) → IsReadAs (code_text N codes) (code_sheet N codes)
+
+abbrev pub FiguresAreReadBack : Type 0
+FiguresAreReadBack = (N : Table) → IsTable N → (figures : List LaneFigure) → IsReadAs (lane_text N figures) (lane_sheet N figures)

@@ -1,0 +1,12 @@
+//! Laws of the reports. Each is the contract of a function that does nothing.
+ghost use Rattle.mrp_report.specs.Laws.{PlanIsReadBack, LateOrdersAreReadBack, TermsAreReadBack, CodesAreReadBack, FiguresAreReadBack};
+
+/// What csv reads of a report is exactly the fields that its rows are made of, row by row, and none
+/// of them needs quotes.
+pub fn reports_are_read_back()
+    ensures plan { PlanIsReadBack }
+    ensures late { LateOrdersAreReadBack }
+    ensures pegs { TermsAreReadBack }
+    ensures codes { CodesAreReadBack }
+    ensures lanes { FiguresAreReadBack }
+{}
