@@ -16,7 +16,7 @@ use Rattle.mrp_report.specs.Dates.{dates_of, period_date}
 use Rattle.mrp_report.specs.Report.{date_at, item_of, plant_of}
 use Rattle.mrp_report.specs.Sheets.{IsPlain}
 
-both_true : (a b : Bool) → (a && b) ≡ true → (a ≡ true) × (b ≡ true)
+pub both_true : (a b : Bool) → (a && b) ≡ true → (a ≡ true) × (b ≡ true)
 both_true true b e = (refl, e)
 both_true false b e = absurd (cc)
 
