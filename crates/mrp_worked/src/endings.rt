@@ -1,0 +1,167 @@
+//! What the tables come to.
+
+use crate::tables::{
+    FOUR_PLANTS, IDLE_RING, LONG_RING, NO_LANES, NO_PLANTS, ONE_SHARED, RESET_AT_RELEASE,
+    RESET_LATER, RING, SHARED, SHARED_AFTER_SHIPMENT, TWO_CUSTOMERS, TWO_PLANTS, TWO_SHIPMENTS,
+};
+
+/// What a table comes to, whoever plans it and in whatever order.
+#[derive(Clone, Copy)]
+pub struct Ending {
+    /// The text of the table.
+    pub table: &'static str,
+    /// How many records go over each lane, in lane order, its item ends and its closing record counted.
+    pub records: &'static [u64],
+    /// Of each lane, and of each of its items, the cumulative figure at its opening and that at its end, in
+    /// pieces, closed years added. At the end as much is shipped as is received.
+    pub figures: &'static [&'static [(u64, u64)]],
+    /// Of each pair, in the order of the table, the planned order receipts in pieces, period by period.
+    pub orders: &'static [&'static [u64]],
+}
+
+/// What [`TWO_PLANTS`] comes to.
+pub const TWO_PLANTS_ENDING: Ending = Ending {
+    table: TWO_PLANTS,
+    records: &[3, 3],
+    figures: &[&[(100, 108)], &[(108, 130)]],
+    orders: &[&[0, 0, 22, 0], &[0, 22, 0, 0]],
+};
+
+/// What [`TWO_SHIPMENTS`] comes to.
+pub const TWO_SHIPMENTS_ENDING: Ending = Ending {
+    table: TWO_SHIPMENTS,
+    records: &[4, 3],
+    figures: &[&[(100, 116)], &[(116, 130)]],
+    orders: &[&[0, 0, 14, 0], &[0, 14, 0, 0]],
+};
+
+/// What [`RESET_LATER`] comes to.
+pub const RESET_LATER_ENDING: Ending = Ending {
+    table: RESET_LATER,
+    records: &[4, 4],
+    figures: &[&[(100, 108)], &[(108, 130)]],
+    orders: &[&[0, 0, 22, 0], &[0, 22, 0, 0]],
+};
+
+/// What [`RESET_AT_RELEASE`] comes to: the same.
+pub const RESET_AT_RELEASE_ENDING: Ending = Ending {
+    table: RESET_AT_RELEASE,
+    ..RESET_LATER_ENDING
+};
+
+/// What [`RING`] comes to.
+pub const RING_ENDING: Ending = Ending {
+    table: RING,
+    records: &[2, 3, 3, 5],
+    figures: &[&[(0, 0)], &[(0, 10)], &[(0, 0), (0, 0)], &[(0, 5), (0, 30)]],
+    orders: &[&[5], &[5], &[10], &[10], &[30], &[30]],
+};
+
+/// What [`IDLE_RING`] comes to.
+pub const IDLE_RING_ENDING: Ending = Ending {
+    table: IDLE_RING,
+    records: &[2, 2, 3, 3],
+    figures: &[&[(0, 0)], &[(0, 0)], &[(0, 0), (0, 0)], &[(0, 0), (0, 0)]],
+    orders: &[&[0], &[0], &[0], &[0], &[0], &[0]],
+};
+
+/// What [`LONG_RING`] comes to.
+pub const LONG_RING_ENDING: Ending = Ending {
+    table: LONG_RING,
+    records: &[3, 5, 4, 7],
+    figures: &[
+        &[(0, 0), (0, 0)],
+        &[(0, 10), (0, 30)],
+        &[(0, 0), (0, 0), (0, 0)],
+        &[(0, 5), (0, 30), (0, 60)],
+    ],
+    orders: &[
+        &[5],
+        &[5],
+        &[10],
+        &[10],
+        &[30],
+        &[30],
+        &[30],
+        &[30],
+        &[60],
+        &[60],
+    ],
+};
+
+/// What [`TWO_CUSTOMERS`] comes to.
+pub const TWO_CUSTOMERS_ENDING: Ending = Ending {
+    table: TWO_CUSTOMERS,
+    records: &[2, 3, 2, 3],
+    figures: &[&[(0, 0)], &[(0, 15)], &[(0, 0)], &[(0, 25)]],
+    orders: &[&[10], &[10], &[100], &[15], &[25]],
+};
+
+/// What [`SHARED`] comes to.
+pub const SHARED_ENDING: Ending = Ending {
+    table: SHARED,
+    records: &[2, 3, 2, 3],
+    figures: &[&[(0, 0)], &[(0, 4)], &[(0, 0)], &[(0, 3)]],
+    orders: &[&[7], &[4], &[3]],
+};
+
+/// What [`ONE_SHARED`] comes to.
+pub const ONE_SHARED_ENDING: Ending = Ending {
+    table: ONE_SHARED,
+    records: &[2, 2, 2, 3],
+    figures: &[&[(0, 0)], &[(0, 0)], &[(0, 0)], &[(0, 1)]],
+    orders: &[&[1], &[0], &[1]],
+};
+
+/// What [`SHARED_AFTER_SHIPMENT`] comes to.
+pub const SHARED_AFTER_SHIPMENT_ENDING: Ending = Ending {
+    table: SHARED_AFTER_SHIPMENT,
+    records: &[2, 3, 3, 3],
+    figures: &[&[(0, 0)], &[(0, 1)], &[(0, 5)], &[(5, 6)]],
+    orders: &[&[2], &[1], &[1]],
+};
+
+/// What [`FOUR_PLANTS`] comes to.
+pub const FOUR_PLANTS_ENDING: Ending = Ending {
+    table: FOUR_PLANTS,
+    records: &[4, 5, 2, 4, 3, 4, 2, 4, 4, 5, 4, 5],
+    figures: &[
+        &[(40, 42)],
+        &[(42, 47)],
+        &[(0, 0)],
+        &[(0, 3)],
+        &[(0, 3)],
+        &[(3, 6)],
+        &[(0, 0)],
+        &[(0, 2)],
+        &[(0, 2)],
+        &[(2, 11)],
+        &[(900, 901)],
+        &[(901, 907)],
+    ],
+    orders: &[
+        &[0, 8, 0, 3],
+        &[1, 0, 1, 0],
+        &[4, 0, 0, 0],
+        &[6, 0, 5, 0],
+        &[2, 0, 0, 4],
+        &[7, 0, 0, 0],
+        &[4, 0, 5, 0],
+    ],
+};
+
+/// What [`NO_LANES`] comes to.
+pub const NO_LANES_ENDING: Ending = Ending {
+    table: NO_LANES,
+    records: &[],
+    figures: &[],
+    orders: &[&[20, 0, 20]],
+};
+
+/// What [`NO_PLANTS`] comes to: nothing.
+pub const NO_PLANTS_ENDING: Ending = Ending {
+    table: NO_PLANTS,
+    records: &[],
+    figures: &[],
+    orders: &[],
+};
