@@ -5,7 +5,6 @@ mod agents;
 mod deeds;
 mod hands;
 mod refusals;
-mod tables;
 
 use mrp_net::Network;
 use mrp_tables::read_tables_uncounted;

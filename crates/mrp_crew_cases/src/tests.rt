@@ -6,17 +6,16 @@ ghost use Rattle.mrp_crew.specs.Planning.{IsPlannable};
 mod crews;
 mod gates;
 mod refusals;
-mod tables;
 
 use mrp_agent::{Agent, NoGate};
 use mrp_crew::{Crew, CrewFault, Gate, MOST_WORKERS};
 use mrp_loops::{SizedNet, bound, check};
 use mrp_net::{Network, PairNo, PlantNo};
-use mrp_netting::PairPlan;
 use mrp_plan::{Plan, plan_all};
-use mrp_qty::{Memory, Row};
+use mrp_qty::Memory;
 use mrp_tables::read_tables_uncounted;
 use mrp_view::PlantView;
+use mrp_worked::is_same_plan;
 use std::alloc::Global;
 use std::sync::Wait;
 use std::test::Fail;
@@ -53,23 +52,6 @@ fn plan<R: Threads + Wait + Sync, G: Gate>(
     ensures plannable { IsPlannable agent.new }
 {
     crew.plan_ready(rt, alloc, agent, 0, gate)
-}
-
-/// Whether two rows have the same pieces in each period.
-fn is_same_row(row: &Row, other: &Row) -> bool {
-    let row = row.as_slice();
-    let other = other.as_slice();
-    row.len() == other.len() && row.iter().zip(other).all(|(q, e)| q.get() == e.get())
-}
-
-/// Whether two plans of a pair have the same five rows and as many late orders.
-fn is_same_plan(plan: &PairPlan, other: &PairPlan) -> bool {
-    is_same_row(plan.gross(), other.gross())
-        && is_same_row(plan.incoming(), other.incoming())
-        && is_same_row(plan.order(), other.order())
-        && is_same_row(plan.release(), other.release())
-        && is_same_row(plan.available(), other.available())
-        && plan.late_count() == other.late_count()
 }
 
 /// How many of a network's pairs an agent has planned as the whole plan is; `None` where one is planned

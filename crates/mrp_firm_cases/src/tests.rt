@@ -6,14 +6,12 @@ ghost use Rattle.std.specs.Prelude.{◌≡◌, length};
 mod events;
 mod random;
 mod refusals;
-mod tables;
 
 use mrp_book::LaneFigure;
 use mrp_net::{Network, PairNo};
-use mrp_netting::PairPlan;
 use mrp_plan::Plan;
-use mrp_qty::Row;
 use mrp_tables::read_tables_uncounted;
+use mrp_worked::is_same_plan;
 use mrp_world::Firm;
 use std::test::Fail;
 
@@ -21,23 +19,6 @@ use std::test::Fail;
 fn network(rt: &HostRuntime, text: &str) -> Result<Network, Fail> {
     let tables = read_tables_uncounted(rt.alloc(), text.as_bytes())?;
     Ok(Network::of(rt.alloc(), tables)?)
-}
-
-/// Whether two rows have the same pieces in each period.
-fn is_same_row(row: &Row, other: &Row) -> bool {
-    let row = row.as_slice();
-    let other = other.as_slice();
-    row.len() == other.len() && row.iter().zip(other).all(|(q, e)| q.get() == e.get())
-}
-
-/// Whether two plans of a pair have the same five rows and as many late orders.
-fn is_same_plan(plan: &PairPlan, other: &PairPlan) -> bool {
-    is_same_row(plan.gross(), other.gross())
-        && is_same_row(plan.incoming(), other.incoming())
-        && is_same_row(plan.order(), other.order())
-        && is_same_row(plan.release(), other.release())
-        && is_same_row(plan.available(), other.available())
-        && plan.late_count() == other.late_count()
 }
 
 /// Whether each pair that is planned has the plan of the whole network.
@@ -80,4 +61,11 @@ fn are_figures(figures: &[LaneFigure], wanted: &[(u64, u64, u64)]) -> bool {
                 && figure.shipped.get() == *shipped
                 && figure.received.get() == *received
         })
+}
+
+/// Whether all that was shipped is received.
+fn are_received(figures: &[LaneFigure]) -> bool {
+    figures
+        .iter()
+        .all(|figure| figure.shipped.get() == figure.received.get())
 }

@@ -4,7 +4,6 @@ mod endings;
 mod gates;
 mod places;
 mod stops;
-mod tables;
 
 use mrp_net::Network;
 use mrp_tables::read_tables_uncounted;

@@ -6,11 +6,11 @@ ghost use Rattle.mrp_agent.specs.State.{incoming_place};
 
 use super::hands::agents_of;
 use super::network;
-use super::tables::TWO_PLANTS;
 use mrp_agent::Agent;
 use mrp_loops::{SizedNet, bound, check};
 use mrp_net::{ItemNo, LaneNo, Network};
 use mrp_record::Record;
+use mrp_worked::TWO_PLANTS;
 use std::alloc::Global;
 use std::test::Fail;
 

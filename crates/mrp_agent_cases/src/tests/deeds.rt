@@ -7,8 +7,8 @@ use super::network;
 use mrp_agent::Agent;
 use mrp_loops::{SizedNet, bound, check};
 use mrp_net::{ItemNo, LaneNo, Network, PairNo};
-use mrp_qty::Row;
 use mrp_record::Record;
+use mrp_worked::has_pieces;
 use std::alloc::Global;
 use std::test::Fail;
 
@@ -135,17 +135,11 @@ fn plans(network: &Network, agents: &mut [Agent], x: usize, orders: &[u64]) -> b
     planned && has_orders(agents, x, orders)
 }
 
-/// Whether a row has these orders.
-pub(super) fn are_orders(row: &Row, orders: &[u64]) -> bool {
-    let row = row.as_slice();
-    row.len() == orders.len() && row.iter().zip(orders).all(|(q, e)| q.get() == *e)
-}
-
 /// Whether one of the agents has planned a pair, with these orders.
 fn has_orders(agents: &[Agent], x: usize, orders: &[u64]) -> bool {
     for agent in agents {
         if let Some(planned) = agent.planned(PairNo(x)) {
-            return are_orders(planned.order(), orders);
+            return has_pieces(planned.order(), orders);
         }
     }
     false

@@ -2,14 +2,14 @@
 
 ghost use Rattle.mrp_agent_cases.specs.Hands.{AreAlone};
 
-use super::deeds::{Deed, are_orders, close, end, line, reset, takes};
+use super::deeds::{Deed, close, end, line, reset, takes};
 use super::hands::agents_of;
 use super::network;
-use super::tables::RESET_LATER;
 use mrp_agent::Agent;
 use mrp_loops::{SizedNet, bound, check};
 use mrp_net::Network;
 use mrp_netting::PairPlan;
+use mrp_worked::{RESET_LATER, has_pieces};
 use std::alloc::Global;
 use std::test::Fail;
 
@@ -54,7 +54,7 @@ fn gives(agents: &mut Vec<Agent>, orders: &[u64]) -> bool {
 
 /// Whether these are the plan of one pair, with these orders.
 fn are_one(plans: &[PairPlan], orders: &[u64]) -> bool {
-    plans.len() == 1 && are_orders(plans[0].order(), orders)
+    plans.len() == 1 && has_pieces(plans[0].order(), orders)
 }
 
 /// Whether the agents of two plants, once they are made, do what agents do.

@@ -2,14 +2,17 @@
 
 ghost use Rattle.std.specs.Prelude.{◌≡◌};
 
-use super::tables::{
-    IDLE_RING, NO_LANES, NO_PLANTS, ONE_SHARED, RESET_AT_RELEASE, RESET_LATER, RING, SHARED,
-    SHARED_AFTER_SHIPMENT, TWO_CUSTOMERS, TWO_PLANTS, TWO_SHIPMENTS,
-};
-use super::{are_figures, follows, is_at_the_end, is_planned_whole, network};
+use super::{are_figures, are_received, follows, is_at_the_end, is_planned_whole, network};
+use mrp_book::LaneFigure;
 use mrp_loops::{SizedNet, bound, check};
 use mrp_net::{LaneNo, Network, PairNo};
 use mrp_plan::plan_all;
+use mrp_worked::{
+    Ending, IDLE_RING_ENDING, NO_LANES_ENDING, NO_PLANTS_ENDING, ONE_SHARED, ONE_SHARED_ENDING,
+    RESET_AT_RELEASE, RESET_AT_RELEASE_ENDING, RESET_LATER, RESET_LATER_ENDING, RING, RING_ENDING,
+    SHARED, SHARED_AFTER_SHIPMENT_ENDING, SHARED_ENDING, TWO_CUSTOMERS_ENDING, TWO_PLANTS,
+    TWO_PLANTS_ENDING, TWO_SHIPMENTS_ENDING, has_pieces,
+};
 use mrp_world::{Event, Firm, MOST_ROOM};
 use std::alloc::Global;
 use std::test::Fail;
@@ -88,16 +91,6 @@ fn goes(
     goes_so(rt.alloc(), &net, capacity, tried, figures)
 }
 
-/// What is known of a firm at its end: how many steps it takes, the figures, and the orders of each
-/// pair.
-#[derive(Clone, Copy)]
-struct Ending<'a> {
-    table: &'a str,
-    steps: u64,
-    figures: &'a [Figures],
-    orders: &'a [&'a [u64]],
-}
-
 /// Whether the pair is planned with these orders.
 fn has_orders(firm: &Firm, network: &Network, x: usize, orders: &[u64]) -> bool
     requires network { firm.now.network ≡ network.now }
@@ -106,10 +99,7 @@ fn has_orders(firm: &Firm, network: &Network, x: usize, orders: &[u64]) -> bool
         return false;
     }
     match firm.planned(PairNo(x)) {
-        Some(planned) => {
-            let row = planned.order().as_slice();
-            row.len() == orders.len() && row.iter().zip(orders).all(|(q, e)| q.get() == *e)
-        }
+        Some(planned) => has_pieces(planned.order(), orders),
         None => false,
     }
 }
@@ -126,9 +116,40 @@ fn has_all_orders(firm: &Firm, network: &Network, orders: &[&[u64]]) -> bool
     orders.len() == network.pairs()
 }
 
+/// Whether the figures are these, each as opening and end, and as much is received as is shipped.
+fn are_settled(figures: &[LaneFigure], wanted: &[(u64, u64)]) -> bool {
+    are_received(figures)
+        && figures.len() == wanted.len()
+        && figures.iter().zip(wanted).all(|(figure, (opening, end))| {
+            figure.opening.get() == *opening && figure.shipped.get() == *end
+        })
+}
+
+/// Whether the figures are those, lane by lane.
+fn are_settled_lanes(figures: &[LaneFigure], wanted: &[&[(u64, u64)]]) -> bool {
+    let mut rest = figures;
+    for lane in wanted {
+        if rest.len() < lane.len() {
+            return false;
+        }
+        let (first, others) = rest.split_at(lane.len());
+        if !are_settled(first, *lane) {
+            return false;
+        }
+        rest = others;
+    }
+    rest.is_empty()
+}
+
 /// Whether the firm begins with so many steps and is driven to this ending, which is the plan of
 /// the network.
-fn ends_so(alloc: Global, net: &SizedNet, capacity: u64, ending: &Ending) -> Result<bool, Fail> {
+fn ends_so(
+    alloc: Global,
+    net: &SizedNet,
+    capacity: u64,
+    ending: &Ending,
+    wanted: u64,
+) -> Result<bool, Fail> {
     if capacity == 0 || capacity > MOST_ROOM {
         return Ok(false);
     }
@@ -139,9 +160,9 @@ fn ends_so(alloc: Global, net: &SizedNet, capacity: u64, ending: &Ending) -> Res
     firm.drive();
     let shown = firm.figures(alloc)?;
     Ok(
-        steps == ending.steps
+        steps == wanted
             && is_at_the_end(&firm)
-            && are_figures(shown.as_slice(), ending.figures)
+            && are_settled_lanes(shown.as_slice(), ending.figures)
             && has_all_orders(&firm, network, ending.orders)
             && is_planned_whole(&firm, network)
             && follows(&firm, network, &whole),
@@ -149,9 +170,14 @@ fn ends_so(alloc: Global, net: &SizedNet, capacity: u64, ending: &Ending) -> Res
 }
 
 /// Whether the firm ends so with mailboxes for 1, 2, 64 and 65,536 records.
-fn ends_at_each_capacity(alloc: Global, net: &SizedNet, ending: &Ending) -> Result<bool, Fail> {
+fn ends_at_each_capacity(
+    alloc: Global,
+    net: &SizedNet,
+    ending: &Ending,
+    steps: u64,
+) -> Result<bool, Fail> {
     for capacity in [1, 2, 64, 65_536] {
-        if !ends_so(alloc, net, capacity, ending)? {
+        if !ends_so(alloc, net, capacity, ending, steps)? {
             return Ok(false);
         }
     }
@@ -159,11 +185,11 @@ fn ends_at_each_capacity(alloc: Global, net: &SizedNet, ending: &Ending) -> Resu
 }
 
 /// The same of the firm of the ending's table.
-fn ends(rt: &HostRuntime, ending: &Ending) -> Result<bool, Fail> {
+fn ends(rt: &HostRuntime, ending: &Ending, steps: u64) -> Result<bool, Fail> {
     let network = network(rt, ending.table)?;
     let levels = check(rt.alloc(), &network)?;
     let net = bound(rt.alloc(), &network, &levels)?;
-    ends_at_each_capacity(rt.alloc(), &net, ending)
+    ends_at_each_capacity(rt.alloc(), &net, ending, steps)
 }
 
 #[test]
@@ -174,15 +200,8 @@ fn a_record_is_sent_before_it_is_received(rt: HostRuntime) -> Result<(), Fail> {
         (send(0), false, 13),
         (plan(0), false, 13),
     ];
-    assert!(rt;
-        goes(
-            &rt,
-            TWO_PLANTS,
-            1,
-            &tried,
-            &[(100, 108, 100), (108, 108, 108)]
-        )?
-    );
+    let figures = [(100, 108, 100), (108, 108, 108)];
+    assert!(rt; goes(&rt, TWO_PLANTS, 1, &tried, &figures)?);
     Ok(())
 }
 
@@ -201,15 +220,8 @@ fn a_pair_is_planned_once_its_block_has_ended(rt: HostRuntime) -> Result<(), Fai
         (plan(0), false, 9),
         (plan(1), false, 9),
     ];
-    assert!(rt;
-        goes(
-            &rt,
-            TWO_PLANTS,
-            1,
-            &tried,
-            &[(100, 108, 108), (108, 108, 108)]
-        )?
-    );
+    let figures = [(100, 108, 108), (108, 108, 108)];
+    assert!(rt; goes(&rt, TWO_PLANTS, 1, &tried, &figures)?);
     Ok(())
 }
 
@@ -225,15 +237,8 @@ fn a_schedule_is_sent_once_its_pair_is_planned(rt: HostRuntime) -> Result<(), Fa
         (plan(0), true, 9),
         (send(1), true, 8),
     ];
-    assert!(rt;
-        goes(
-            &rt,
-            TWO_PLANTS,
-            64,
-            &tried,
-            &[(100, 108, 108), (108, 130, 108)]
-        )?
-    );
+    let figures = [(100, 108, 108), (108, 130, 108)];
+    assert!(rt; goes(&rt, TWO_PLANTS, 64, &tried, &figures)?);
     Ok(())
 }
 
@@ -263,15 +268,8 @@ fn two_plants_from_the_first_event_to_the_last(rt: HostRuntime) -> Result<(), Fa
         (receive(1), false, 0),
         (plan(1), false, 0),
     ];
-    assert!(rt;
-        goes(
-            &rt,
-            TWO_PLANTS,
-            1,
-            &tried,
-            &[(100, 108, 108), (108, 130, 130)]
-        )?
-    );
+    let figures = [(100, 108, 108), (108, 130, 130)];
+    assert!(rt; goes(&rt, TWO_PLANTS, 1, &tried, &figures)?);
     Ok(())
 }
 
@@ -285,15 +283,8 @@ fn a_firm_has_no_other_lanes_and_pairs(rt: HostRuntime) -> Result<(), Fail> {
         (receive(usize::MAX), false, 14),
         (plan(usize::MAX), false, 14),
     ];
-    assert!(rt;
-        goes(
-            &rt,
-            TWO_PLANTS,
-            1,
-            &tried,
-            &[(100, 100, 100), (108, 108, 108)]
-        )?
-    );
+    let figures = [(100, 100, 100), (108, 108, 108)];
+    assert!(rt; goes(&rt, TWO_PLANTS, 1, &tried, &figures)?);
     Ok(())
 }
 
@@ -495,141 +486,68 @@ fn lists_count_the_events_that_are_enabled(rt: HostRuntime) -> Result<(), Fail> 
 
 #[test]
 fn two_plants_end(rt: HostRuntime) -> Result<(), Fail> {
-    let ending = Ending {
-        table: TWO_PLANTS,
-        steps: 14,
-        figures: &[(100, 108, 108), (108, 130, 130)],
-        orders: &[&[0, 0, 22, 0], &[0, 22, 0, 0]],
-    };
-    assert!(rt; ends(&rt, &ending)?);
+    assert!(rt; ends(&rt, &TWO_PLANTS_ENDING, 14)?);
     Ok(())
 }
 
 #[test]
 fn two_shipments_end(rt: HostRuntime) -> Result<(), Fail> {
-    let ending = Ending {
-        table: TWO_SHIPMENTS,
-        steps: 16,
-        figures: &[(100, 116, 116), (116, 130, 130)],
-        orders: &[&[0, 0, 14, 0], &[0, 14, 0, 0]],
-    };
-    assert!(rt; ends(&rt, &ending)?);
+    assert!(rt; ends(&rt, &TWO_SHIPMENTS_ENDING, 16)?);
     Ok(())
 }
 
 #[test]
 fn figures_that_start_anew_end_alike(rt: HostRuntime) -> Result<(), Fail> {
-    for table in [RESET_LATER, RESET_AT_RELEASE] {
-        let ending = Ending {
-            table,
-            steps: 18,
-            figures: &[(100, 108, 108), (108, 130, 130)],
-            orders: &[&[0, 0, 22, 0], &[0, 22, 0, 0]],
-        };
-        assert!(rt; ends(&rt, &ending)?);
+    for ending in [RESET_LATER_ENDING, RESET_AT_RELEASE_ENDING] {
+        assert!(rt; ends(&rt, &ending, 18)?);
     }
     Ok(())
 }
 
 #[test]
 fn a_ring_ends(rt: HostRuntime) -> Result<(), Fail> {
-    let ending = Ending {
-        table: RING,
-        steps: 32,
-        figures: &[
-            (0, 0, 0),
-            (0, 10, 10),
-            (0, 0, 0),
-            (0, 0, 0),
-            (0, 5, 5),
-            (0, 30, 30),
-        ],
-        orders: &[&[5], &[5], &[10], &[10], &[30], &[30]],
-    };
-    assert!(rt; ends(&rt, &ending)?);
+    assert!(rt; ends(&rt, &RING_ENDING, 32)?);
     Ok(())
 }
 
 #[test]
 fn an_idle_ring_ends(rt: HostRuntime) -> Result<(), Fail> {
-    let ending = Ending {
-        table: IDLE_RING,
-        steps: 26,
-        figures: &[(0, 0, 0); 6],
-        orders: &[&[0], &[0], &[0], &[0], &[0], &[0]],
-    };
-    assert!(rt; ends(&rt, &ending)?);
+    assert!(rt; ends(&rt, &IDLE_RING_ENDING, 26)?);
     Ok(())
 }
 
 #[test]
 fn two_customers_end(rt: HostRuntime) -> Result<(), Fail> {
-    let ending = Ending {
-        table: TWO_CUSTOMERS,
-        steps: 25,
-        figures: &[(0, 0, 0), (0, 15, 15), (0, 0, 0), (0, 25, 25)],
-        orders: &[&[10], &[10], &[100], &[15], &[25]],
-    };
-    assert!(rt; ends(&rt, &ending)?);
+    assert!(rt; ends(&rt, &TWO_CUSTOMERS_ENDING, 25)?);
     Ok(())
 }
 
 #[test]
 fn shares_end(rt: HostRuntime) -> Result<(), Fail> {
-    let ending = Ending {
-        table: SHARED,
-        steps: 23,
-        figures: &[(0, 0, 0), (0, 4, 4), (0, 0, 0), (0, 3, 3)],
-        orders: &[&[7], &[4], &[3]],
-    };
-    assert!(rt; ends(&rt, &ending)?);
+    assert!(rt; ends(&rt, &SHARED_ENDING, 23)?);
     Ok(())
 }
 
 #[test]
 fn a_share_of_nothing_ends(rt: HostRuntime) -> Result<(), Fail> {
-    let ending = Ending {
-        table: ONE_SHARED,
-        steps: 21,
-        figures: &[(0, 0, 0), (0, 0, 0), (0, 0, 0), (0, 1, 1)],
-        orders: &[&[1], &[0], &[1]],
-    };
-    assert!(rt; ends(&rt, &ending)?);
+    assert!(rt; ends(&rt, &ONE_SHARED_ENDING, 21)?);
     Ok(())
 }
 
 #[test]
 fn shares_after_a_shipment_end(rt: HostRuntime) -> Result<(), Fail> {
-    let ending = Ending {
-        table: SHARED_AFTER_SHIPMENT,
-        steps: 25,
-        figures: &[(0, 0, 0), (0, 1, 1), (0, 5, 5), (5, 6, 6)],
-        orders: &[&[2], &[1], &[1]],
-    };
-    assert!(rt; ends(&rt, &ending)?);
+    assert!(rt; ends(&rt, &SHARED_AFTER_SHIPMENT_ENDING, 25)?);
     Ok(())
 }
 
 #[test]
 fn a_firm_without_lanes_ends(rt: HostRuntime) -> Result<(), Fail> {
-    let ending = Ending {
-        table: NO_LANES,
-        steps: 1,
-        figures: &[],
-        orders: &[&[20, 0, 20]],
-    };
-    assert!(rt; ends(&rt, &ending)?);
+    assert!(rt; ends(&rt, &NO_LANES_ENDING, 1)?);
     Ok(())
 }
 
 #[test]
 fn a_firm_without_plants_is_at_its_end(rt: HostRuntime) -> Result<(), Fail> {
-    let ending = Ending {
-        table: NO_PLANTS,
-        steps: 0,
-        figures: &[],
-        orders: &[],
-    };
-    assert!(rt; ends(&rt, &ending)?);
+    assert!(rt; ends(&rt, &NO_PLANTS_ENDING, 0)?);
     Ok(())
 }

@@ -2,12 +2,12 @@
 
 ghost use Rattle.std.specs.Prelude.{◌≡◌, length};
 
-use super::tables::{FOUR_PLANTS, RESET_AT_RELEASE, RESET_LATER, RING, SHARED_AFTER_SHIPMENT};
-use super::{follows, is_at_the_end, is_planned_whole, network};
+use super::{are_received, follows, is_at_the_end, is_planned_whole, network};
 use mrp_book::LaneFigure;
 use mrp_loops::{SizedNet, bound, check};
 use mrp_net::{LaneNo, Network, PairNo};
 use mrp_plan::{Plan, plan_all};
+use mrp_worked::{FOUR_PLANTS, RESET_AT_RELEASE, RESET_LATER, RING, SHARED_AFTER_SHIPMENT};
 use mrp_world::{Event, Firm, MOST_ROOM};
 use std::alloc::Global;
 use std::test::Fail;
@@ -116,13 +116,6 @@ fn keeps_the_laws(
         kept = keeps_them(alloc, network, plan, firm, event, &mut before)? && kept;
     }
     Ok(kept)
-}
-
-/// Whether all that was shipped is received.
-fn are_received(figures: &[LaneFigure]) -> bool {
-    figures
-        .iter()
-        .all(|figure| figure.shipped.get() == figure.received.get())
 }
 
 /// Whether a firm keeps the laws under events in an order that comes from the seed, and is driven

@@ -1,9 +1,9 @@
 //! Firms whose allocations are refused: each answer is that memory is out, or the true one.
 
-use super::tables::TWO_PLANTS;
 use super::{are_figures, network};
 use mrp_loops::{SizedNet, bound, check};
 use mrp_plan::fits;
+use mrp_worked::TWO_PLANTS;
 use mrp_world::Firm;
 use std::alloc::Global;
 use std::test::Fail;

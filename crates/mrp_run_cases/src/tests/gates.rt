@@ -4,9 +4,9 @@
 //! time: on one thread the first would wait in vain.
 
 use super::network;
-use super::tables::{LONG_RING, RING, TWO_CUSTOMERS, TWO_PLANTS};
 use mrp_loops::{bound, check};
 use mrp_run::{Gate, NoGate, PlantNo, RunFault, Settings, run_network, run_network_within};
+use mrp_worked::{LONG_RING, RING, TWO_CUSTOMERS, TWO_PLANTS};
 use std::alloc::Global;
 use std::sync::Wait;
 use std::sync::atomic::{AtomicBool, Ordering};

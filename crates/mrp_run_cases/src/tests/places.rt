@@ -6,11 +6,12 @@
 
 ghost use Rattle.std.specs.Prelude.{◌≡◌, length};
 
-use super::endings::{Ending, is_ending, ring, two_customers};
+use super::endings::is_ending;
 use super::network;
 use mrp_loops::{SizedNet, bound, check};
 use mrp_plan::{Plan, plan_all};
 use mrp_run::{Gate, Outcome, PlantNo, RunFault, Settings, run_network_within};
+use mrp_worked::{Ending, RING_ENDING, TWO_CUSTOMERS_ENDING};
 use std::alloc::Global;
 use std::sync::Wait;
 use std::sync::atomic::{AtomicBool, AtomicU64, Ordering};
@@ -260,8 +261,8 @@ fn breaks_off<R: Threads + Wait + Sync>(
 #[test]
 fn a_gate_shut_at_any_look_is_answered(rt: HostRuntime) -> Result<(), Fail> {
     for place in [Place::AtLook, Place::FromLook] {
-        assert!(&rt; breaks_off(&rt, rt.alloc(), &ring(), SETTINGS, place, 9)?);
-        assert!(&rt; breaks_off(&rt, rt.alloc(), &two_customers(), SETTINGS, place, 9)?);
+        assert!(&rt; breaks_off(&rt, rt.alloc(), &RING_ENDING, SETTINGS, place, 9)?);
+        assert!(&rt; breaks_off(&rt, rt.alloc(), &TWO_CUSTOMERS_ENDING, SETTINGS, place, 9)?);
     }
     Ok(())
 }
@@ -272,11 +273,11 @@ fn a_gate_shut_at_any_look_is_answered(rt: HostRuntime) -> Result<(), Fail> {
 fn a_gate_shut_at_any_turn_of_a_plant_is_answered(rt: HostRuntime) -> Result<(), Fail> {
     for plant in [0, 1] {
         let place = Place::ForTurn(plant);
-        assert!(&rt; breaks_off(&rt, rt.alloc(), &ring(), SETTINGS, place, 3)?);
+        assert!(&rt; breaks_off(&rt, rt.alloc(), &RING_ENDING, SETTINGS, place, 3)?);
     }
     for plant in [0, 1, 2] {
         let place = Place::ForTurn(plant);
-        assert!(&rt; breaks_off(&rt, rt.alloc(), &two_customers(), SETTINGS, place, 2)?);
+        assert!(&rt; breaks_off(&rt, rt.alloc(), &TWO_CUSTOMERS_ENDING, SETTINGS, place, 2)?);
     }
     Ok(())
 }
@@ -284,13 +285,13 @@ fn a_gate_shut_at_any_turn_of_a_plant_is_answered(rt: HostRuntime) -> Result<(),
 /// The supplier's first two pairs are planned by two workers; each other wave is of one pair.
 #[test]
 fn a_gate_shut_for_any_worker_is_answered(rt: HostRuntime) -> Result<(), Fail> {
-    for plant in [0, 1] {
+    for (plant, least) in [(0, 2), (1, 2)] {
         let place = Place::ForWorker(plant);
-        assert!(&rt; breaks_off(&rt, rt.alloc(), &ring(), CREWS, place, 2)?);
+        assert!(&rt; breaks_off(&rt, rt.alloc(), &RING_ENDING, CREWS, place, least)?);
     }
     for (plant, least) in [(0, 3), (1, 2), (2, 2)] {
         let place = Place::ForWorker(plant);
-        assert!(&rt; breaks_off(&rt, rt.alloc(), &two_customers(), CREWS, place, least)?);
+        assert!(&rt; breaks_off(&rt, rt.alloc(), &TWO_CUSTOMERS_ENDING, CREWS, place, least)?);
     }
     Ok(())
 }
@@ -299,7 +300,8 @@ fn a_gate_shut_for_any_worker_is_answered(rt: HostRuntime) -> Result<(), Fail> {
 /// the supplier and a customer one books nothing of the other's in its first turn.
 #[test]
 fn turns_that_run_out_at_any_place_are_answered(rt: HostRuntime) -> Result<(), Fail> {
-    assert!(&rt; breaks_off(&rt, rt.alloc(), &ring(), SETTINGS, Place::Turns, 3)?);
-    assert!(&rt; breaks_off(&rt, rt.alloc(), &two_customers(), SETTINGS, Place::Turns, 3)?);
+    for ending in [RING_ENDING, TWO_CUSTOMERS_ENDING] {
+        assert!(&rt; breaks_off(&rt, rt.alloc(), &ending, SETTINGS, Place::Turns, 3)?);
+    }
     Ok(())
 }
