@@ -1,9 +1,9 @@
 //! The network of a firm of three plants, by the calls that read it.
 
-ghost use Rattle.std.specs.Prelude.{◌<◌, length, Contains, IfSome};
+ghost use Rattle.std.specs.Prelude.{IfSome};
 ghost use Rattle.mrp_rows.specs.Table.{IsPair};
-ghost use Rattle.mrp_net.specs.Lanes.{lanes, lane_at, lane_items};
 
+use crate::tests::firms::first_item;
 use mrp_net::{Edge, ItemNo, LaneKind, LaneNo, Network, PairNo, PlantNo, Shipment, Supply};
 use mrp_tables::read_tables_uncounted;
 use std::test::Fail;
@@ -38,18 +38,6 @@ fn pair(network: &Network, plant: &str, item: &str) -> Option<PairNo>
     ensures { IfSome result (λ x. IsPair network.now x.0) }
 {
     network.find(plant, item)
-}
-
-/// The first item of a lane.
-fn first_item(network: &Network, l: LaneNo) -> Option<ItemNo>
-    requires { l.0 < length (lanes network.now) }
-    ensures { IfSome result (λ item. Contains (lane_items network.now (lane_at network.now l.0)) item) }
-{
-    let items = network.lane_items(l);
-    if items.is_empty() {
-        return None;
-    }
-    Some(items[0])
 }
 
 /// An edge as numbers: demander, pair, per, and the running shares.

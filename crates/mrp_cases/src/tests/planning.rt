@@ -3,6 +3,7 @@
 ghost use Rattle.std.specs.Prelude.{◌≡◌, ◌≤◌, length};
 ghost use Rattle.mrp_lot.specs.declared.rule.TheConstants.{LONGEST_LEAD};
 
+use crate::tests::firms::BICYCLE;
 use mrp_loops::{SizedNet, bound, check};
 use mrp_lot::Rule;
 use mrp_net::{Network, PairNo};
@@ -12,15 +13,6 @@ use mrp_qty::{Horizon, Qty, Row};
 use mrp_tables::read_tables_uncounted;
 use std::alloc::Global;
 use std::test::Fail;
-
-/// Two wheels to a bicycle.
-const BICYCLE: &[u8] = b"run,2026-01-05,7,4,,,,
-plant,P1,,,,,,
-pair,P1,BIKE,make,lot,1,0,0
-pair,P1,WHEEL,buy,lot,1,0,0
-bill,P1,BIKE,WHEEL,2,,,
-demand,P1,BIKE,3,10,,,
-";
 
 /// The plan of a bought pair of which 20 pieces are required in period 2.
 fn wheels(alloc: Global, horizon: Horizon, lead: u64) -> Result<PairPlan, Fail>

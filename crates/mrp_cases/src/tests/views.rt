@@ -1,8 +1,6 @@
 //! What a customer and its supplier see of a firm, and the order of the items on their lanes.
 
-ghost use Rattle.std.specs.Prelude.{◌<◌, length, Contains, IfSome};
-ghost use Rattle.mrp_net.specs.Lanes.{lanes, lane_at, lane_items};
-
+use crate::tests::firms::first_item;
 use mrp_net::{ItemNo, LaneKind, LaneNo, Network, PairNo, PlantNo};
 use mrp_tables::read_tables_uncounted;
 use mrp_view::{OutgoingItems, PlantView};
@@ -30,18 +28,6 @@ reset,B,A,X,2,,,
 fn firm(rt: &HostRuntime) -> Result<Network, Fail> {
     let tables = read_tables_uncounted(rt.alloc(), FIRM)?;
     Ok(Network::of(rt.alloc(), tables)?)
-}
-
-/// The first item of a lane.
-fn first_item(network: &Network, l: LaneNo) -> Option<ItemNo>
-    requires { l.0 < length (lanes network.now) }
-    ensures { IfSome result (λ item. Contains (lane_items network.now (lane_at network.now l.0)) item) }
-{
-    let items = network.lane_items(l);
-    if items.is_empty() {
-        return None;
-    }
-    Some(items[0])
 }
 
 /// Whether both lanes have their items in the order of the customer's pairs.
