@@ -1,19 +1,13 @@
 //! Low-level codes, loops and the bound, by their calls.
 
+use crate::tests::firms::network_of;
 use mrp_loops::{BoundFault, LoopFault, bound, check};
-use mrp_net::{Network, PairNo};
-use mrp_tables::read_tables_uncounted;
+use mrp_net::PairNo;
 use std::test::Fail;
 
-/// The network of a table's text.
-fn network(rt: &HostRuntime, text: &[u8]) -> Result<Network, Fail> {
-    let tables = read_tables_uncounted(rt.alloc(), text)?;
-    Ok(Network::of(rt.alloc(), tables)?)
-}
-
 /// Whether the pairs of a table without loops have these low-level codes, in table order.
-fn has_codes(rt: &HostRuntime, text: &[u8], codes: &[u64]) -> Result<bool, Fail> {
-    let network = network(rt, text)?;
+fn has_codes(rt: &HostRuntime, text: &str, codes: &[u64]) -> Result<bool, Fail> {
+    let network = network_of(rt.alloc(), text).ok_or("no network")?;
     let levels = check(rt.alloc(), &network)?;
     Ok(
         network.pairs() == codes.len()
@@ -22,8 +16,8 @@ fn has_codes(rt: &HostRuntime, text: &[u8], codes: &[u64]) -> Result<bool, Fail>
 }
 
 /// Whether the check answers the loop of these places in the table.
-fn has_loop(rt: &HostRuntime, text: &[u8], places: &[usize]) -> Result<bool, Fail> {
-    let network = network(rt, text)?;
+fn has_loop(rt: &HostRuntime, text: &str, places: &[usize]) -> Result<bool, Fail> {
+    let network = network_of(rt.alloc(), text).ok_or("no network")?;
     match check(rt.alloc(), &network) {
         Err(LoopFault::Loop(pairs)) => Ok(are_at(pairs.as_slice(), places)),
         _ => Ok(false),
@@ -37,7 +31,7 @@ fn are_at(pairs: &[PairNo], places: &[usize]) -> bool {
 
 #[test]
 fn a_wheel_comes_below_its_bicycle(rt: HostRuntime) -> Result<(), Fail> {
-    let bicycle = b"run,2026-01-05,7,4,,,,
+    let bicycle = "run,2026-01-05,7,4,,,,
 plant,P1,,,,,,
 pair,P1,WHEEL,buy,lot,1,0,0
 pair,P1,BIKE,make,lot,1,0,0
@@ -50,7 +44,7 @@ demand,P1,BIKE,3,10,,,
 
 #[test]
 fn a_pair_below_a_loop_is_not_in_it(rt: HostRuntime) -> Result<(), Fail> {
-    let table = b"run,2026-01-05,7,1,,,,
+    let table = "run,2026-01-05,7,1,,,,
 plant,A,,,,,,
 pair,A,W,buy,lot,0,0,0
 pair,A,X,make,lot,0,0,0
@@ -67,7 +61,7 @@ demand,A,Y,0,3,,,
 
 #[test]
 fn a_pair_may_be_its_own_component(rt: HostRuntime) -> Result<(), Fail> {
-    let table = b"run,2026-01-05,7,1,,,,
+    let table = "run,2026-01-05,7,1,,,,
 plant,A,,,,,,
 pair,A,X,make,lot,0,0,0
 bill,A,X,X,1,,,
@@ -78,7 +72,7 @@ bill,A,X,X,1,,,
 
 #[test]
 fn two_plants_take_from_each_other(rt: HostRuntime) -> Result<(), Fail> {
-    let ring = b"run,2026-01-05,7,1,,,,
+    let ring = "run,2026-01-05,7,1,,,,
 plant,A,,,,,,
 plant,B,,,,,,
 pair,A,X,from:B,lot,0,0,0
@@ -89,8 +83,8 @@ pair,B,X,from:A,lot,0,0,0
 }
 
 /// The pair whose need is above the bound, or `None` where each figure is within it.
-fn pair_above_the_bound(rt: &HostRuntime, text: &[u8]) -> Result<Option<usize>, Fail> {
-    let network = network(rt, text)?;
+fn pair_above_the_bound(rt: &HostRuntime, text: &str) -> Result<Option<usize>, Fail> {
+    let network = network_of(rt.alloc(), text).ok_or("no network")?;
     let levels = check(rt.alloc(), &network)?;
     match bound(rt.alloc(), &network, &levels) {
         Ok(_) => Ok(None),
@@ -101,7 +95,7 @@ fn pair_above_the_bound(rt: &HostRuntime, text: &[u8]) -> Result<Option<usize>, 
 
 #[test]
 fn the_bound_is_sharp(rt: HostRuntime) -> Result<(), Fail> {
-    let at_the_bound = b"run,2026-01-05,7,1,,,,
+    let at_the_bound = "run,2026-01-05,7,1,,,,
 plant,A,,,,,,
 pair,A,Y,make,lot,0,0,0
 pair,A,X,buy,lot,0,0,0
@@ -109,7 +103,7 @@ bill,A,Y,X,1000000,,,
 demand,A,Y,0,1000000000,,,
 ";
     assert!(rt; pair_above_the_bound(&rt, at_the_bound)?.is_none());
-    let one_piece_more = b"run,2026-01-05,7,1,,,,
+    let one_piece_more = "run,2026-01-05,7,1,,,,
 plant,A,,,,,,
 pair,A,Y,make,lot,0,0,0
 pair,A,X,buy,lot,0,0,0

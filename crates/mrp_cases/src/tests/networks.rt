@@ -4,12 +4,12 @@ ghost use Rattle.std.specs.Prelude.{◌<◌, length, Contains, IfSome};
 ghost use Rattle.mrp_rows.specs.Table.{IsPair};
 ghost use Rattle.mrp_net.specs.Lanes.{lanes, lane_at, lane_items};
 
+use crate::tests::firms::network_of;
 use mrp_net::{Edge, ItemNo, LaneKind, LaneNo, Network, PairNo, PlantNo, Shipment, Supply};
-use mrp_tables::read_tables_uncounted;
 use std::test::Fail;
 
 /// A firm of three plants: A makes bicycles of wheels and takes the wheels from B and C.
-const FIRM: &[u8] = b"run,2026-01-05,7,4,,,,
+const FIRM: &str = "run,2026-01-05,7,4,,,,
 plant,A,,,,,,
 plant,B,,,,,,
 plant,C,,,,,,
@@ -26,12 +26,6 @@ ship,B,A,WHEEL,2,8,,
 ship,B,A,WHEEL,3,9,,
 cum,B,A,WHEEL,100,,,
 ";
-
-/// The network of the firm.
-fn firm(rt: &HostRuntime) -> Result<Network, Fail> {
-    let tables = read_tables_uncounted(rt.alloc(), FIRM)?;
-    Ok(Network::of(rt.alloc(), tables)?)
-}
 
 /// The pair of that name.
 fn pair(network: &Network, plant: &str, item: &str) -> Option<PairNo>
@@ -99,7 +93,7 @@ fn has_the_wheel(net: &Network) -> bool {
 
 #[test]
 fn names_and_rows(rt: HostRuntime) -> Result<(), Fail> {
-    let net = firm(&rt)?;
+    let net = network_of(rt.alloc(), FIRM).ok_or("no network")?;
     assert!(rt; has_the_firm(&net));
     assert!(rt; finds_names(&net));
     assert!(rt; has_the_wheel(&net));
@@ -139,7 +133,7 @@ fn has_the_edges(net: &Network) -> bool {
 
 #[test]
 fn sums_and_edges(rt: HostRuntime) -> Result<(), Fail> {
-    let net = firm(&rt)?;
+    let net = network_of(rt.alloc(), FIRM).ok_or("no network")?;
     assert!(rt; adds_up(&net));
     assert!(rt; has_the_edges(&net));
     Ok(())
@@ -193,7 +187,7 @@ fn other_lanes_begin(net: &Network) -> bool {
 
 #[test]
 fn lanes_between_plants(rt: HostRuntime) -> Result<(), Fail> {
-    let net = firm(&rt)?;
+    let net = network_of(rt.alloc(), FIRM).ok_or("no network")?;
     assert!(rt; has_the_lanes(&net));
     assert!(rt; despatches_from_b(&net));
     assert!(rt; other_lanes_begin(&net));

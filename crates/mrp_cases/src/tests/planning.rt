@@ -3,18 +3,18 @@
 ghost use Rattle.std.specs.Prelude.{◌≡◌, ◌≤◌, length};
 ghost use Rattle.mrp_lot.specs.declared.rule.TheConstants.{LONGEST_LEAD};
 
+use crate::tests::firms::network_of;
 use mrp_loops::{SizedNet, bound, check};
 use mrp_lot::Rule;
-use mrp_net::{Network, PairNo};
+use mrp_net::PairNo;
 use mrp_netting::{PairParams, PairPlan, plan_pair};
 use mrp_plan::{PegSource, PegTerm, Plan, fits, peg, plan_all};
 use mrp_qty::{Horizon, Qty, Row};
-use mrp_tables::read_tables_uncounted;
 use std::alloc::Global;
 use std::test::Fail;
 
 /// Two wheels to a bicycle.
-const BICYCLE: &[u8] = b"run,2026-01-05,7,4,,,,
+const BICYCLE: &str = "run,2026-01-05,7,4,,,,
 plant,P1,,,,,,
 pair,P1,BIKE,make,lot,1,0,0
 pair,P1,WHEEL,buy,lot,1,0,0
@@ -95,7 +95,7 @@ fn wheel_terms(alloc: Global, net: &SizedNet) -> Result<Vec<PegTerm>, Fail> {
 
 #[test]
 fn a_plan_with_another_release_does_not_fit(rt: HostRuntime) -> Result<(), Fail> {
-    let network = Network::of(rt.alloc(), read_tables_uncounted(rt.alloc(), BICYCLE)?)?;
+    let network = network_of(rt.alloc(), BICYCLE).ok_or("no network")?;
     let levels = check(rt.alloc(), &network)?;
     let net = bound(rt.alloc(), &network, &levels)?;
     assert!(rt; is_the_only_plan(rt.alloc(), &net)?);
@@ -104,7 +104,7 @@ fn a_plan_with_another_release_does_not_fit(rt: HostRuntime) -> Result<(), Fail>
 
 #[test]
 fn wheels_are_asked_for_by_the_bicycle(rt: HostRuntime) -> Result<(), Fail> {
-    let network = Network::of(rt.alloc(), read_tables_uncounted(rt.alloc(), BICYCLE)?)?;
+    let network = network_of(rt.alloc(), BICYCLE).ok_or("no network")?;
     let levels = check(rt.alloc(), &network)?;
     let net = bound(rt.alloc(), &network, &levels)?;
     assert!(rt; is_asked_by_the_bicycle(wheel_terms(rt.alloc(), &net)?.as_slice()));

@@ -3,13 +3,13 @@
 ghost use Rattle.std.specs.Prelude.{◌<◌, length, Contains, IfSome};
 ghost use Rattle.mrp_net.specs.Lanes.{lanes, lane_at, lane_items};
 
+use crate::tests::firms::network_of;
 use mrp_net::{ItemNo, LaneKind, LaneNo, Network, PairNo, PlantNo};
-use mrp_tables::read_tables_uncounted;
 use mrp_view::{OutgoingItems, PlantView};
 use std::test::Fail;
 
 /// A firm of two plants: A takes X and Z from B, which has them in the other order.
-const FIRM: &[u8] = b"run,2026-01-05,7,3,,,,
+const FIRM: &str = "run,2026-01-05,7,3,,,,
 plant,A,,,,,,
 plant,B,,,,,,
 pair,B,Z,make,lot,0,0,0
@@ -25,12 +25,6 @@ ship,B,A,X,2,9,,
 cum,B,A,X,100,,,
 reset,B,A,X,2,,,
 ";
-
-/// The network of the firm.
-fn firm(rt: &HostRuntime) -> Result<Network, Fail> {
-    let tables = read_tables_uncounted(rt.alloc(), FIRM)?;
-    Ok(Network::of(rt.alloc(), tables)?)
-}
 
 /// The first item of a lane.
 fn first_item(network: &Network, l: LaneNo) -> Option<ItemNo>
@@ -72,7 +66,7 @@ fn starts_anew(net: &Network) -> bool {
 
 #[test]
 fn items_on_lanes(rt: HostRuntime) -> Result<(), Fail> {
-    let net = firm(&rt)?;
+    let net = network_of(rt.alloc(), FIRM).ok_or("no network")?;
     assert!(rt; has_the_customers_order(&net));
     assert!(rt; starts_anew(&net));
     Ok(())
@@ -109,7 +103,7 @@ fn receives_despatches(view: &PlantView) -> bool {
 
 #[test]
 fn what_a_customer_sees(rt: HostRuntime) -> Result<(), Fail> {
-    let net = firm(&rt)?;
+    let net = network_of(rt.alloc(), FIRM).ok_or("no network")?;
     let view = PlantView::of(rt.alloc(), &net, PlantNo(0))?;
     assert!(rt; sees_its_rows(&view));
     assert!(rt; receives_despatches(&view));
@@ -146,7 +140,7 @@ fn sees_the_schedule(view: &PlantView) -> bool {
 
 #[test]
 fn what_a_supplier_sees(rt: HostRuntime) -> Result<(), Fail> {
-    let net = firm(&rt)?;
+    let net = network_of(rt.alloc(), FIRM).ok_or("no network")?;
     let view = PlantView::of(rt.alloc(), &net, PlantNo(1))?;
     assert_eq!(rt; view.outgoing().len(), 1);
     assert!(rt;
