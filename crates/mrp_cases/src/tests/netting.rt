@@ -95,6 +95,29 @@ fn a_minimum_and_a_multiple(rt: HostRuntime) -> Result<(), Fail> {
     Ok(())
 }
 
+/// Whether the one late order of a plan is of 7 pieces, due in period 1 and two periods late.
+fn has_one_late_order(plan: &PairPlan) -> bool {
+    if plan.late_count() != 1 {
+        return false;
+    }
+    let late = plan.late(0);
+    late.period == 1 && late.quantity.get() == 7 && late.by == 2
+}
+
+/// Whether a plan orders these 7 pieces, and releases them in period 0.
+fn is_late(plan: &PairPlan) -> bool {
+    shows(plan.order(), &[0, 7])
+        && shows(plan.release(), &[7, 0])
+        && shows(plan.available(), &[0, 0])
+        && has_one_late_order(plan)
+}
+
+/// Whether a copy of a plan says so, too.
+fn is_late_in_copy(alloc: Global, plan: &PairPlan) -> Result<bool, Fail> {
+    let copy = plan.copy(alloc)?;
+    Ok(is_late(&copy))
+}
+
 #[test]
 fn an_order_is_late(rt: HostRuntime) -> Result<(), Fail> {
     let params = PairParams {
@@ -102,17 +125,8 @@ fn an_order_is_late(rt: HostRuntime) -> Result<(), Fail> {
         ..pair(Rule::LotForLot)
     };
     let plan = planned(rt.alloc(), &params, &[0, 0], &[0, 7])?;
-    assert!(rt; shows(plan.order(), &[0, 7]));
-    assert!(rt; shows(plan.release(), &[7, 0]));
-    assert!(rt; shows(plan.available(), &[0, 0]));
-    assert_eq!(rt; plan.late_count(), 1);
-    let late = plan.late(0);
-    assert_eq!(rt; late.period, 1);
-    assert_eq!(rt; late.quantity.get(), 7);
-    assert_eq!(rt; late.by, 2);
-    let copy = plan.copy(rt.alloc())?;
-    assert!(rt; shows(copy.release(), &[7, 0]));
-    assert_eq!(rt; copy.late_count(), 1);
+    assert!(rt; is_late(&plan));
+    assert!(rt; is_late_in_copy(rt.alloc(), &plan)?);
     Ok(())
 }
 
