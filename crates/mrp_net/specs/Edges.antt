@@ -1,6 +1,6 @@
 -- Who takes from whom: the edges of a network, read off its rows.
-use Rattle.std.specs.Prelude.{ℕ, ◌-◌, ◌*◌, ◌/◌, ◌<◌, ◌≤◌, ◌==◌, List, ◌++◌, length, map, filter}
-use Rattle.std.specs.List.{flat_map, range_with_len}
+use Rattle.std.specs.Prelude.{ℕ, ◌-◌, ◌*◌, ◌/◌, ◌<◌, ◌≤◌, List, ◌++◌, length, map}
+use Rattle.mrp_group.specs.Groups.{group, sorted_by}
 use Rattle.mrp_rows.specs.declared.rows.BillRow.{BillRow}
 use Rattle.mrp_rows.specs.declared.rows.SourceRow.{SourceRow}
 use Rattle.mrp_rows.specs.declared.rows.TheConstants.{MOST_PER}
@@ -22,13 +22,11 @@ edges N = map bill_edge N.bills ++ map (source_edge N) N.sources
 
 -- the edges to a pair, in table order of their demanders
 abbrev pub demanders : Table → ℕ → List Edge
-demanders N x =
-    flat_map (λ y. filter (λ e. e.demander.0 == y) (filter (λ e. e.pair.0 == x) (edges N))) (range_with_len 0 (length N.pairs))
+demanders N x = sorted_by (λ e. e.demander.0) (length N.pairs) (group (λ e. e.pair.0) x (edges N))
 
 -- the edges from a pair, in table order of the pairs that it takes from
 abbrev pub suppliers : Table → ℕ → List Edge
-suppliers N y =
-    flat_map (λ x. filter (λ e. e.pair.0 == x) (filter (λ e. e.demander.0 == y) (edges N))) (range_with_len 0 (length N.pairs))
+suppliers N y = sorted_by (λ e. e.pair.0) (length N.pairs) (group (λ e. e.demander.0) y (edges N))
 
 -- the edge's part of a release: whole for a component, else the source's running share
 abbrev pub part : Edge → ℕ → ℕ

@@ -4,6 +4,7 @@ use Rattle.std.specs.Prelude.{◌≡◌, ℕ, ◌+◌, zero, suc, List, [], leng
 use Rattle.std.specs.List.{range_with_len}
 use Rattle.mrp_lot.specs.One.{PlanRows, one}
 use Rattle.mrp_rows.specs.Table.{Table, IsPair}
+use Rattle.mrp_net.specs.declared.edge.Edge.{Edge}
 use Rattle.mrp_net.specs.Edges.{demanders, edge_need}
 use Rattle.mrp_net.specs.Sums.{demand, incoming, params_at, row_of}
 
@@ -15,10 +16,13 @@ no_rows = record { gross = []; incoming = []; order = []; release = []; availabl
 abbrev pub rows_at : List PlanRows → ℕ → PlanRows
 rows_at table x = slice_index_or table x no_rows
 
+-- what the releases of demanders ask over edges in a period
+abbrev pub asked : List PlanRows → List Edge → ℕ → ℕ
+asked table edges t = sum_by (λ e. edge_need e (slice_index (rows_at table e.demander.0).release t)) edges
+
 -- gross requirement: the demand rows, and what the releases of the demanders ask
 abbrev pub gross : Table → List PlanRows → ℕ → ℕ → ℕ
-gross N table x t =
-    demand N x t + sum_by (λ e. edge_need e (slice_index (rows_at table e.demander.0).release t)) (demanders N x)
+gross N table x t = demand N x t + asked table (demanders N x) t
 
 -- the plan of a pair beside the plans of its demanders
 abbrev pub pair_plan : Table → List PlanRows → ℕ → PlanRows

@@ -6,10 +6,10 @@ use Rattle.std.proofs.lemmas.List.Sums.{sum_by-cons}
 use Rattle.mrp_lot.specs.One.{PlanRows}
 use Rattle.mrp_lot.proofs.RangeLaws.{sum_by-range-suc}
 use Rattle.mrp_net.specs.Edges.{edge_need, part}
-use Rattle.mrp_net.specs.Plan.{rows_at, no_rows}
+use Rattle.mrp_net.specs.Plan.{rows_at, no_rows, asked}
 use Rattle.mrp_net.specs.declared.edge.Edge.{Edge}
 use Rattle.mrp_net.proofs.Totals.{asked_sum-le}
-use Rattle.mrp_plan.specs.Explosion.{asked, asked_total}
+use Rattle.mrp_plan.specs.Explosion.{asked_total}
 
 -- what a look-up past the edges reads
 abbrev pub no_edge : Edge

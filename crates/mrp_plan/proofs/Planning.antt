@@ -13,11 +13,11 @@ use Rattle.mrp_lot.proofs.RangeLaws.{map-range-same}
 use Rattle.mrp_rows.specs.Table.{Table, IsTable, horizon}
 use Rattle.mrp_net.specs.Edges.{demanders, edge_need}
 use Rattle.mrp_net.specs.Sums.{demand, demand_total, incoming, params_at, pair_at, row_of, no_pair}
-use Rattle.mrp_net.specs.Plan.{rows_at, no_rows, gross, pair_plan, Fits}
+use Rattle.mrp_net.specs.Plan.{rows_at, no_rows, gross, pair_plan, Fits, asked}
 use Rattle.mrp_net.specs.declared.edge.Edge.{Edge}
 use Rattle.mrp_loops.specs.Need.{AreNeeds, AreWithin}
 use Rattle.mrp_loops.specs.Sized.{IsPlanningOrder}
-use Rattle.mrp_plan.specs.Explosion.{asked, asked_total}
+use Rattle.mrp_plan.specs.Explosion.{asked_total}
 use Rattle.mrp_plan.specs.Progress.{CanPlan, HasRooms, IsPlannedTo}
 use Rattle.mrp_net.proofs.Periods.{incomings-le}
 use Rattle.mrp_net.proofs.Totals.{gross_sum-le}

@@ -1,15 +1,10 @@
 -- What the releases of a pair's demanders ask of it.
-use Rattle.std.specs.Prelude.{◌≡◌, ℕ, ◌*◌, ◌<◌, ◌≤◌, List, length, sum, sum_by, slice_index}
+use Rattle.std.specs.Prelude.{◌≡◌, ℕ, ◌*◌, ◌<◌, ◌≤◌, List, length, sum, sum_by}
 use Rattle.mrp_lot.specs.One.{PlanRows}
-use Rattle.mrp_net.specs.Edges.{edge_need}
 use Rattle.mrp_net.specs.Plan.{rows_at}
 use Rattle.mrp_net.specs.declared.edge.Edge.{Edge}
 
--- what edges ask in a period, by the releases in a table of plans
-abbrev pub asked : List PlanRows → List Edge → ℕ → ℕ
-asked table edges t = sum_by (λ e. edge_need e (slice_index (rows_at table e.demander.0).release t)) edges
-
--- no more than what they would ask in all periods, were each part a whole release
+-- no more than what edges would ask in all periods, were each part a whole release
 abbrev pub asked_total : List PlanRows → List Edge → ℕ
 asked_total table edges = sum_by (λ e. e.per * sum (rows_at table e.demander.0).release) edges
 

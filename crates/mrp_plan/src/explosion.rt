@@ -3,8 +3,8 @@
 ghost use Rattle.std.specs.Prelude.{◌≡◌, ◌+◌, ◌*◌, ◌<◌, ◌≤◌, ◌↔◌, ℕ, IsTrue, length, sum, sum_by, slice_index, All};
 ghost use Rattle.mrp_qty.specs.declared.quantity.TheConstants.{MOST};
 ghost use Rattle.mrp_net.specs.Edges.{part, edge_need};
-ghost use Rattle.mrp_net.specs.Plan.{rows_at};
-ghost use Rattle.mrp_plan.specs.Explosion.{CanExplode, asked, asked_total};
+ghost use Rattle.mrp_net.specs.Plan.{rows_at, asked};
+ghost use Rattle.mrp_plan.specs.Explosion.{CanExplode, asked_total};
 
 use mrp_net::Edge;
 use mrp_netting::PairPlan;

@@ -4,10 +4,10 @@ ghost use Rattle.std.specs.Prelude.{◌≡◌, ◌<◌, ◌≤◌, ◌+◌, ◌�
 ghost use Rattle.mrp_qty.specs.declared.quantity.TheConstants.{MOST};
 ghost use Rattle.mrp_rows.specs.Table.{IsPair, horizon};
 ghost use Rattle.mrp_net.specs.Sums.{incoming, row_of};
-ghost use Rattle.mrp_net.specs.Plan.{Fits, gross, pair_plan, rows_at};
+ghost use Rattle.mrp_net.specs.Plan.{Fits, gross, pair_plan, rows_at, asked};
 ghost use Rattle.mrp_loops.specs.Need.{AreNeeds};
 ghost use Rattle.mrp_loops.specs.Sized.{IsSized, IsPlanningOrder};
-ghost use Rattle.mrp_plan.specs.Explosion.{asked, CanAsk};
+ghost use Rattle.mrp_plan.specs.Explosion.{CanAsk};
 ghost use Rattle.mrp_plan.specs.Progress.{CanPlan, HasRooms, IsPlannedTo};
 
 use crate::Plan;

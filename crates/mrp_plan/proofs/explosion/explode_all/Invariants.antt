@@ -1,5 +1,6 @@
 use Rattle.std.proofs.Common.{◌≡◌, ℕ, ◌+◌, ◌<◌, ◌≤◌, length, sum, slice_index, take}
-use Rattle.mrp_plan.specs.Explosion.{asked, asked_total}
+use Rattle.mrp_net.specs.Plan.{asked}
+use Rattle.mrp_plan.specs.Explosion.{asked_total}
 use Rattle.mrp_plan.proofs.explosion.explode_all.Given as goal
 
 -- what the edges passed so far ask is added

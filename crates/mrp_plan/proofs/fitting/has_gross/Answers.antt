@@ -3,9 +3,8 @@ use Rattle.std.proofs.lemmas.Bool.{false≢true}
 use Rattle.std.proofs.lemmas.List.FromFn.{fill_by_all}
 use Rattle.mrp_rows.specs.Table.{horizon}
 use Rattle.mrp_net.specs.Edges.{demanders}
-use Rattle.mrp_net.specs.Plan.{gross}
+use Rattle.mrp_net.specs.Plan.{gross, asked}
 use Rattle.mrp_net.specs.declared.edge.Edge.{Edge}
-use Rattle.mrp_plan.specs.Explosion.{asked}
 use Rattle.mrp_plan.proofs.Asked.{asked-le}
 use Rattle.mrp_net.proofs.Periods.{demand-le, row_reads}
 use Rattle.mrp_net.proofs.Totals.{shares_end}

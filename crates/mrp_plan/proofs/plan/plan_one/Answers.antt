@@ -8,8 +8,8 @@ use Rattle.mrp_rows.specs.Table.{horizon}
 use Rattle.mrp_net.specs.Edges.{demanders}
 use Rattle.mrp_net.specs.declared.edge.Edge.{Edge}
 use Rattle.mrp_net.specs.Sums.{demand, demand_total, incoming, params_at, row_of}
-use Rattle.mrp_net.specs.Plan.{rows_at, no_rows, gross, pair_plan}
-use Rattle.mrp_plan.specs.Explosion.{asked, asked_total}
+use Rattle.mrp_net.specs.Plan.{rows_at, no_rows, gross, pair_plan, asked}
+use Rattle.mrp_plan.specs.Explosion.{asked_total}
 use Rattle.mrp_net.proofs.Periods.{demands-le}
 use Rattle.mrp_plan.proofs.Planning.{length-row_of, is_within, gross_row}
 use Rattle.mrp_plan.proofs.plan.plan_one.Goals as goal
