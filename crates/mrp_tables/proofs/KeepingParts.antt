@@ -8,8 +8,9 @@ use Rattle.mrp_rows.specs.declared.rows.ResetRow.{ResetRow}
 use Rattle.mrp_rows.specs.declared.rows.ShipRow.{ShipRow}
 use Rattle.mrp_rows.specs.Names.{pair_named, plant_no}
 use Rattle.mrp_rows.specs.Table.{Table, arrivals, horizon, rises_from}
-use Rattle.mrp_tables.specs.declared.lanes.KnownLane.{KnownLane}
-use Rattle.mrp_tables.specs.Grammar.{BillTerms, LaneTerms, bill_fits, cum_of, cum_terms, has_bill, has_cum, has_reset, is_made, known_lane, lane_named, reset_of, reset_terms, ship_of, ship_terms}
+use Rattle.mrp_rows.specs.declared.numbers.PlantNo.{PlantNo}
+use Rattle.mrp_rows.specs.declared.numbers.PairNo.{PairNo}
+use Rattle.mrp_tables.specs.Grammar.{BillTerms, LaneTerms, bill_fits, cum_of, cum_terms, has_bill, has_cum, has_reset, is_made, known_lane, reset_of, reset_terms, ship_of, ship_terms}
 use Rattle.mrp_tables.proofs.KeepingSteps.{after, after_check, after_some, same_Ok}
 
 pub record BillParts (N : Table) (t : BillTerms) (b : BillRow) : Type 0 where
@@ -40,54 +41,52 @@ bill_parts N t b is =
 
 pub record ShipParts (N : Table) (row : List (List ℕ)) (x : ShipRow) : Type 0 where
   pub terms : LaneTerms × ℕ × ℕ
-  pub lane : KnownLane
+  pub lane : PlantNo × PairNo
   pub read : ship_terms row (horizon N) ≡ Ok terms
-  pub known : known_lane (lane_named N terms.0) ≡ Ok lane
+  pub known : known_lane N terms.0 ≡ Ok lane
   pub room : ltb (length N.ships) MOST_OF_A_KIND ≡ true
-  pub same : record { from = lane.from; pair = lane.pair; period = terms.1; quantity = terms.2 } ≡ x
+  pub same : record { from = lane.0; pair = lane.1; period = terms.1; quantity = terms.2 } ≡ x
 
 pub ship_parts : (N : Table) (row : List (List ℕ)) (x : ShipRow) → ship_of N row ≡ Ok x → ShipParts N row x
 unfolding ship_of
 ship_parts N row x is =
     let a = after (ship_terms row (horizon N)) _ x is in
-    let b = after (known_lane (lane_named N a.0.0)) _ x a.2 in
+    let b = after (known_lane N a.0.0) _ x a.2 in
     let c = after_check (ltb (length N.ships) MOST_OF_A_KIND) _ _ x b.2 in
     record { terms = a.0; lane = b.0; read = a.1; known = b.1; room = c.0; same = same_Ok _ x c.1 }
 
 pub record CumParts (N : Table) (row : List (List ℕ)) (x : CumRow) : Type 0 where
   pub terms : LaneTerms × ℕ
-  pub lane : KnownLane
+  pub lane : PlantNo × PairNo
   pub read : cum_terms row ≡ Ok terms
-  pub new : has_cum N (lane_named N terms.0) ≡ false
-  pub known : known_lane (lane_named N terms.0) ≡ Ok lane
+  pub new : has_cum N terms.0 ≡ false
+  pub known : known_lane N terms.0 ≡ Ok lane
   pub room : ltb (length N.cums) MOST_OF_A_KIND ≡ true
-  pub same : record { from = lane.from; pair = lane.pair; figure = terms.1 } ≡ x
+  pub same : record { from = lane.0; pair = lane.1; figure = terms.1 } ≡ x
 
 pub cum_parts : (N : Table) (row : List (List ℕ)) (x : CumRow) → cum_of N row ≡ Ok x → CumParts N row x
 unfolding cum_of
 cum_parts N row x is =
     let a = after (cum_terms row) _ x is in
-    let l = lane_named N a.0.0 in
-    let z = after_check (not (has_cum N l)) _ _ x a.2 in
-    let b = after (known_lane l) _ x z.1 in
+    let z = after_check (not (has_cum N a.0.0)) _ _ x a.2 in
+    let b = after (known_lane N a.0.0) _ x z.1 in
     let c = after_check (ltb (length N.cums) MOST_OF_A_KIND) _ _ x b.2 in
-    record { terms = a.0; lane = b.0; read = a.1; new = not-true (has_cum N l) z.0; known = b.1; room = c.0; same = same_Ok _ x c.1 }
+    record { terms = a.0; lane = b.0; read = a.1; new = not-true (has_cum N a.0.0) z.0; known = b.1; room = c.0; same = same_Ok _ x c.1 }
 
 pub record ResetParts (N : Table) (row : List (List ℕ)) (x : ResetRow) : Type 0 where
   pub terms : LaneTerms × ℕ
-  pub lane : KnownLane
+  pub lane : PlantNo × PairNo
   pub read : reset_terms row (horizon N) ≡ Ok terms
-  pub new : has_reset N (lane_named N terms.0) ≡ false
-  pub known : known_lane (lane_named N terms.0) ≡ Ok lane
-  pub rises : rises_from 0 (arrivals N lane.from.0 lane.pair.0) ≡ true
-  pub same : record { from = lane.from; pair = lane.pair; period = terms.1 } ≡ x
+  pub new : has_reset N terms.0 ≡ false
+  pub known : known_lane N terms.0 ≡ Ok lane
+  pub rises : rises_from 0 (arrivals N lane.0.0 lane.1.0) ≡ true
+  pub same : record { from = lane.0; pair = lane.1; period = terms.1 } ≡ x
 
 pub reset_parts : (N : Table) (row : List (List ℕ)) (x : ResetRow) → reset_of N row ≡ Ok x → ResetParts N row x
 unfolding reset_of
 reset_parts N row x is =
     let a = after (reset_terms row (horizon N)) _ x is in
-    let l = lane_named N a.0.0 in
-    let z = after_check (not (has_reset N l)) _ _ x a.2 in
-    let b = after (known_lane l) _ x z.1 in
-    let c = after_check (rises_from 0 (arrivals N b.0.from.0 b.0.pair.0)) _ _ x b.2 in
-    record { terms = a.0; lane = b.0; read = a.1; new = not-true (has_reset N l) z.0; known = b.1; rises = c.0; same = same_Ok _ x c.1 }
+    let z = after_check (not (has_reset N a.0.0)) _ _ x a.2 in
+    let b = after (known_lane N a.0.0) _ x z.1 in
+    let c = after_check (rises_from 0 (arrivals N b.0.0.0 b.0.1.0)) _ _ x b.2 in
+    record { terms = a.0; lane = b.0; read = a.1; new = not-true (has_reset N a.0.0) z.0; known = b.1; rises = c.0; same = same_Ok _ x c.1 }

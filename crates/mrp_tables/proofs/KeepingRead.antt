@@ -1,5 +1,5 @@
 -- A row more that fits is in range, and names what is there.
-use Rattle.std.proofs.Common.{◌≡◌, ◌≤◌, ◌<◌, ℕ, ◌-◌, ◌==◌, ◌&&◌, Bool, true, false, not, ltb, if◌then◌else◌, get_or, List, [], ◌∷◌, map, length, Option, Some, None, option_map, position, Result, Ok, Err, ok_or, refl, ap, ◌∙◌, subst, arith}
+use Rattle.std.proofs.Common.{◌≡◌, ◌≤◌, ◌<◌, ℕ, ◌-◌, ◌==◌, ◌&&◌, Bool, true, false, not, ltb, if◌then◌else◌, get_or, List, [], ◌∷◌, map, length, Option, Some, None, position, Result, Ok, Err, ok_or, refl, ap, ◌∙◌, subst, arith}
 use Rattle.std.specs.List.{All, IsDistinct}
 use Rattle.std.specs.Str.{bytes_eq}
 use Rattle.std.proofs.lemmas.Bool.Decides.{nat_tests}
@@ -25,8 +25,7 @@ use Rattle.mrp_spell.specs.Spelling.{is_name, number_within}
 use Rattle.mrp_spell.proofs.Ranges.{within_range}
 use Rattle.mrp_tables.specs.declared.fault.TableFaultKind.{TableFaultKind}
 use Rattle.mrp_tables.specs.declared.fault.TableFaultKind.TheVariants as fault
-use Rattle.mrp_tables.specs.declared.lanes.KnownLane.{KnownLane}
-use Rattle.mrp_tables.specs.Grammar.{amount_terms, AmountTerms, bill_fits, bill_of, bill_terms, BillTerms, cum_of, cum_terms, demand_of, field, known_lane, known_pair, lane_named, lane_terms, LaneTerms, name_of, plant_of, plant_terms, ranged, receipt_of, reset_of, reset_terms, ship_of, ship_terms}
+use Rattle.mrp_tables.specs.Grammar.{amount_terms, AmountTerms, bill_fits, bill_of, bill_terms, BillTerms, cum_of, cum_terms, demand_of, field, known_lane, known_pair, lane_terms, LaneTerms, name_of, plant_of, plant_terms, ranged, receipt_of, reset_of, reset_terms, ship_of, ship_terms}
 use Rattle.mrp_tables.specs.Lists.{AreLanes, has_lane, is_same_lane, lane_of, reset_key_of}
 use Rattle.mrp_tables.proofs.Arrivals.{among_lanes, same_lane_laws}
 use Rattle.mrp_tables.proofs.KeepingLists.{position_there}
@@ -75,20 +74,10 @@ known_within N plant item found is =
     let same : ◌≡◌ {A = PlantNo × PairNo} (record { 0 = a.0 }, record { 0 = b.0 }) found = same_Ok _ found b.2 in
     subst (λ (f : PlantNo × PairNo). f.1.0 < length N.pairs) same (pair_within N (Some a.0) item b.0 b.1)
 
-some_plant : (o : Option ℕ) (f : PlantNo) (n : ℕ) → ((p : ℕ) → o ≡ Some p → p < n) → ◌≡◌ {A = Option PlantNo} (option_map (λ p. record { 0 = p }) o) (Some f) → f.0 < n
-some_plant (Some p) f n within e = let same : ◌≡◌ {A = PlantNo} (record { 0 = p }) f = cc in subst (λ (x : PlantNo). x.0 < n) same (within p refl)
-some_plant None f n within e = absurd (cc)
-
-some_pair : (o : Option ℕ) (x : PairNo) (n : ℕ) → ((p : ℕ) → o ≡ Some p → p < n) → ◌≡◌ {A = Option PairNo} (option_map (λ p. record { 0 = p }) o) (Some x) → x.0 < n
-some_pair (Some p) x n within e = let same : ◌≡◌ {A = PairNo} (record { 0 = p }) x = cc in subst (λ (y : PairNo). y.0 < n) same (within p refl)
-some_pair None x n within e = absurd (cc)
-
-lane_within : (N : Table) (t : LaneTerms) (lane : KnownLane) → known_lane (lane_named N t) ≡ Ok lane → (lane.from.0 < length N.plants) × (lane.pair.0 < length N.pairs)
+lane_within : (N : Table) (t : LaneTerms) (lane : PlantNo × PairNo) → known_lane N t ≡ Ok lane → (lane.0.0 < length N.plants) × (lane.1.0 < length N.pairs)
 lane_within N t lane is =
-    let on = on_lane N (lane_named N t) lane is in (
-      some_plant (plant_no N t.from) lane.from (length N.plants) (plant_within N t.from) on.from,
-      some_pair (pair_named N (plant_no N t.to) t.item) lane.pair (length N.pairs) (pair_within N (plant_no N t.to) t.item) on.pair,
-    )
+    let on = on_lane N t lane is in
+    (plant_within N t.from lane.0.0 on.from, pair_within N (plant_no N t.to) t.item lane.1.0 on.pair)
 
 -- ---- plants
 

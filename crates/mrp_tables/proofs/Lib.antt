@@ -1,4 +1,5 @@
 pub mod Accept
+pub mod Finding
 pub mod Keys
 pub mod Keeping
 pub mod KeepingBill

@@ -1,5 +1,5 @@
 -- Each fault that a row may have stands in the list of its kind.
-use Rattle.std.proofs.Common.{◌≡◌, ℕ, ◌-◌, ◌<◌, Bool, true, false, List, [], ◌∷◌, ◌++◌, length, Option, Some, None, is_some, not, nat_lt, ◌==◌, Result, Ok, Err, ok_or, if◌then◌else◌, IfErr, refl, sym, ap, ◌∙◌, subst, arith}
+use Rattle.std.proofs.Common.{◌≡◌, ℕ, ◌-◌, Bool, true, false, List, length, Option, Some, None, is_some, not, nat_lt, ◌==◌, Result, Ok, Err, ok_or, if◌then◌else◌, IfErr, refl, sym, ap, ◌∙◌, subst, arith}
 use Rattle.std.specs.List.{Contains, list_all}
 use Rattle.std.specs.Str.{is_utf8}
 use Rattle.std.proofs.lemmas.Bool.{false≢true}
@@ -12,7 +12,7 @@ use Rattle.mrp_qty.specs.declared.quantity.TheConstants.{MOST}
 use Rattle.mrp_qty.specs.declared.horizon.TheConstants.{LONGEST}
 use Rattle.mrp_rows.specs.declared.rows.TheConstants.{MOST_BILLS, MOST_IN_ROW, MOST_OF_A_KIND, MOST_PAIRS, MOST_PER, MOST_PLANTS}
 use Rattle.mrp_rows.specs.Names.{has_plant, pair_named, plant_no}
-use Rattle.mrp_rows.specs.Table.{arrivals, horizon, rises_from, Table}
+use Rattle.mrp_rows.specs.Table.{arrivals, horizon, is_taken_from, rises_from, Table}
 use Rattle.mrp_spell.specs.Spelling.{is_name, number_of, number_within, rule_of}
 use Rattle.mrp_spell.specs.Supplies.{named_sources, names_plant, supply_of}
 use Rattle.mrp_tables.specs.declared.fault.TableFaultKind.{TableFaultKind}
@@ -21,7 +21,7 @@ use Rattle.mrp_tables.specs.declared.kind.Kind.{Kind}
 use Rattle.mrp_tables.specs.declared.kind.Kind.TheVariants as kind
 use Rattle.mrp_tables.specs.Faults.{faults_of, faults_of_any, HasListedFaults, IsListed, Rise}
 use Rattle.mrp_tables.specs.Grammar.{◌>>=◌, amount_terms, bill_fits, bill_terms, BillTerms, check, cum_of, cum_terms, demand_of, field, is_empty_from, kind_of, known_lane, known_pair}
-use Rattle.mrp_tables.specs.Grammar.{has_bill, has_cum, has_reset, is_made, knows_sources, lane_named, lane_terms, LaneTerms, may_follow, name_of, pair_fits, pair_terms, PairTerms, plant_of, ranged, receipt_of, reset_of, reset_terms}
+use Rattle.mrp_tables.specs.Grammar.{has_bill, has_cum, has_reset, is_made, knows_sources, lane_terms, LaneTerms, may_follow, name_of, pair_fits, pair_terms, PairTerms, plant_of, ranged, receipt_of, reset_of, reset_terms}
 use Rattle.mrp_tables.specs.Grammar.{row_kind, run_terms, RunTerms, ship_of, ship_terms, TellsFault, used}
 use Rattle.mrp_tables.specs.Reading.{first_terms, is_run, kind_of_row, row_after, row_of_kind, started, Starts, StartsWith, UnlessMemory}
 
@@ -116,11 +116,10 @@ module _ (P : TableFaultKind → Type 0) where
   unfolding receipt_of
   receipt-of N row m n u p t = steps _ _ (amount-terms row (horizon N) m n) (λ a. steps _ _ (known-pair N a.plant a.item u p) (λ x. steps _ _ (tested (nat_lt (length N.receipts) MOST_OF_A_KIND) _ t) (λ room. tt)))
 
-  known-lane : (N : Table) (t : LaneTerms) → P fault.UnknownPlant → P fault.UnknownPair → P fault.NotSourced → IfErr (known_lane (lane_named N t)) P
+  known-lane : (N : Table) (t : LaneTerms) → P fault.UnknownPlant → P fault.UnknownPair → P fault.NotSourced → IfErr (known_lane N t) P
   unfolding known_lane
   known-lane N t u p s =
-      let l = lane_named N t in
-      steps _ _ (found l.from _ u) (λ from. steps _ _ (tested (is_some l.to) _ u) (λ known. steps _ _ (found l.pair _ p) (λ x. steps _ _ (found l.place _ s) (λ place. tt))))
+      steps _ _ (found (plant_no N t.from) _ u) (λ from. steps _ _ (found (plant_no N t.to) _ u) (λ to. steps _ _ (found (pair_named N (Some to) t.item) _ p) (λ x. steps _ _ (tested (is_taken_from N x from) _ s) (λ there. tt))))
 
   ship-of : (N : Table) (row : List (List ℕ)) → P fault.BadName → P fault.BadNumber → P fault.UnknownPlant → P fault.UnknownPair → P fault.NotSourced → P fault.TooMany → IfErr (ship_of N row) P
   unfolding ship_of
@@ -128,11 +127,11 @@ module _ (P : TableFaultKind → Type 0) where
 
   cum-of : (N : Table) (row : List (List ℕ)) → P fault.BadName → P fault.BadNumber → P fault.Repeated → P fault.UnknownPlant → P fault.UnknownPair → P fault.NotSourced → P fault.TooMany → IfErr (cum_of N row) P
   unfolding cum_of
-  cum-of N row m n r u p s t = steps _ _ (cum-terms row m n) (λ a. steps _ _ (tested (not (has_cum N (lane_named N a.0))) _ r) (λ fresh. steps _ _ (known-lane N a.0 u p s) (λ lane. steps _ _ (tested (nat_lt (length N.cums) MOST_OF_A_KIND) _ t) (λ room. tt))))
+  cum-of N row m n r u p s t = steps _ _ (cum-terms row m n) (λ a. steps _ _ (tested (not (has_cum N a.0)) _ r) (λ fresh. steps _ _ (known-lane N a.0 u p s) (λ lane. steps _ _ (tested (nat_lt (length N.cums) MOST_OF_A_KIND) _ t) (λ room. tt))))
 
   reset-of : (N : Table) (row : List (List ℕ)) → P fault.BadName → P fault.BadNumber → P fault.Repeated → P fault.UnknownPlant → P fault.UnknownPair → P fault.NotSourced → P fault.ResetOrder → IfErr (reset_of N row) P
   unfolding reset_of
-  reset-of N row m n r u p s o = steps _ _ (reset-terms row (horizon N) m n) (λ a. steps _ _ (tested (not (has_reset N (lane_named N a.0))) _ r) (λ fresh. steps _ _ (known-lane N a.0 u p s) (λ lane. steps _ _ (tested (rises_from 0 (arrivals N lane.from.0 lane.pair.0)) _ o) (λ in_order. tt))))
+  reset-of N row m n r u p s o = steps _ _ (reset-terms row (horizon N) m n) (λ a. steps _ _ (tested (not (has_reset N a.0)) _ r) (λ fresh. steps _ _ (known-lane N a.0 u p s) (λ lane. steps _ _ (tested (rises_from 0 (arrivals N lane.0.0 lane.1.0)) _ o) (λ in_order. tt))))
 
   -- ---- the kind of a row
 

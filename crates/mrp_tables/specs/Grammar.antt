@@ -29,12 +29,10 @@ use Rattle.mrp_rows.specs.declared.rows.ReceiptRow.{ReceiptRow}
 use Rattle.mrp_rows.specs.declared.rows.DemandRow.{DemandRow}
 use Rattle.mrp_rows.specs.declared.numbers.PlantNo.{PlantNo}
 use Rattle.mrp_rows.specs.declared.numbers.PairNo.{PairNo}
-use Rattle.mrp_tables.specs.declared.lanes.NamedLane.{NamedLane}
-use Rattle.mrp_tables.specs.declared.lanes.KnownLane.{KnownLane}
 use Rattle.mrp_rows.specs.Table.{Table, horizon}
 use Rattle.mrp_rows.specs.declared.rows.PairRow.{PairRow}
 use Rattle.mrp_rows.specs.declared.rows.SourceRow.{SourceRow}
-use Rattle.mrp_rows.specs.Table.{arrivals, rises_from}
+use Rattle.mrp_rows.specs.Table.{arrivals, is_taken_from, rises_from}
 use Rattle.mrp_rows.specs.Growing.{add_item, with_plant, with_bill, with_demand, with_receipt, with_ship, with_cum, with_reset}
 use Rattle.mrp_spell.specs.Spelling.{is_name, number_of, number_within, rule_of}
 
@@ -281,53 +279,33 @@ bill_fits N t =
       _ ← check (nat_lt (length N.bills) MOST_BILLS) fault.TooMany
       Ok (record { parent = record { 0 = x }; component = record { 0 = y }; per = t.per })
 
--- the place of the source row of a plant and a pair, if the pair is taken from the plant
-abbrev pub source_at : Table → ℕ → ℕ → Option ℕ
-source_at N from x = position (λ s. (s.plant.0 == from) && (s.pair.0 == x)) N.sources
-
-abbrev pub source_named : Table → Option ℕ → Option ℕ → Option ℕ
-source_named N None x = None
-source_named N (Some from) None = None
-source_named N (Some from) (Some x) = source_at N from x
-
--- what the names of a row on a lane stand for, as far as it is there
-abbrev pub lane_named : Table → LaneTerms → NamedLane
-lane_named N t =
-    let from = plant_no N t.from in
-    let to = plant_no N t.to in
-    let x = pair_named N to t.item in
-    record {
-      from = option_map (λ p. record { 0 = p }) from;
-      to = option_map (λ p. record { 0 = p }) to;
-      pair = option_map (λ p. record { 0 = p }) x;
-      place = source_named N from x;
-    }
-
-unfoldable pub known_lane : NamedLane → Result KnownLane TableFaultKind
-known_lane l = do
-  from ← ok_or l.from fault.UnknownPlant
-  _ ← check (is_some l.to) fault.UnknownPlant
-  x ← ok_or l.pair fault.UnknownPair
-  place ← ok_or l.place fault.NotSourced
-  Ok (record { from = from; pair = x; place = place })
+-- the plant that ships and the pair that it ships to: both plants and the pair have rows, and the pair is taken from
+-- the plant that ships
+unfoldable pub known_lane : Table → LaneTerms → Result (PlantNo × PairNo) TableFaultKind
+known_lane N t = do
+  from ← ok_or (plant_no N t.from) fault.UnknownPlant
+  to ← ok_or (plant_no N t.to) fault.UnknownPlant
+  x ← ok_or (pair_named N (Some to) t.item) fault.UnknownPair
+  _ ← check (is_taken_from N x from) fault.NotSourced
+  Ok (record { 0 = from }, record { 0 = x })
 
 -- a cum row of that plant and that pair
-abbrev pub cum_between : Table → Option PlantNo → Option PairNo → Bool
+abbrev pub cum_between : Table → Option ℕ → Option ℕ → Bool
 cum_between N None x = false
 cum_between N (Some p) None = false
-cum_between N (Some p) (Some x) = list_any (λ c. (c.from.0 == p.0) && (c.pair.0 == x.0)) N.cums
+cum_between N (Some p) (Some x) = list_any (λ c. (c.from.0 == p) && (c.pair.0 == x)) N.cums
 
-abbrev pub has_cum : Table → NamedLane → Bool
-has_cum N l = cum_between N l.from l.pair
+abbrev pub has_cum : Table → LaneTerms → Bool
+has_cum N t = cum_between N (plant_no N t.from) (pair_named N (plant_no N t.to) t.item)
 
 -- a reset row of that plant and that pair
-abbrev pub reset_between : Table → Option PlantNo → Option PairNo → Bool
+abbrev pub reset_between : Table → Option ℕ → Option ℕ → Bool
 reset_between N None x = false
 reset_between N (Some p) None = false
-reset_between N (Some p) (Some x) = list_any (λ r. (r.from.0 == p.0) && (r.pair.0 == x.0)) N.resets
+reset_between N (Some p) (Some x) = list_any (λ r. (r.from.0 == p) && (r.pair.0 == x)) N.resets
 
-abbrev pub has_reset : Table → NamedLane → Bool
-has_reset N l = reset_between N l.from l.pair
+abbrev pub has_reset : Table → LaneTerms → Bool
+has_reset N t = reset_between N (plant_no N t.from) (pair_named N (plant_no N t.to) t.item)
 
 -- ---- the table with one row more, or the first fault of the row
 
@@ -410,25 +388,25 @@ receipt_of N row = do
 unfoldable pub ship_of : Table → List (List ℕ) → Result ShipRow TableFaultKind
 ship_of N row = do
   t ← ship_terms row (horizon N)
-  lane ← known_lane (lane_named N t.0)
+  lane ← known_lane N t.0
   _ ← check (nat_lt (length N.ships) MOST_OF_A_KIND) fault.TooMany
-  Ok (record { from = lane.from; pair = lane.pair; period = t.1; quantity = t.2 })
+  Ok (record { from = lane.0; pair = lane.1; period = t.1; quantity = t.2 })
 
 unfoldable pub cum_of : Table → List (List ℕ) → Result CumRow TableFaultKind
 cum_of N row = do
   t ← cum_terms row
-  _ ← check (not (has_cum N (lane_named N t.0))) fault.Repeated
-  lane ← known_lane (lane_named N t.0)
+  _ ← check (not (has_cum N t.0)) fault.Repeated
+  lane ← known_lane N t.0
   _ ← check (nat_lt (length N.cums) MOST_OF_A_KIND) fault.TooMany
-  Ok (record { from = lane.from; pair = lane.pair; figure = t.1 })
+  Ok (record { from = lane.0; pair = lane.1; figure = t.1 })
 
 unfoldable pub reset_of : Table → List (List ℕ) → Result ResetRow TableFaultKind
 reset_of N row = do
   t ← reset_terms row (horizon N)
-  _ ← check (not (has_reset N (lane_named N t.0))) fault.Repeated
-  lane ← known_lane (lane_named N t.0)
-  _ ← check (rises_from 0 (arrivals N lane.from.0 lane.pair.0)) fault.ResetOrder
-  Ok (record { from = lane.from; pair = lane.pair; period = t.1 })
+  _ ← check (not (has_reset N t.0)) fault.Repeated
+  lane ← known_lane N t.0
+  _ ← check (rises_from 0 (arrivals N lane.0.0 lane.1.0)) fault.ResetOrder
+  Ok (record { from = lane.0; pair = lane.1; period = t.1 })
 
 abbrev pub bill_row : Table → List (List ℕ) → Result Table TableFaultKind
 bill_row N row = bill_of N row >>= λ x. Ok (with_bill N x)

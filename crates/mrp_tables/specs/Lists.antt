@@ -1,6 +1,8 @@
 -- What is true of the rows while they are read.
 use Rattle.std.specs.Prelude.{◌≡◌, ℕ, ◌+◌, ◌*◌, ◌≤◌, ◌<◌, ◌==◌, ◌&&◌, ◌||◌, ◌∷◌, [], List, length, map, IfSome, Bool, true, not, nat_lt}
+use Rattle.std.specs.Prelude.{Option, Some, None, is_some, option_map, position, ok_or, Result, Ok}
 use Rattle.std.specs.List.{IsDistinct, list_all, list_any}
+use Rattle.mrp_rows.specs.Names.{pair_named, plant_no}
 use Rattle.mrp_rows.specs.Table.{Table, IsRead, arrivals_of, rises_from}
 use Rattle.mrp_rows.specs.Turns.{row_count}
 use Rattle.mrp_spell.specs.declared.supplies.TheConstants.{MOST_SOURCES_OF_PAIR}
@@ -9,11 +11,15 @@ use Rattle.mrp_rows.specs.declared.rows.BillRow.{BillRow}
 use Rattle.mrp_rows.specs.declared.rows.ShipRow.{ShipRow}
 use Rattle.mrp_rows.specs.declared.rows.CumRow.{CumRow}
 use Rattle.mrp_rows.specs.declared.rows.ResetRow.{ResetRow}
+use Rattle.mrp_tables.specs.declared.fault.TableFaultKind.{TableFaultKind}
+use Rattle.mrp_tables.specs.declared.fault.TableFaultKind.TheVariants as fault
 use Rattle.mrp_tables.specs.declared.draft.LaneKey.{LaneKey}
 use Rattle.mrp_tables.specs.declared.draft.BillKey.{BillKey}
 use Rattle.mrp_tables.specs.declared.draft.Draft.{Draft}
 use Rattle.mrp_tables.specs.declared.draft.Lane.{Lane}
+use Rattle.mrp_tables.specs.declared.lanes.KnownLane.{KnownLane}
 use Rattle.mrp_tables.specs.declared.lanes.NamedLane.{NamedLane}
+use Rattle.mrp_tables.specs.Grammar.{◌>>=◌, check, LaneTerms}
 
 abbrev pub lane_of : SourceRow → LaneKey
 lane_of s = record { from = s.plant; pair = s.pair }
@@ -98,6 +104,33 @@ pub record AddsSources (old new : Draft) (count : ℕ) : Type 0 where
   pub lanes : AreLanes old.lane_keys.keys old.reset_keys.keys → AreLanes new.lane_keys.keys new.reset_keys.keys
   pub pairs : length new.lists.pairs ≡ length old.lists.pairs
   pub sources : length new.lists.sources ≡ length old.lists.sources + count
+
+-- ---- rows on a lane
+
+-- the place of the source row of a plant and a pair, if the pair is taken from the plant
+abbrev pub source_at : Table → ℕ → ℕ → Option ℕ
+source_at N from x = position (λ s. (s.plant.0 == from) && (s.pair.0 == x)) N.sources
+
+abbrev pub source_named : Table → Option ℕ → Option ℕ → Option ℕ
+source_named N None x = None
+source_named N (Some from) None = None
+source_named N (Some from) (Some x) = source_at N from x
+
+-- what the reading finds of the names of a row on a lane
+pub record Finds (N : Table) (t : LaneTerms) (l : NamedLane) : Type 0 where
+  pub from : option_map (λ p. p.0) l.from ≡ plant_no N t.from
+  pub to : option_map (λ p. p.0) l.to ≡ plant_no N t.to
+  pub pair : option_map (λ x. x.0) l.pair ≡ pair_named N (plant_no N t.to) t.item
+  pub place : l.place ≡ source_named N (plant_no N t.from) (pair_named N (plant_no N t.to) t.item)
+
+-- the lane of the names that were found, where all of it is there
+unfoldable pub known_found : NamedLane → Result KnownLane TableFaultKind
+known_found l = do
+  from ← ok_or l.from fault.UnknownPlant
+  _ ← check (is_some l.to) fault.UnknownPlant
+  x ← ok_or l.pair fault.UnknownPair
+  place ← ok_or l.place fault.NotSourced
+  Ok (record { from = from; pair = x; place = place })
 
 -- what the names of a row on a lane stand for is there
 pub record IsNamedLane (d : Draft) (lane : NamedLane) : Type 0 where

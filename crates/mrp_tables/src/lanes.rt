@@ -29,12 +29,12 @@ pub(crate) struct KnownLane {
 
 impl NamedLane {
     ghost use Rattle.std.specs.Prelude.{◌≡◌, Some, IfOk};
-    ghost use Rattle.mrp_tables.specs.Grammar.{known_lane};
+    ghost use Rattle.mrp_tables.specs.Lists.{known_found};
 
     /// The lane, where all of it is there.
-    #[tactic(auto, unfolding(crate::specs::Grammar::known_lane))]
+    #[tactic(auto, unfolding(crate::specs::Lists::known_found))]
     fn known(self) -> Result<KnownLane, TableFaultKind>
-        ensures exact { result ≡ known_lane self }
+        ensures exact { result ≡ known_found self }
         ensures from { IfOk result (λ lane. self.from ≡ Some lane.from) }
         ensures pair { IfOk result (λ lane. self.pair ≡ Some lane.pair) }
         ensures place { IfOk result (λ lane. self.place ≡ Some lane.place) }
@@ -57,17 +57,16 @@ impl Draft {
     ghost use Rattle.std.specs.Prelude.{false, not, IsSome, Some};
     ghost use Rattle.csv.specs.Records.{fields_of};
     ghost use Rattle.mrp_rows.specs.Table.{arrivals, rises_from};
-    ghost use Rattle.mrp_tables.specs.Grammar.{cum_between, cum_of, cum_row, has_cum, has_reset};
-    ghost use Rattle.mrp_tables.specs.Grammar.{lane_named, reset_between, reset_of, reset_row, seen};
-    ghost use Rattle.mrp_tables.specs.Grammar.{ship_of, ship_row, source_at, source_named, Tells};
+    ghost use Rattle.mrp_tables.specs.Grammar.{cum_between, cum_of, cum_row, reset_between, reset_of};
+    ghost use Rattle.mrp_tables.specs.Grammar.{reset_row, seen, ship_of, ship_row, Tells};
     ghost use Rattle.mrp_tables.specs.Spelled.{lane_view};
-    ghost use Rattle.mrp_tables.specs.Lists.{IsDraft, AddsRow, IsNamedLane};
+    ghost use Rattle.mrp_tables.specs.Lists.{AddsRow, Finds, IsDraft, IsNamedLane, source_at, source_named};
     ghost use Rattle.mrp_rows.specs.Table.{IsRead};
 
     /// What the names of a row on a lane stand for.
     fn lane_named(&self, names: &SpelledLane<'_>) -> NamedLane
         requires draft { IsDraft self.now }
-        ensures exact { result ≡ lane_named self.now.lists (lane_view names.now) }
+        ensures exact { Finds self.now.lists (lane_view names.now) result }
         ensures named { IsNamedLane self.now result }
         ensures place { result.place ≡ source_named self.now.lists (option_map (λ p. p.0) result.from) (option_map (λ x. x.0) result.pair) }
     {
@@ -109,7 +108,7 @@ impl Draft {
     }
 
     /// What a ship row says, with the place of its source.
-    #[tactic(auto, unfolding(crate::specs::Grammar::ship_of))]
+    #[tactic(auto, using(crate::proofs::Finding::known_err, crate::proofs::Finding::known_ok), unfolding(crate::specs::Grammar::ship_of))]
     fn ship_of(&self, row: &StringRecord) -> Result<(ShipRow, usize), TableFaultKind>
         requires draft { IsDraft self.now }
         ensures exact { seen (λ s. s.0) result ≡ ship_of self.now.lists (fields_of row.now) }
@@ -150,12 +149,12 @@ impl Draft {
     }
 
     /// What a cum row says.
-    #[tactic(auto, unfolding(crate::specs::Grammar::cum_of))]
+    #[tactic(auto, using(crate::proofs::Finding::known_err, crate::proofs::Finding::known_ok), unfolding(crate::specs::Grammar::cum_of))]
     fn cum_of(&self, row: &StringRecord) -> Result<CumRow, TableFaultKind>
         requires draft { IsDraft self.now }
         ensures exact { result ≡ cum_of self.now.lists (fields_of row.now) }
         ensures row { IfOk result (IsCumRow self.now.lists) }
-        ensures fresh { IfOk result (λ c. cum_between self.now.lists (Some c.from) (Some c.pair) ≡ false) }
+        ensures fresh { IfOk result (λ c. cum_between self.now.lists (Some c.from.0) (Some c.pair.0) ≡ false) }
         ensures room { OnOk result (length self.now.lists.cums < MOST_OF_A_KIND) }
     {
         let (names, figure) = spelled_cum(row)?;
@@ -177,7 +176,7 @@ impl Draft {
     /// Whether there is a cumulative figure of the plant and the pair.
     fn has_cum(&self, named: NamedLane) -> bool
         requires draft { IsDraft self.now }
-        ensures exact { result ≡ has_cum self.now.lists named }
+        ensures exact { result ≡ cum_between self.now.lists (option_map (λ p. p.0) named.from) (option_map (λ x. x.0) named.pair) }
     {
         match (named.from, named.pair) {
             (Some(from), Some(pair)) => self.cum_keys.contains(&LaneKey { from, pair }),
@@ -204,12 +203,12 @@ impl Draft {
     }
 
     /// What a reset row says.
-    #[tactic(auto, unfolding(crate::specs::Grammar::reset_of))]
+    #[tactic(auto, using(crate::proofs::Finding::known_err, crate::proofs::Finding::known_ok), unfolding(crate::specs::Grammar::reset_of))]
     fn reset_of(&self, row: &StringRecord) -> Result<ResetRow, TableFaultKind>
         requires draft { IsDraft self.now }
         ensures exact { result ≡ reset_of self.now.lists (fields_of row.now) }
         ensures row { IfOk result (IsResetRow self.now.lists) }
-        ensures fresh { IfOk result (λ r. reset_between self.now.lists (Some r.from) (Some r.pair) ≡ false) }
+        ensures fresh { IfOk result (λ r. reset_between self.now.lists (Some r.from.0) (Some r.pair.0) ≡ false) }
         ensures source { IfOk result (λ r. IsSome (source_at self.now.lists r.from.0 r.pair.0)) }
     {
         let (names, period) = spelled_reset(row, self.lists.calendar().horizon())?;
@@ -231,7 +230,7 @@ impl Draft {
     /// Whether the figures of the plant and the pair start anew.
     fn has_reset(&self, named: NamedLane) -> bool
         requires draft { IsDraft self.now }
-        ensures exact { result ≡ has_reset self.now.lists named }
+        ensures exact { result ≡ reset_between self.now.lists (option_map (λ p. p.0) named.from) (option_map (λ x. x.0) named.pair) }
     {
         match (named.from, named.pair) {
             (Some(from), Some(pair)) => self.reset_keys.contains(&LaneKey { from, pair }),

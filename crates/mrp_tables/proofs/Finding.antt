@@ -1,0 +1,78 @@
+-- What the reading finds of the names of a row on a lane is what the grammar says of them.
+use Rattle.std.proofs.Common.{◌≡◌, ℕ, ◌≤◌, ◌==◌, ◌&&◌, nat_lt, List, length, Option, Some, None, option_map, arith, Ok, Err, true, false, refl, sym, ap, ◌∙◌}
+use Rattle.std.proofs.lemmas.Bool.Decides.{nat_tests}
+use Rattle.mrp_rows.specs.declared.numbers.PairNo.{PairNo}
+use Rattle.mrp_rows.specs.declared.numbers.PlantNo.{PlantNo}
+use Rattle.mrp_rows.specs.Names.{pair_named, plant_no}
+use Rattle.mrp_rows.specs.Table.{horizon, is_taken_from, Table}
+use Rattle.mrp_rows.specs.declared.rows.TheConstants.{MOST_OF_A_KIND}
+use Rattle.mrp_tables.specs.declared.fault.TableFaultKind.{TableFaultKind}
+use Rattle.mrp_tables.specs.declared.fault.TableFaultKind.TheVariants as fault
+use Rattle.mrp_tables.specs.declared.lanes.KnownLane.{KnownLane}
+use Rattle.mrp_tables.specs.declared.lanes.NamedLane.{NamedLane}
+use Rattle.mrp_tables.specs.Grammar.{cum_between, cum_of, cum_terms, has_cum, has_reset, known_lane, LaneTerms, reset_between, reset_of, reset_terms, seen, ship_of, ship_terms}
+use Rattle.mrp_tables.specs.Lists.{Finds, known_found, source_at}
+use Rattle.mrp_tables.proofs.KeepingLists.{any-from_no_position, any-from_position}
+
+-- a lane without the place of its source
+abbrev pub lane_ends : KnownLane → PlantNo × PairNo
+lane_ends l = (l.from, l.pair)
+
+known_by : (N : Table) (t : LaneTerms) (from to : Option PlantNo) (pair : Option PairNo) (place : Option ℕ) → Finds N t (record { from = from; to = to; pair = pair; place = place })
+    → seen lane_ends (known_found (record { from = from; to = to; pair = pair; place = place })) ≡ known_lane N t
+unfolding known_lane known_found
+known_by N t None to pair place f = rw (← f.from) refl
+known_by N t (Some p) None pair place f = rw (← f.from, ← f.to) refl
+known_by N t (Some p) (Some q) None place f =
+    let none : pair_named N (Some q.0) t.item ≡ None = ap (λ (o : Option ℕ). pair_named N o t.item) f.to ∙ sym f.pair in
+    rw (← f.from, ← f.to, none) refl
+known_by N t (Some p) (Some q) (Some x) None f =
+    let some : pair_named N (Some q.0) t.item ≡ Some x.0 = ap (λ (o : Option ℕ). pair_named N o t.item) f.to ∙ sym f.pair in
+    let at_none : source_at N p.0 x.0 ≡ None = sym (rw (← f.from, ← f.pair) at f.place) in
+    let other : is_taken_from N x.0 p.0 ≡ false = any-from_no_position (λ s. (s.plant.0 == p.0) && (s.pair.0 == x.0)) N.sources at_none in
+    rw (← f.from, ← f.to, some, other) refl
+known_by N t (Some p) (Some q) (Some x) (Some k) f =
+    let some : pair_named N (Some q.0) t.item ≡ Some x.0 = ap (λ (o : Option ℕ). pair_named N o t.item) f.to ∙ sym f.pair in
+    let at_some : source_at N p.0 x.0 ≡ Some k = sym (rw (← f.from, ← f.pair) at f.place) in
+    let taken : is_taken_from N x.0 p.0 ≡ true = any-from_position (λ s. (s.plant.0 == p.0) && (s.pair.0 == x.0)) N.sources k at_some in
+    rw (← f.from, ← f.to, some, taken) refl
+
+pub known_as : (N : Table) (t : LaneTerms) (l : NamedLane) → Finds N t l → seen lane_ends (known_found l) ≡ known_lane N t
+known_as N t l f = known_by N t l.from l.to l.pair l.place f
+
+-- a lane that isn't there, and one that is
+pub known_err : (N : Table) (t : LaneTerms) (l : NamedLane) (e : TableFaultKind) → Finds N t l → Err e ≡ known_found l → known_lane N t ≡ Err e
+known_err N t l e f is = sym (known_as N t l f) ∙ ap (seen lane_ends) (sym is)
+
+pub known_ok : (N : Table) (t : LaneTerms) (l : NamedLane) (k : KnownLane) → Finds N t l → Ok k ≡ known_found l → known_lane N t ≡ Ok (k.from, k.pair)
+known_ok N t l k f is = sym (known_as N t l f) ∙ ap (seen lane_ends) (sym is)
+
+-- ---- rows of a lane that isn't there
+
+pub ship_unknown : (N : Table) (row : List (List ℕ)) (t : LaneTerms × ℕ × ℕ) (e : TableFaultKind) → Ok t ≡ ship_terms row (horizon N) → known_lane N t.0 ≡ Err e → Err e ≡ ship_of N row
+unfolding ship_of
+ship_unknown N row t e spelled known = rw (← spelled, known) refl
+
+pub cum_fresh : (N : Table) (t : LaneTerms) (l : NamedLane) → Finds N t l → false ≡ cum_between N (option_map (λ p. p.0) l.from) (option_map (λ x. x.0) l.pair) → has_cum N t ≡ false
+cum_fresh N t l f h =
+    sym (h ∙ ap (λ (o : Option ℕ). cum_between N o (option_map (λ x. x.0) l.pair)) f.from ∙ ap (λ (o : Option ℕ). cum_between N (plant_no N t.from) o) f.pair)
+
+pub cum_unknown : (N : Table) (row : List (List ℕ)) (t : LaneTerms × ℕ) (e : TableFaultKind) → Ok t ≡ cum_terms row → has_cum N t.0 ≡ false → known_lane N t.0 ≡ Err e → Err e ≡ cum_of N row
+unfolding cum_of
+cum_unknown N row t e spelled fresh known = rw (← spelled, fresh, known) refl
+
+pub full : (count most : ℕ) → most ≤ count → nat_lt count most ≡ false
+full count most le = grind (arith, nat_tests)
+
+pub cum_full : (N : Table) (row : List (List ℕ)) (t : LaneTerms × ℕ) (l : PlantNo × PairNo) → Ok t ≡ cum_terms row → has_cum N t.0 ≡ false → known_lane N t.0 ≡ Ok l → nat_lt (length N.cums) MOST_OF_A_KIND ≡ false
+    → Err fault.TooMany ≡ cum_of N row
+unfolding cum_of
+cum_full N row t l spelled fresh known most = rw (← spelled, fresh, known, most) refl
+
+pub reset_fresh : (N : Table) (t : LaneTerms) (l : NamedLane) → Finds N t l → false ≡ reset_between N (option_map (λ p. p.0) l.from) (option_map (λ x. x.0) l.pair) → has_reset N t ≡ false
+reset_fresh N t l f h =
+    sym (h ∙ ap (λ (o : Option ℕ). reset_between N o (option_map (λ x. x.0) l.pair)) f.from ∙ ap (λ (o : Option ℕ). reset_between N (plant_no N t.from) o) f.pair)
+
+pub reset_unknown : (N : Table) (row : List (List ℕ)) (t : LaneTerms × ℕ) (e : TableFaultKind) → Ok t ≡ reset_terms row (horizon N) → has_reset N t.0 ≡ false → known_lane N t.0 ≡ Err e → Err e ≡ reset_of N row
+unfolding reset_of
+reset_unknown N row t e spelled fresh known = rw (← spelled, fresh, known) refl
