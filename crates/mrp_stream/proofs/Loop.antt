@@ -1,9 +1,9 @@
 -- The rows read one after the other.
-use Rattle.std.proofs.Common.{◌≡◌, ◌<◌, ◌≤◌, ◌+◌, ℕ, nat_le, Bool, true, false, List, [], ◌∷◌, ◌++◌, length, map, Option, Some, None, Result, Ok, Err, refl, sym, ap, subst, ◌∙◌, arith, append_assoc, append-nil}
+use Rattle.std.proofs.Common.{◌≡◌, ◌⊎◌, inl, inr, ◌<◌, ◌≤◌, ◌+◌, ℕ, nat_le, Bool, true, false, List, [], ◌∷◌, ◌++◌, length, map, Option, Some, None, Result, Ok, Err, refl, sym, ap, subst, ◌∙◌, arith, append_assoc, append-nil, length-append}
 use Rattle.std.specs.List.{All}
 use Rattle.std.proofs.lemmas.Bool.{true≢false}
 use Rattle.std.proofs.lemmas.Bool.Decides.{nat_tests}
-use Rattle.std.proofs.lemmas.List.{length_push, map-append}
+use Rattle.std.proofs.lemmas.List.{length-map, length_push, map-append}
 use Rattle.std.proofs.lemmas.List.Elements.{All-nil, All-push}
 use Rattle.mrp_rows.specs.Table.{Table}
 use Rattle.mrp_record.specs.declared.record.Record.{Record}
@@ -15,7 +15,7 @@ use Rattle.mrp_stream.specs.Rows.{HasRow, record_fields}
 use Rattle.mrp_stream.specs.Grammar.{record_of, spelled_record}
 use Rattle.mrp_stream.proofs.Spelling.{spelled_is}
 use Rattle.mrp_stream.specs.Reading.{AreRowsOf, HasFault, StartsWithFault, StopsAfter}
-use Rattle.mrp_stream.specs.Left.{AddsRecord, AreRead, is_of_row, TellsBad, TellsFault, TellsNext, TellsTaken}
+use Rattle.mrp_stream.specs.Left.{AddsRecord, AreRead, is_of_row, StopsReading, TellsBad, TellsFault, TellsNext, TellsTaken}
 
 -- ---- what one turn answers
 
@@ -72,6 +72,18 @@ adds_record N before after row old new r room takes is added =
       records = added;
       room = room;
     }
+
+-- why a row's reading stops
+pub stops_full : (kind : RecordFaultKind) (failed : Bool) (count len : ℕ) (left : Option (List (List (List ℕ)))) → len ≡ count → StopsReading kind failed (nat_le MOST_RECORDS len ≡ true) 0 left
+    → StopsReading kind failed (MOST_RECORDS ≤ count) 0 left
+stops_full kind failed count len left same stops is = by (stops is)
+  where
+    all_read : nat_le MOST_RECORDS len ≡ true → MOST_RECORDS ≤ count
+    all_read e = grind (arith, nat_tests)
+
+    by : (failed ≡ true) ⊎ ((nat_le MOST_RECORDS len ≡ true) × OfLeft left (λ rows. 0 < length rows)) → (failed ≡ true) ⊎ ((MOST_RECORDS ≤ count) × OfLeft left (λ rows. 0 < length rows))
+    by (inl fails) = inl fails
+    by (inr more) = inr (all_read more.0, more.1)
 
 -- the two good answers
 pub told_none : (N : Table) (found : Bool) (before after : Option (List (List (List ℕ)))) (old new : List Record) → found ≡ false → TellsNext N before after old new (Ok found)
@@ -158,3 +170,23 @@ stopped N (Some rows) (Some left) records number k so_far count few told = recor
   few = few;
   stops = stops_there N left (length records) k told;
 }
+
+-- why the reading stops
+more_rows : (N : Table) (all left : Option (List (List (List ℕ)))) (records : List Record) → AreRead N all left records → MOST_RECORDS ≤ length records → OfLeft left (λ rows. 0 < length rows)
+    → OfLeft all (λ rows. MOST_RECORDS < length rows)
+more_rows N None left records so_far full more = tt
+more_rows N (Some rows) None records so_far full more = absurd so_far
+more_rows N (Some rows) (Some left) records so_far full more =
+    omega (arith, full, more, ap length so_far, length-append (map (record_fields N) records) left, length-map records (record_fields N))
+
+pub stops_all : (N : Table) (all left : Option (List (List (List ℕ)))) (records : List Record) (number : ℕ) (kind : RecordFaultKind) (failed : Bool) → IsReadSoFar N all left records
+    → number ≡ length records + 1 → length records ≤ MOST_RECORDS → StopsReading kind failed (MOST_RECORDS ≤ length records) 0 left
+    → StopsReading kind failed (number ≡ MOST_RECORDS + 1) MOST_RECORDS all
+stops_all N all left records number kind failed so_far count few stops is = by (stops is)
+  where
+    last : MOST_RECORDS ≤ length records → number ≡ MOST_RECORDS + 1
+    last full = omega (arith, count, few, full)
+
+    by : (failed ≡ true) ⊎ ((MOST_RECORDS ≤ length records) × OfLeft left (λ rows. 0 < length rows)) → (failed ≡ true) ⊎ ((number ≡ MOST_RECORDS + 1) × OfLeft all (λ rows. MOST_RECORDS < length rows))
+    by (inl fails) = inl fails
+    by (inr more) = inr (last more.0, more_rows N all left records so_far.rows more.0 more.1)

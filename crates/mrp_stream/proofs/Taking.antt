@@ -1,21 +1,23 @@
 -- What taking a row answers.
-use Rattle.std.proofs.Common.{◌≡◌, ℕ, Bool, true, false, List, Option, Ok, Err, refl}
+use Rattle.std.proofs.Common.{◌≡◌, ◌<◌, ℕ, Bool, true, false, List, ◌∷◌, length, Option, Some, None, Result, Ok, Err, inr, pos as integer, refl, ap, arith}
 use Rattle.std.specs.List.{list_all}
 use Rattle.std.specs.Str.{is_utf8}
-use Rattle.csv.specs.Reading.{ExplainsRead, ReadRecord}
+use Rattle.std.proofs.lemmas.Bool.{false≢true}
+use Rattle.csv.specs.Reading.{ExplainsRead, ReadRecord, stops_reader}
 use Rattle.csv.specs.declared.error.ErrorKind.{ErrorKind}
 use Rattle.csv.specs.declared.error.ErrorKind.TheVariants as error
 use Rattle.csv.specs.declared.reader.Reader.{Reader}
 use Rattle.mrp_rows.specs.Table.{Table}
 use Rattle.mrp_tables.specs.declared.fault.TableFaultKind.TheVariants as table_fault
-use Rattle.mrp_tables.specs.Left.{GivesAll, left_of, StartsBadly}
+use Rattle.mrp_tables.specs.Left.{GivesAll, left_of, MayCome, OfLeft, StartsBadly, TakesRow}
+use Rattle.mrp_tables.specs.Reading.{empty_table}
 use Rattle.mrp_tables.proofs.Taken.{ends_rows, explains_as, takes_row}
 use Rattle.mrp_tables.proofs.Loop.{of_left_from}
 use Rattle.mrp_stream.specs.declared.fault.RecordFaultKind.{RecordFaultKind}
 use Rattle.mrp_stream.specs.declared.fault.RecordFaultKind.TheVariants as fault
 use Rattle.mrp_stream.specs.Grammar.{record_of}
 use Rattle.mrp_stream.specs.Reading.{StartsWithFault}
-use Rattle.mrp_stream.specs.Left.{fault_of, TellsBad, TellsTaken}
+use Rattle.mrp_stream.specs.Left.{fault_of, is_of_row, StopsReading, TellsBad, TellsTaken}
 
 -- a read that found a row or none
 pub found_or_not : {R : Type 0} (rem : R → Option (List ℕ)) (old new : Reader R) (row : List (List ℕ)) (found : Bool) → GivesAll old → ReadRecord rem old new found row
@@ -45,3 +47,42 @@ explains rem old new error.OutOfMemory gives r N = tt
 pub explains_as_kind : {R : Type 0} (rem : R → Option (List ℕ)) (old new : Reader R) (why : ErrorKind) (k : RecordFaultKind) → k ≡ fault_of why → GivesAll old
     → ExplainsRead rem old new true why → (N : Table) → TellsBad N (left_of rem old) k
 explains_as_kind rem old new why k same gives r N = rw same (explains rem old new why gives r N)
+
+-- ---- why a fault is ReadFault
+
+-- a failed read stops the reader
+pub stops_at : (why : ErrorKind) → fault_of why ≡ fault.ReadFault → MayCome why → stops_reader why ≡ true
+stops_at (error.Io e) same comes = refl
+stops_at (error.Utf8 pos e) same comes = absurd (cc)
+stops_at (error.UnequalLengths pos expected len) same comes = absurd comes
+stops_at (error.Serialize text) same comes = absurd comes
+stops_at (error.Deserialize pos e) same comes = absurd comes
+stops_at error.OutOfMemory same comes = absurd (cc)
+
+-- an answer of a row says that a row is there
+some_row : (rows rest : List (List (List ℕ))) (row : List (List ℕ)) → rows ≡ row ∷ rest → 0 < length rows
+some_row rows rest row same = omega (arith, ap length same)
+
+row_taken : (before after : Option (List (List (List ℕ)))) (row : List (List ℕ)) → TakesRow before after row → OfLeft before (λ rows. 0 < length rows)
+row_taken None after row takes = tt
+row_taken (Some rows) None row takes = absurd takes
+row_taken (Some rows) (Some rest) row takes = some_row rows rest row takes
+
+row_bad : (N : Table) (before : Option (List (List (List ℕ)))) (k : RecordFaultKind) → OfLeft before (λ rows. StartsWithFault N rows k) → OfLeft before (λ rows. 0 < length rows)
+row_bad N before k bad = of_left_from before (λ rows. StartsWithFault N rows k) (λ rows. 0 < length rows) (λ rows s. some_row rows s.1 s.0 s.2) bad
+
+row_there : (N : Table) (before after : Option (List (List (List ℕ)))) (row : List (List ℕ)) (answer : Result Bool RecordFaultKind) → is_of_row answer ≡ true → TellsTaken N before after row answer
+    → OfLeft before (λ rows. 0 < length rows)
+row_there N before after row (Ok true) own taken = row_taken before after row taken
+row_there N before after row (Ok false) own taken = absurd (false≢true own)
+row_there N before after row (Err fault.ReadFault) own taken = absurd (false≢true own)
+row_there N before after row (Err fault.Memory) own taken = absurd (false≢true own)
+row_there N before after row (Err k) own taken = row_bad N before k taken
+
+-- a row more than may be read
+pub one_more : (before after : Option (List (List (List ℕ)))) (row : List (List ℕ)) (answer : Result Bool RecordFaultKind) (kind : RecordFaultKind) (failed full : Bool) → full ≡ true → is_of_row answer ≡ true
+    → ((N : Table) → TellsTaken N before after row answer) → StopsReading kind failed (full ≡ true) 0 before
+one_more before after row answer kind failed full is own taken same = inr (is, row_there none before after row answer own (taken none))
+  where
+    none : Table
+    none = empty_table (record { first = integer 0; days = 0; periods = 0 })

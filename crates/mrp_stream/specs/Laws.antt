@@ -1,9 +1,11 @@
 -- Laws of the text of records.
-use Rattle.std.specs.Prelude.{◌≡◌, ◌⊎◌, ◌↔◌, ℕ, List, map, All, Ok}
+use Rattle.std.specs.Prelude.{◌≡◌, ◌⊎◌, ◌↔◌, ℕ, List, [], ◌∷◌, map, All, Ok, IfErr}
+use Rattle.std.specs.List.{Contains}
 use Rattle.csv.specs.Reading.{default_config, records, strip_bom}
 use Rattle.mrp_rows.specs.Table.{IsTable, Table}
 use Rattle.mrp_record.specs.declared.record.Record.{Record}
 use Rattle.mrp_stream.specs.declared.fault.RecordFault.{RecordFault}
+use Rattle.mrp_stream.specs.declared.fault.RecordFaultKind.{RecordFaultKind}
 use Rattle.mrp_stream.specs.declared.fault.RecordFaultKind.TheVariants as fault
 use Rattle.mrp_stream.specs.Rows.{HasRow, record_fields, records_text}
 use Rattle.mrp_stream.specs.Grammar.{record_of}
@@ -14,6 +16,14 @@ abbrev pub RecordsHaveOneRow : Type 0
 RecordsHaveOneRow =
     (N : Table) → IsTable N → (row : List (List ℕ)) (r : Record)
     → (record_of N row ≡ Ok r) ↔ (HasRow N r × (row ≡ record_fields N r))
+
+-- the faults that a row may have; that the reader failed, and that memory was wanting, are none of these
+abbrev pub row_faults : List RecordFaultKind
+row_faults = fault.NotUtf8 ∷ fault.FieldCount ∷ fault.UnknownKind ∷ fault.BadNumber ∷ fault.UnknownItem ∷ []
+
+-- whatever the network, a row is refused for one of these alone
+abbrev pub RowsHaveListedFaults : Type 0
+RowsHaveListedFaults = (N : Table) (row : List (List ℕ)) → IfErr (record_of N row) (Contains row_faults)
 
 -- the rows of a text that was written are those of its records
 abbrev pub rows_of : List ℕ → List (List (List ℕ))

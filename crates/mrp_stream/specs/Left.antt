@@ -1,5 +1,5 @@
 -- The rows that a reader has left, and what the steps of the reading answer of them.
-use Rattle.std.specs.Prelude.{◌≡◌, ℕ, ◌<◌, Bool, true, false, List, [], ◌∷◌, ◌++◌, length, map, Option, Some, None, Result, Ok, Err}
+use Rattle.std.specs.Prelude.{◌≡◌, ◌⊎◌, ℕ, ◌<◌, Bool, true, false, List, [], ◌∷◌, ◌++◌, length, map, Option, Some, None, Result, Ok, Err}
 use Rattle.csv.specs.declared.error.ErrorKind.{ErrorKind}
 use Rattle.csv.specs.declared.error.ErrorKind.TheVariants as error
 use Rattle.mrp_rows.specs.Table.{Table}
@@ -19,6 +19,10 @@ fault_of (error.UnequalLengths pos expected len) = fault.ReadFault
 fault_of (error.Serialize text) = fault.ReadFault
 fault_of (error.Deserialize pos e) = fault.ReadFault
 fault_of error.OutOfMemory = fault.Memory
+
+-- a fault is ReadFault only where the reader has failed, or where all rows that may be read were read, and there are more than so many
+abbrev pub StopsReading : RecordFaultKind → Bool → Type 0 → ℕ → Option (List (List (List ℕ))) → Type 0
+StopsReading kind failed full most left = kind ≡ fault.ReadFault → (failed ≡ true) ⊎ (full × OfLeft left (λ rows. most < length rows))
 
 -- a row that isn't text has that as its first fault
 abbrev pub TellsBad : Table → Option (List (List (List ℕ))) → RecordFaultKind → Type 0

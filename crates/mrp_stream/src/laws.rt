@@ -1,10 +1,15 @@
 //! Laws of the text of records. Each is the contract of a function that does nothing.
 
-ghost use Rattle.mrp_stream.specs.Laws.{RecordsHaveOneRow, WrittenHasNoFault, WrittenReadsBack, WrittenRowsAreRead};
+ghost use Rattle.mrp_stream.specs.Laws.{RecordsHaveOneRow, RowsHaveListedFaults, WrittenHasNoFault, WrittenReadsBack, WrittenRowsAreRead};
 
 /// Each record has one row, and only that row is read as it.
 pub fn records_have_one_row()
     ensures { RecordsHaveOneRow }
+{}
+
+/// A row is refused for a fault of a row alone, never for a failed read or for want of memory.
+pub fn rows_have_listed_faults()
+    ensures { RowsHaveListedFaults }
 {}
 
 /// What was written reads back: its rows are those of the records, no other records are read of it, and

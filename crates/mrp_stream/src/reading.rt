@@ -1,11 +1,11 @@
 //! Records read from a text of csv rows.
 
 ghost use Rattle.std.specs.Prelude.{true, false, ◌≡◌, ◌+◌, ◌≤◌, length, IfOk, IfErr, OnOk, option_map};
-ghost use Rattle.csv.specs.Reading.{strip_bom};
+ghost use Rattle.csv.specs.Reading.{has_failed, strip_bom};
 ghost use Rattle.csv.specs.Records.{AllText, fields_of};
 ghost use Rattle.mrp_tables.specs.Left.{GivesAll, MayCome, OfLeft, left_of};
 ghost use Rattle.mrp_tables.specs.Reading.{OfRecords};
-ghost use Rattle.mrp_stream.specs.Left.{fault_of, is_of_row, TellsNext, TellsTaken};
+ghost use Rattle.mrp_stream.specs.Left.{fault_of, is_of_row, StopsReading, TellsNext, TellsTaken};
 ghost use Rattle.mrp_rows.specs.Table.{Table};
 ghost use Rattle.mrp_stream.specs.Reading.{AreRowsOf, HasFault};
 
@@ -53,6 +53,7 @@ fn read_rows<R: Read>(
     requires gives { GivesAll rows.old }
     ensures records { IfOk result (λ records. OfLeft (left_of R.remaining rows.old) (λ rows. AreRowsOf network.now rows records.items)) }
     ensures fault { IfErr result (λ fault. OfLeft (left_of R.remaining rows.old) (λ rows. HasFault network.now rows fault)) }
+    ensures failed { IfErr result (λ fault. StopsReading fault.kind (has_failed rows.new) (fault.row ≡ MOST_RECORDS + 1) MOST_RECORDS (left_of R.remaining rows.old)) }
     ensures few { IfOk result (λ records. length records.items ≤ MOST_RECORDS) }
 {
     let mut row = StringRecord::new(alloc);
@@ -77,6 +78,7 @@ fn read_next<R: Read>(
     requires gives { GivesAll rows.old }
     ensures gives { OnOk result (GivesAll rows.new) }
     ensures exact { TellsNext network.now (left_of R.remaining rows.old) (left_of R.remaining rows.new) records.old.items records.new.items result }
+    ensures failed { IfErr result (λ kind. StopsReading kind (has_failed rows.new) (MOST_RECORDS ≤ length records.old.items) 0 (left_of R.remaining rows.old)) }
 {
     let full = MOST_RECORDS <= records.len() as u64;
     if !next_row(rows, row, full)? {
@@ -96,6 +98,7 @@ fn next_row<R: Read>(
     ensures gives { OnOk result (GivesAll rows.new) }
     ensures text { OnOk result (AllText (fields_of row.new)) }
     ensures exact { (N : Table) → TellsTaken N (left_of R.remaining rows.old) (left_of R.remaining rows.new) (fields_of row.new) result }
+    ensures failed { IfErr result (λ kind. StopsReading kind (has_failed rows.new) (full ≡ true) 0 (left_of R.remaining rows.old)) }
     ensures room { full ≡ true → is_of_row result ≡ false }
 {
     let answer = take_row(rows, row);
@@ -122,6 +125,7 @@ fn take_row<R: Read>(rows: &mut Reader<R>, row: &mut StringRecord) -> Result<boo
     ensures gives { OnOk result (GivesAll rows.new) }
     ensures text { OnOk result (AllText (fields_of row.new)) }
     ensures exact { (N : Table) → TellsTaken N (left_of R.remaining rows.old) (left_of R.remaining rows.new) (fields_of row.new) result }
+    ensures failed { IfErr result (λ kind. kind ≡ RecordFaultKind.ReadFault → has_failed rows.new ≡ true) }
 {
     match rows.read_record(row) {
         Ok(found) => Ok(found),

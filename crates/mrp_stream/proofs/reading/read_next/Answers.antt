@@ -1,8 +1,10 @@
 use Rattle.std.proofs.Common.{◌≡◌, Err, Ok, length, refl, rules, sym, ◌∙◌}
 use Rattle.std.proofs.lemmas.Result.{err_from_is_err_and}
+use Rattle.csv.specs.Reading.{has_failed}
 use Rattle.csv.specs.Records.{fields_of}
 use Rattle.mrp_tables.specs.Left.{left_of}
-use Rattle.mrp_stream.proofs.Loop.{adds_record, bad_told, fault_told, none_there, room_for, some_there}
+use Rattle.mrp_stream.proofs.Listed.{no_read_fault}
+use Rattle.mrp_stream.proofs.Loop.{adds_record, bad_told, fault_told, none_there, room_for, some_there, stops_full}
 use Rattle.mrp_stream.proofs.Spelling.{text_record}
 use Rattle.mrp_stream.proofs.reading.read_next.Goals as goal
 
@@ -35,3 +37,14 @@ returns-clause-exact g c =
     let room = room_for (length c.args.records.now.items) c.len.result (Ok c.in_ok-next_row.field-0) counted c.in_ok-next_row.ensures.room c.if-not-branch.false in
     let takes = some_there N c.in_ok-next_row.field-0 (left_of g.R.Read.remaining c.args.rows.now) (left_of g.R.Read.remaining c.next_row.new.rows) row c.if-not-branch.false (c.in_ok-next_row.ensures.exact N) in
     adds_record N (left_of g.R.Read.remaining c.args.rows.now) (left_of g.R.Read.remaining c.next_row.new.rows) row c.args.records.now.items c.push.new.self.items _ room takes (sym c.in_ok-spelled_record.ensures) c.in_ok-push.ensures.items
+
+pub returns-in_err-next_row-clause-failed : goal.returns-in_err-next_row-clause-failed
+returns-in_err-next_row-clause-failed g c =
+    let p = err_from_is_err_and c.from_residual.result c.from_residual.ensures.1 in
+    let counted : c.len.result ≡ length c.args.records.now.items = search rules in
+    rw (p.1, p.2) (stops_full _ (has_failed c.next_row.new.rows) (length c.args.records.now.items) c.len.result (left_of g.R.Read.remaining c.args.rows.now) counted c.in_err-next_row.ensures.failed)
+
+pub returns-in_err-spelled_record-clause-failed : goal.returns-in_err-spelled_record-clause-failed
+returns-in_err-spelled_record-clause-failed g c =
+    let p = err_from_is_err_and c.from_residual-in_err-spelled_record.result c.from_residual-in_err-spelled_record.ensures.1 in
+    rw (p.1, p.2) (λ is. absurd (no_read_fault c.args.network.now (fields_of c.next_row.new.row) _ (sym c.in_err-spelled_record.ensures) is))

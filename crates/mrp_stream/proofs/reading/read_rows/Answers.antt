@@ -1,6 +1,7 @@
 use Rattle.std.proofs.Common.{◌≤◌, arith, length, sym}
+use Rattle.csv.specs.Reading.{has_failed}
 use Rattle.mrp_tables.specs.Left.{left_of}
-use Rattle.mrp_stream.proofs.Loop.{count_next, ended, few_next, next_so_far, stopped, told_none, told_record}
+use Rattle.mrp_stream.proofs.Loop.{count_next, ended, few_next, next_so_far, stopped, stops_all, told_none, told_record}
 use Rattle.mrp_stream.proofs.reading.read_rows.Goals as goal
 
 pub returns-in-Ok-false-clause-records : goal.returns-in-Ok-false-clause-records
@@ -14,6 +15,11 @@ pub returns-in-Err-clause-fault : goal.returns-in-Err-clause-fault
 returns-in-Err-clause-fault g c =
     stopped c.args.network.now (left_of g.R.Read.remaining c.args.rows.now) (left_of g.R.Read.remaining c.loop-number.rows) c.loop-number.records.items c.loop-number.number c.in-Err.kind
     c.loop-number.invariant.so_far (sym c.loop-number.invariant.count) c.loop-number.invariant.few c.in-Err.ensures.exact
+
+pub returns-in-Err-clause-failed : goal.returns-in-Err-clause-failed
+returns-in-Err-clause-failed g c =
+    stops_all c.args.network.now (left_of g.R.Read.remaining c.args.rows.now) (left_of g.R.Read.remaining c.loop-number.rows) c.loop-number.records.items c.loop-number.number c.in-Err.kind
+    (has_failed c.read_next.new.rows) c.loop-number.invariant.so_far (sym c.loop-number.invariant.count) c.loop-number.invariant.few c.in-Err.ensures.failed
 
 pub loop-number-preserved : goal.loop-number-preserved
 loop-number-preserved g c =
