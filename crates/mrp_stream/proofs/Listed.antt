@@ -1,5 +1,5 @@
 -- Each fault that a row may have stands in the list of these.
-use Rattle.std.proofs.Common.{◌≡◌, ℕ, ◌<◌, ◌==◌, Bool, true, false, List, length, Option, Some, None, Result, Ok, Err, ok_or, if◌then◌else◌, IfErr, refl, ◌∙◌, arith}
+use Rattle.std.proofs.Common.{◌≡◌, ℕ, ◌==◌, Bool, true, false, List, length, Option, Some, None, Result, Ok, Err, ok_or, if◌then◌else◌, IfErr, refl, ◌∙◌, arith}
 use Rattle.std.specs.List.{Contains, list_all}
 use Rattle.std.specs.Str.{is_utf8}
 use Rattle.mrp_spell.specs.Spelling.{number_of}

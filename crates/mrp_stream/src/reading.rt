@@ -53,7 +53,7 @@ fn read_rows<R: Read>(
     requires gives { GivesAll rows.old }
     ensures records { IfOk result (λ records. OfLeft (left_of R.remaining rows.old) (λ rows. AreRowsOf network.now rows records.items)) }
     ensures fault { IfErr result (λ fault. OfLeft (left_of R.remaining rows.old) (λ rows. HasFault network.now rows fault)) }
-    ensures failed { IfErr result (λ fault. StopsReading fault.kind (has_failed rows.new) (fault.row ≡ MOST_RECORDS + 1) MOST_RECORDS (left_of R.remaining rows.old)) }
+    ensures failed { IfErr result (λ e. StopsReading e.kind (has_failed rows.new) (e.row ≡ MOST_RECORDS + 1) MOST_RECORDS (left_of R.remaining rows.old)) }
     ensures few { IfOk result (λ records. length records.items ≤ MOST_RECORDS) }
 {
     let mut row = StringRecord::new(alloc);

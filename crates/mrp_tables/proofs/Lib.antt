@@ -1,5 +1,6 @@
 pub mod Accept
 pub mod Finding
+pub mod First
 pub mod Keys
 pub mod Keeping
 pub mod KeepingBill

@@ -5,3 +5,4 @@ pub mod Left
 pub mod Lists
 pub mod Reading
 pub mod Spelled
+pub mod Tests

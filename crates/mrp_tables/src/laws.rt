@@ -9,6 +9,7 @@ ghost use Rattle.mrp_tables.specs.declared.kind.Kind.{Kind};
 ghost use Rattle.mrp_tables.specs.Faults.{faults_of, HasListedFaults, Rise};
 ghost use Rattle.mrp_tables.specs.Grammar.{RunTerms};
 ghost use Rattle.mrp_tables.specs.Reading.{IsCalendarOf, Reads};
+ghost use Rattle.mrp_tables.specs.Tests.{HasFirstFault};
 ghost use Rattle.mrp_rows.specs.Table.{IsTable, Table};
 
 use crate::reading::MAX_TURNS;
@@ -47,4 +48,9 @@ pub fn faults_rise()
 /// A row is refused for a fault of its list alone: a first row, and a later one whatever the rows above it.
 pub fn rows_have_listed_faults()
     ensures { (row : List (List ℕ)) → HasListedFaults row }
+{}
+
+/// A row is refused for the first test of its list that it fails, and taken where it passes all of them.
+pub fn rows_have_their_first_fault()
+    ensures { (row : List (List ℕ)) → HasFirstFault row }
 {}

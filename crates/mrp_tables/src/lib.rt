@@ -20,7 +20,7 @@ mod steps;
 pub use fault::{TableFault, TableFaultKind};
 pub use laws::{
     a_run_has_one_calendar, faults_rise, reads_are_one, records_are_all_records,
-    rows_have_listed_faults, turns_are_rows, what_is_read_is_a_table,
+    rows_have_listed_faults, rows_have_their_first_fault, turns_are_rows, what_is_read_is_a_table,
 };
 pub use reading::{MAX_TURNS, read_tables, read_tables_uncounted};
 pub use steps::Steps;
