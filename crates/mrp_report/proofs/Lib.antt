@@ -5,3 +5,4 @@ pub mod PieceFacts
 pub mod PlainFacts
 pub mod ReadBack
 pub mod SheetFacts
+pub mod RoomFacts

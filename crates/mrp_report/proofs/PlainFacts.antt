@@ -1,5 +1,5 @@
 -- Names, numbers, dates and words need no quotes: none of their bytes comes before the dash.
-use Rattle.std.proofs.Common.{◌≡◌, ◌≤◌, ◌<◌, ◌+◌, ◌/◌, ◌%◌, ◌&&◌, ℕ, zero, suc, ℤ, Bool, true, false, List, [], ◌∷◌, length, get_or, decimal, All, unsigned_abs, cond, eqb, ltb, refl, sym, subst, arith, ⊎_elim}
+use Rattle.std.proofs.Common.{◌≡◌, ◌≤◌, ◌<◌, ◌+◌, ◌/◌, ◌%◌, ◌&&◌, ℕ, zero, suc, Bool, true, false, List, [], ◌∷◌, length, get_or, decimal, All, unsigned_abs, cond, eqb, ltb, refl, sym, subst, arith, ⊎_elim}
 use Rattle.std.specs.List.{list_all, range_with_len}
 use Rattle.std.proofs.lemmas.Bool.{cases_lt, ne_eqb}
 use Rattle.std.proofs.lemmas.Bool.Decides.{nat_tests}
@@ -10,13 +10,13 @@ use Rattle.csv.specs.Writing.{default_writer, needs_byte}
 use Rattle.mrp_cal.specs.Calendar.{CalendarTerms, first_day}
 use Rattle.mrp_cal.specs.DateText.{date_text}
 use Rattle.mrp_cal.specs.Days.{date_at as day_parts}
-use Rattle.mrp_spell.specs.Spelling.{is_name, is_name_byte}
+use Rattle.mrp_spell.specs.Spelling.{is_name_byte}
 use Rattle.mrp_rows.specs.Table.{IsName, IsTable, Table}
 use Rattle.mrp_report.specs.Dates.{dates_of, period_date}
-use Rattle.mrp_report.specs.Report.{date_at, item_of, plant_of}
+use Rattle.mrp_report.specs.Report.{date_at}
 use Rattle.mrp_report.specs.Sheets.{IsPlain}
 
-both_true : (a b : Bool) → (a && b) ≡ true → (a ≡ true) × (b ≡ true)
+pub both_true : (a b : Bool) → (a && b) ≡ true → (a ≡ true) × (b ≡ true)
 both_true true b e = (refl, e)
 both_true false b e = absurd (cc)
 

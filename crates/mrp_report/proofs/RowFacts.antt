@@ -121,8 +121,9 @@ fits_has N table x fits pair =
     (length-map-range_with_len (incoming N x) 0 (horizon N)) (length-map-range_with_len (gross N table x) 0 (horizon N)))
 
 -- the rows of all, where none was written before
+pub whole_text : (before now text : List ℕ) → before ≡ [] → now ≡ before ++ text → now ≡ text
+whole_text before now text none so_far = so_far ∙ ap (λ xs. xs ++ text) none
+
 pub all_rows : {E : Type 0} (r : Result (Vec ℕ Global) E) (before now text : List ℕ) → IfOk r (λ v. v.items ≡ now) → now ≡ before ++ text → before ≡ []
     → IfOk r (λ v. v.items ≡ text)
-all_rows r before now text whole so_far none =
-    let same : now ≡ text = so_far ∙ ap (λ xs. xs ++ text) none in
-    IfOk-weaker r _ _ (λ v e. e ∙ same) whole
+all_rows r before now text whole so_far none = IfOk-weaker r _ _ (λ v e. e ∙ whole_text before now text none so_far) whole

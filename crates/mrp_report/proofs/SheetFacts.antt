@@ -1,8 +1,9 @@
 -- Each report is the rows of its sheet.
-use Rattle.std.proofs.Common.{◌≡◌, ◌-◌, ℕ, List, [], ◌∷◌, length, map, All, decimal, codes as text_bytes, refl, arith}
+use Rattle.std.proofs.Common.{◌≡◌, ◌-◌, ◌++◌, ◌∙◌, ℕ, List, [], ◌∷◌, length, map, All, decimal, refl, sym, ap, arith}
 use Rattle.std.specs.Prelude.{slice_index}
 use Rattle.std.specs.List.{flat_map, range_with_len}
-use Rattle.std.proofs.lemmas.List.Elements.{All-cons, All-nil}
+use Rattle.std.proofs.lemmas.List.Elements.{All-append, All-cons, All-nil}
+use Rattle.std.proofs.lemmas.Grind.{flat_map-append}
 use Rattle.csv.specs.Reading.{strip_bom}
 use Rattle.mrp_lot.specs.One.{PlanRows}
 use Rattle.mrp_lot.specs.declared.params.Late.{Late}
@@ -19,11 +20,11 @@ use Rattle.mrp_plan.specs.declared.terms.PegSource.TheVariants.{Demand, Bill, Pl
 use Rattle.mrp_book.specs.declared.figure.LaneFigure.{LaneFigure}
 use Rattle.mrp_report.specs.declared.plan.Period.{Period}
 use Rattle.mrp_report.specs.Dates.{dates_of}
-use Rattle.mrp_report.specs.Lanes.{figure_fields, figure_row, kind_word, lane_row, lane_text}
-use Rattle.mrp_report.specs.Laws.{CodesAreReadBack, FiguresAreReadBack, LateOrdersAreReadBack, PlanIsReadBack, TermsAreReadBack}
+use Rattle.mrp_report.specs.Lanes.{figure_fields, figure_row, kind_word, lane_text}
+use Rattle.mrp_report.specs.Laws.{CodesAreReadBack, FiguresAreReadBack, LateOrdersAreReadBack, PlanIsReadBack, PlanWithLateOrdersIsReadBack, TermsAreReadBack}
 use Rattle.mrp_report.specs.Report.{code_fields, code_row, code_text, date_at, item_of, late_fields, late_row, late_text, pair_text, pairs_of, peg_fields, peg_row, peg_text, period_at, plan_fields, plan_row, plan_text, plant_of, source_word}
 use Rattle.mrp_report.specs.Rows.{row}
-use Rattle.mrp_report.specs.Sheets.{IsPlain, Sheet, code_sheet, lane_sheet, late_sheet, pair_sheet, peg_sheet, plan_sheet}
+use Rattle.mrp_report.specs.Sheets.{IsPlain, code_sheet, lane_sheet, late_sheet, pair_sheet, peg_sheet, plan_sheet}
 use Rattle.mrp_report.proofs.PlainFacts.{dates_plain, item_plain, number_plain, plant_plain}
 use Rattle.mrp_report.proofs.ReadBack.{IsRow, all_each, all_map, row_each, rows_each, sheet_read}
 
@@ -65,15 +66,17 @@ plan_is_sheet N table =
     (λ x. pair_sheet (plant_of N x) (item_of N x) (dates_of N.calendar) (rows_at table x))
     (λ x. pair_is_sheet (plant_of N x) (item_of N x) (dates_of N.calendar) (rows_at table x)) (pairs_of N)
 
-pub plan_is_read : PlanIsReadBack
-plan_is_read N is table =
-    sheet_read (plan_text N table) (plan_sheet N table) (plan_is_sheet N table)
-    (all_each (λ x. pair_sheet (plant_of N x) (item_of N x) (dates_of N.calendar) (rows_at table x))
+plan_rows_are : (N : Table) → IsTable N → (table : List PlanRows) → All IsRow (plan_sheet N table)
+plan_rows_are N is table =
+    all_each (λ x. pair_sheet (plant_of N x) (item_of N x) (dates_of N.calendar) (rows_at table x))
     (λ x. all_map (λ t. plan_fields (plant_of N x) (item_of N x) (date_at (dates_of N.calendar) t) (period_at (rows_at table x) t))
     (λ t. plan_is_row (plant_of N x) (item_of N x) (date_at (dates_of N.calendar) t) (period_at (rows_at table x) t)
     (plant_plain N is (pair_at N x).plant.0) (item_plain N is (pair_at N x).item.0) (dates_plain N.calendar t))
     (range_with_len 0 (length (dates_of N.calendar))))
-    (pairs_of N))
+    (pairs_of N)
+
+pub plan_is_read : PlanIsReadBack
+plan_is_read N is table = sheet_read (plan_text N table) (plan_sheet N table) (plan_is_sheet N table) (plan_rows_are N is table)
 
 -- ---- late orders
 
@@ -96,14 +99,25 @@ late_is_sheet N table =
     (λ x. map (late_fields (plant_of N x) (item_of N x)) (rows_at table x).late)
     (λ x. orders_are_sheet (plant_of N x) (item_of N x) (rows_at table x).late) (pairs_of N)
 
-pub late_is_read : LateOrdersAreReadBack
-late_is_read N is table =
-    sheet_read (late_text N table) (late_sheet N table) (late_is_sheet N table)
-    (all_each (λ x. map (late_fields (plant_of N x) (item_of N x)) (rows_at table x).late)
+late_rows_are : (N : Table) → IsTable N → (table : List PlanRows) → All IsRow (late_sheet N table)
+late_rows_are N is table =
+    all_each (λ x. map (late_fields (plant_of N x) (item_of N x)) (rows_at table x).late)
     (λ x. all_map (late_fields (plant_of N x) (item_of N x))
     (λ late. late_is_row (plant_of N x) (item_of N x) late (plant_plain N is (pair_at N x).plant.0) (item_plain N is (pair_at N x).item.0))
     (rows_at table x).late)
-    (pairs_of N))
+    (pairs_of N)
+
+pub late_is_read : LateOrdersAreReadBack
+late_is_read N is table = sheet_read (late_text N table) (late_sheet N table) (late_is_sheet N table) (late_rows_are N is table)
+
+-- the plan and then its late orders
+pub together_is_read : PlanWithLateOrdersIsReadBack
+together_is_read N is table =
+    let plan = plan_sheet N table in
+    let late = late_sheet N table in
+    sheet_read (plan_text N table ++ late_text N table) (plan ++ late)
+    (ap (λ t. t ++ late_text N table) (plan_is_sheet N table) ∙ ap (λ t. flat_map row plan ++ t) (late_is_sheet N table) ∙ sym (flat_map-append row plan late))
+    (All-append IsRow plan late (plan_rows_are N is table) (late_rows_are N is table))
 
 -- ---- terms of a gross requirement
 

@@ -1,6 +1,6 @@
 -- The reports of an accepted table are read back: what a spreadsheet shows of them is the fields that
 -- their rows are made of.
-use Rattle.std.specs.Prelude.{ℕ, List}
+use Rattle.std.specs.Prelude.{ℕ, List, ◌++◌}
 use Rattle.mrp_lot.specs.One.{PlanRows}
 use Rattle.mrp_rows.specs.Table.{IsTable, Table}
 use Rattle.mrp_plan.specs.declared.terms.PegTerm.{PegTerm}
@@ -14,6 +14,11 @@ PlanIsReadBack = (N : Table) → IsTable N → (table : List PlanRows) → IsRea
 
 abbrev pub LateOrdersAreReadBack : Type 0
 LateOrdersAreReadBack = (N : Table) → IsTable N → (table : List PlanRows) → IsReadAs (late_text N table) (late_sheet N table)
+
+-- the plan and then its late orders, as `mrp plan` writes them
+abbrev pub PlanWithLateOrdersIsReadBack : Type 0
+PlanWithLateOrdersIsReadBack =
+    (N : Table) → IsTable N → (table : List PlanRows) → IsReadAs (plan_text N table ++ late_text N table) (plan_sheet N table ++ late_sheet N table)
 
 abbrev pub TermsAreReadBack : Type 0
 TermsAreReadBack = (N : Table) → IsTable N → (terms : List PegTerm) → IsReadAs (peg_text N terms) (peg_sheet N terms)

@@ -1,11 +1,13 @@
 //! Laws of the reports. Each is the contract of a function that does nothing.
-ghost use Rattle.mrp_report.specs.Laws.{PlanIsReadBack, LateOrdersAreReadBack, TermsAreReadBack, CodesAreReadBack, FiguresAreReadBack};
+ghost use Rattle.mrp_report.specs.Laws.{PlanIsReadBack, LateOrdersAreReadBack, PlanWithLateOrdersIsReadBack};
+ghost use Rattle.mrp_report.specs.Laws.{TermsAreReadBack, CodesAreReadBack, FiguresAreReadBack};
 
 /// What csv reads of a report is exactly the fields that its rows are made of, row by row, and none
-/// of them needs quotes.
+/// of them needs quotes; so too of the plan rows and the late orders together.
 pub fn reports_are_read_back()
     ensures plan { PlanIsReadBack }
     ensures late { LateOrdersAreReadBack }
+    ensures together { PlanWithLateOrdersIsReadBack }
     ensures pegs { TermsAreReadBack }
     ensures codes { CodesAreReadBack }
     ensures lanes { FiguresAreReadBack }

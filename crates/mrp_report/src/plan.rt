@@ -1,9 +1,11 @@
 //! The plan rows: the record of each pair, period by period.
 
-ghost use Rattle.std.specs.Prelude.{◌≡◌, ◌+◌, ◌-◌, ◌++◌, ◌∷◌, ◌<◌, ◌≤◌, map, drop, length, decimal, Err, IfOk, OnOk, IfErr, OnErr};
+ghost use Rattle.std.specs.Prelude.{◌≡◌, ◌+◌, ◌-◌, ◌*◌, ◌++◌, ◌∷◌, [], ◌≤◌, drop, length, decimal, vec_len, vec_capacity, Err};
+ghost use Rattle.std.specs.Prelude.{IfOk, OnOk, IfErr, OnErr};
 ghost use Rattle.csv.specs.Writing.{comma};
+ghost use Rattle.mrp_rows.specs.Table.{IsTable};
 ghost use Rattle.mrp_net.specs.Plan.{Fits};
-ghost use Rattle.mrp_report.specs.Rows.{IsBetweenRows, written};
+ghost use Rattle.mrp_report.specs.Rows.{row};
 ghost use Rattle.std.specs.Io.KnownBytes.{Appends};
 ghost use Rattle.mrp_report.specs.Sending.{AppendsFront, Sends};
 ghost use Rattle.mrp_report.specs.Dates.{dates_of};
@@ -11,9 +13,7 @@ ghost use Rattle.mrp_report.specs.Parts.{pair_part, parts_text, period_part};
 ghost use Rattle.mrp_report.specs.Report.{HasPeriod, HasPeriods, pairs_text, period_at, plan_text};
 
 use crate::ReportFault;
-use crate::rows::{put_row, rows_in, text_of};
 use crate::writing::send;
-use csv::Writer;
 use itoa::write_digits;
 use mrp_cal::Calendar;
 use mrp_loops::SizedNet;
@@ -35,9 +35,9 @@ const LONGEST_PAIR: usize = 46;
 /// 16 and the commas between.
 const LONGEST_PERIOD: usize = 116;
 
-/// The most bytes of a row: the word, two names of 20, a period of 3 digits, a date, five quantities
-/// of 16, the commas and the line feed.
-const LONGEST_ROW: usize = 147;
+/// The most bytes of a row: what all rows of its pair begin with, a comma, what it has of its period
+/// and the line feed.
+const LONGEST_ROW: usize = 164;
 
 /// The figures of one period of a plan, in pieces.
 #[derive(Clone, Copy, Debug)]
@@ -65,8 +65,8 @@ struct PlanReport<'a> {
 /// # Errors
 ///
 /// - [`ReportFault::WriteFault`] where a write fails or takes nothing; a front of the report is
-///   written. The rows go by pieces of some pairs; a piece fits the room that is taken for it, and if
-///   it had to grow and could not, this would be the fault too.
+///   written. The rows go by pieces of some pairs, and no piece outgrows the room that is taken for
+///   it, so it is never for want of memory.
 /// - [`ReportFault::Memory`] where the room for a piece is refused; nothing is written.
 pub fn plan_rows<W: Write>(
     alloc: Global,
@@ -79,27 +79,30 @@ pub fn plan_rows<W: Write>(
     ensures untouched { result ≡ Err ReportFault.Memory → out.new ≡ out.old }
 {
     let network = net.network();
-    let dates = date_texts(alloc, network.calendar())?;
+    let calendar = network.calendar();
+    let dates = date_texts(alloc, calendar)?;
     let mut names = Vec::with_capacity(alloc, LONGEST_PAIR)?;
-    let count = dates.len().saturating_mul(PAIRS_AT_ONCE);
-    let room = Vec::with_capacity(alloc, count.saturating_mul(LONGEST_ROW))?;
+    let periods = calendar.horizon().get() as usize;
+    let mut text = Vec::with_capacity(alloc, PAIRS_AT_ONCE * (periods * LONGEST_ROW))?;
     let report = PlanReport {
         network,
         plan,
         dates: dates.as_slice(),
     };
-    send_pieces(room, &mut names, &report, out)
+    send_pieces(&mut text, &mut names, &report, out)
 }
 
-/// Sends the plan rows by pieces that are built in the room.
+/// Sends the plan rows by pieces, each built in the room that `text` has.
 fn send_pieces<W: Write>(
-    mut room: Vec<u8>,
+    text: &mut Vec<u8>,
     names: &mut Vec<u8>,
     report: &PlanReport<'_>,
     out: &mut W,
 ) -> Result<(), ReportFault>
     requires fits { Fits report.now.network.now report.now.plan.now }
     requires dates { report.now.dates.now ≡ dates_of report.now.network.now.calendar }
+    requires room { PAIRS_AT_ONCE * (length report.now.dates.now * LONGEST_ROW) ≤ vec_capacity text.old }
+    requires names { LONGEST_PAIR ≤ vec_capacity names.old }
     ensures text { Sends (W.contents out.old) (W.contents out.new) result (plan_text report.now.network.now report.now.plan.now) }
     ensures fault { IfErr result (λ fault. fault ≡ ReportFault.WriteFault) }
 {
@@ -107,65 +110,67 @@ fn send_pieces<W: Write>(
     let mut sent = 0;
     'pieces: while sent < pairs {
         let end = pairs.min(sent + PAIRS_AT_ONCE);
-        match send_piece(room, names, report, sent, end, out) {
-            Ok(text) => room = text,
-            Err(_) => return Err(ReportFault::WriteFault),
-        }
+        send_piece(text, names, report, sent, end, out)?;
         sent = end;
     }
     Ok(())
 }
 
-/// Sends the rows of the pairs from `first` on and before `end`, and gives the room back.
+/// Sends the rows of the pairs from `first` on and before `end`, at most so many as go at once.
 fn send_piece<W: Write>(
-    room: Vec<u8>,
+    text: &mut Vec<u8>,
     names: &mut Vec<u8>,
     report: &PlanReport<'_>,
     first: usize,
     end: usize,
     out: &mut W,
-) -> Result<Vec<u8>, ReportFault>
+) -> Result<(), ReportFault>
+    requires table { IsTable report.now.network.now }
     requires fits { Fits report.now.network.now report.now.plan.now }
     requires dates { report.now.dates.now ≡ dates_of report.now.network.now.calendar }
     requires order { first ≤ end }
     requires pairs { end ≤ length report.now.network.now.pairs }
+    requires few { end ≤ first + PAIRS_AT_ONCE }
+    requires room { PAIRS_AT_ONCE * (length report.now.dates.now * LONGEST_ROW) ≤ vec_capacity text.old }
+    requires names { LONGEST_PAIR ≤ vec_capacity names.old }
     ensures whole { OnOk result (Appends (W.contents out.old) (W.contents out.new)
         (pairs_text report.now.network.now report.now.plan.now first (end - first))) }
     ensures front { OnErr result (AppendsFront (W.contents out.old) (W.contents out.new)
         (pairs_text report.now.network.now report.now.plan.now first (end - first))) }
+    ensures fault { IfErr result (λ fault. fault ≡ ReportFault.WriteFault) }
+    ensures room { vec_capacity text.old ≤ vec_capacity text.new }
+    ensures names { vec_capacity names.old ≤ vec_capacity names.new }
 {
-    let Ok(text) = pairs_text(room, names, report, first, end) else {
-        return Err(ReportFault::WriteFault);
-    };
-    match send(text.as_slice(), out) {
-        Ok(()) => Ok(text),
-        Err(fault) => Err(fault),
-    }
+    pairs_text(text, names, report, first, end);
+    send(text.as_slice(), out)
 }
 
-/// The rows of the pairs from `first` on and before `end`, in the room.
+/// Makes the text the rows of the pairs from `first` on and before `end`, in the room that it has.
 fn pairs_text(
-    mut room: Vec<u8>,
+    text: &mut Vec<u8>,
     names: &mut Vec<u8>,
     report: &PlanReport<'_>,
     first: usize,
     end: usize,
-) -> Result<Vec<u8>, ReportFault>
+)
+    requires table { IsTable report.now.network.now }
     requires fits { Fits report.now.network.now report.now.plan.now }
     requires dates { report.now.dates.now ≡ dates_of report.now.network.now.calendar }
     requires order { first ≤ end }
     requires pairs { end ≤ length report.now.network.now.pairs }
-    ensures text { IfOk result (λ text. text.items ≡ pairs_text report.now.network.now report.now.plan.now first (end - first)) }
+    requires room { (end - first) * (length report.now.dates.now * LONGEST_ROW) ≤ vec_capacity text.old }
+    requires names { LONGEST_PAIR ≤ vec_capacity names.old }
+    ensures text { text.new.items ≡ pairs_text report.now.network.now report.now.plan.now first (end - first) }
+    ensures room { vec_capacity text.old ≤ vec_capacity text.new }
+    ensures names { vec_capacity names.old ≤ vec_capacity names.new }
 {
-    room.clear();
-    let mut rows = rows_in(room);
+    text.clear();
     'pairs: for x in first..end {
         let (plant, item) = report.network.pair_name(PairNo(x));
-        name_pair(names, plant, item)?;
+        name_pair(names, plant, item);
         let plan = report.plan.pair(PairNo(x));
-        put_pair(&mut rows, names.as_slice(), report.dates, plan)?;
+        put_pair(text, names.as_slice(), report.dates, plan);
     }
-    text_of(rows)
 }
 
 /// The text of each period's date.
@@ -181,38 +186,61 @@ fn date_texts(alloc: Global, calendar: &Calendar) -> Result<Vec<[u8; 10]>, Repor
     Ok(dates)
 }
 
-/// Makes the text what all rows of a pair begin with.
-fn name_pair(text: &mut Vec<u8>, plant: &str, item: &str) -> Result<(), ReportFault>
-    ensures part { OnOk result (text.new.items ≡ pair_part plant.now item.now) }
-    ensures fault { IfErr result (λ fault. fault ≡ ReportFault.Memory) }
+/// Makes the names what all rows of a pair begin with, in the room that they have.
+fn name_pair(names: &mut Vec<u8>, plant: &str, item: &str)
+    requires plant { length plant.now ≤ 20 }
+    requires item { length item.now ≤ 20 }
+    requires room { LONGEST_PAIR ≤ vec_capacity names.old }
+    ensures part { names.new.items ≡ pair_part plant.now item.now }
+    ensures longest { vec_len names.new ≤ LONGEST_PAIR }
+    ensures room { vec_capacity names.old ≤ vec_capacity names.new }
 {
-    text.clear();
-    text.extend_from_slice(b"plan,")?;
-    text.extend_from_slice(plant.as_bytes())?;
-    text.push(b',')?;
-    text.extend_from_slice(item.as_bytes())?;
-    Ok(())
+    names.clear();
+    put(names, b"plan,");
+    put(names, plant.as_bytes());
+    put(names, b",");
+    put(names, item.as_bytes());
 }
 
-/// Adds the rows of a pair, which begin with `pair`.
-fn put_pair(
-    rows: &mut Writer<Vec<u8>>,
-    pair: &[u8],
-    dates: &[[u8; 10]],
-    plan: &PairPlan,
-) -> Result<(), ReportFault>
-    requires between { IsBetweenRows rows.old }
+/// Adds the rows of a pair, which begin with `pair`, in the room that the text has.
+fn put_pair(text: &mut Vec<u8>, pair: &[u8], dates: &[[u8; 10]], plan: &PairPlan)
     requires periods { HasPeriods plan.now (length dates.now) }
-    ensures rows { OnOk result (written rows.new ≡ written rows.old ++ parts_text pair.now dates.now plan.now) }
-    ensures between { OnOk result (IsBetweenRows rows.new) }
-    ensures fault { IfErr result (λ fault. fault ≡ ReportFault.Memory) }
+    requires pair { length pair.now ≤ LONGEST_PAIR }
+    requires room { vec_len text.old + length dates.now * LONGEST_ROW ≤ vec_capacity text.old }
+    ensures rows { text.new.items ≡ text.old.items ++ parts_text pair.now dates.now plan.now }
+    ensures longest { vec_len text.new ≤ vec_len text.old + length dates.now * LONGEST_ROW }
+    ensures room { vec_capacity text.old ≤ vec_capacity text.new }
 {
-    let mut text = [0; LONGEST_PERIOD];
+    let mut period = [0; LONGEST_PERIOD];
     'periods: for t in 0..dates.len() {
-        let start = put_period(&mut text, &dates[t], period_at(plan, t));
-        put_row(rows, &[pair, &text[start..]])?;
+        let start = put_period(&mut period, &dates[t], period_at(plan, t));
+        put_parts(text, pair, &period[start..]);
     }
-    Ok(())
+}
+
+/// Adds a row of two parts, in the room that the text has.
+fn put_parts(text: &mut Vec<u8>, pair: &[u8], period: &[u8])
+    requires room { vec_len text.old + length pair.now + length period.now + 2 ≤ vec_capacity text.old }
+    ensures row { text.new.items ≡ text.old.items ++ row (pair.now ∷ period.now ∷ []) }
+    ensures length { vec_len text.new ≡ vec_len text.old + length pair.now + length period.now + 2 }
+    ensures room { vec_capacity text.old ≤ vec_capacity text.new }
+{
+    put(text, pair);
+    put(text, b",");
+    put(text, period);
+    put(text, b"\n");
+}
+
+/// Adds bytes for which the text has room.
+fn put(text: &mut Vec<u8>, bytes: &[u8])
+    requires room { vec_len text.old + length bytes.now ≤ vec_capacity text.old }
+    ensures bytes { text.new.items ≡ text.old.items ++ bytes.now }
+    ensures length { vec_len text.new ≡ vec_len text.old + length bytes.now }
+    ensures room { vec_capacity text.old ≤ vec_capacity text.new }
+{
+    let Ok(()) = text.extend_from_slice(bytes) else {
+        unreachable!()
+    };
 }
 
 /// The figures of period `t`.

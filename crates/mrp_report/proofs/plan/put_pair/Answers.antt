@@ -1,5 +1,5 @@
-use Rattle.std.proofs.Common.{◌≡◌, ◌-◌, drop, length, length-drop, take, arith, ap, ◌∙◌}
-use Rattle.std.proofs.lemmas.List.{take_all}
+use Rattle.std.proofs.Common.{◌≡◌, ◌≤◌, ◌-◌, drop, length, length-drop, take, arith, ap, ◌∙◌}
+use Rattle.std.proofs.lemmas.List.{length-take-le, take_all}
 use Rattle.mrp_report.specs.Parts.{parts_row, parts_text, period_part}
 use Rattle.mrp_report.specs.Report.{date_at, period_at}
 use Rattle.mrp_report.proofs.RowFacts.{rows-more}
@@ -12,11 +12,14 @@ periods-preserved c =
     let start = c.put_period-start.result in
     let part : take (116 - start) (drop start text) ≡ period_part (date_at c.args.dates.now c.periods.t) (period_at c.args.plan.now c.periods.t) =
     take_all _ _ (omega (arith, length-drop start text)) ∙ c.put_period-start.ensures.part ∙ ap (period_part (date_at c.args.dates.now c.periods.t)) c.period_at.ensures in
+    let size : length (take (116 - start) (drop start text)) ≤ 116 =
+    omega (arith, length-take-le (116 - start) (drop start text) (omega (arith, length-drop start text))) in
     record {
-      between = c.in_ok-put_row.ensures.between;
+      longest = omega (arith, c.periods.invariant.longest, c.put_parts.ensures.length, c.requires.pair, size);
+      kept = omega (arith, c.periods.invariant.kept, c.put_parts.ensures.room);
       so_far = rows-more (λ t. parts_row c.args.pair.now (date_at c.args.dates.now t) (period_at c.args.plan.now t))
           _ _ _ c.periods.t c.periods.invariant.so_far
-          (rw part at c.in_ok-put_row.ensures.row);
+          (rw part at c.put_parts.ensures.row);
     }
 
 pub returns-clause-rows : goal.returns-clause-rows

@@ -1,13 +1,13 @@
-use Rattle.std.proofs.Common.{◌≡◌, ◌++◌}
+use Rattle.std.proofs.Common.{◌≡◌, ◌≤◌, ◌+◌, ◌*◌, ◌++◌, vec_capacity, vec_len}
 use Rattle.std.specs.List.{flat_map, range_with_len}
-use Rattle.mrp_report.specs.Rows.{IsBetweenRows, written}
 use Rattle.mrp_report.specs.Parts.{parts_row}
 use Rattle.mrp_report.specs.Report.{date_at, period_at}
 use Rattle.mrp_report.proofs.plan.put_pair.Given as goal
 
--- the rows of the periods before t are there
+-- the rows of the periods before t are there, and there is room for those of the rest
 abbrev pub invariant-periods : goal.invariant-periods
 invariant-periods l = record {
-  between : IsBetweenRows l.rows;
-  so_far : written l.rows ≡ written l.initial.rows ++ flat_map (λ t. parts_row l.pair (date_at l.dates t) (period_at l.plan t)) (range_with_len 0 l.t);
+  longest : vec_len l.text ≤ vec_len l.initial.text + l.t * 164;
+  kept : vec_capacity l.initial.text ≤ vec_capacity l.text;
+  so_far : l.text.items ≡ l.initial.text.items ++ flat_map (λ t. parts_row l.pair (date_at l.dates t) (period_at l.plan t)) (range_with_len 0 l.t);
 }

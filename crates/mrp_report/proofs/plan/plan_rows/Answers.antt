@@ -1,0 +1,11 @@
+use Rattle.std.proofs.Common.{◌≡◌, ◌∙◌, length, ap, arith}
+use Rattle.std.proofs.lemmas.List.FromFn.{length-map-range_with_len}
+use Rattle.mrp_report.specs.Dates.{period_date}
+use Rattle.mrp_report.proofs.plan.plan_rows.Goals as goal
+
+pub send_pieces-requires-clause-room : goal.send_pieces-requires-clause-room
+send_pieces-requires-clause-room g c =
+    let calendar = c.calendar-calendar.result.now in
+    let periods : length c.as_slice.result.now ≡ calendar.periods =
+    ap length (c.as_slice.ensures.value ∙ c.in_ok-dates.ensures.dates) ∙ length-map-range_with_len (period_date calendar) 0 calendar.periods in
+    omega (arith, periods, c.horizon.ensures.value, c.get-periods.ensures.value, c.in_ok-text.ensures.exact)
