@@ -1,5 +1,4 @@
-//! Worked cases of the crates below the text functions, in one place: a crate with tests is proved
-//! twice, and most of these need several crates.
+//! Worked cases of quantities, dates, lots and texts: of tables, records, reports and the command line.
 #![tactic(auto)]
 
 #[cfg(test)]

@@ -1,5 +1,9 @@
 //! The tables, as they are read: rows of plants, pairs, bills, demand and what is on its way.
 
+/// One plant, with two wheels to a bicycle.
+pub const BICYCLE: &str = "run,2026-01-05,7,4,,,,\nplant,P1,,,,,,\npair,P1,BIKE,make,lot,1,0,0\n\
+pair,P1,WHEEL,buy,lot,1,0,0\nbill,P1,BIKE,WHEEL,2,,,\ndemand,P1,BIKE,3,10,,,\n";
+
 /// A takes X from B, with a shipment of 8 on its way.
 pub const TWO_PLANTS: &str = "run,2026-01-05,7,4,,,,\nplant,A,,,,,,\nplant,B,,,,,,\n\
 pair,A,X,from:B,lot,1,0,0\npair,B,X,buy,lot,0,0,0\ndemand,A,X,2,30,,,\n\

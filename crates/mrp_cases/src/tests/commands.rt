@@ -12,6 +12,11 @@ fn refusal(alloc: Global, words: &[&str]) -> Option<ErrorKind> {
     }
 }
 
+/// Whether words are taken, and as that choice.
+fn is_chosen(alloc: Global, words: &[&str], wanted: &Choice) -> bool {
+    matches!(choose(alloc, words), Ok(choice) if choice == *wanted)
+}
+
 #[test]
 fn commands_have_their_values(rt: HostRuntime) {
     let alloc = rt.alloc();
@@ -20,7 +25,7 @@ fn commands_have_their_values(rt: HostRuntime) {
         capacity: 64,
         single: false,
     };
-    assert!(rt; matches!(choose(alloc, &["mrp", "plan"]), Ok(choice) if choice == plain));
+    assert!(rt; is_chosen(alloc, &["mrp", "plan"], &plain));
     let words = [
         "mrp",
         "plan",
@@ -34,15 +39,14 @@ fn commands_have_their_values(rt: HostRuntime) {
         capacity: 65_536,
         single: true,
     };
-    assert!(rt; matches!(choose(alloc, &words), Ok(choice) if choice == full));
-    assert!(rt; matches!(choose(alloc, &["mrp", "check"]), Ok(Choice::Check)));
+    assert!(rt; is_chosen(alloc, &words, &full));
+    assert!(rt; is_chosen(alloc, &["mrp", "check"], &Choice::Check));
     let asked = Choice::Peg {
         plant: "P1",
         item: "WHEEL",
         period: 103,
     };
-    let words = ["mrp", "peg", "P1", "WHEEL", "103"];
-    assert!(rt; matches!(choose(alloc, &words), Ok(choice) if choice == asked));
+    assert!(rt; is_chosen(alloc, &["mrp", "peg", "P1", "WHEEL", "103"], &asked));
 }
 
 #[test]

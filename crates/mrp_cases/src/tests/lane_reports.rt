@@ -3,11 +3,12 @@
 ghost use Rattle.std.specs.Prelude.{◌<◌, length, All};
 ghost use Rattle.mrp_report.specs.Lanes.{IsFigure};
 
-use crate::tests::firms::{FIRM, SPLIT, network_of};
+use crate::tests::network_of;
 use mrp_book::LaneFigure;
 use mrp_net::{ItemNo, LaneNo, Network};
 use mrp_qty::Qty;
 use mrp_report::lane_rows;
+use mrp_worked::{SHARED_AFTER_SHIPMENT, TWO_PLANTS};
 use std::alloc::Global;
 
 /// Whether that text is the report of figures.
@@ -90,7 +91,7 @@ fn figures_of_lanes(rt: HostRuntime) {
             text: "lane,schedule,A,B,X,108,130,130,0\n",
         },
     ];
-    assert!(rt; are_reported(rt.alloc(), FIRM, &rows));
+    assert!(rt; are_reported(rt.alloc(), TWO_PLANTS, &rows));
 }
 
 #[test]
@@ -125,5 +126,5 @@ fn figures_of_two_suppliers(rt: HostRuntime) {
             text: "lane,schedule,A,C,X,5,6,6,0\n",
         },
     ];
-    assert!(rt; are_reported(rt.alloc(), SPLIT, &rows));
+    assert!(rt; are_reported(rt.alloc(), SHARED_AFTER_SHIPMENT, &rows));
 }

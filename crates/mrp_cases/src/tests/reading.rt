@@ -3,6 +3,7 @@
 use mrp_cal::CalFault;
 use mrp_rows::{PairNo, PlantNo, Supply, Tables};
 use mrp_tables::{TableFaultKind, read_tables_uncounted};
+use mrp_worked::{BICYCLE, RESET_AT_RELEASE};
 use std::test::Fail;
 
 /// The row and the fault that a text is refused for, or `None` where it is a table.
@@ -12,15 +13,6 @@ fn fault_of(rt: &HostRuntime, text: &[u8]) -> Option<(u64, TableFaultKind)> {
         Err(fault) => Some((fault.row, fault.kind)),
     }
 }
-
-/// A bicycle with two wheels at one plant.
-const BICYCLE: &[u8] = b"run,2026-01-05,7,4,,,,
-plant,P1,,,,,,
-pair,P1,BIKE,make,lot,1,0,0
-pair,P1,WHEEL,buy,lot,1,0,0
-bill,P1,BIKE,WHEEL,2,,,
-demand,P1,BIKE,3,10,,,
-";
 
 /// Whether the table has the rows of the bicycle.
 fn has_bicycle_rows(table: &Tables) -> bool {
@@ -51,23 +43,11 @@ fn has_bicycle_names(table: &Tables) -> bool {
 
 #[test]
 fn a_bicycle_is_read(rt: HostRuntime) -> Result<(), Fail> {
-    let table = read_tables_uncounted(rt.alloc(), BICYCLE)?;
+    let table = read_tables_uncounted(rt.alloc(), BICYCLE.as_bytes())?;
     assert!(rt; has_bicycle_rows(&table));
     assert!(rt; has_bicycle_names(&table));
     Ok(())
 }
-
-/// Two plants, of which one takes an item from the other.
-const FIRM: &[u8] = b"run,2026-01-05,7,4,,,,
-plant,A,,,,,,
-plant,B,,,,,,
-pair,A,X,from:B,lot,1,0,0
-pair,B,X,buy,lot,0,0,0
-demand,A,X,2,30,,,
-ship,B,A,X,2,8,,
-cum,B,A,X,100,,,
-reset,B,A,X,1,,,
-";
 
 /// Whether the table has the rows between the two plants.
 fn has_rows_between_plants(table: &Tables) -> bool {
@@ -84,7 +64,7 @@ fn has_rows_between_plants(table: &Tables) -> bool {
 
 #[test]
 fn a_firm_is_read(rt: HostRuntime) -> Result<(), Fail> {
-    let table = read_tables_uncounted(rt.alloc(), FIRM)?;
+    let table = read_tables_uncounted(rt.alloc(), RESET_AT_RELEASE.as_bytes())?;
     assert!(rt; has_rows_between_plants(&table));
     Ok(())
 }

@@ -1,9 +1,10 @@
 //! What is read of texts of records that are damaged, too long or not read to their end.
 
-use crate::tests::firms::{FIRM, network_of};
+use crate::tests::network_of;
 use crate::tests::records::DESPATCHES;
 use mrp_net::Network;
 use mrp_stream::{RecordFault, RecordFaultKind, read_records};
+use mrp_worked::TWO_PLANTS;
 use std::alloc::Global;
 use std::io;
 use std::io::{ErrorKind, Read};
@@ -24,7 +25,7 @@ fn is_refused<R: Read + Drop>(
 
 /// Whether each text is refused at that row for that fault.
 fn are_refused(alloc: Global, rows: &[(&str, u64, RecordFaultKind)]) -> bool {
-    let Some(network) = network_of(alloc, FIRM) else {
+    let Some(network) = network_of(alloc, TWO_PLANTS) else {
         return false;
     };
     let mut all = true;
@@ -93,7 +94,7 @@ fn fails_in(alloc: Global, network: &Network, fails: usize, row: u64) -> bool {
 
 /// Whether the reading of what B has sent fails in each of those rows where that call fails.
 fn all_fail_in(alloc: Global, rows: &[(usize, u64)]) -> bool {
-    let Some(network) = network_of(alloc, FIRM) else {
+    let Some(network) = network_of(alloc, TWO_PLANTS) else {
         return false;
     };
     let mut all = true;
@@ -152,7 +153,7 @@ fn all_are_read(alloc: Global, network: &Network, rows: usize) -> bool {
 
 /// Whether the firm's network reads four million records and refuses one more.
 fn limit_is_kept(alloc: Global) -> bool {
-    match network_of(alloc, FIRM) {
+    match network_of(alloc, TWO_PLANTS) {
         Some(network) => {
             all_are_read(alloc, &network, 4_000_000) && last_is_refused(alloc, &network, 4_000_001)
         }

@@ -3,12 +3,13 @@
 ghost use Rattle.std.specs.Prelude.{◌≡◌, All};
 ghost use Rattle.mrp_stream.specs.Rows.{HasRow};
 
-use crate::tests::firms::{FIRM, RING, SPLIT, network_of};
+use crate::tests::network_of;
 use mrp_book::{Book, BookFault, BookItem};
 use mrp_net::{ItemNo, LaneKind, Network};
 use mrp_qty::{Horizon, Qty};
 use mrp_record::Record;
 use mrp_stream::{read_records, write_record};
+use mrp_worked::{RING, SHARED_AFTER_SHIPMENT, TWO_PLANTS};
 use std::alloc::Global;
 
 /// What B has sent to A of the firm.
@@ -94,7 +95,7 @@ fn despatches_are_answered(
     reset: Option<u64>,
     rows: &[(&str, Option<BookFault>)],
 ) -> bool {
-    let Some(network) = network_of(alloc, FIRM) else {
+    let Some(network) = network_of(alloc, TWO_PLANTS) else {
         return false;
     };
     match book_of(alloc, LaneKind::Despatch, opening, reset) {
@@ -180,7 +181,7 @@ fn figures_follow(
 /// Whether the book of B's despatches, which start anew in period 2, has those two figures after the
 /// record of each text.
 fn despatches_have_figures(alloc: Global, rows: &[(&str, u64, u64)]) -> bool {
-    let Some(network) = network_of(alloc, FIRM) else {
+    let Some(network) = network_of(alloc, TWO_PLANTS) else {
         return false;
     };
     match book_of(alloc, LaneKind::Despatch, 100, Some(2)) {
@@ -296,7 +297,7 @@ fn texts_of_despatches(rt: HostRuntime) {
             cumulative: 108,
         },
     ];
-    assert!(rt; lanes_are_taken(rt.alloc(), FIRM, &lanes));
+    assert!(rt; lanes_are_taken(rt.alloc(), TWO_PLANTS, &lanes));
 }
 
 #[test]
@@ -327,7 +328,7 @@ fn texts_of_schedules(rt: HostRuntime) {
             cumulative: 130,
         },
     ];
-    assert!(rt; lanes_are_taken(rt.alloc(), FIRM, &lanes));
+    assert!(rt; lanes_are_taken(rt.alloc(), TWO_PLANTS, &lanes));
 }
 
 #[test]
@@ -366,7 +367,7 @@ fn texts_of_two_suppliers(rt: HostRuntime) {
             cumulative: 6,
         },
     ];
-    assert!(rt; lanes_are_taken(rt.alloc(), SPLIT, &lanes));
+    assert!(rt; lanes_are_taken(rt.alloc(), SHARED_AFTER_SHIPMENT, &lanes));
 }
 
 /// Whether a text of a lane of the ring that carries Y is taken and written again.
@@ -455,7 +456,7 @@ fn is_newly_answered(
 
 /// Whether a new book of B's despatches gives the records of each text those answers.
 fn are_newly_answered(alloc: Global, rows: &[(&str, &[Option<BookFault>])]) -> bool {
-    let Some(network) = network_of(alloc, FIRM) else {
+    let Some(network) = network_of(alloc, TWO_PLANTS) else {
         return false;
     };
     let mut all = true;

@@ -18,39 +18,14 @@ use mrp_plan::{Plan, plan_all};
 use mrp_qty::Qty;
 use mrp_rows::SourceRow;
 use mrp_tables::read_tables_uncounted;
+use mrp_worked::{RING, TWO_PLANTS};
 use std::alloc::{AllocError, Global};
 use std::sync::Wait;
 use std::test::Fail;
 use std::thread;
 use std::thread::Threads;
 
-/// Two plants: A takes X from B.
-const FIRM: &[u8] = b"run,2026-01-05,7,4,,,,
-plant,A,,,,,,
-plant,B,,,,,,
-pair,A,X,from:B,lot,1,0,0
-pair,B,X,buy,lot,0,0,0
-demand,A,X,2,30,,,
-ship,B,A,X,2,8,,
-cum,B,A,X,100,,,
-";
-
-/// Two plants that take from each other: X of A needs Y, and Y of B needs W.
-const RING: &[u8] = b"run,2026-01-05,7,1,,,,
-plant,A,,,,,,
-plant,B,,,,,,
-pair,B,X,from:A,lot,0,0,0
-pair,A,X,make,lot,0,0,0
-pair,A,Y,from:B,lot,0,0,0
-pair,B,Y,make,lot,0,0,0
-pair,B,W,from:A,lot,0,0,0
-pair,A,W,buy,lot,0,0,0
-bill,A,X,Y,2,,,
-bill,B,Y,W,3,,,
-demand,B,X,0,5,,,
-";
-
-/// The firm again, as far as its shipments, of which there are then very many.
+/// The firm of two plants as far as its shipments, of which there are then very many.
 const BUSY: &[u8] = b"run,2026-01-05,7,4,,,,
 plant,A,,,,,,
 plant,B,,,,,,
@@ -588,7 +563,7 @@ fn carries_a_million<R: Threads + Wait + Sync>(
 
 #[test]
 fn records_are_left_where_none_is_taken(rt: HostRuntime) -> Result<(), Fail> {
-    let network = network_of(rt.alloc(), FIRM)?;
+    let network = network_of(rt.alloc(), TWO_PLANTS.as_bytes())?;
     let levels = check(rt.alloc(), &network)?;
     let net = bound(rt.alloc(), &network, &levels)?;
     assert!(rt; leaves_all(&rt, rt.alloc(), &net)?);
@@ -597,7 +572,7 @@ fn records_are_left_where_none_is_taken(rt: HostRuntime) -> Result<(), Fail> {
 
 #[test]
 fn a_lane_of_one_refuses_the_second_record(rt: HostRuntime) -> Result<(), Fail> {
-    let network = network_of(rt.alloc(), FIRM)?;
+    let network = network_of(rt.alloc(), TWO_PLANTS.as_bytes())?;
     let levels = check(rt.alloc(), &network)?;
     let net = bound(rt.alloc(), &network, &levels)?;
     let plan = plan_all(rt.alloc(), &net)?;
@@ -607,7 +582,7 @@ fn a_lane_of_one_refuses_the_second_record(rt: HostRuntime) -> Result<(), Fail> 
 
 #[test]
 fn one_thread_offers_the_calls_of_a_ring_and_another_takes(rt: HostRuntime) -> Result<(), Fail> {
-    let network = network_of(rt.alloc(), RING)?;
+    let network = network_of(rt.alloc(), RING.as_bytes())?;
     let levels = check(rt.alloc(), &network)?;
     let net = bound(rt.alloc(), &network, &levels)?;
     assert!(rt; carries_the_ring(&rt, rt.alloc(), &net)?);

@@ -76,6 +76,17 @@ fn planned(
     Ok(plan)
 }
 
+/// Whether a plan orders at least 20 pieces, in fives, for requirements of 10 a period.
+fn keeps_a_minimum_and_a_multiple(plan: &PairPlan) -> bool {
+    plan.len() == 3
+        && shows(plan.gross(), &[10, 10, 10])
+        && shows(plan.incoming(), &[0, 0, 0])
+        && shows(plan.order(), &[20, 0, 20])
+        && shows(plan.release(), &[20, 0, 20])
+        && shows(plan.available(), &[22, 12, 22])
+        && plan.late_count() == 0
+}
+
 #[test]
 fn a_minimum_and_a_multiple(rt: HostRuntime) -> Result<(), Fail> {
     let params = PairParams {
@@ -85,13 +96,7 @@ fn a_minimum_and_a_multiple(rt: HostRuntime) -> Result<(), Fail> {
         safety: Qty::of(5),
     };
     let plan = planned(rt.alloc(), &params, &[0, 0, 0], &[10, 10, 10])?;
-    assert_eq!(rt; plan.len(), 3);
-    assert!(rt; shows(plan.gross(), &[10, 10, 10]));
-    assert!(rt; shows(plan.incoming(), &[0, 0, 0]));
-    assert!(rt; shows(plan.order(), &[20, 0, 20]));
-    assert!(rt; shows(plan.release(), &[20, 0, 20]));
-    assert!(rt; shows(plan.available(), &[22, 12, 22]));
-    assert_eq!(rt; plan.late_count(), 0);
+    assert!(rt; keeps_a_minimum_and_a_multiple(&plan));
     Ok(())
 }
 
@@ -130,16 +135,32 @@ fn an_order_is_late(rt: HostRuntime) -> Result<(), Fail> {
     Ok(())
 }
 
+/// Whether 5, 7 and 9 pieces are ordered by 12 and 9.
+fn are_ordered_by_two_orders(alloc: Global) -> Result<bool, Fail> {
+    let plan = planned(alloc, &pair(Rule::Periods(2)), &[0, 0, 0], &[5, 7, 9])?;
+    Ok(shows(plan.order(), &[12, 0, 9]) && shows(plan.available(), &[7, 0, 0]))
+}
+
+/// Whether 5 and 3 pieces are ordered by 5 where 9 come in for the 3.
+fn are_ordered_by_one_order(alloc: Global) -> Result<bool, Fail> {
+    let plan = planned(alloc, &pair(Rule::Periods(2)), &[0, 9], &[5, 3])?;
+    Ok(shows(plan.order(), &[5, 0]) && shows(plan.available(), &[0, 6]))
+}
+
 #[test]
 fn an_order_covers_two_periods(rt: HostRuntime) -> Result<(), Fail> {
-    let params = pair(Rule::Periods(2));
-    let plan = planned(rt.alloc(), &params, &[0, 0, 0], &[5, 7, 9])?;
-    assert!(rt; shows(plan.order(), &[12, 0, 9]));
-    assert!(rt; shows(plan.available(), &[7, 0, 0]));
-    let plan = planned(rt.alloc(), &params, &[0, 9], &[5, 3])?;
-    assert!(rt; shows(plan.order(), &[5, 0]));
-    assert!(rt; shows(plan.available(), &[0, 6]));
+    assert!(rt; are_ordered_by_two_orders(rt.alloc())?);
+    assert!(rt; are_ordered_by_one_order(rt.alloc())?);
     Ok(())
+}
+
+/// Whether a plan with two late orders, planned into again, releases 5 pieces, and none late.
+fn is_used_again(alloc: Global, plan: &mut PairPlan) -> Result<bool, Fail> {
+    if plan.late_count() != 2 {
+        return Ok(false);
+    }
+    plan_again(alloc, &pair(Rule::Periods(2)), &[0, 9], &[5, 3], plan)?;
+    Ok(shows(plan.release(), &[5, 0]) && plan.late_count() == 0)
 }
 
 #[test]
@@ -149,17 +170,15 @@ fn a_plan_is_used_again(rt: HostRuntime) -> Result<(), Fail> {
         ..pair(Rule::LotForLot)
     };
     let mut plan = planned(rt.alloc(), &late, &[0, 0], &[4, 7])?;
-    assert_eq!(rt; plan.late_count(), 2);
-    plan_again(
-        rt.alloc(),
-        &pair(Rule::Periods(2)),
-        &[0, 9],
-        &[5, 3],
-        &mut plan,
-    )?;
-    assert!(rt; shows(plan.release(), &[5, 0]));
-    assert_eq!(rt; plan.late_count(), 0);
+    assert!(rt; is_used_again(rt.alloc(), &mut plan)?);
     Ok(())
+}
+
+/// Whether a plan keeps what 50 pieces that come in leave, and releases 50 more in period 3.
+fn is_the_textbook_record(plan: &PairPlan) -> bool {
+    shows(plan.available(), &[54, 44, 44, 4, 44])
+        && shows(plan.release(), &[0, 0, 0, 50, 0])
+        && plan.late_count() == 0
 }
 
 #[test]
@@ -171,9 +190,7 @@ fn a_textbook_record_with_a_fixed_quantity(rt: HostRuntime) -> Result<(), Fail> 
         safety: Qty::ZERO,
     };
     let plan = planned(rt.alloc(), &params, &[50, 0, 0, 0, 0], &[0, 10, 0, 40, 10])?;
-    assert!(rt; shows(plan.available(), &[54, 44, 44, 4, 44]));
-    assert!(rt; shows(plan.release(), &[0, 0, 0, 50, 0]));
-    assert_eq!(rt; plan.late_count(), 0);
+    assert!(rt; is_the_textbook_record(&plan));
     Ok(())
 }
 

@@ -3,24 +3,16 @@
 ghost use Rattle.std.specs.Prelude.{◌≡◌, ◌≤◌, length};
 ghost use Rattle.mrp_lot.specs.declared.rule.TheConstants.{LONGEST_LEAD};
 
+use crate::tests::network;
 use mrp_loops::{SizedNet, bound, check};
 use mrp_lot::Rule;
 use mrp_net::{Network, PairNo};
 use mrp_netting::{PairParams, PairPlan, plan_pair};
 use mrp_plan::{PegSource, PegTerm, Plan, fits, peg, plan_all};
 use mrp_qty::{Horizon, Qty, Row};
-use mrp_tables::read_tables_uncounted;
+use mrp_worked::BICYCLE;
 use std::alloc::Global;
 use std::test::Fail;
-
-/// Two wheels to a bicycle.
-const BICYCLE: &[u8] = b"run,2026-01-05,7,4,,,,
-plant,P1,,,,,,
-pair,P1,BIKE,make,lot,1,0,0
-pair,P1,WHEEL,buy,lot,1,0,0
-bill,P1,BIKE,WHEEL,2,,,
-demand,P1,BIKE,3,10,,,
-";
 
 /// The plan of a bought pair of which 20 pieces are required in period 2.
 fn wheels(alloc: Global, horizon: Horizon, lead: u64) -> Result<PairPlan, Fail>
@@ -93,20 +85,31 @@ fn wheel_terms(alloc: Global, net: &SizedNet) -> Result<Vec<PegTerm>, Fail> {
     Ok(terms)
 }
 
+/// Whether the network has one plan only.
+fn has_one_plan(alloc: Global, network: &Network) -> Result<bool, Fail> {
+    let levels = check(alloc, network)?;
+    let net = bound(alloc, network, &levels)?;
+    is_the_only_plan(alloc, &net)
+}
+
 #[test]
 fn a_plan_with_another_release_does_not_fit(rt: HostRuntime) -> Result<(), Fail> {
-    let network = Network::of(rt.alloc(), read_tables_uncounted(rt.alloc(), BICYCLE)?)?;
-    let levels = check(rt.alloc(), &network)?;
-    let net = bound(rt.alloc(), &network, &levels)?;
-    assert!(rt; is_the_only_plan(rt.alloc(), &net)?);
+    let network = network(rt.alloc(), BICYCLE)?;
+    assert!(rt; has_one_plan(rt.alloc(), &network)?);
     Ok(())
+}
+
+/// Whether the wheels of the network are asked for by its bicycle.
+fn are_asked_for_by_the_bicycle(alloc: Global, network: &Network) -> Result<bool, Fail> {
+    let levels = check(alloc, network)?;
+    let net = bound(alloc, network, &levels)?;
+    let terms = wheel_terms(alloc, &net)?;
+    Ok(is_asked_by_the_bicycle(terms.as_slice()))
 }
 
 #[test]
 fn wheels_are_asked_for_by_the_bicycle(rt: HostRuntime) -> Result<(), Fail> {
-    let network = Network::of(rt.alloc(), read_tables_uncounted(rt.alloc(), BICYCLE)?)?;
-    let levels = check(rt.alloc(), &network)?;
-    let net = bound(rt.alloc(), &network, &levels)?;
-    assert!(rt; is_asked_by_the_bicycle(wheel_terms(rt.alloc(), &net)?.as_slice()));
+    let network = network(rt.alloc(), BICYCLE)?;
+    assert!(rt; are_asked_for_by_the_bicycle(rt.alloc(), &network)?);
     Ok(())
 }

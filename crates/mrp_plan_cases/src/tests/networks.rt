@@ -1,15 +1,14 @@
 //! The network of a firm of three plants, by the calls that read it.
 
-ghost use Rattle.std.specs.Prelude.{◌<◌, length, Contains, IfSome};
+ghost use Rattle.std.specs.Prelude.{IfSome};
 ghost use Rattle.mrp_rows.specs.Table.{IsPair};
-ghost use Rattle.mrp_net.specs.Lanes.{lanes, lane_at, lane_items};
 
+use crate::tests::{first_item, network};
 use mrp_net::{Edge, ItemNo, LaneKind, LaneNo, Network, PairNo, PlantNo, Shipment, Supply};
-use mrp_tables::read_tables_uncounted;
 use std::test::Fail;
 
 /// A firm of three plants: A makes bicycles of wheels and takes the wheels from B and C.
-const FIRM: &[u8] = b"run,2026-01-05,7,4,,,,
+const FIRM: &str = "run,2026-01-05,7,4,,,,
 plant,A,,,,,,
 plant,B,,,,,,
 plant,C,,,,,,
@@ -27,29 +26,11 @@ ship,B,A,WHEEL,3,9,,
 cum,B,A,WHEEL,100,,,
 ";
 
-/// The network of the firm.
-fn firm(rt: &HostRuntime) -> Result<Network, Fail> {
-    let tables = read_tables_uncounted(rt.alloc(), FIRM)?;
-    Ok(Network::of(rt.alloc(), tables)?)
-}
-
 /// The pair of that name.
 fn pair(network: &Network, plant: &str, item: &str) -> Option<PairNo>
     ensures { IfSome result (λ x. IsPair network.now x.0) }
 {
     network.find(plant, item)
-}
-
-/// The first item of a lane.
-fn first_item(network: &Network, l: LaneNo) -> Option<ItemNo>
-    requires { l.0 < length (lanes network.now) }
-    ensures { IfSome result (λ item. Contains (lane_items network.now (lane_at network.now l.0)) item) }
-{
-    let items = network.lane_items(l);
-    if items.is_empty() {
-        return None;
-    }
-    Some(items[0])
 }
 
 /// An edge as numbers: demander, pair, per, and the running shares.
@@ -99,10 +80,8 @@ fn has_the_wheel(net: &Network) -> bool {
 
 #[test]
 fn names_and_rows(rt: HostRuntime) -> Result<(), Fail> {
-    let net = firm(&rt)?;
-    assert!(rt; has_the_firm(&net));
-    assert!(rt; finds_names(&net));
-    assert!(rt; has_the_wheel(&net));
+    let net = network(rt.alloc(), FIRM)?;
+    assert!(rt; has_the_firm(&net) && finds_names(&net) && has_the_wheel(&net));
     Ok(())
 }
 
@@ -139,9 +118,8 @@ fn has_the_edges(net: &Network) -> bool {
 
 #[test]
 fn sums_and_edges(rt: HostRuntime) -> Result<(), Fail> {
-    let net = firm(&rt)?;
-    assert!(rt; adds_up(&net));
-    assert!(rt; has_the_edges(&net));
+    let net = network(rt.alloc(), FIRM)?;
+    assert!(rt; adds_up(&net) && has_the_edges(&net));
     Ok(())
 }
 
@@ -193,9 +171,7 @@ fn other_lanes_begin(net: &Network) -> bool {
 
 #[test]
 fn lanes_between_plants(rt: HostRuntime) -> Result<(), Fail> {
-    let net = firm(&rt)?;
-    assert!(rt; has_the_lanes(&net));
-    assert!(rt; despatches_from_b(&net));
-    assert!(rt; other_lanes_begin(&net));
+    let net = network(rt.alloc(), FIRM)?;
+    assert!(rt; has_the_lanes(&net) && despatches_from_b(&net) && other_lanes_begin(&net));
     Ok(())
 }

@@ -1,15 +1,13 @@
 //! What a customer and its supplier see of a firm, and the order of the items on their lanes.
 
-ghost use Rattle.std.specs.Prelude.{◌<◌, length, Contains, IfSome};
-ghost use Rattle.mrp_net.specs.Lanes.{lanes, lane_at, lane_items};
-
+use crate::tests::{first_item, network};
 use mrp_net::{ItemNo, LaneKind, LaneNo, Network, PairNo, PlantNo};
-use mrp_tables::read_tables_uncounted;
 use mrp_view::{OutgoingItems, PlantView};
+use std::alloc::Global;
 use std::test::Fail;
 
 /// A firm of two plants: A takes X and Z from B, which has them in the other order.
-const FIRM: &[u8] = b"run,2026-01-05,7,3,,,,
+const FIRM: &str = "run,2026-01-05,7,3,,,,
 plant,A,,,,,,
 plant,B,,,,,,
 pair,B,Z,make,lot,0,0,0
@@ -26,22 +24,10 @@ cum,B,A,X,100,,,
 reset,B,A,X,2,,,
 ";
 
-/// The network of the firm.
-fn firm(rt: &HostRuntime) -> Result<Network, Fail> {
-    let tables = read_tables_uncounted(rt.alloc(), FIRM)?;
-    Ok(Network::of(rt.alloc(), tables)?)
-}
-
-/// The first item of a lane.
-fn first_item(network: &Network, l: LaneNo) -> Option<ItemNo>
-    requires { l.0 < length (lanes network.now) }
-    ensures { IfSome result (λ item. Contains (lane_items network.now (lane_at network.now l.0)) item) }
-{
-    let items = network.lane_items(l);
-    if items.is_empty() {
-        return None;
-    }
-    Some(items[0])
+/// What a plant of the firm sees.
+fn view_of(alloc: Global, plant: PlantNo) -> Result<PlantView, Fail> {
+    let net = network(alloc, FIRM)?;
+    Ok(PlantView::of(alloc, &net, plant)?)
 }
 
 /// Whether both lanes have their items in the order of the customer's pairs.
@@ -72,9 +58,8 @@ fn starts_anew(net: &Network) -> bool {
 
 #[test]
 fn items_on_lanes(rt: HostRuntime) -> Result<(), Fail> {
-    let net = firm(&rt)?;
-    assert!(rt; has_the_customers_order(&net));
-    assert!(rt; starts_anew(&net));
+    let net = network(rt.alloc(), FIRM)?;
+    assert!(rt; has_the_customers_order(&net) && starts_anew(&net));
     Ok(())
 }
 
@@ -109,10 +94,8 @@ fn receives_despatches(view: &PlantView) -> bool {
 
 #[test]
 fn what_a_customer_sees(rt: HostRuntime) -> Result<(), Fail> {
-    let net = firm(&rt)?;
-    let view = PlantView::of(rt.alloc(), &net, PlantNo(0))?;
-    assert!(rt; sees_its_rows(&view));
-    assert!(rt; receives_despatches(&view));
+    let view = view_of(rt.alloc(), PlantNo(0))?;
+    assert!(rt; sees_its_rows(&view) && receives_despatches(&view));
     Ok(())
 }
 
@@ -133,6 +116,14 @@ fn sends_x(items: &OutgoingItems) -> bool {
         && items.shipments(1).is_empty()
 }
 
+/// Whether the supplier sends X, on one lane.
+fn sends_one_lane(view: &PlantView) -> bool {
+    let Some(lane) = view.outgoing().first() else {
+        return false;
+    };
+    view.outgoing().len() == 1 && sends_x(&lane.items)
+}
+
 /// Whether the supplier sees its component, and the schedule that opens after the shipments.
 fn sees_the_schedule(view: &PlantView) -> bool {
     let (Some(edge), Some(lane)) = (view.edges().first(), view.incoming().first()) else {
@@ -146,14 +137,7 @@ fn sees_the_schedule(view: &PlantView) -> bool {
 
 #[test]
 fn what_a_supplier_sees(rt: HostRuntime) -> Result<(), Fail> {
-    let net = firm(&rt)?;
-    let view = PlantView::of(rt.alloc(), &net, PlantNo(1))?;
-    assert_eq!(rt; view.outgoing().len(), 1);
-    assert!(rt;
-        view.outgoing()
-            .first()
-            .is_some_and(|lane| sends_x(&lane.items))
-    );
-    assert!(rt; sees_the_schedule(&view));
+    let view = view_of(rt.alloc(), PlantNo(1))?;
+    assert!(rt; sends_one_lane(&view) && sees_the_schedule(&view));
     Ok(())
 }

@@ -1,0 +1,33 @@
+//! Networks, their codes and their plans, by tables that were worked by hand.
+
+ghost use Rattle.std.specs.Prelude.{◌<◌, length, Contains, IfSome};
+ghost use Rattle.mrp_net.specs.Lanes.{lanes, lane_at, lane_items};
+
+mod loops;
+mod netting;
+mod networks;
+mod planning;
+mod views;
+
+use mrp_net::{ItemNo, LaneNo, Network};
+use mrp_tables::read_tables_uncounted;
+use std::alloc::Global;
+use std::test::Fail;
+
+/// The network of a table's text.
+fn network(alloc: Global, text: &str) -> Result<Network, Fail> {
+    let tables = read_tables_uncounted(alloc, text.as_bytes())?;
+    Ok(Network::of(alloc, tables)?)
+}
+
+/// The first item of a lane.
+fn first_item(network: &Network, l: LaneNo) -> Option<ItemNo>
+    requires { l.0 < length (lanes network.now) }
+    ensures { IfSome result (λ item. Contains (lane_items network.now (lane_at network.now l.0)) item) }
+{
+    let items = network.lane_items(l);
+    if items.is_empty() {
+        return None;
+    }
+    Some(items[0])
+}
