@@ -1,5 +1,5 @@
 //! The text functions on worked tables: the bytes of each report, and the line and the status of
-//! each fault. The calls of the crates below are tried in `mrp_cases`.
+//! each fault. The calls of the crates below are tried in `mrp_cases` and `mrp_plan_cases`.
 
 mod damage;
 mod figures;

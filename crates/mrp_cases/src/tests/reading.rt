@@ -44,8 +44,7 @@ fn has_bicycle_names(table: &Tables) -> bool {
 #[test]
 fn a_bicycle_is_read(rt: HostRuntime) -> Result<(), Fail> {
     let table = read_tables_uncounted(rt.alloc(), BICYCLE.as_bytes())?;
-    assert!(rt; has_bicycle_rows(&table));
-    assert!(rt; has_bicycle_names(&table));
+    assert!(rt; has_bicycle_rows(&table) && has_bicycle_names(&table));
     Ok(())
 }
 

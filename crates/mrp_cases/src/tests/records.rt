@@ -88,6 +88,20 @@ fn are_texts_answered(
     all
 }
 
+/// Whether a new book of despatches of X gives the record of each text that answer.
+fn new_book_answers(
+    alloc: Global,
+    network: &Network,
+    opening: u64,
+    reset: Option<u64>,
+    rows: &[(&str, Option<BookFault>)],
+) -> bool {
+    match book_of(alloc, LaneKind::Despatch, opening, reset) {
+        Some(mut book) => are_texts_answered(alloc, network, &mut book, rows),
+        None => false,
+    }
+}
+
 /// Whether the book of B's despatches gives the record of each text that answer.
 fn despatches_are_answered(
     alloc: Global,
@@ -95,11 +109,8 @@ fn despatches_are_answered(
     reset: Option<u64>,
     rows: &[(&str, Option<BookFault>)],
 ) -> bool {
-    let Some(network) = network_of(alloc, TWO_PLANTS) else {
-        return false;
-    };
-    match book_of(alloc, LaneKind::Despatch, opening, reset) {
-        Some(mut book) => are_texts_answered(alloc, &network, &mut book, rows),
+    match network_of(alloc, TWO_PLANTS) {
+        Some(network) => new_book_answers(alloc, &network, opening, reset, rows),
         None => false,
     }
 }
@@ -178,14 +189,19 @@ fn figures_follow(
     all
 }
 
-/// Whether the book of B's despatches, which start anew in period 2, has those two figures after the
+/// Whether a new book of despatches of X, which start anew in period 2, has those two figures after the
 /// record of each text.
-fn despatches_have_figures(alloc: Global, rows: &[(&str, u64, u64)]) -> bool {
-    let Some(network) = network_of(alloc, TWO_PLANTS) else {
-        return false;
-    };
+fn new_book_has_figures(alloc: Global, network: &Network, rows: &[(&str, u64, u64)]) -> bool {
     match book_of(alloc, LaneKind::Despatch, 100, Some(2)) {
-        Some(mut book) => figures_follow(alloc, &network, &mut book, rows),
+        Some(mut book) => figures_follow(alloc, network, &mut book, rows),
+        None => false,
+    }
+}
+
+/// The same of B's despatches.
+fn despatches_have_figures(alloc: Global, rows: &[(&str, u64, u64)]) -> bool {
+    match network_of(alloc, TWO_PLANTS) {
+        Some(network) => new_book_has_figures(alloc, &network, rows),
         None => false,
     }
 }
