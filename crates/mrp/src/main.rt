@@ -8,6 +8,7 @@ ghost use Rattle.std.specs.IoError.{error_kind};
 ghost use Rattle.std.specs.Process.{exit_status};
 ghost use Rattle.std.specs.String.{string_bytes};
 ghost use Rattle.clap.specs.Words.{kind_of};
+ghost use Rattle.mrp_report.specs.Sending.{AppendsFront};
 ghost use Rattle.mrp_text.specs.Answer.{exit_status_of};
 ghost use Rattle.mrp_text.specs.Lines.{SendsText, fault_line};
 ghost use Rattle.mrp.specs.Ending.{IsStatusOfUnread, help_status, refusal_status};
@@ -144,11 +145,12 @@ fn refused(rt: &HostRuntime, error: &clap::Error) -> Ending
 }
 
 /// The end after help or the version: the status is 0 where it was printed, and else 3, with the line of
-/// a failed write to this writer.
+/// a failed write, or a front of it, to this writer.
 fn after_help<W: Write>(told: Result<(), ReportFault>, writer: &mut W) -> Ending
     ensures status { result.status ≡ help_status told }
     ensures same { result.told ≡ told }
     ensures quiet { OnOk told (writer.new ≡ writer.old) }
+    ensures line { IfErr told (λ _. AppendsFront (W.contents writer.old) (W.contents writer.new) (fault_line TextFault.WriteFault)) }
 {
     let status = match told {
         Ok(()) => 0,
