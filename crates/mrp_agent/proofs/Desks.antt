@@ -1,5 +1,5 @@
 -- A draft is written among the plans.
-use Rattle.std.proofs.Common.{◌≡◌, ℕ, ◌+◌, ◌<◌, List, length, get_or, set, sym, ap, ◌∙◌, subst}
+use Rattle.std.proofs.Common.{◌≡◌, ℕ, ◌+◌, ◌<◌, List, length, get_or, set, sym, ap, ◌∙◌, subst, arith}
 use Rattle.std.proofs.lemmas.List.{length-set}
 use Rattle.std.proofs.lemmas.List.Elements.{All-set}
 use Rattle.std.proofs.lemmas.List.FromFn.{length-map-range_with_len}
@@ -11,6 +11,7 @@ use Rattle.mrp_local.specs.Local.{amount_at, asked_within}
 use Rattle.mrp_agent.specs.Drafts.{drafted, drafted_gross, drafted_incoming}
 use Rattle.mrp_agent.specs.Kept.{HasPeriods, Indexes, IsKept}
 use Rattle.mrp_agent.specs.State.{AgentState, pair_of, plans_of}
+use Rattle.mrp_agent.proofs.Placing.{IsAtPlace, place_within}
 
 pub drafted_periods : (A : AgentState) (x : PairNo) → HasPeriods A.view (drafted A x)
 drafted_periods A x =
@@ -25,28 +26,40 @@ drafted_periods A x =
     }
 
 -- the plan at a place has as many periods as a draft
-pub same_periods : (A : AgentState) (I : Indexes) (x : PairNo) (place : ℕ) (old new : PlanRows) → IsKept A I → place < length A.plans → old ≡ get_or A.plans place old → new ≡ drafted A x
-    → length old.gross ≡ length new.gross
-same_periods A I x place old new kept within at is =
-    let before : HasPeriods A.view old = subst (HasPeriods A.view) (sym at) (kept.rooms.periods place old within) in
-    before.gross ∙ sym (ap (λ (z : PlanRows). length z.gross) is ∙ (drafted_periods A x).gross)
+pub old_periods : {A : AgentState} {I : Indexes} {x : PairNo} {place : ℕ} {old : PlanRows} → IsAtPlace A I x place → old ≡ get_or A.plans place old → length old.gross ≡ A.view.horizon
+old_periods {A} {I} {x} {place} {old} h at =
+    let within : place < length A.plans = omega (arith, place_within h, h.kept.rooms.plans) in
+    (subst (HasPeriods A.view) (sym at) (h.kept.rooms.periods place old within)).gross
 
-pub kept_written : (A : AgentState) (I : Indexes) (x : PairNo) (place desk : ℕ) (plan : PlanRows) → IsKept A I → plan ≡ drafted A x → desk ≡ A.view.horizon
+pub same_periods : {A : AgentState} {I : Indexes} {x : PairNo} {place : ℕ} {old new : PlanRows} → IsAtPlace A I x place → old ≡ get_or A.plans place old → new ≡ drafted A x
+    → length old.gross ≡ length new.gross
+same_periods {A} {I} {x} {place} {old} {new} h at is = old_periods h at ∙ sym (ap (λ (z : PlanRows). length z.gross) is ∙ (drafted_periods A x).gross)
+
+pub kept_written : {A : AgentState} {I : Indexes} {x : PairNo} {place desk : ℕ} {plan : PlanRows} → IsAtPlace A I x place → plan ≡ drafted A x → desk ≡ A.view.horizon
     → IsKept (record A { plans = set A.plans place plan }) (record I { desk = desk })
-kept_written A I x place desk plan kept is same = record {
-  view = kept.view;
-  indexes = record { items = kept.indexes.items; edges = kept.indexes.edges; components = kept.indexes.components; out_items = kept.indexes.out_items; desk = same };
-  rooms = record {
-    books = kept.rooms.books;
-    came = kept.rooms.came;
-    called = kept.rooms.called;
-    plans = length-set A.plans place plan ∙ kept.rooms.plans;
-    periods = All-set (HasPeriods A.view) A.plans place plan (subst (HasPeriods A.view) (sym is) (drafted_periods A x)) kept.rooms.periods;
-    numbers = kept.rooms.numbers;
-    waits = kept.rooms.waits;
-    planned = kept.rooms.planned;
-    outs = kept.rooms.outs;
-    sizes = kept.rooms.sizes;
-  };
-  taken = record { taken = kept.taken.taken; books = kept.taken.books; waits = kept.taken.waits };
-}
+kept_written {A} {I} {x} {place} {desk} {plan} h is same =
+    let kept : IsKept A I = h.kept in
+    record {
+      view = kept.view;
+      indexes = record { items = kept.indexes.items; edges = kept.indexes.edges; components = kept.indexes.components; out_items = kept.indexes.out_items; desk = same };
+      rooms = record {
+        books = kept.rooms.books;
+        came = kept.rooms.came;
+        called = kept.rooms.called;
+        plans = length-set A.plans place plan ∙ kept.rooms.plans;
+        periods = All-set (HasPeriods A.view) A.plans place plan (subst (HasPeriods A.view) (sym is) (drafted_periods A x)) kept.rooms.periods;
+        numbers = kept.rooms.numbers;
+        waits = kept.rooms.waits;
+        planned = kept.rooms.planned;
+        outs = kept.rooms.outs;
+        sizes = kept.rooms.sizes;
+      };
+      taken = record { taken = kept.taken.taken; books = kept.taken.books; waits = kept.taken.waits };
+    }
+
+-- as the call says it of the same state
+pub plans_written : {A S : AgentState} {plan : PlanRows} (x : PairNo) (place : ℕ) → A ≡ S → plan ≡ drafted A x
+    → record A { plans = set A.plans place plan } ≡ record S { plans = set S.plans place (drafted S x) }
+plans_written {A} {S} {plan} x place same is =
+    ap (λ (z : PlanRows). record A { plans = set A.plans place z }) is
+    ∙ ap (λ (a : AgentState). record a { plans = set a.plans place (drafted a x) }) same

@@ -3,13 +3,11 @@ use Rattle.std.proofs.Common.{◌≡◌, ℕ, zero, suc, ◌+◌, ◌-◌, ◌*�
 use Rattle.std.specs.List.{All, filter, range_with_len}
 use Rattle.std.proofs.lemmas.Bool.{cases_eq, eq-eqb, eqb-true, ne_eqb}
 use Rattle.std.proofs.lemmas.List.FromFn.{fill_by_all, get_or-map-range_with_len, length-map-range_with_len}
-use Rattle.std.proofs.lemmas.List.{get_or-drop, get_or-take, get_or_default, length-drop, length-take-le}
+use Rattle.std.proofs.lemmas.List.{get_or-drop, get_or-take, length-drop, length-take-le}
 use Rattle.std.proofs.lemmas.List.Elements.{All-head, All-tail, All-filter, All-map}
 use Rattle.std.proofs.lemmas.List.Sums.{sum_by-cons, passes_at_first}
-use Rattle.mrp_lot.specs.One.{PlanRows, IsWithin, one}
-use Rattle.mrp_lot.specs.declared.params.PairParams.{PairParams}
+use Rattle.mrp_lot.specs.One.{IsWithin, one}
 use Rattle.mrp_rows.specs.declared.numbers.PairNo.{PairNo}
-use Rattle.mrp_group.proofs.Kept.{groups_are_slices}
 use Rattle.mrp_view.specs.declared.view.PlantEdge.{PlantEdge}
 use Rattle.mrp_view.specs.declared.view.PlantPair.{PlantPair}
 use Rattle.mrp_view.specs.Seen.{IsView, IsOwn, IsPlantEdge}
@@ -18,8 +16,8 @@ use Rattle.mrp_local.specs.Local.{amount_at, asked_within}
 use Rattle.mrp_agent.specs.declared.edges.ParentEdge.{ParentEdge}
 use Rattle.mrp_agent.specs.State.{AgentState, pair_place, pair_of, plans_of, no_plan, no_pair}
 use Rattle.mrp_agent.specs.Asking.{asked_by, asked_on, CanAsk, HasDraft, grossed}
-use Rattle.mrp_agent.specs.Drafts.{drafted, drafted_incoming, drafted_gross, CanDraft}
-use Rattle.mrp_agent.specs.Kept.{Indexes, AreIndexes, parent_edge, HasRooms}
+use Rattle.mrp_agent.specs.Drafts.{drafted, drafted_incoming, drafted_gross}
+use Rattle.mrp_agent.specs.Kept.{parent_edge, HasRooms}
 use Rattle.mrp_agent.proofs.Owning.{own_within}
 
 -- ---- slices
@@ -147,75 +145,3 @@ module _ (A : AgentState) (view : IsView A.view) (rooms : HasRooms A) (x : PairN
   drafted_is =
       ap (λ (z : List ℕ). one (pair_of A.view x).params z (grossed (Part A.called) (edges_at A.view (pair_place A.view x.0)) A.plans)) came_is
       ∙ ap (λ (z : List ℕ). one (pair_of A.view x).params (drafted_incoming A x) z) gross_is
-
--- ---- what a call reads
-
--- the pair at a place
-pub pair_read : (V : PlantRows) (x : PairNo) (pairs : List PlantPair) (place : ℕ) (d : PlantPair) → IsOwn V x → pairs ≡ V.pairs → place ≡ pair_place V x.0
-    → get_or pairs place d ≡ pair_of V x
-pair_read V x pairs place d own is at =
-    ap (λ (z : List PlantPair). get_or z place d) is
-    ∙ ap (λ (k : ℕ). get_or V.pairs k d) at
-    ∙ get_or_default V.pairs (pair_place V x.0) d no_pair (own_within V x own)
-
--- the part of a list that a pair has
-pub part_read : (xs ys : List ℕ) (place at periods horizon : ℕ) → ys ≡ xs → at ≡ place → periods ≡ horizon
-    → slice_range ys (at * periods) (at * periods + periods) ≡ slice_range xs (place * horizon) (place * horizon + horizon)
-part_read xs ys place at periods horizon is here same =
-    ap (λ (z : List ℕ). slice_range z (at * periods) (at * periods + periods)) is
-    ∙ ap (λ (k : ℕ). slice_range xs (k * periods) (k * periods + periods)) here
-    ∙ ap (λ (n : ℕ). slice_range xs (place * n) (place * n + n)) same
-
--- the edges of a component
-pub edges_read : (V : PlantRows) (I : Indexes) (x : PairNo) (edges : List ParentEdge) (place : ℕ) → AreIndexes V I → IsOwn V x → place ≡ pair_place V x.0
-    → edges ≡ slice_range I.edges (slice_index I.starts place) (slice_index I.starts (place + 1))
-    → edges ≡ edges_at V (pair_place V x.0)
-edges_read V I x edges place indexes own at is =
-    is
-    ∙ ap (λ (k : ℕ). slice_range I.edges (slice_index I.starts k) (slice_index I.starts (k + 1))) at
-    ∙ indexes.edges.slices (pair_place V x.0) (own_within V x own)
-
--- where they stand
-pub edges_rise : (V : PlantRows) (I : Indexes) (x : PairNo) (place : ℕ) → AreIndexes V I → IsOwn V x → place ≡ pair_place V x.0
-    → (slice_index I.starts place ≤ slice_index I.starts (place + 1)) × (slice_index I.starts (place + 1) ≤ length I.edges)
-edges_rise V I x place indexes own at =
-    let within : place < length V.pairs = omega (arith, own_within V x own, at) in
-    let key : ParentEdge → ℕ = λ e. e.component in
-    let found = groups_are_slices ParentEdge key (length V.pairs) (map (parent_edge V) V.edges) I.edges I.starts indexes.edges place within in
-    (found.0, found.1)
-
--- a call that read the pair's parameters, its parts and its edges
-pub record HasRead (A : AgentState) (x : PairNo) (params : PairParams) (came called : List ℕ) (edges : List ParentEdge) (plans : List PlanRows) : Type 0 where
-  pub params_are : params ≡ (pair_of A.view x).params
-  pub came_are : came ≡ slice_range A.came (pair_place A.view x.0 * A.view.horizon) (pair_place A.view x.0 * A.view.horizon + A.view.horizon)
-  pub called_are : called ≡ slice_range A.called (pair_place A.view x.0 * A.view.horizon) (pair_place A.view x.0 * A.view.horizon + A.view.horizon)
-  pub edges_are : edges ≡ edges_at A.view (pair_place A.view x.0)
-  pub plans_are : plans ≡ A.plans
-
-pub can_draft_from : (A : AgentState) (x : PairNo) (params : PairParams) (came called : List ℕ) (edges : List ParentEdge) (plans : List PlanRows) → HasRead A x params came called edges plans
-    → IsView A.view → HasRooms A → CanDraft A x → HasDraft params came called edges plans
-can_draft_from A x params came called edges plans read view rooms can =
-    subst (λ (z : PairParams). HasDraft z came called edges plans) (sym read.params_are)
-    (subst (λ (z : List ℕ). HasDraft (pair_of A.view x).params z called edges plans) (sym read.came_are)
-    (subst (λ (z : List ℕ). HasDraft (pair_of A.view x).params (Part A view rooms x can.own A.came) z edges plans) (sym read.called_are)
-    (subst (λ (z : List ParentEdge). HasDraft (pair_of A.view x).params (Part A view rooms x can.own A.came) (Part A view rooms x can.own A.called) z plans) (sym read.edges_are)
-    (subst (λ (z : List PlanRows). HasDraft (pair_of A.view x).params (Part A view rooms x can.own A.came) (Part A view rooms x can.own A.called) (edges_at A.view (pair_place A.view x.0)) z) (sym read.plans_are)
-    (has_draft A view rooms x can.own can.within)))))
-
-pub draft_is : (A : AgentState) (x : PairNo) (params : PairParams) (came called : List ℕ) (edges : List ParentEdge) (plans : List PlanRows) → HasRead A x params came called edges plans
-    → IsView A.view → HasRooms A → IsOwn A.view x → one params came (grossed called edges plans) ≡ drafted A x
-draft_is A x params came called edges plans read view rooms own =
-    ap (λ (z : PairParams). one z came (grossed called edges plans)) read.params_are
-    ∙ ap (λ (z : List ℕ). one (pair_of A.view x).params z (grossed called edges plans)) read.came_are
-    ∙ ap (λ (z : List ℕ). one (pair_of A.view x).params (Part A view rooms x own A.came) (grossed z edges plans)) read.called_are
-    ∙ ap (λ (z : List ParentEdge). one (pair_of A.view x).params (Part A view rooms x own A.came) (grossed (Part A view rooms x own A.called) z plans)) read.edges_are
-    ∙ ap (λ (z : List PlanRows). one (pair_of A.view x).params (Part A view rooms x own A.came) (grossed (Part A view rooms x own A.called) (edges_at A.view (pair_place A.view x.0)) z)) read.plans_are
-    ∙ drafted_is A view rooms x own
-
--- the part of a list that a pair has ends within it
-pub part_bound : (V : PlantRows) (x : PairNo) (amounts xs : List ℕ) (at periods : ℕ) → IsOwn V x → length amounts ≡ length V.pairs * V.horizon → xs ≡ amounts → at ≡ pair_place V x.0
-    → periods ≡ V.horizon → at * periods + periods ≤ length xs
-part_bound V x amounts xs at periods own size is here same =
-    let most : pair_place V x.0 * V.horizon + V.horizon ≤ length V.pairs * V.horizon = row_within (pair_place V x.0) (length V.pairs) V.horizon (own_within V x own) in
-    let left : at * periods + periods ≡ pair_place V x.0 * V.horizon + V.horizon = ap (λ (k : ℕ). k * periods + periods) here ∙ ap (λ (n : ℕ). pair_place V x.0 * n + n) same in
-    omega (arith, most, left, size, ap length is)

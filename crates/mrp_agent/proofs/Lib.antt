@@ -5,7 +5,9 @@ pub mod Queueing
 pub mod Asked
 pub mod Calling
 pub mod Owning
+pub mod Placing
 pub mod Drafts
+pub mod DraftReads
 pub mod Calls
 pub mod Made
 pub mod Left
@@ -28,3 +30,4 @@ pub mod Nothing
 pub mod Queued
 pub mod Replanned
 pub mod Staying
+pub mod Planned

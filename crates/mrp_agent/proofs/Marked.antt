@@ -23,6 +23,10 @@ use Rattle.mrp_agent.specs.Shows.{awaited, join_of, joins_of}
 use Rattle.mrp_agent.specs.State.{AgentState, no_pair, out_at, outgoing_at}
 use Rattle.mrp_agent.proofs.Owning.{own_within}
 
+-- a pair that waits for nothing in the same state
+pub free_before : {A S : AgentState} {place : ℕ} → A ≡ S → IsFree S.progress.waits S.progress.planned place → IsFree A.progress.waits A.progress.planned place
+free_before {A} {S} {place} same free = subst (λ (a : AgentState). IsFree a.progress.waits a.progress.planned place) (sym same) free
+
 -- ---- the components of a pair
 
 module _ (A : AgentState) (I : Indexes) (kept : IsKept A I) (place : ℕ) (free : IsFree A.progress.waits A.progress.planned place) where
@@ -43,19 +47,19 @@ module _ (A : AgentState) (I : Indexes) (kept : IsKept A I) (place : ℕ) (free 
       ∙ get_or-map-range_with_len f 0 (length A.view.pairs) place place components within (omega arith) in
       sym (get_or_from_slice_get I.components place components components found) ∙ there
 
-  pub components_within : (components : List ℕ) → components ≡ components_of (joins_of A.view) place → All (λ y. y < length A.progress.waits) components
-  components_within components is =
+  pub components_within : (components : List ℕ) → slice_get I.components place ≡ Some components → All (λ y. y < length A.progress.waits) components
+  components_within components found =
       let P : ℕ → Type 0 = λ y. y < length A.progress.waits in
       let each : (e : PlantEdge) → IsPlantEdge A.view e → P (join_of A.view e).component = λ e edge. omega (arith, own_within A.view e.component edge.component, kept.rooms.waits) in
       let joins : All (λ (j : Join). P j.component) (joins_of A.view) =
       All-map (λ (j : Join). P j.component) (join_of A.view) A.view.edges (λ k d h. each (get_or A.view.edges k d) (kept.view.edges k d h)) in
-      subst (All P) (sym is)
+      subst (All P) (sym (components_are components found))
       (All-map P (λ (j : Join). j.component) (filter (λ j. j.demander == place) (joins_of A.view)) (All-filter (λ (j : Join). j.demander == place) (λ (j : Join). P j.component) (joins_of A.view) joins))
 
-  pub components_are_waiting : (components : List ℕ) → components ≡ components_of (joins_of A.view) place
+  pub components_are_waiting : (components : List ℕ) → slice_get I.components place ≡ Some components
       → (y : ℕ) → y < length A.progress.waits → times y components ≤ slice_index A.progress.waits y
-  components_are_waiting components is y low =
-      subst (λ (z : List ℕ). times y z ≤ slice_index A.progress.waits y) (sym is)
+  components_are_waiting components found y low =
+      subst (λ (z : List ℕ). times y z ≤ slice_index A.progress.waits y) (sym (components_are components found))
       (components_wait A.progress.waits (joins_of A.view) A.progress.planned (open_blocks (awaited A.view kept.taken.taken)) kept.taken.waits place free.unplanned y low)
 
 -- ---- the cursors

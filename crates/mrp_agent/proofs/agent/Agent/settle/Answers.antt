@@ -1,104 +1,52 @@
-use Rattle.std.proofs.Common.{◌≡◌, ◌<◌, length, set, sym, ap, ◌∙◌, subst, arith}
-use Rattle.std.specs.List.{Contains}
-use Rattle.mrp_lot.specs.One.{PlanRows}
-use Rattle.mrp_ready.specs.Progress.{IsListed}
-use Rattle.mrp_agent.specs.State.{AgentState, pair_place}
-use Rattle.mrp_agent.specs.Drafts.{CanDraft, drafted}
-use Rattle.mrp_agent.specs.Kept.{Indexes, IsKept}
+use Rattle.std.proofs.Common.{◌≡◌, sym, ap, ◌∙◌}
+use Rattle.mrp_agent.specs.State.{AgentState}
+use Rattle.mrp_agent.specs.Drafts.{drafted}
 use Rattle.mrp_agent.specs.contracts.agent.Agent.{the_view}
-use Rattle.mrp_agent.proofs.Desks.{kept_written, same_periods}
-use Rattle.mrp_agent.proofs.Owning.{own_found, own_place_is, own_within}
-use Rattle.mrp_agent.proofs.Ready.{ready_place}
-use Rattle.mrp_agent.proofs.Shown.{others_stay, planning_shows}
-use Rattle.mrp_agent.proofs.Staying.{drafts_stay}
+use Rattle.mrp_agent.proofs.Desks.{kept_written, plans_written, same_periods}
+use Rattle.mrp_agent.proofs.Placing.{IsAtPlace, indexes_of, own_is_found, place_is_found, ready_at}
+use Rattle.mrp_agent.proofs.Planned.{HasPlanned, has_planned}
 use Rattle.mrp_agent.proofs.agent.Agent.settle.Goals as goal
+use Rattle.mrp_agent.proofs.agent.Agent.settle.Goals.{After-mark_planned, In-Some}
 
 pub unreachable-requires : goal.unreachable-requires
-unreachable-requires c =
-    let A : AgentState = the_view c.self.inside in
-    let I : Indexes = record { items = c.self.inside.items; edges = c.self.inside.edges.rows.items; starts = c.self.inside.edges.starts.items; components = c.self.inside.components; out_items = c.self.inside.out_items.items; desk = length c.self.inside.desk.gross } in
-    let can : CanDraft A c.args.x = subst (λ (a : AgentState). CanDraft a c.args.x) (sym c.self.view_is) c.requires.can in
-    c.in_default.not-Some _ (c.place.ensures ∙ own_found A.view c.args.x can.own)
+unreachable-requires c = c.in_default.not-Some _ (c.place.ensures ∙ own_is_found c.args.x c.self.view_is c.requires.can.own)
+
+placed : (c : In-Some) → IsAtPlace (the_view c.self.inside) (indexes_of c.self.inside) c.args.x c.in-Some.place
+placed c = place_is_found c.self.view_is c.self.invariant c.requires.can.own c.place.ensures c.in-Some.is
+
+is_draft : (c : In-Some) → c.args.plan.now ≡ drafted (the_view c.self.inside) c.args.x
+is_draft c = c.requires.draft ∙ ap (λ (a : AgentState). drafted a c.args.x) (sym c.self.view_is)
 
 pub copy_from-requires : goal.copy_from-requires
 copy_from-requires c =
-    let A : AgentState = the_view c.self.inside in
-    let I : Indexes = record { items = c.self.inside.items; edges = c.self.inside.edges.rows.items; starts = c.self.inside.edges.starts.items; components = c.self.inside.components; out_items = c.self.inside.out_items.items; desk = length c.self.inside.desk.gross } in
-    let can : CanDraft A c.args.x = subst (λ (a : AgentState). CanDraft a c.args.x) (sym c.self.view_is) c.requires.can in
-    let at : c.in-Some.place ≡ pair_place A.view c.args.x.0 = own_place_is A.view c.args.x c.place.result c.in-Some.place can.own c.place.ensures c.in-Some.is in
-    let is : c.args.plan.now ≡ drafted A c.args.x = c.requires.draft ∙ ap (λ (a : AgentState). drafted a c.args.x) (sym c.self.view_is) in
-    let within : c.in-Some.place < length A.plans = omega (arith, own_within A.view c.args.x can.own, at, c.self.invariant.rooms.plans) in
-    same_periods A I c.args.x c.in-Some.place c.index_mut.result.now c.args.plan.now c.self.invariant within c.index_mut.ensures.value is
+    let here = (goal.at.copy_from-requires c).In-Some in
+    same_periods (placed here) c.index_mut.ensures.value (is_draft here)
 
 pub invariant_of-self : goal.invariant_of-self
 invariant_of-self c =
-    let A : AgentState = the_view c.self.inside in
-    let I : Indexes = record { items = c.self.inside.items; edges = c.self.inside.edges.rows.items; starts = c.self.inside.edges.starts.items; components = c.self.inside.components; out_items = c.self.inside.out_items.items; desk = length c.self.inside.desk.gross } in
-    let can : CanDraft A c.args.x = subst (λ (a : AgentState). CanDraft a c.args.x) (sym c.self.view_is) c.requires.can in
-    let at : c.in-Some.place ≡ pair_place A.view c.args.x.0 = own_place_is A.view c.args.x c.place.result c.in-Some.place can.own c.place.ensures c.in-Some.is in
-    let is : c.args.plan.now ≡ drafted A c.args.x = c.requires.draft ∙ ap (λ (a : AgentState). drafted a c.args.x) (sym c.self.view_is) in
-    kept_written A I c.args.x c.in-Some.place (length c.self.inside.desk.gross) c.copy_from.new.self c.self.invariant (c.copy_from.ensures ∙ is) c.self.invariant.indexes.desk
+    let here = (goal.at.invariant_of-self c).In-Some in
+    kept_written (placed here) (c.copy_from.ensures ∙ is_draft here) c.self.invariant.indexes.desk
 
 pub mark_planned-requires-clause-ready : goal.mark_planned-requires-clause-ready
 mark_planned-requires-clause-ready c =
-    let A : AgentState = the_view c.self.inside in
-    let I : Indexes = record { items = c.self.inside.items; edges = c.self.inside.edges.rows.items; starts = c.self.inside.edges.starts.items; components = c.self.inside.components; out_items = c.self.inside.out_items.items; desk = length c.self.inside.desk.gross } in
-    let can : CanDraft A c.args.x = subst (λ (a : AgentState). CanDraft a c.args.x) (sym c.self.view_is) c.requires.can in
-    let at : c.in-Some.place ≡ pair_place A.view c.args.x.0 = own_place_is A.view c.args.x c.place.result c.in-Some.place can.own c.place.ensures c.in-Some.is in
-    let ready : Contains A.progress.ready c.in-Some.place =
-    subst (Contains A.progress.ready) (sym at) (ready_place A c.self.invariant.view c.self.invariant.rooms c.args.x c.ready_pairs-ready.ensures.listed can.ready) in
-    ready
+    ready_at c.self.view_is (placed (goal.at.mark_planned-requires-clause-ready c).In-Some) c.ready_pairs-ready.ensures.listed c.requires.can.ready
 
 pub mark_planned-requires-clause-free : goal.mark_planned-requires-clause-free
 mark_planned-requires-clause-free c =
-    let A : AgentState = the_view c.self.inside in
-    let I : Indexes = record { items = c.self.inside.items; edges = c.self.inside.edges.rows.items; starts = c.self.inside.edges.starts.items; components = c.self.inside.components; out_items = c.self.inside.out_items.items; desk = length c.self.inside.desk.gross } in
-    let can : CanDraft A c.args.x = subst (λ (a : AgentState). CanDraft a c.args.x) (sym c.self.view_is) c.requires.can in
-    let at : c.in-Some.place ≡ pair_place A.view c.args.x.0 = own_place_is A.view c.args.x c.place.result c.in-Some.place can.own c.place.ensures c.in-Some.is in
-    let ready : Contains A.progress.ready c.in-Some.place =
-    subst (Contains A.progress.ready) (sym at) (ready_place A c.self.invariant.view c.self.invariant.rooms c.args.x c.ready_pairs-ready.ensures.listed can.ready) in
+    let ready = ready_at c.self.view_is (placed (goal.at.mark_planned-requires-clause-free c).In-Some) c.ready_pairs-ready.ensures.listed c.requires.can.ready in
     (c.ready_pairs-ready.ensures.listed.exact c.in-Some.place).0 ready
 
+planned : (c : After-mark_planned) → HasPlanned c.args.self.now c.args.x c.mark_planned.new.self
+planned c =
+    let is = c.copy_from.ensures ∙ c.requires.draft ∙ ap (λ (a : AgentState). drafted a c.args.x) (sym c.self.view_is) in
+    has_planned c.self.view_is (place_is_found c.self.view_is c.self.invariant c.requires.can.own c.place.ensures c.in-Some.is) c.requires.can
+    c.ready_pairs-ready.ensures.listed (plans_written c.args.x c.in-Some.place c.self.view_is is) c.mark_planned.ensures
+
 pub returns-clause-planned : goal.returns-clause-planned
-returns-clause-planned c =
-    let A : AgentState = the_view c.self.inside in
-    let I : Indexes = record { items = c.self.inside.items; edges = c.self.inside.edges.rows.items; starts = c.self.inside.edges.starts.items; components = c.self.inside.components; out_items = c.self.inside.out_items.items; desk = length c.self.inside.desk.gross } in
-    let can : CanDraft A c.args.x = subst (λ (a : AgentState). CanDraft a c.args.x) (sym c.self.view_is) c.requires.can in
-    let at : c.in-Some.place ≡ pair_place A.view c.args.x.0 = own_place_is A.view c.args.x c.place.result c.in-Some.place can.own c.place.ensures c.in-Some.is in
-    let is : c.args.plan.now ≡ drafted A c.args.x = c.requires.draft ∙ ap (λ (a : AgentState). drafted a c.args.x) (sym c.self.view_is) in
-    let kept = subst (λ (a : AgentState). IsKept a I) c.self.view_is c.self.invariant in
-    let listed = subst (λ (a : AgentState). IsListed a.progress.waits a.progress.planned a.progress.ready) c.self.view_is c.ready_pairs-ready.ensures.listed in
-    let here : c.in-Some.place ≡ pair_place c.args.self.now.view c.args.x.0 = at ∙ ap (λ (a : AgentState). pair_place a.view c.args.x.0) c.self.view_is in
-    let written =
-    ap (λ (z : PlanRows). record A { plans = set A.plans c.in-Some.place z }) (c.copy_from.ensures ∙ is)
-    ∙ ap (λ (a : AgentState). record a { plans = set a.plans c.in-Some.place (drafted a c.args.x) }) c.self.view_is in
-    planning_shows c.args.self.now _ c.mark_planned.new.self I c.args.x c.in-Some.place kept c.requires.can listed here written c.mark_planned.ensures
+returns-clause-planned c = (planned (goal.at.returns-clause-planned c).After-mark_planned).shows
 
 pub returns-clause-others : goal.returns-clause-others
-returns-clause-others c =
-    let A : AgentState = the_view c.self.inside in
-    let I : Indexes = record { items = c.self.inside.items; edges = c.self.inside.edges.rows.items; starts = c.self.inside.edges.starts.items; components = c.self.inside.components; out_items = c.self.inside.out_items.items; desk = length c.self.inside.desk.gross } in
-    let can : CanDraft A c.args.x = subst (λ (a : AgentState). CanDraft a c.args.x) (sym c.self.view_is) c.requires.can in
-    let at : c.in-Some.place ≡ pair_place A.view c.args.x.0 = own_place_is A.view c.args.x c.place.result c.in-Some.place can.own c.place.ensures c.in-Some.is in
-    let is : c.args.plan.now ≡ drafted A c.args.x = c.requires.draft ∙ ap (λ (a : AgentState). drafted a c.args.x) (sym c.self.view_is) in
-    let kept = subst (λ (a : AgentState). IsKept a I) c.self.view_is c.self.invariant in
-    let here : c.in-Some.place ≡ pair_place c.args.self.now.view c.args.x.0 = at ∙ ap (λ (a : AgentState). pair_place a.view c.args.x.0) c.self.view_is in
-    let written =
-    ap (λ (z : PlanRows). record A { plans = set A.plans c.in-Some.place z }) (c.copy_from.ensures ∙ is)
-    ∙ ap (λ (a : AgentState). record a { plans = set a.plans c.in-Some.place (drafted a c.args.x) }) c.self.view_is in
-    others_stay c.args.self.now _ c.mark_planned.new.self I c.args.x c.in-Some.place kept c.requires.can.own here written c.mark_planned.ensures
+returns-clause-others c = (planned (goal.at.returns-clause-others c).After-mark_planned).others
 
 pub returns-clause-drafts : goal.returns-clause-drafts
-returns-clause-drafts c =
-    let A : AgentState = the_view c.self.inside in
-    let I : Indexes = record { items = c.self.inside.items; edges = c.self.inside.edges.rows.items; starts = c.self.inside.edges.starts.items; components = c.self.inside.components; out_items = c.self.inside.out_items.items; desk = length c.self.inside.desk.gross } in
-    let can : CanDraft A c.args.x = subst (λ (a : AgentState). CanDraft a c.args.x) (sym c.self.view_is) c.requires.can in
-    let at : c.in-Some.place ≡ pair_place A.view c.args.x.0 = own_place_is A.view c.args.x c.place.result c.in-Some.place can.own c.place.ensures c.in-Some.is in
-    let is : c.args.plan.now ≡ drafted A c.args.x = c.requires.draft ∙ ap (λ (a : AgentState). drafted a c.args.x) (sym c.self.view_is) in
-    let kept = subst (λ (a : AgentState). IsKept a I) c.self.view_is c.self.invariant in
-    let listed = subst (λ (a : AgentState). IsListed a.progress.waits a.progress.planned a.progress.ready) c.self.view_is c.ready_pairs-ready.ensures.listed in
-    let here : c.in-Some.place ≡ pair_place c.args.self.now.view c.args.x.0 = at ∙ ap (λ (a : AgentState). pair_place a.view c.args.x.0) c.self.view_is in
-    let written =
-    ap (λ (z : PlanRows). record A { plans = set A.plans c.in-Some.place z }) (c.copy_from.ensures ∙ is)
-    ∙ ap (λ (a : AgentState). record a { plans = set a.plans c.in-Some.place (drafted a c.args.x) }) c.self.view_is in
-    drafts_stay c.args.self.now _ c.mark_planned.new.self I c.args.x c.in-Some.place kept c.requires.can listed here written c.mark_planned.ensures
+returns-clause-drafts c = (planned (goal.at.returns-clause-drafts c).After-mark_planned).drafts

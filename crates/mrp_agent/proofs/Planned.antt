@@ -1,0 +1,33 @@
+-- An agent after one of its pairs is planned.
+use Rattle.std.proofs.Common.{◌≡◌, ℕ, Bool, true, List, set}
+use Rattle.std.specs.List.{Contains}
+use Rattle.mrp_rows.specs.declared.numbers.PairNo.{PairNo}
+use Rattle.mrp_record.specs.declared.record.Record.{Record}
+use Rattle.mrp_ready.specs.Progress.{IsListed}
+use Rattle.mrp_events.specs.State.{changed}
+use Rattle.mrp_agent.specs.Drafts.{CanDraft, drafted, ready_numbers}
+use Rattle.mrp_agent.specs.Kept.{Indexes}
+use Rattle.mrp_agent.specs.Marking.{IsMarked}
+use Rattle.mrp_agent.specs.Shows.{Shows}
+use Rattle.mrp_agent.specs.State.{AgentState}
+use Rattle.mrp_agent.proofs.Placing.{IsAtPlace, listed_now, placed_now}
+use Rattle.mrp_agent.proofs.Shown.{others_stay, planning_shows}
+use Rattle.mrp_agent.proofs.Staying.{drafts_stay}
+
+-- it shows the pair as planned, and the other pairs that could be planned still can, to the same plans
+pub record HasPlanned (old : AgentState) (x : PairNo) (new : AgentState) : Type 0 where
+  pub shows : (sent taken : ℕ → List Record) (planned : ℕ → Bool) → Shows old sent taken planned → Shows new sent taken (changed planned x.0 true)
+  pub others : (y : PairNo) → Contains (ready_numbers old) y → (y.0 ≡ x.0 → ⊥) → Contains (ready_numbers new) y
+  pub drafts : (y : PairNo) → Contains (ready_numbers old) y → drafted new y ≡ drafted old y
+
+-- the plan was written, and then the pair was counted as planned
+pub has_planned : {A S B new : AgentState} {I : Indexes} {x : PairNo} {place : ℕ} → A ≡ S → IsAtPlace A I x place → CanDraft S x
+    → IsListed A.progress.waits A.progress.planned A.progress.ready → B ≡ record S { plans = set S.plans place (drafted S x) } → IsMarked B place new → HasPlanned S x new
+has_planned {A} {S} {B} {new} {I} {x} {place} same placed can listed written marked =
+    let here : IsAtPlace S I x place = placed_now same placed in
+    let ready = listed_now same listed in
+    record {
+      shows = planning_shows S B new I x place here.kept can ready here.at written marked;
+      others = others_stay S B new I x place here.kept can.own here.at written marked;
+      drafts = drafts_stay S B new I x place here.kept can ready here.at written marked;
+    }
