@@ -1,5 +1,5 @@
 -- What a call reads of an agent to draft a pair, and what is drafted from that.
-use Rattle.std.proofs.Common.{◌≡◌, ℕ, ◌+◌, ◌*◌, ◌<◌, ◌≤◌, List, length, get_or, map, slice_index, slice_range, sym, ap, ◌∙◌, subst, arith}
+use Rattle.std.proofs.Common.{◌≡◌, ℕ, ◌+◌, ◌*◌, ◌≤◌, List, length, get_or, map, slice_index, slice_range, sym, ap, ◌∙◌, subst, arith}
 use Rattle.std.proofs.lemmas.List.{get_or_default}
 use Rattle.mrp_lot.specs.One.{PlanRows, one}
 use Rattle.mrp_lot.specs.declared.params.PairParams.{PairParams}
@@ -47,6 +47,12 @@ pub record HasRead (A : AgentState) (I : Indexes) (x : PairNo) (place periods : 
   pub called_are : called ≡ A.called
   pub edges_are : edges ≡ slice_range I.edges (slice_index I.starts place) (slice_index I.starts (place + 1))
   pub plans_are : plans ≡ A.plans
+
+pub has_read : {A : AgentState} {I : Indexes} {x : PairNo} {place periods : ℕ} {pairs : List PlantPair} {came called : List ℕ} {edges : List ParentEdge} {plans : List PlanRows}
+    → IsAtPlace A I x place → CanDraft A x → periods ≡ A.view.horizon → pairs ≡ A.view.pairs → came ≡ A.came → called ≡ A.called
+    → edges ≡ slice_range I.edges (slice_index I.starts place) (slice_index I.starts (place + 1)) → plans ≡ A.plans → HasRead A I x place periods pairs came called edges plans
+has_read placed can periods pairs came called edges plans =
+    record { placed = placed; can = can; periods_are = periods; pairs_are = pairs; came_are = came; called_are = called; edges_are = edges; plans_are = plans }
 
 module _ (A : AgentState) (I : Indexes) (x : PairNo) (place periods : ℕ) (pairs : List PlantPair) (came called : List ℕ) (edges : List ParentEdge) (plans : List PlanRows)
     (read : HasRead A I x place periods pairs came called edges plans) (d : PlantPair) where

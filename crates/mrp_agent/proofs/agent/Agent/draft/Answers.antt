@@ -2,7 +2,7 @@ use Rattle.std.proofs.Common.{ap, ◌∙◌}
 use Rattle.mrp_agent.specs.Drafts.{drafted}
 use Rattle.mrp_agent.specs.State.{AgentState}
 use Rattle.mrp_agent.specs.contracts.agent.Agent.{the_view}
-use Rattle.mrp_agent.proofs.DraftReads.{HasRead, draft_asked, draft_made, edges_rise}
+use Rattle.mrp_agent.proofs.DraftReads.{HasRead, draft_asked, draft_made, edges_rise, has_read}
 use Rattle.mrp_agent.proofs.Placing.{can_before, indexes_of, own_is_found, place_is_found}
 use Rattle.mrp_agent.proofs.agent.Agent.draft.Goals as goal
 use Rattle.mrp_agent.proofs.agent.Agent.draft.Goals.{After-deref-3}
@@ -18,16 +18,9 @@ get-edges-requires-clause-within c = (edges_rise (place_is_found {x = c.args.x} 
 
 lists_read : (c : After-deref-3) → HasRead (the_view c.self.inside) (indexes_of c.self.inside) c.args.x c.in-Some.place c.get-periods.result
     c.pairs.result.now c.deref.result.now c.deref-2.result.now c.get-edges.result.now c.deref-3.result.now
-lists_read c = record {
-  placed = place_is_found c.self.view_is c.self.invariant c.requires.can.own c.place.ensures c.in-Some.is;
-  can = can_before c.self.view_is c.requires.can;
-  periods_are = c.get-periods.ensures.value ∙ c.horizon.ensures;
-  pairs_are = c.pairs.ensures;
-  came_are = c.deref.ensures.value;
-  called_are = c.deref-2.ensures.value;
-  edges_are = c.get-edges.ensures;
-  plans_are = c.deref-3.ensures.value;
-}
+lists_read c =
+    has_read (place_is_found c.self.view_is c.self.invariant c.requires.can.own c.place.ensures c.in-Some.is) (can_before c.self.view_is c.requires.can)
+    (c.get-periods.ensures.value ∙ c.horizon.ensures) c.pairs.ensures c.deref.ensures.value c.deref-2.ensures.value c.get-edges.ensures c.deref-3.ensures.value
 
 pub draft_from-requires-clause-draft : goal.draft_from-requires-clause-draft
 draft_from-requires-clause-draft c = draft_asked c.index-pairs-place.result (lists_read (goal.at.draft_from-requires-clause-draft c).After-deref-3)

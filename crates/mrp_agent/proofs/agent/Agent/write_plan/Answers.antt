@@ -2,7 +2,7 @@ use Rattle.std.proofs.Common.{length, ap, ◌∙◌, arith}
 use Rattle.mrp_lot.specs.One.{PlanRows}
 use Rattle.mrp_agent.specs.contracts.agent.Agent.{the_view}
 use Rattle.mrp_agent.proofs.Desks.{kept_written, old_periods, plans_written, same_periods}
-use Rattle.mrp_agent.proofs.DraftReads.{HasRead, draft_asked, draft_made, edges_rise, part_within, placed_at}
+use Rattle.mrp_agent.proofs.DraftReads.{HasRead, draft_asked, draft_made, edges_rise, has_read, part_within, placed_at}
 use Rattle.mrp_agent.proofs.Placing.{IsAtPlace, can_before, indexes_of}
 use Rattle.mrp_agent.proofs.agent.Agent.write_plan.Goals as goal
 use Rattle.mrp_agent.proofs.agent.Agent.write_plan.Goals.{After-deref-3, After-get-periods}
@@ -30,16 +30,9 @@ get-edges-requires-clause-within c = (edges_rise (placed (goal.at.get-edges-requ
 
 lists_read : (c : After-deref-3) → HasRead (the_view c.self.inside) (indexes_of c.self.inside) c.args.x c.args.place c.get-periods.result
     c.pairs.result.now c.deref.result.now c.deref-2.result.now c.get-edges.result.now c.deref-3.result.now
-lists_read c = record {
-  placed = placed_at c.self.view_is c.self.invariant c.requires.can c.requires.place;
-  can = can_before c.self.view_is c.requires.can;
-  periods_are = c.get-periods.ensures.value ∙ c.horizon.ensures;
-  pairs_are = c.pairs.ensures;
-  came_are = c.deref.ensures.value;
-  called_are = c.deref-2.ensures.value;
-  edges_are = c.get-edges.ensures;
-  plans_are = c.deref-3.ensures.value;
-}
+lists_read c =
+    has_read (placed_at c.self.view_is c.self.invariant c.requires.can c.requires.place) (can_before c.self.view_is c.requires.can)
+    (c.get-periods.ensures.value ∙ c.horizon.ensures) c.pairs.ensures c.deref.ensures.value c.deref-2.ensures.value c.get-edges.ensures c.deref-3.ensures.value
 
 pub draft-requires-clause-draft : goal.draft-requires-clause-draft
 draft-requires-clause-draft c = draft_asked c.index-pairs-place.result (lists_read (goal.at.draft-requires-clause-draft c).After-deref-3)
