@@ -219,20 +219,32 @@ joins_mapped : (V : PlantRows) (edges : List PlantEdge) → map (λ e. record { 
 joins_mapped V [] = refl
 joins_mapped V (e ∷ edges) = ap (λ (z : List Join). join_of V e ∷ z) (joins_mapped V edges)
 
-pub joins_made : (V : PlantRows) (parents seen : List ParentEdge) (joins : List Join) → seen ≡ parents → parents ≡ map (parent_edge V) V.edges
+pub joins_made : (V : PlantRows) {edges : List PlantEdge} {parents seen : List ParentEdge} {joins : List Join} → edges ≡ V.edges → parents ≡ map (parent_edge V) edges → seen ≡ parents
     → joins ≡ map (λ e. record { component = e.component; demander = e.parent }) seen → joins ≡ joins_of V
-joins_made V parents seen joins same are e =
-    e ∙ ap (λ (z : List ParentEdge). map (λ e. record { component = e.component; demander = e.parent }) z) (same ∙ are) ∙ joins_mapped V V.edges
+joins_made V {edges} {parents} {seen} {joins} edges_are are same e =
+    e
+    ∙ ap (λ (z : List ParentEdge). map (λ e. record { component = e.component; demander = e.parent }) z) (same ∙ are ∙ ap (λ (z : List PlantEdge). map (parent_edge V) z) edges_are)
+    ∙ joins_mapped V V.edges
 
-pub components_known : (V : PlantRows) → All (IsPlantEdge V) V.edges → All (λ e. e.component < length V.pairs) (map (parent_edge V) V.edges)
-components_known V h =
-    All-map (λ (e : ParentEdge). e.component < length V.pairs) (parent_edge V) V.edges (λ k d within. own_within V (get_or V.edges k d).component (h k d within).component)
+pub components_known : (V : PlantRows) {pairs : List PlantPair} {edges : List PlantEdge} {parents seen : List ParentEdge} → All (IsPlantEdge V) V.edges → pairs ≡ V.pairs → edges ≡ V.edges
+    → parents ≡ map (parent_edge V) edges → seen ≡ parents → All (λ e. e.component < length pairs) seen
+components_known V {pairs} {edges} {parents} {seen} h pairs_are edges_are are same =
+    let P : ℕ → ParentEdge → Type 0 = λ n e. e.component < n in
+    let known : All (P (length V.pairs)) (map (parent_edge V) V.edges) =
+    All-map (P (length V.pairs)) (parent_edge V) V.edges (λ k d within. own_within V (get_or V.edges k d).component (h k d within).component) in
+    subst (λ (z : List PlantPair). All (P (length z)) seen) (sym pairs_are)
+    (subst (All (P (length V.pairs))) (sym (same ∙ are ∙ ap (λ (z : List PlantEdge). map (parent_edge V) z) edges_are)) known)
 
-pub joins_known : (V : PlantRows) → All (IsPlantEdge V) V.edges → All (λ j. j.component < length V.pairs) (joins_of V) × All (λ j. j.demander < length V.pairs) (joins_of V)
-joins_known V h = (
-  All-map (λ (j : Join). j.component < length V.pairs) (join_of V) V.edges (λ k d within. own_within V (get_or V.edges k d).component (h k d within).component),
-  All-map (λ (j : Join). j.demander < length V.pairs) (join_of V) V.edges (λ k d within. own_within V (get_or V.edges k d).parent (h k d within).parent),
-)
+pub component_joins_known : (V : PlantRows) {joins : List Join} → All (IsPlantEdge V) V.edges → joins ≡ joins_of V → All (λ j. j.component < length V.pairs) joins
+component_joins_known V {joins} h is =
+    let P : Join → Type 0 = λ j. j.component < length V.pairs in
+    subst (All P) (sym is) (All-map P (join_of V) V.edges (λ k d within. own_within V (get_or V.edges k d).component (h k d within).component))
+
+pub demander_joins_known : (V : PlantRows) {pairs : List PlantPair} {joins : List Join} → All (IsPlantEdge V) V.edges → pairs ≡ V.pairs → joins ≡ joins_of V → All (λ j. j.demander < length pairs) joins
+demander_joins_known V {pairs} {joins} h pairs_are is =
+    let P : ℕ → Join → Type 0 = λ n j. j.demander < n in
+    let known : All (P (length V.pairs)) (joins_of V) = All-map (P (length V.pairs)) (join_of V) V.edges (λ k d within. own_within V (get_or V.edges k d).parent (h k d within).parent) in
+    subst (λ (z : List PlantPair). All (P (length z)) joins) (sym pairs_are) (subst (All (P (length V.pairs))) (sym is) known)
 
 pub lanes_once : (V : PlantRows) → IsView V → All HasItemsOnce V.outgoing
 lanes_once V view = λ k d within. record { once = (view.outgoing k d within).once }
