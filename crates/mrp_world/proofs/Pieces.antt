@@ -98,9 +98,9 @@ shipped_read shows N capacity plants boxes s l item plant box p received waiting
     ap (λ (b : Held). moved item.0 (contents b.records)) (box_read shows N plants boxes l item box read.within read.some read.held) in
     omega (arith, e, waits, received_is shows N capacity plants boxes s l item plant box p received read says at, shipped_is shows N capacity plants boxes s l item at read.within read.there)
 
-pub shipped_fits : {A : Type 0} (shows : Showing A) (N : Table) (plants : List A) (boxes : List Held) (l : ℕ) (item : ItemNo) (plant : A) (box : Held) (p received waiting : ℕ)
+pub shipped_fits : {A : Type 0} {shows : Showing A} {N : Table} {plants : List A} {boxes : List Held} {l : ℕ} {item : ItemNo} {plant : A} {box : Held} {p : ℕ} (received waiting : ℕ)
     → Read shows N plants boxes l item plant box p → SaysReceived shows plant l item received → waiting ≡ moved item.0 (contents box.records) → received + waiting ≤ 1000000000000000
-shipped_fits shows N plants boxes l item plant box p received waiting read says waits =
+shipped_fits {A} {shows} {N} {plants} {boxes} {l} {item} {plant} {box} {p} received waiting read says waits =
     let some = read.some in
     omega (arith, shipped_read shows N some.0 plants boxes some.1 l item plant box p received waiting read says waits some.2, shipped_is_small shows N some.0 plants boxes some.1 l item some.2 read.within read.there)
 
@@ -108,18 +108,18 @@ abbrev pub figure_record : ℕ → ItemNo → ℕ → ℕ → ℕ → LaneFigure
 figure_record l item opens ships received =
     record { lane = record { 0 = l }; item = item; opening = opens; shipped = ships; received = received }
 
-pub figure_is : {A : Type 0} (shows : Showing A) (N : Table) (capacity : ℕ) (plants : List A) (boxes : List Held) (s : State) (l : ℕ) (item : ItemNo) (plant : A) (box : Held) (p received waiting opens ships : ℕ)
+pub figure_is : {A : Type 0} {shows : Showing A} {N : Table} {plants : List A} {boxes : List Held} {l : ℕ} {item : ItemNo} {plant : A} {box : Held} {p : ℕ} (received waiting opens ships : ℕ)
     → Read shows N plants boxes l item plant box p → SaysReceived shows plant l item received → waiting ≡ moved item.0 (contents box.records) → opens ≡ opening N (lane_at N l) item
-    → ships ≡ received + waiting → AreAt shows N capacity plants boxes s
+    → ships ≡ received + waiting → (capacity : ℕ) (s : State) → AreAt shows N capacity plants boxes s
     → figure_record l item opens ships received ≡ figure_at N s l item
-figure_is shows N capacity plants boxes s l item plant box p received waiting opens ships read says waits opened shipped at =
+figure_is {A} {shows} {N} {plants} {boxes} {l} {item} {plant} {box} {p} received waiting opens ships read says waits opened shipped capacity s at =
     ap (λ (o : ℕ). figure_record l item o ships received) opened
     ∙ ap (λ (n : ℕ). figure_record l item (opening N (lane_at N l) item) n received) (shipped ∙ shipped_read shows N capacity plants boxes s l item plant box p received waiting read says waits at)
     ∙ ap (λ (n : ℕ). figure_record l item (opening N (lane_at N l) item) (cum_on N l item (s.sent l)) n) (received_is shows N capacity plants boxes s l item plant box p received read says at)
 
-pub may_be_asked : {A : Type 0} (shows : Showing A) (N : Table) (plants : List A) (boxes : List Held) (l : ℕ) (item : ItemNo) (plant : A) (box : Held) (p : ℕ)
+pub may_be_asked : {A : Type 0} {shows : Showing A} {N : Table} {plants : List A} {boxes : List Held} {l : ℕ} {item : ItemNo} {plant : A} {box : Held} {p : ℕ}
     → Read shows N plants boxes l item plant box p → Receives shows plant l
-may_be_asked shows N plants boxes l item plant box p read =
+may_be_asked {A} {shows} {N} {plants} {boxes} {l} {item} {plant} {box} {p} read =
     subst (λ z. Receives shows z l) (sym read.asked) (may_receive shows N plants boxes l p plant read.some read.within read.known read.receiver)
 
 -- ---- lists of figures
