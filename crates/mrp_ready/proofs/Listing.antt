@@ -34,8 +34,22 @@ left-planned planned x within free =
     let one : one_if (not (get_or planned x false)) ≡ 1 = rw free refl in
     omega (arith, sums, one)
 
-pub IsKept-planned : (progress : Progress) (left less : ℕ) (numbers : List PairNo) (later : List ℕ) (x : ℕ) → IsKept progress left → Contains progress.ready x → left ≡ less + 1 → numbers ≡ progress.numbers → ((y : ℕ) → Contains later y ↔ (Contains progress.ready y × (y ≡ x → ⊥))) → IsKept (record { numbers = numbers; waits = progress.waits; planned = set progress.planned x true; ready = later }) less
-IsKept-planned progress left less numbers later x kept has one same others =
+-- those that were gone are still planned, and so is the pair that is planned now
+settled-planned : (gone after : List ℕ) (planned : List Bool) (x : ℕ) → x < length planned → after ≡ gone ++ x ∷ [] → ((y : ℕ) → Contains gone y → is_planned planned y ≡ true) → (y : ℕ) → Contains after y → is_planned (set planned x true) y ≡ true
+settled-planned gone after planned x within more settled y is =
+    let here : get_or (set planned x true) x false ≡ true = get_or-set_same planned x true false within in
+    elim (cases_eq y x) as (λ _. is_planned (set planned x true) y ≡ true) [
+      | inl e ↦ ap (λ (z : ℕ). get_or (set planned x true) z false) e ∙ here
+      | inr ne ↦
+          let was : Contains gone y = elim (Contains-push_cases gone x y (subst (λ (z : List ℕ). Contains z y) more is)) as (λ _. Contains gone y) [
+            | inl was ↦ was
+            | inr e ↦ absurd (ne (sym e))
+          ] in
+          get_or-set_other planned x y true false ne ∙ settled y was
+    ]
+
+pub IsKept-planned : (progress : Progress) (gone after : List ℕ) (left less : ℕ) (numbers : List PairNo) (later : List ℕ) (x : ℕ) → IsKept progress gone left → Contains progress.ready x → left ≡ less + 1 → after ≡ gone ++ x ∷ [] → numbers ≡ progress.numbers → ((y : ℕ) → Contains later y ↔ (Contains progress.ready y × (y ≡ x → ⊥))) → IsKept (record { numbers = numbers; waits = progress.waits; planned = set progress.planned x true; ready = later }) after less
+IsKept-planned progress gone after left less numbers later x kept has one more same others =
     let free = (kept.listed.exact x).0 has in
     let within : x < length progress.planned = omega (arith, kept.marked, free.known) in
     record {
@@ -46,31 +60,42 @@ IsKept-planned progress left less numbers later x kept has one same others =
         | inl e ↦ ap (λ (z : ℕ). get_or progress.waits z 0) e ∙ free.waits_for_none
         | inr ne ↦ kept.rested y (sym (get_or-set_other progress.planned x y true false ne) ∙ is)
       ];
+      settled = settled-planned gone after progress.planned x within more kept.settled;
       left_is = omega (arith, kept.left_is, left-planned progress.planned x within free.unplanned);
     }
 
 -- what is known of the fields where a pair of the value is ready
-pub ready_inside : (inside value : Progress) (left x : ℕ) → IsKept inside left → inside ≡ value → Contains value.ready x → Contains inside.ready x × IsFree inside.waits inside.planned x × (x < length inside.planned) × (left ≡ (left - 1) + 1)
-ready_inside inside value left x kept shown has =
+pub ready_inside : (inside value : Progress) (gone : List ℕ) (left x : ℕ) → IsKept inside gone left → inside ≡ value → Contains value.ready x → Contains inside.ready x × IsFree inside.waits inside.planned x × (x < length inside.planned) × (left ≡ (left - 1) + 1)
+ready_inside inside value gone left x kept shown has =
     let here : Contains inside.ready x = subst (λ (v : Progress). Contains v.ready x) (sym shown) has in
     let free = (kept.listed.exact x).0 here in
     let within : x < length inside.planned = omega (arith, kept.marked, free.known) in
     (here, free, within, omega (arith, kept.left_is, left-planned inside.planned x within free.unplanned))
 
-pub planned_inside : (inside value : Progress) (left x : ℕ) (numbers : List PairNo) (later : List ℕ) → IsKept inside left → inside ≡ value → Contains value.ready x → numbers ≡ inside.numbers → ((y : ℕ) → Contains later y ↔ (Contains inside.ready y × (y ≡ x → ⊥))) → IsKept (record { numbers = numbers; waits = inside.waits; planned = set inside.planned x true; ready = later }) (left - 1)
-planned_inside inside value left x numbers later kept shown has same others =
-    let here = ready_inside inside value left x kept shown has in
-    IsKept-planned inside left (left - 1) numbers later x kept here.0 here.3 same others
+pub planned_inside : (inside value : Progress) (gone after : List ℕ) (left x : ℕ) (numbers : List PairNo) (later : List ℕ) → IsKept inside gone left → inside ≡ value → Contains value.ready x → after ≡ gone ++ x ∷ [] → numbers ≡ inside.numbers → ((y : ℕ) → Contains later y ↔ (Contains inside.ready y × (y ≡ x → ⊥))) → IsKept (record { numbers = numbers; waits = inside.waits; planned = set inside.planned x true; ready = later }) after (left - 1)
+planned_inside inside value gone after left x numbers later kept shown has more same others =
+    let here = ready_inside inside value gone left x kept shown has in
+    IsKept-planned inside gone after left (left - 1) numbers later x kept here.0 here.3 more same others
 
 -- ---- a pair waits for one less
 
 -- a pair that waits isn't planned
-waiting_unplanned : (progress : Progress) (left y : ℕ) → IsKept progress left → 0 < get_or progress.waits y 0 → is_planned progress.planned y ≡ false
-waiting_unplanned progress left y kept waits =
+waiting_unplanned : (progress : Progress) (gone : List ℕ) (left y : ℕ) → IsKept progress gone left → 0 < get_or progress.waits y 0 → is_planned progress.planned y ≡ false
+waiting_unplanned progress gone left y kept waits =
     false_from_ne_true (is_planned progress.planned y) (λ t. let none = kept.rested y t in omega (arith, none))
 
-IsListed-lowered : (progress : Progress) (left : ℕ) (later : List ℕ) (y v : ℕ) → IsKept progress left → y < length progress.waits → 0 < get_or progress.waits y 0 → (v ≡ 0 → later ≡ progress.ready ++ y ∷ []) → (0 < v → later ≡ progress.ready) → IsListed (set progress.waits y v) progress.planned later
-IsListed-lowered progress left later y v kept within some free_then waits_then =
+-- nor is it gone
+waiting_fresh : (progress : Progress) (gone : List ℕ) (left y : ℕ) → IsKept progress gone left → 0 < get_or progress.waits y 0 → Contains gone y → ⊥
+waiting_fresh progress gone left y kept waits is =
+    both_ways (is_planned progress.planned y) (waiting_unplanned progress gone left y kept waits) (kept.settled y is)
+
+-- as its value shows it
+pub fresh_inside : (inside value : Progress) (gone : List ℕ) (left y : ℕ) → IsKept inside gone left → inside ≡ value → 0 < get_or value.waits y 0 → Contains gone y → ⊥
+fresh_inside inside value gone left y kept shown waits =
+    waiting_fresh inside gone left y kept (subst (λ (v : Progress). 0 < get_or v.waits y 0) (sym shown) waits)
+
+IsListed-lowered : (progress : Progress) (gone : List ℕ) (left : ℕ) (later : List ℕ) (y v : ℕ) → IsKept progress gone left → y < length progress.waits → 0 < get_or progress.waits y 0 → (v ≡ 0 → later ≡ progress.ready ++ y ∷ []) → (0 < v → later ≡ progress.ready) → IsListed (set progress.waits y v) progress.planned later
+IsListed-lowered progress gone left later y v kept within some free_then waits_then =
     let waits : List ℕ = progress.waits in
     let size : length (set waits y v) ≡ length waits = length-set waits y v in
     let here : get_or (set waits y v) y 0 ≡ v = get_or-set_same waits y v 0 within in
@@ -90,7 +115,7 @@ IsListed-lowered progress left later y v kept within some free_then waits_then =
                 | inr e ↦ subst (λ (w : ℕ). IsFree (set waits y v) progress.planned w) e record {
                   known = rw size within;
                   waits_for_none = here ∙ none;
-                  unplanned = waiting_unplanned progress left y kept some;
+                  unplanned = waiting_unplanned progress gone left y kept some;
                 }
               ],
               λ free. elim (cases_eq z y) as (λ _. Contains (progress.ready ++ y ∷ []) z) [
@@ -108,15 +133,16 @@ IsListed-lowered progress left later y v kept within some free_then waits_then =
           }
     ]
 
-pub IsKept-lowered : (progress : Progress) (left : ℕ) (numbers : List PairNo) (later : List ℕ) (y v : ℕ) → IsKept progress left → y < length progress.waits → 0 < get_or progress.waits y 0 → numbers ≡ progress.numbers → (v ≡ 0 → later ≡ progress.ready ++ y ∷ []) → (0 < v → later ≡ progress.ready) → IsKept (record { numbers = numbers; waits = set progress.waits y v; planned = progress.planned; ready = later }) left
-IsKept-lowered progress left numbers later y v kept within some same free waits = record {
+pub IsKept-lowered : (progress : Progress) (gone after : List ℕ) (left : ℕ) (numbers : List PairNo) (later : List ℕ) (y v : ℕ) → IsKept progress gone left → y < length progress.waits → 0 < get_or progress.waits y 0 → after ≡ gone → numbers ≡ progress.numbers → (v ≡ 0 → later ≡ progress.ready ++ y ∷ []) → (0 < v → later ≡ progress.ready) → IsKept (record { numbers = numbers; waits = set progress.waits y v; planned = progress.planned; ready = later }) after left
+IsKept-lowered progress gone after left numbers later y v kept within some stay same free waits = record {
   numbered = ap length same ∙ kept.numbered ∙ sym (length-set progress.waits y v);
   marked = kept.marked ∙ sym (length-set progress.waits y v);
-  listed = IsListed-lowered progress left later y v kept within some free waits;
+  listed = IsListed-lowered progress gone left later y v kept within some free waits;
   rested = λ z is.
       let none = kept.rested z is in
       let ne : z ≡ y → ⊥ = λ e. let at : get_or progress.waits z 0 ≡ get_or progress.waits y 0 = ap (λ (w : ℕ). get_or progress.waits w 0) e in omega (arith, none, at) in
       get_or-set_other progress.waits y z v 0 ne ∙ none;
+  settled = λ z is. kept.settled z (subst (λ (w : List ℕ). Contains w z) stay is);
   left_is = kept.left_is;
 }
 
@@ -129,15 +155,15 @@ lowered_read inside value y was now shown known some read_was read_now =
       read_now ∙ get_or-set_same inside.waits y (was - 1) now within,
     )
 
-pub lowered_free : (inside value : Progress) (left : ℕ) (numbers : List PairNo) (later : List ℕ) (y was now : ℕ) → IsKept inside left → inside ≡ value → y < length value.waits → 0 < get_or value.waits y 0 → was ≡ get_or inside.waits y was → now ≡ get_or (set inside.waits y (was - 1)) y now → now ≡ 0 → numbers ≡ inside.numbers → later ≡ inside.ready ++ y ∷ [] → IsKept (record { numbers = numbers; waits = set inside.waits y (was - 1); planned = inside.planned; ready = later }) left
-lowered_free inside value left numbers later y was now kept shown known some read_was read_now none same added =
+pub lowered_free : (inside value : Progress) (gone after : List ℕ) (left : ℕ) (numbers : List PairNo) (later : List ℕ) (y was now : ℕ) → IsKept inside gone left → inside ≡ value → y < length value.waits → 0 < get_or value.waits y 0 → was ≡ get_or inside.waits y was → now ≡ get_or (set inside.waits y (was - 1)) y now → now ≡ 0 → after ≡ gone → numbers ≡ inside.numbers → later ≡ inside.ready ++ y ∷ [] → IsKept (record { numbers = numbers; waits = set inside.waits y (was - 1); planned = inside.planned; ready = later }) after left
+lowered_free inside value gone after left numbers later y was now kept shown known some read_was read_now none stay same added =
     let reads = lowered_read inside value y was now shown known some read_was read_now in
-    IsKept-lowered inside left numbers later y (was - 1) kept reads.0 reads.1 same (λ _. added) (λ more. absurd (omega (arith, reads.2)))
+    IsKept-lowered inside gone after left numbers later y (was - 1) kept reads.0 reads.1 stay same (λ _. added) (λ more. absurd (omega (arith, reads.2)))
 
-pub lowered_waiting : (inside value : Progress) (left y was now : ℕ) → IsKept inside left → inside ≡ value → y < length value.waits → 0 < get_or value.waits y 0 → was ≡ get_or inside.waits y was → now ≡ get_or (set inside.waits y (was - 1)) y now → (now ≡ 0 → ⊥) → IsKept (record { numbers = inside.numbers; waits = set inside.waits y (was - 1); planned = inside.planned; ready = inside.ready }) left
-lowered_waiting inside value left y was now kept shown known some read_was read_now ne =
+pub lowered_waiting : (inside value : Progress) (gone : List ℕ) (left y was now : ℕ) → IsKept inside gone left → inside ≡ value → y < length value.waits → 0 < get_or value.waits y 0 → was ≡ get_or inside.waits y was → now ≡ get_or (set inside.waits y (was - 1)) y now → (now ≡ 0 → ⊥) → IsKept (record { numbers = inside.numbers; waits = set inside.waits y (was - 1); planned = inside.planned; ready = inside.ready }) gone left
+lowered_waiting inside value gone left y was now kept shown known some read_was read_now ne =
     let reads = lowered_read inside value y was now shown known some read_was read_now in
-    IsKept-lowered inside left inside.numbers inside.ready y (was - 1) kept reads.0 reads.1 refl (λ zero. absurd (ne (reads.2 ∙ zero))) (λ _. refl)
+    IsKept-lowered inside gone gone left inside.numbers inside.ready y (was - 1) kept reads.0 reads.1 refl refl (λ zero. absurd (ne (reads.2 ∙ zero))) (λ _. refl)
 
 -- ---- the components, one after another
 
@@ -230,20 +256,26 @@ unplanned_at_first n x =
       | inr past ↦ get_or_past (replicate n false) x false (omega (arith, length-replicate n false))
     ]
 
-pub IsKept-first : (numbers : List PairNo) (waits ready : List ℕ) (n : ℕ) → length numbers ≡ n → length waits ≡ n → WaitForNone ready waits (length waits) → IsKept (record { numbers = numbers; waits = waits; planned = replicate n false; ready = ready }) n
-IsKept-first numbers waits ready n numbered size exact = record {
+none_gone : (gone : List ℕ) (x : ℕ) → gone ≡ [] → Contains gone x → ⊥
+none_gone gone x none is =
+    let at : Contains {X = ℕ} [] x = subst (λ (z : List ℕ). Contains z x) none is in
+    absurd (omega (arith, at.1))
+
+pub IsKept-first : (numbers : List PairNo) (waits ready gone : List ℕ) (n : ℕ) → length numbers ≡ n → length waits ≡ n → gone ≡ [] → WaitForNone ready waits (length waits) → IsKept (record { numbers = numbers; waits = waits; planned = replicate n false; ready = ready }) gone n
+IsKept-first numbers waits ready gone n numbered size none exact = record {
   numbered = numbered ∙ sym size;
   marked = length-replicate n false ∙ sym size;
   listed = first_listed waits ready n size exact;
   rested = λ x is. absurd (both_ways (is_planned (replicate n false) x) (unplanned_at_first n x) is);
+  settled = λ x is. absurd (none_gone gone x none is);
   left_is = omega (arith, sum_by-replicate (λ (p : Bool). cond (not p) 1 0) n false);
 }
 
-pub first_inside : (numbers given : List PairNo) (waits read : List ℕ) (planned : List Bool) (ready : List ℕ) → planned ≡ replicate (length given) false → read ≡ waits → length waits ≡ length given → numbers ≡ given → WaitForNone ready read (length read) → IsKept (record { numbers = numbers; waits = waits; planned = planned; ready = ready }) (length given)
-first_inside numbers given waits read planned ready none same size numbers_are free =
+pub first_inside : (numbers given : List PairNo) (waits read : List ℕ) (planned : List Bool) (ready gone : List ℕ) → planned ≡ replicate (length given) false → read ≡ waits → length waits ≡ length given → numbers ≡ given → gone ≡ [] → WaitForNone ready read (length read) → IsKept (record { numbers = numbers; waits = waits; planned = planned; ready = ready }) gone (length given)
+first_inside numbers given waits read planned ready gone none same size numbers_are fresh free =
     let wait : WaitForNone ready waits (length waits) = subst (λ (w : List ℕ). WaitForNone ready w (length w)) same free in
-    subst (λ (p : List Bool). IsKept (record { numbers = numbers; waits = waits; planned = p; ready = ready }) (length given)) (sym none)
-    (IsKept-first numbers waits ready (length given) (ap length numbers_are) size wait)
+    subst (λ (p : List Bool). IsKept (record { numbers = numbers; waits = waits; planned = p; ready = ready }) gone (length given)) (sym none)
+    (IsKept-first numbers waits ready gone (length given) (ap length numbers_are) size fresh wait)
 
 pub none_planned : (planned : List Bool) (n x : ℕ) → planned ≡ replicate n false → is_planned planned x ≡ false
 none_planned planned n x none = ap (λ (p : List Bool). is_planned p x) none ∙ unplanned_at_first n x

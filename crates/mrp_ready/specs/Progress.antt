@@ -49,10 +49,11 @@ pub record Lowers (old new : Progress) (components : List ℕ) : Type 0 where
   pub listed : IsListed old.waits old.planned old.ready → IsListed new.waits new.planned new.ready
   pub others : (y : ℕ) → Contains old.ready y → Contains new.ready y
 
--- what stays true: a planned pair waits for nothing
-pub record IsKept (progress : Progress) (left : ℕ) : Type 0 where
+-- what stays true: a planned pair waits for nothing, and those that are gone from the ready ones are planned
+pub record IsKept (progress : Progress) (gone : List ℕ) (left : ℕ) : Type 0 where
   pub numbered : length progress.numbers ≡ length progress.waits
   pub marked : length progress.planned ≡ length progress.waits
   pub listed : IsListed progress.waits progress.planned progress.ready
   pub rested : (x : ℕ) → is_planned progress.planned x ≡ true → slice_index progress.waits x ≡ 0
+  pub settled : (x : ℕ) → Contains gone x → is_planned progress.planned x ≡ true
   pub left_is : left ≡ left_of progress.planned

@@ -1,6 +1,6 @@
 //! Which pairs of a plant can be planned, kept up with each event.
 
-ghost use Rattle.std.specs.Prelude.{◌≡◌, ℕ, ◌<◌, ◌↔◌, IfOk, IsTrue, Contains, length, slice_index};
+ghost use Rattle.std.specs.Prelude.{◌≡◌, ℕ, ◌<◌, ◌↔◌, [], IfOk, IsTrue, Contains, length, slice_index};
 
 use crate::PairNo;
 use crate::pair_set::PairSet;
@@ -27,7 +27,7 @@ impl Model for Readiness {
 
     ghost view = { λ r. progress_of r.waits.items r.planned.items r.ready };
 
-    ghost invariant = { λ r. IsKept (progress_of r.waits.items r.planned.items r.ready) r.left };
+    ghost invariant = { λ r. IsKept (progress_of r.waits.items r.planned.items r.ready) r.ready.gone r.left };
 }
 
 impl Readiness {
@@ -193,6 +193,7 @@ fn waiting_for_none(
 ) -> Result<PairSet, AllocError>
     requires { length waits.now ≡ length numbers.now }
     ensures numbers { IfOk result (λ s. s.numbers ≡ numbers.now) }
+    ensures gone { IfOk result (λ s. s.gone ≡ []) }
     ensures exact { IfOk result (λ s. (x : ℕ)
         → Contains s.places x ↔ ((x < length waits.now) × (slice_index waits.now x ≡ 0))) }
 {

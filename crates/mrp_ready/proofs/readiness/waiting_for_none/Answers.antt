@@ -11,11 +11,13 @@ loop-x-preserved c =
     elim c.if-count-eq0.branch [
       | then-count-eq0 w ↦ record {
         numbers = ap (λ (s : Chosen). s.numbers) w.ready-is ∙ w.insert.ensures.numbers ∙ c.loop-x.invariant.numbers;
+        gone = ap (λ (s : Chosen). s.gone) w.ready-is ∙ w.insert.ensures.gone ∙ c.loop-x.invariant.gone;
         free = subst (λ (places : List ℕ). WaitForNone places waits (i + 1)) (sym (ap (λ (s : Chosen). s.places) w.ready-is ∙ w.insert.ensures.added))
             (WaitForNone-more c.loop-x.ready.places waits i c.loop-x.invariant.free w.if-count-eq0.true);
       }
       | else-count-eq0 w ↦ record {
         numbers = ap (λ (s : Chosen). s.numbers) w.ready-is ∙ c.loop-x.invariant.numbers;
+        gone = ap (λ (s : Chosen). s.gone) w.ready-is ∙ c.loop-x.invariant.gone;
         free = subst (λ (places : List ℕ). WaitForNone places waits (i + 1)) (sym (ap (λ (s : Chosen). s.places) w.ready-is))
             (WaitForNone-same c.loop-x.ready.places waits i c.loop-x.invariant.free w.if-count-eq0.false);
       }

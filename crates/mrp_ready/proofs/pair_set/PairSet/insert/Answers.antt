@@ -5,16 +5,16 @@ use Rattle.mrp_ready.proofs.pair_set.PairSet.insert.Goals as goal
 pub exchange-requires-clause-second : goal.exchange-requires-clause-second
 exchange-requires-clause-second c =
     let s = c.self.inside.slots in
-    let late = later_slot s.numbers.items s.places.items s.slots.items c.self.inside.count c.args.x c.index-slot.result.now c.args.self.now c.self.invariant c.self.view_is c.index-slot.ensures c.requires.known c.requires.absent in
+    let late = later_slot s.numbers.items s.places.items s.slots.items c.self.inside.begin c.self.inside.end c.args.x c.index-slot.result.now c.args.self.now c.self.invariant c.self.view_is c.index-slot.ensures c.requires.known c.requires.absent c.requires.fresh in
     omega (arith, late.2, late.3, c.self.invariant.filled)
 
 pub invariant_of-self : goal.invariant_of-self
 invariant_of-self c =
     let s = c.self.inside.slots in
-    (inserted s.numbers.items s.places.items s.slots.items c.self.inside.count c.args.x c.index-slot.result.now c.args.self.now _ _ _ c.self.invariant c.self.view_is c.index-slot.ensures c.requires.known c.requires.absent c.exchange.ensures.numbers c.exchange.ensures.places c.exchange.ensures.slots).0
+    (inserted s.numbers.items s.places.items s.slots.items c.self.inside.begin c.self.inside.end c.args.x c.index-slot.result.now c.args.self.now _ _ _ c.self.invariant c.self.view_is c.index-slot.ensures c.requires.known c.requires.absent c.requires.fresh c.exchange.ensures.numbers c.exchange.ensures.places c.exchange.ensures.slots).0
 
 pub returns : goal.returns
 returns c =
     let s = c.self.inside.slots in
-    let is = inserted s.numbers.items s.places.items s.slots.items c.self.inside.count c.args.x c.index-slot.result.now c.args.self.now _ _ _ c.self.invariant c.self.view_is c.index-slot.ensures c.requires.known c.requires.absent c.exchange.ensures.numbers c.exchange.ensures.places c.exchange.ensures.slots in
-    record { numbers = is.1; added = is.2 }
+    let is = inserted s.numbers.items s.places.items s.slots.items c.self.inside.begin c.self.inside.end c.args.x c.index-slot.result.now c.args.self.now _ _ _ c.self.invariant c.self.view_is c.index-slot.ensures c.requires.known c.requires.absent c.requires.fresh c.exchange.ensures.numbers c.exchange.ensures.places c.exchange.ensures.slots in
+    record { numbers = is.1; gone = is.2; added = is.3 }
