@@ -1,1 +1,2 @@
+mod Drafting
 mod Handing

@@ -3,6 +3,7 @@
 mod agent_alone;
 mod agents;
 mod deeds;
+mod drafts;
 mod hands;
 mod refusals;
 

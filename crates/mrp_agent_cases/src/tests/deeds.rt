@@ -136,7 +136,7 @@ fn plans(network: &Network, agents: &mut [Agent], x: usize, orders: &[u64]) -> b
 }
 
 /// Whether one of the agents has planned a pair, with these orders.
-fn has_orders(agents: &[Agent], x: usize, orders: &[u64]) -> bool {
+pub(super) fn has_orders(agents: &[Agent], x: usize, orders: &[u64]) -> bool {
     for agent in agents {
         if let Some(planned) = agent.planned(PairNo(x)) {
             return has_pieces(planned.order(), orders);

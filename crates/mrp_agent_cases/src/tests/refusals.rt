@@ -2,20 +2,22 @@
 
 ghost use Rattle.mrp_agent_cases.specs.Hands.{AreAlone};
 
-use super::deeds::{Deed, close, end, line, reset, takes};
+use super::deeds::{Deed, close, end, has_orders, line, reset, takes};
+use super::drafts::{Room, draft};
 use super::hands::agents_of;
 use super::network;
 use mrp_agent::Agent;
 use mrp_loops::{SizedNet, bound, check};
-use mrp_net::Network;
+use mrp_net::{Network, PairNo};
 use mrp_netting::PairPlan;
 use mrp_worked::{RESET_LATER, has_pieces};
 use std::alloc::Global;
 use std::test::Fail;
 
-/// Whether the agents of two plants take these deeds, from the first record to the last.
+/// Whether the agents of two plants take these deeds, from the first record to the plan of the first pair.
 fn go_on(network: &Network, agents: &mut [Agent]) -> bool
     requires { AreAlone network.now agents.old }
+    ensures { AreAlone network.now agents.new }
 {
     let deeds = [
         Deed::Rest(1),
@@ -35,7 +37,27 @@ fn go_on(network: &Network, agents: &mut [Agent]) -> bool
         close(1, 4),
         Deed::Rest(1),
         Deed::Received(1, 1, 0, 130),
-        Deed::Plan(1, &[0, 22, 0, 0]),
+    ];
+    takes(network, agents, &deeds)
+}
+
+/// Whether the second pair is drafted in a room and kept, with these orders.
+fn keeps_draft(network: &Network, agents: &mut [Agent], room: &mut Room, orders: &[u64]) -> bool
+    requires { AreAlone network.now agents.old }
+    ensures { AreAlone network.now agents.new }
+{
+    if network.pairs() < 2 {
+        return false;
+    }
+    let drafted = draft(network, agents, PairNo(1), room);
+    drafted && has_orders(agents, 1, orders)
+}
+
+/// Whether the agents of two plants, all of whose pairs are planned, come to their end.
+fn end_well(network: &Network, agents: &mut [Agent]) -> bool
+    requires { AreAlone network.now agents.old }
+{
+    let deeds = [
         Deed::Undone(1),
         close(0, 4),
         Deed::Done(0),
@@ -57,11 +79,17 @@ fn are_one(plans: &[PairPlan], orders: &[u64]) -> bool {
     plans.len() == 1 && has_pieces(plans[0].order(), orders)
 }
 
-/// Whether the agents of two plants, once they are made, do what agents do.
+/// Whether the agents of two plants, once they are made, and with them the room that one of them is given,
+/// do what agents do.
 fn made_agents_go_on(alloc: Global, net: &SizedNet) -> Result<bool, Fail> {
+    let network = net.network();
     let mut agents = agents_of(alloc, net)?;
-    let went_on = go_on(net.network(), agents.as_mut_slice());
-    Ok(went_on && gives(&mut agents, &[0, 22, 0, 0]))
+    let mut room = Room::new(alloc, network.horizon())?;
+    let orders = [0, 22, 0, 0];
+    let went_on = go_on(network, agents.as_mut_slice())
+        && keeps_draft(network, agents.as_mut_slice(), &mut room, &orders)
+        && end_well(network, agents.as_mut_slice());
+    Ok(went_on && gives(&mut agents, &orders))
 }
 
 /// The same, once the network is checked.
@@ -72,7 +100,7 @@ fn network_goes_on(alloc: Global, network: &Network) -> Result<bool, Fail> {
 }
 
 /// With an allocation refused, or with all from one on, this test ends in an error for want of memory
-/// before the agents are made, or it passes; its assertion never fails.
+/// before the agents and the room are made, or it passes; its assertion never fails.
 #[test]
 fn agents_that_are_made_need_no_memory(rt: HostRuntime) -> Result<(), Fail> {
     let network = network(&rt, RESET_LATER)?;
