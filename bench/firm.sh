@@ -5,8 +5,9 @@
 #   bench/firm.sh [PLANTS] [PAIRS]      PLANTS is 2 to 64, PAIRS at most 20,000
 #   bench/firm.sh table PLANTS PAIRS    prints the table alone
 #   bench/firm.sh plant [PAIRS]         one plant without lanes, with some eight bill rows a pair and 104 periods:
-#                                       in each of twenty runs the microseconds of planning it at once and of
-#                                       driving it, from the view to the last plan, and their ratio
+#                                       in each of twenty runs the microseconds of planning it at once, of its agent
+#                                       alone, from the view to the last plan, and of driving it, from the network to
+#                                       the last plan; then how many times the first the others take
 #
 # It needs awk and GNU time. The program is built over the crates of the project, which it leaves as they
 # are: they are copied with what is proved of them.
@@ -56,7 +57,7 @@ pairs=${2:-20000}
 folder=$(mktemp -d)
 trap 'rm -rf "$folder"' EXIT
 
-below="qty cal lot spell rows tables group ready net view loops netting gather plan record cursor book events local agent world"
+below="qty cal lot spell rows tables group ready net view loops netting gather plan record cursor book events local agent crew world"
 mkdir "$folder/crates"
 for name in $below; do
     cp -a "$top/crates/mrp_$name" "$folder/crates/"
@@ -82,10 +83,10 @@ measure() {
 }
 
 if [ "${alone:-}" ]; then
-    echo "at_once_us driven_us ratio"
+    echo "at_once_us agent_us driven_us agent driven"
     for _ in 1 2 3 4 5 6 7 8 9 10 11 12 13 14 15 16 17 18 19 20; do
-        "$program" both 64 <"$folder/table.csv"
-    done | awk '{ printf "%s %s %.2f\n", $1, $2, $2 / $1 }'
+        "$program" each 64 <"$folder/table.csv"
+    done | awk '{ printf "%s %s %s %.2f %.2f\n", $1, $2, $3, $2 / $1, $3 / $1 }'
     exit
 fi
 
