@@ -7,7 +7,8 @@
 #   bench/firm.sh plant [PAIRS]         one plant without lanes, with some eight bill rows a pair and 104 periods:
 #                                       in each of twenty runs the microseconds of planning it at once, of its agent
 #                                       alone, from the view to the last plan, and of driving it, from the network to
-#                                       the last plan; then how many times the first the others take
+#                                       the last plan, each in a process of its own, and how many times as long as
+#                                       the first the others take
 #
 # It needs awk and GNU time. The program is built over the crates of the project, which it leaves as they
 # are: they are copied with what is proved of them.
@@ -85,8 +86,10 @@ measure() {
 if [ "${alone:-}" ]; then
     echo "at_once_us agent_us driven_us agent driven"
     for _ in 1 2 3 4 5 6 7 8 9 10 11 12 13 14 15 16 17 18 19 20; do
-        "$program" each 64 <"$folder/table.csv"
-    done | awk '{ printf "%s %s %s %.2f %.2f\n", $1, $2, $3, $2 / $1, $3 / $1 }'
+        "$program" time_plan <"$folder/table.csv"
+        "$program" time_agent <"$folder/table.csv"
+        "$program" time_drive 64 <"$folder/table.csv"
+    done | paste - - - | awk '{ printf "%s %s %s %.2f %.2f\n", $1, $2, $3, $2 / $1, $3 / $1 }'
     exit
 fi
 
