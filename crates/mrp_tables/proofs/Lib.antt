@@ -20,6 +20,7 @@ pub mod TurnCount
 pub mod Waiting
 pub mod Whole
 pub mod Starting
+pub mod StepCount
 pub mod Arrivals
 pub mod NewPair
 pub mod OneWay

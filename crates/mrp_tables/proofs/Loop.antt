@@ -1,5 +1,5 @@
 -- The rows after the first, read one after the other.
-use Rattle.std.proofs.Common.{◌≡◌, ℕ, ◌+◌, Bool, true, false, List, [], ◌∷◌, Option, Some, None, Result, Ok, Err, MatchResult, refl, sym, ap, ◌∙◌, ◌++◌, append_assoc, length-append, arith}
+use Rattle.std.proofs.Common.{◌≡◌, ℕ, ◌+◌, Bool, true, false, List, [], ◌∷◌, Option, Some, None, Result, Ok, Err, MatchResult, length, refl, sym, ap, ◌∙◌, ◌++◌, append_assoc, length-append, arith}
 use Rattle.std.proofs.lemmas.List.{append-nil}
 use Rattle.std.specs.List.{list_all}
 use Rattle.std.specs.Str.{is_utf8}
@@ -116,6 +116,14 @@ pub goes_to : (a b : Option (List (List (List ℕ)))) (n m : ℕ) (s t : Table �
 goes_to None b n m s t answer f says = tt
 goes_to (Some xs) None n m s t answer f says = absurd f
 goes_to (Some xs) (Some ys) n m s t answer f says = ap (rows_after n s) f.rows_are ∙ f.goes ys ∙ says
+
+-- no row is left, so as many were read as there were
+pub read_all : (a b : Option (List (List (List ℕ)))) (n m : ℕ) (s t : Table × Kind) (old mid new : ℕ) → GoesOn a b n s m t → OfLeft b (λ rows. rows ≡ []) → mid + n ≡ old + m → new ≡ mid + 1
+    → OfLeft a (λ rows. new ≡ old + length rows + 1)
+read_all None b n m s t old mid new f none steps last = tt
+read_all (Some xs) None n m s t old mid new f none steps last = absurd f
+read_all (Some xs) (Some ys) n m s t old mid new f none steps last =
+    omega (arith, ap length f.rows_are, length-append f.read ys, ap length none, f.next_is, steps, last)
 
 -- the rows that were read hold no fault
 read_sound : (n m : ℕ) (s t : Table × Kind) (xs ys : List (List (List ℕ))) (f : HasReadOn xs ys n s m t) → rows_after n s f.read ≡ Ok t.0

@@ -5,4 +5,5 @@ pub mod Left
 pub mod Lists
 pub mod Reading
 pub mod Spelled
+pub mod Steps
 pub mod Tests

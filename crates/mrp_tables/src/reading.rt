@@ -1,10 +1,11 @@
 //! A table read from a text of csv rows.
 
-ghost use Rattle.std.specs.Prelude.{◌≡◌, ◌+◌, ◌≤◌, ◌<◌, max, true, false, Ok, Err, MatchResult, IfOk, IfErr, OnOk, option_map};
+ghost use Rattle.std.specs.Prelude.{◌≡◌, ◌+◌, ◌≤◌, ◌<◌, max, true, false, [], length, Ok, Err, MatchResult, IfOk, IfErr, OnOk, option_map};
 ghost use Rattle.csv.specs.Reading.{has_failed, strip_bom};
 ghost use Rattle.csv.specs.Records.{AllText, fields_of};
 ghost use Rattle.mrp_tables.specs.Lists.{IsDraft};
 ghost use Rattle.mrp_tables.specs.Reading.{OfRecords, TellsRows, waiting};
+ghost use Rattle.mrp_tables.specs.Steps.{StepsTo, UnlessMissing};
 ghost use Rattle.mrp_rows.specs.Turns.{row_count};
 ghost use Rattle.mrp_tables.specs.Left.{fault_of, GivesAll, IsKept, MayCome, OfLeft, TellsFirstAt, TellsNext, TellsRest, TellsTaken, left_of, state_of};
 
@@ -21,7 +22,8 @@ use std::sync::ledger::{Blank, Ledger};
 pub const MAX_TURNS: u64 = 4_300_066;
 
 /// Reads a table. Each turn of reading is one step: one a row, and one for the end of the table. At a
-/// fault there was a step for each row up to the one that it names, and one at least.
+/// fault there was a step for each row up to the one that it names, and one at least; where the pair of a
+/// source is missing, which is told after the last row, one for each row and one for the end.
 ///
 /// # Errors
 ///
@@ -34,6 +36,8 @@ pub fn read_tables<R: Read + Drop, L: Ledger>(
 ) -> Result<Tables, TableFault>
     ensures table { OfRecords (option_map strip_bom (R.remaining reader)) (TellsRows result) }
     ensures counted { IfOk result (λ tables. steps.new ≡ steps.old + row_count tables + 1) }
+    ensures named { IfErr result (λ fault. UnlessMissing fault.kind (steps.new ≡ steps.old + max 1 fault.row)) }
+    ensures ends { IfErr result (λ fault. OfRecords (option_map strip_bom (R.remaining reader)) (StepsTo steps.old steps.new fault.row)) }
     ensures least { IfErr result (λ fault. steps.old + max 1 fault.row ≤ steps.new) }
     ensures turns { steps.new ≤ steps.old + MAX_TURNS }
 {
@@ -76,6 +80,8 @@ fn read_rows<R: Read, L: Ledger>(
     ensures table { OfLeft (left_of R.remaining rows.old) (TellsRows result) }
     ensures failed { IfErr result (λ fault. fault.kind ≡ TableFaultKind.ReadFault → has_failed rows.new ≡ true) }
     ensures counted { IfOk result (λ tables. steps.new ≡ steps.old + row_count tables + 1) }
+    ensures named { IfErr result (λ fault. UnlessMissing fault.kind (steps.new ≡ steps.old + max 1 fault.row)) }
+    ensures ends { IfErr result (λ fault. OfLeft (left_of R.remaining rows.old) (StepsTo steps.old steps.new fault.row)) }
     ensures least { IfErr result (λ fault. steps.old + max 1 fault.row ≤ steps.new) }
     ensures turns { steps.new ≤ steps.old + MAX_TURNS }
 {
@@ -99,6 +105,7 @@ fn accept(draft: Draft) -> Result<Tables, TableFault>
     ensures exact { MatchResult result (λ tables. waiting draft.lists ≡ Ok tables) (λ e. waiting draft.lists ≡ Err e) }
     ensures same { IfOk result (λ tables. tables ≡ draft.lists) }
     ensures above { IfErr result (λ fault. fault.row ≤ row_count draft.lists) }
+    ensures missing { IfErr result (λ fault. fault.kind ≡ TableFaultKind.UnknownPair) }
 {
     if let Some(place) = draft.lists.first_lacking() {
         // The run and the plants stand before the pairs.
@@ -143,6 +150,7 @@ fn read_rest<R: Read, L: Ledger>(
     ensures draft { OnOk result (IsDraft draft.new) }
     ensures kept { OnOk result (IsKept draft.new) }
     ensures counted { OnOk result (steps.new ≡ steps.old + draft.new.rows) }
+    ensures all { OnOk result (OfLeft (left_of R.remaining rows.old) (λ rows. steps.new ≡ steps.old + length rows + 1)) }
     ensures later { IfErr result (λ fault. 2 ≤ fault.row) }
     ensures least { IfErr result (λ fault. steps.new + 1 ≡ steps.old + fault.row) }
     ensures turns { steps.new + 1 ≤ steps.old + MAX_TURNS }
@@ -170,6 +178,7 @@ fn read_next<R: Read>(
     requires room { draft.old.rows < 5000000 }
     ensures gives { OnOk result (GivesAll rows.new) }
     ensures exact { TellsNext (left_of R.remaining rows.old) (left_of R.remaining rows.new) number (state_of draft.old) (state_of draft.new) result }
+    ensures last { IfOk result (λ found. found ≡ false → OfLeft (left_of R.remaining rows.old) (λ rows. rows ≡ [])) }
     ensures number { IfErr result (λ fault. fault.row ≡ number) }
     ensures failed { IfErr result (λ fault. fault.kind ≡ TableFaultKind.ReadFault → has_failed rows.new ≡ true) }
     ensures draft { OnOk result (IsDraft draft.new) }

@@ -53,3 +53,10 @@ returns-in_err-at_row-clause-failed g c =
     let p = err_from_is_err_and c.from_residual-in_err-at_row.result c.from_residual-in_err-at_row.ensures.1 in
     rw (p.1, p.2) (λ failed. absurd (refused_own c.args.draft.now c.add.new.self c.args.number (fields_of c.next_row.new.row) c.add.result c.at_row.result _
     c.at_row.ensures.same c.in_err-at_row.was c.add.ensures.exact failed))
+
+pub returns-then-not-branch-clause-last : goal.returns-then-not-branch-clause-last
+returns-then-not-branch-clause-last g c = λ none.
+    none_there c.in_ok-next_row.field-0 (left_of g.R.Read.remaining c.args.rows.now) (left_of g.R.Read.remaining c.next_row.new.rows) c.args.number (fields_of c.next_row.new.row) c.if-not-branch.true c.in_ok-next_row.ensures.exact
+
+pub returns-clause-last : goal.returns-clause-last
+returns-clause-last g c = λ none. absurd (cc)

@@ -1,7 +1,7 @@
 use Rattle.std.proofs.Common.{arith}
 use Rattle.std.proofs.lemmas.Result.{err_from_is_err_and}
 use Rattle.mrp_tables.specs.Left.{left_of, state_of}
-use Rattle.mrp_tables.proofs.Loop.{goes_to_fault, next_true}
+use Rattle.mrp_tables.proofs.Loop.{goes_to_fault, next_true, read_all}
 use Rattle.mrp_tables.proofs.reading.read_rest.Goals as goal
 
 pub returns-in_err-read_next-clause-exact : goal.returns-in_err-read_next-clause-exact
@@ -24,6 +24,11 @@ pub returns-in_err-read_next-clause-least : goal.returns-in_err-read_next-clause
 returns-in_err-read_next-clause-least g c =
     let p = err_from_is_err_and c.from_residual.result c.from_residual.ensures.1 in
     rw (p.1, p.2) (omega (arith, c.in_err-read_next.ensures.number, c.tick.ensures, c.loop-number.invariant.steps))
+
+pub returns-then-not-branch-clause-all : goal.returns-then-not-branch-clause-all
+returns-then-not-branch-clause-all g c =
+    read_all (left_of g.R.Read.remaining c.args.rows.now) (left_of g.R.Read.remaining c.loop-number.rows) 2 c.loop-number.number (state_of c.args.draft.now) (state_of c.loop-number.draft)
+    c.args.steps.now c.loop-number.steps c.tick.new.self c.loop-number.invariant.goes (c.in_ok-read_next.ensures.last c.if-not-branch.true) c.loop-number.invariant.steps c.tick.ensures
 
 pub loop-number-preserved : goal.loop-number-preserved
 loop-number-preserved g c = record {

@@ -1,12 +1,14 @@
 use Rattle.std.proofs.Common.{◌≡◌, ◌+◌, ◌≤◌, max, ℕ, Result, Ok, Err, IfOk, IfErr, ap, arith}
 use Rattle.std.proofs.lemmas.Result.{err_from_is_err_and}
 use Rattle.csv.specs.Records.{fields_of}
-use Rattle.mrp_tables.specs.Left.{left_of}
+use Rattle.mrp_tables.specs.Left.{left_of, OfLeft}
+use Rattle.mrp_tables.specs.Steps.{StepsTo}
 use Rattle.mrp_rows.specs.Table.{Table}
 use Rattle.mrp_tables.specs.declared.fault.TableFault.{TableFault}
 use Rattle.mrp_rows.specs.Turns.{row_count}
 use Rattle.mrp_tables.proofs.Listed.{first_no_read_fault}
 use Rattle.mrp_tables.proofs.Loop.{some_there}
+use Rattle.mrp_tables.proofs.StepCount.{first_step, later_step, of_each, of_missing, steps_all, steps_named, when_missing}
 use Rattle.mrp_tables.proofs.Whole.{bad_first, first_fault, rest_fault, whole, whole_own}
 use Rattle.mrp_tables.proofs.reading.read_rows.Goals as goal
 
@@ -87,3 +89,48 @@ pub returns-clause-least : goal.returns-clause-least
 returns-clause-least g c =
     let rest = c.in_ok-read_rest.ensures in
     waited c.accept.result c.read_rest.new.draft.lists _ _ _ _ c.accept.ensures.above c.tick.ensures rest.counted rest.draft.count
+
+-- ---- and exactly
+
+pub returns-in_err-next_row-clause-named : goal.returns-in_err-next_row-clause-named
+returns-in_err-next_row-clause-named g c =
+    let p = err_from_is_err_and c.from_residual.result c.from_residual.ensures.1 in
+    rw (p.1, p.2) (of_missing _ _ (first_step _ _ _ c.in_err-next_row.ensures.number c.tick.ensures))
+
+pub returns-in_err-draft-clause-named : goal.returns-in_err-draft-clause-named
+returns-in_err-draft-clause-named g c =
+    let p = err_from_is_err_and c.from_residual-in_err-draft.result c.from_residual-in_err-draft.ensures.1 in
+    rw (p.1, p.2) (of_missing _ _ (first_step _ _ _ c.in_err-draft.ensures.exact.1 c.tick.ensures))
+
+pub returns-in_err-read_rest-clause-named : goal.returns-in_err-read_rest-clause-named
+returns-in_err-read_rest-clause-named g c =
+    let p = err_from_is_err_and c.from_residual-in_err-read_rest.result c.from_residual-in_err-read_rest.ensures.1 in
+    rw (p.1, p.2) (of_missing _ _ (later_step _ _ _ _ c.in_err-read_rest.ensures.later c.tick.ensures c.in_err-read_rest.ensures.least))
+
+pub returns-clause-named : goal.returns-clause-named
+returns-clause-named g c = when_missing c.accept.result _ c.accept.ensures.missing
+
+pub returns-in_err-next_row-clause-ends : goal.returns-in_err-next_row-clause-ends
+returns-in_err-next_row-clause-ends g c =
+    let p = err_from_is_err_and c.from_residual.result c.from_residual.ensures.1 in
+    rw (p.1, p.2) (steps_named (left_of g.R.Read.remaining c.args.rows.now) _ _ _ (first_step _ _ _ c.in_err-next_row.ensures.number c.tick.ensures))
+
+pub returns-then-not-branch-clause-ends : goal.returns-then-not-branch-clause-ends
+returns-then-not-branch-clause-ends g c = steps_named (left_of g.R.Read.remaining c.args.rows.now) c.args.steps.now c.tick.new.self 0 (omega (arith, c.tick.ensures))
+
+pub returns-in_err-draft-clause-ends : goal.returns-in_err-draft-clause-ends
+returns-in_err-draft-clause-ends g c =
+    let p = err_from_is_err_and c.from_residual-in_err-draft.result c.from_residual-in_err-draft.ensures.1 in
+    rw (p.1, p.2) (steps_named (left_of g.R.Read.remaining c.args.rows.now) _ _ _ (first_step _ _ _ c.in_err-draft.ensures.exact.1 c.tick.ensures))
+
+pub returns-in_err-read_rest-clause-ends : goal.returns-in_err-read_rest-clause-ends
+returns-in_err-read_rest-clause-ends g c =
+    let p = err_from_is_err_and c.from_residual-in_err-read_rest.result c.from_residual-in_err-read_rest.ensures.1 in
+    rw (p.1, p.2) (steps_named (left_of g.R.Read.remaining c.args.rows.now) _ _ _ (later_step _ _ _ _ c.in_err-read_rest.ensures.later c.tick.ensures c.in_err-read_rest.ensures.least))
+
+pub returns-clause-ends : goal.returns-clause-ends
+returns-clause-ends g c =
+    let takes = some_there c.in_ok-next_row.field-0 (left_of g.R.Read.remaining c.args.rows.now) (left_of g.R.Read.remaining c.next_row.new.rows) 1 (fields_of c.next_row.new.row) c.if-not-branch.false c.in_ok-next_row.ensures.exact in
+    of_each c.accept.result (λ e. OfLeft (left_of g.R.Read.remaining c.args.rows.now) (StepsTo c.args.steps.now c.read_rest.new.steps e.row)) (λ e.
+    steps_all (left_of g.R.Read.remaining c.args.rows.now) (left_of g.R.Read.remaining c.next_row.new.rows) (fields_of c.next_row.new.row) e.row c.args.steps.now c.tick.new.self c.read_rest.new.steps
+    takes c.in_ok-read_rest.ensures.all c.tick.ensures)

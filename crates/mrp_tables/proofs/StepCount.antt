@@ -1,0 +1,41 @@
+-- How many steps there were at a fault.
+use Rattle.std.proofs.Common.{◌≡◌, inl, inr, ℕ, ◌+◌, ◌≤◌, max, List, [], ◌∷◌, length, Option, Some, None, Result, Ok, Err, IfErr, ap, arith}
+use Rattle.mrp_rows.specs.Table.{Table}
+use Rattle.mrp_tables.specs.declared.fault.TableFault.{TableFault}
+use Rattle.mrp_tables.specs.declared.fault.TableFaultKind.{TableFaultKind}
+use Rattle.mrp_tables.specs.declared.fault.TableFaultKind.TheVariants as fault
+use Rattle.mrp_tables.specs.Left.{OfLeft, TakesRow}
+use Rattle.mrp_tables.specs.Steps.{StepsTo, UnlessMissing}
+
+-- a fault of the first row, and of a later one
+pub first_step : (old new row : ℕ) → row ≡ 1 → new ≡ old + 1 → new ≡ old + max 1 row
+first_step old new row first tick = omega (arith, first, tick)
+
+pub later_step : (old mid new row : ℕ) → 2 ≤ row → mid ≡ old + 1 → new + 1 ≡ mid + row → new ≡ old + max 1 row
+later_step old mid new row later tick turns = omega (arith, later, tick, turns)
+
+-- what holds of each fault
+pub of_missing : (k : TableFaultKind) (says : Type 0) → says → UnlessMissing k says
+of_missing fault.UnknownPair says it = tt
+of_missing k says it = it
+
+pub of_each : (r : Result Table TableFault) (says : TableFault → Type 0) → ((e : TableFault) → says e) → IfErr r says
+of_each (Ok N) says each = tt
+of_each (Err e) says each = each e
+
+-- a missing pair alone is told
+pub when_missing : (r : Result Table TableFault) (says : TableFault → Type 0) → IfErr r (λ e. e.kind ≡ fault.UnknownPair) → IfErr r (λ e. UnlessMissing e.kind (says e))
+when_missing (Ok N) says is = tt
+when_missing (Err e) says is = rw is tt
+
+-- as many steps as the named row says
+pub steps_named : (left : Option (List (List (List ℕ)))) (old new row : ℕ) → new ≡ old + max 1 row → OfLeft left (StepsTo old new row)
+steps_named None old new row same = tt
+steps_named (Some rows) old new row same = inl same
+
+-- as many as there are rows, and one for the end
+pub steps_all : (left after : Option (List (List (List ℕ)))) (row : List (List ℕ)) (number old mid new : ℕ) → TakesRow left after row
+    → OfLeft after (λ rows. new ≡ mid + length rows + 1) → mid ≡ old + 1 → OfLeft left (StepsTo old new number)
+steps_all None after row number old mid new takes all first = tt
+steps_all (Some rows) None row number old mid new takes all first = absurd takes
+steps_all (Some rows) (Some rest) row number old mid new takes all first = inr (omega (arith, ap length takes, all, first))

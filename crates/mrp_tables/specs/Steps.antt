@@ -1,0 +1,13 @@
+-- How many steps reading has taken where it answers a fault.
+use Rattle.std.specs.Prelude.{◌≡◌, ◌⊎◌, ℕ, ◌+◌, max, List, length}
+use Rattle.mrp_tables.specs.declared.fault.TableFaultKind.{TableFaultKind}
+use Rattle.mrp_tables.specs.declared.fault.TableFaultKind.TheVariants as fault
+
+-- a missing pair may be told after the last row, whichever row it names; each other fault is told at the row that it names
+abbrev pub UnlessMissing : TableFaultKind → Type 0 → Type 0
+UnlessMissing fault.UnknownPair says = Unit {0}
+UnlessMissing e says = says
+
+-- one for each row up to the named one, and one at least, or one for each row and one for the end
+abbrev pub StepsTo : ℕ → ℕ → ℕ → List (List (List ℕ)) → Type 0
+StepsTo old new row rows = (new ≡ old + max 1 row) ⊎ (new ≡ old + length rows + 1)
