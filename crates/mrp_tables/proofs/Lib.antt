@@ -14,6 +14,7 @@ pub mod KeepingShares
 pub mod KeepingSteps
 pub mod Listed
 pub mod Loop
+pub mod Missing
 pub mod Records
 pub mod Taken
 pub mod TurnCount

@@ -3,6 +3,7 @@ pub mod Faults
 pub mod Grammar
 pub mod Left
 pub mod Lists
+pub mod Missing
 pub mod Reading
 pub mod Spelled
 pub mod Steps

@@ -8,6 +8,7 @@ ghost use Rattle.mrp_tables.specs.declared.fault.TableFault.{TableFault};
 ghost use Rattle.mrp_tables.specs.declared.kind.Kind.{Kind};
 ghost use Rattle.mrp_tables.specs.Faults.{faults_of, HasListedFaults, Rise};
 ghost use Rattle.mrp_tables.specs.Grammar.{RunTerms};
+ghost use Rattle.mrp_tables.specs.Missing.{TellsMissing};
 ghost use Rattle.mrp_tables.specs.Reading.{IsCalendarOf, Reads};
 ghost use Rattle.mrp_tables.specs.Tests.{HasFirstFault};
 ghost use Rattle.mrp_rows.specs.Table.{IsTable, Table};
@@ -53,4 +54,10 @@ pub fn rows_have_listed_faults()
 /// A row is refused for the first test of its list that it fails, and taken where it passes all of them.
 pub fn rows_have_their_first_fault()
     ensures { (row : List (List ℕ)) → HasFirstFault row }
+{}
+
+/// The test that waits for the last row refuses a table exactly where a source takes from a pair that has no
+/// row, at the row of the pair of the first such source.
+pub fn missing_pairs_are_told()
+    ensures { (N : Table) → TellsMissing N }
 {}
