@@ -3,15 +3,14 @@
 //! The program is thin: words in, one call of the library `mrp_text`, a status out.
 #![tactic(auto)]
 
-ghost use Rattle.std.specs.Prelude.{◌≡◌, ◌≢◌, ◌∷◌, codes, drop, map, IfOk, IfErr, OnOk};
+ghost use Rattle.std.specs.Prelude.{◌≡◌, ◌∷◌, codes, drop, map, IfOk, Some};
 ghost use Rattle.std.specs.IoError.{error_kind};
 ghost use Rattle.std.specs.Process.{exit_status};
 ghost use Rattle.std.specs.String.{string_bytes};
 ghost use Rattle.clap.specs.Words.{kind_of};
-ghost use Rattle.mrp_report.specs.Sending.{AppendsFront};
 ghost use Rattle.mrp_text.specs.Answer.{exit_status_of};
-ghost use Rattle.mrp_text.specs.Lines.{SendsText, fault_line};
-ghost use Rattle.mrp.specs.Ending.{IsStatusOfUnread, help_status, refusal_status};
+ghost use Rattle.mrp_text.specs.Lines.{SendsText};
+ghost use Rattle.mrp.specs.Ending.{IsStatusOfUnread, Reports, fault_in, help_fault, help_status, refusal_fault, refusal_status, unread_line};
 
 #[cfg(test)]
 mod tests;
@@ -21,7 +20,7 @@ use mrp_report::{ReportFault, send};
 use mrp_text::{TextFault, answer, exit_status, write_fault};
 use mrp_words::{ChooseFault, choose};
 use std::alloc::AllocError;
-use std::io::{IsTerminal, Write};
+use std::io::{IsTerminal, Stderr, Write};
 use std::process::ExitCode;
 use std::rt::Env;
 use std::{env, io};
@@ -29,23 +28,31 @@ use std::{env, io};
 /// The status where the words are refused.
 const REFUSED: u8 = 2;
 
+// What there is to report goes to standard error, by the type of the writer.
 fn main(rt: HostRuntime) -> ExitCode {
     let arguments = match arguments(&rt) {
         Ok(arguments) => arguments,
-        Err(error) => return unread(&rt, &error),
+        Err(error) => return left(unread::<Stderr>(&error, &mut rt.stderr())),
     };
     let Ok(words) = named_words(&rt, arguments.as_slice()) else {
-        return ended(&rt, &Err(TextFault::Memory));
+        return left(ended::<Stderr>(&Err(TextFault::Memory), &mut rt.stderr()));
     };
-    match choose(rt.alloc(), words.as_slice()) {
+    left(match choose(rt.alloc(), words.as_slice()) {
         Ok(choice) => {
             await_table(&rt);
             let done = answer(&rt, rt.alloc(), choice, rt.reader(), &mut rt.stdout());
-            ended(&rt, &done)
+            ended::<Stderr>(&done, &mut rt.stderr())
         }
-        Err(ChooseFault::Words(error)) => ExitCode::from(refused(&rt, &error).status),
-        Err(ChooseFault::Memory) => ended(&rt, &Err(TextFault::Memory)),
-    }
+        Err(ChooseFault::Words(error)) => refused::<Stderr>(&rt, &error, &mut rt.stderr()),
+        Err(ChooseFault::Memory) => ended::<Stderr>(&Err(TextFault::Memory), &mut rt.stderr()),
+    })
+}
+
+/// The end of the process.
+fn left(ending: Ending) -> ExitCode
+    ensures { exit_status result ≡ ending.status }
+{
+    ExitCode::from(ending.status)
 }
 
 /// The arguments of the process.
@@ -96,80 +103,81 @@ fn await_table(rt: &HostRuntime) {
 struct Ending {
     /// The status of the process.
     status: u8,
-    /// Whether what it has to say was written whole.
-    told: Result<(), ReportFault>,
+    /// Whether help, the version, or why the words are refused, was printed.
+    printed: Result<(), ReportFault>,
+    /// Whether the line that reports a fault was written whole.
+    reported: Result<(), ReportFault>,
 }
 
-/// The status after the work; the line that reports a fault goes to standard error.
-fn ended(rt: &HostRuntime, done: &Result<(), TextFault>) -> ExitCode
-    ensures { exit_status result ≡ exit_status_of done.now }
-{
-    ExitCode::from(ended_to(done, &mut rt.stderr()).status)
-}
-
-/// The same, with the line that reports a fault to this writer.
-fn ended_to<W: Write>(done: &Result<(), TextFault>, writer: &mut W) -> Ending
+/// The end after the work, with the line that reports a fault to this writer.
+fn ended<W: Write>(done: &Result<(), TextFault>, writer: &mut W) -> Ending
     ensures status { result.status ≡ exit_status_of done.now }
-    ensures quiet { OnOk done.now (writer.new ≡ writer.old) }
-    ensures line { IfErr done.now (λ fault. SendsText (W.contents writer.old) (W.contents writer.new) result.told (fault_line fault)) }
+    ensures line { Reports W.contents writer.old writer.new result.reported (fault_in done.now) }
 {
-    let told = match done {
+    let reported = match done {
         Ok(()) => Ok(()),
         Err(fault) => write_fault(fault, writer),
     };
     Ending {
         status: exit_status(done),
-        told,
+        printed: Ok(()),
+        reported,
     }
 }
 
 /// Prints what `clap` has to say: the status is 0 after help or the version that was printed, 2 where
-/// the words are refused, 3 where memory was refused or help or the version could not be printed.
-fn refused(rt: &HostRuntime, error: &clap::Error) -> Ending
-    ensures { result.status ≡ refusal_status (kind_of error.now) result.told }
+/// the words are refused, 3 where memory was refused or help or the version could not be printed; of
+/// these a line is reported to this writer.
+fn refused<W: Write>(rt: &HostRuntime, error: &clap::Error, writer: &mut W) -> Ending
+    ensures status { result.status ≡ refusal_status (kind_of error.now) result.printed }
+    ensures line { Reports W.contents writer.old writer.new result.reported (refusal_fault (kind_of error.now) result.printed) }
 {
     if error.kind() == ErrorKind::OutOfMemory {
-        return ended_to(&Err(TextFault::Memory), &mut rt.stderr());
+        return ended(&Err(TextFault::Memory), writer);
     }
-    let told = match error.print(rt) {
+    let printed = match error.print(rt) {
         Ok(()) => Ok(()),
         Err(_) => Err(ReportFault::WriteFault),
     };
     if error.use_stderr() {
         return Ending {
             status: REFUSED,
-            told,
+            printed,
+            reported: Ok(()),
         };
     }
-    after_help(told, &mut rt.stderr())
+    after_help(printed, writer)
 }
 
 /// The end after help or the version: the status is 0 where it was printed, and else 3, with the line of
-/// a failed write, or a front of it, to this writer.
-fn after_help<W: Write>(told: Result<(), ReportFault>, writer: &mut W) -> Ending
-    ensures status { result.status ≡ help_status told }
-    ensures same { result.told ≡ told }
-    ensures quiet { OnOk told (writer.new ≡ writer.old) }
-    ensures line { IfErr told (λ _. AppendsFront (W.contents writer.old) (W.contents writer.new) (fault_line TextFault.WriteFault)) }
+/// a failed write to this writer.
+fn after_help<W: Write>(printed: Result<(), ReportFault>, writer: &mut W) -> Ending
+    ensures status { result.status ≡ help_status printed }
+    ensures same { result.printed ≡ printed }
+    ensures line { Reports W.contents writer.old writer.new result.reported (help_fault printed) }
 {
-    let status = match told {
-        Ok(()) => 0,
-        Err(_) => ended_to(&Err(TextFault::WriteFault), writer).status,
+    let done = match printed {
+        Ok(()) => Ok(()),
+        Err(_) => Err(TextFault::WriteFault),
     };
-    Ending { status, told }
+    Ending {
+        printed,
+        ..ended(&done, writer)
+    }
 }
 
-/// The status where the arguments can't be read: one that is no text is a word that is refused.
-fn unread(rt: &HostRuntime, error: &io::Error) -> ExitCode
-    ensures { IsStatusOfUnread (error_kind error.now) (exit_status result) }
+/// The end where the arguments can't be read: one that is no text is a word that is refused.
+fn unread<W: Write>(error: &io::Error, writer: &mut W) -> Ending
+    ensures status { IsStatusOfUnread (error_kind error.now) result.status }
+    ensures line { SendsText (W.contents writer.old) (W.contents writer.new) result.reported (unread_line (error_kind error.now)) }
 {
     if error.kind() == io::ErrorKind::InvalidData {
-        let _ = send(
-            b"mrp: a word of the command is not UTF-8\n",
-            &mut rt.stderr(),
-        );
-        ExitCode::from(REFUSED)
+        Ending {
+            status: REFUSED,
+            printed: Ok(()),
+            reported: send(b"mrp: a word of the command is not UTF-8\n", writer),
+        }
     } else {
-        ended(rt, &Err(TextFault::Memory))
+        ended(&Err(TextFault::Memory), writer)
     }
 }
