@@ -1,6 +1,6 @@
 //! Records read from a text of csv rows.
 
-ghost use Rattle.std.specs.Prelude.{true, false, ◌≡◌, ◌+◌, ◌≤◌, length, IfOk, IfErr, OnOk, option_map};
+ghost use Rattle.std.specs.Prelude.{true, false, ◌≡◌, ◌+◌, ◌≤◌, [], length, IfOk, IfErr, OnOk, OnErr, option_map};
 ghost use Rattle.csv.specs.Reading.{has_failed, strip_bom};
 ghost use Rattle.csv.specs.Records.{AllText, fields_of};
 ghost use Rattle.mrp_tables.specs.Left.{GivesAll, MayCome, OfLeft, left_of};
@@ -41,27 +41,32 @@ pub fn read_records<R: Read + Drop>(
         .has_headers(false)
         .flexible(true)
         .from_reader(alloc, reader);
-    read_rows(alloc, network, &mut rows)
+    let mut records = Vec::new(alloc);
+    read_rows(alloc, network, &mut rows, &mut records)?;
+    Ok(records)
 }
 
-/// Reads all rows.
+/// Reads all rows, and puts their records into a list that has none. A fault's row is the one after
+/// those of the records that it then has.
 fn read_rows<R: Read>(
     alloc: Global,
     network: &Network,
     rows: &mut Reader<R>,
-) -> Result<Vec<Record>, RecordFault>
+    records: &mut Vec<Record>,
+) -> Result<(), RecordFault>
     requires gives { GivesAll rows.old }
-    ensures records { IfOk result (λ records. OfLeft (left_of R.remaining rows.old) (λ rows. AreRowsOf network.now rows records.items)) }
+    requires none { records.old.items ≡ [] }
+    ensures records { OnOk result (OfLeft (left_of R.remaining rows.old) (λ rows. AreRowsOf network.now rows records.new.items)) }
     ensures fault { IfErr result (λ fault. OfLeft (left_of R.remaining rows.old) (λ rows. HasFault network.now rows fault)) }
+    ensures row { IfErr result (λ fault. fault.row ≡ length records.new.items + 1) }
     ensures failed { IfErr result (λ e. StopsReading e.kind (has_failed rows.new) (e.row ≡ MOST_RECORDS + 1) MOST_RECORDS (left_of R.remaining rows.old)) }
-    ensures few { IfOk result (λ records. length records.items ≤ MOST_RECORDS) }
+    ensures few { OnOk result (length records.new.items ≤ MOST_RECORDS) }
 {
     let mut row = StringRecord::new(alloc);
-    let mut records = Vec::new(alloc);
     for number in 1..MOST_RECORDS + 2 {
-        match read_next(network, rows, &mut row, &mut records) {
+        match read_next(network, rows, &mut row, records) {
             Ok(true) => {}
-            Ok(false) => return Ok(records),
+            Ok(false) => return Ok(()),
             Err(kind) => return Err(RecordFault { row: number, kind }),
         }
     }
@@ -78,6 +83,7 @@ fn read_next<R: Read>(
     requires gives { GivesAll rows.old }
     ensures gives { OnOk result (GivesAll rows.new) }
     ensures exact { TellsNext network.now (left_of R.remaining rows.old) (left_of R.remaining rows.new) records.old.items records.new.items result }
+    ensures kept { OnErr result (records.new.items ≡ records.old.items) }
     ensures failed { IfErr result (λ kind. StopsReading kind (has_failed rows.new) (MOST_RECORDS ≤ length records.old.items) 0 (left_of R.remaining rows.old)) }
 {
     let full = MOST_RECORDS <= records.len() as u64;
