@@ -3,6 +3,7 @@
 
 ghost use Rattle.std.specs.Prelude.{◌≡◌, ◌<◌, ◌≤◌, ◌-◌, ◌*◌, ◌/◌, length, Contains, IfOk};
 ghost use Rattle.mrp_rows.specs.Table.{IsTable, horizon};
+ghost use Rattle.mrp_loops.specs.Loop.{AreCodes};
 ghost use Rattle.mrp_net.specs.Lanes.{lanes, lane_at, lane_items};
 ghost use Rattle.mrp_net.specs.Plan.{Fits, plan_of};
 ghost use Rattle.mrp_net.specs.Sources.{source_on};
@@ -12,7 +13,7 @@ ghost use Rattle.mrp_lane_cases.specs.Feeding.{despatches_from, calls_from, item
 
 use mrp_cursor::{NextLine, OutCursor, Remainder};
 use mrp_lane::{LaneNo, Reconciled, Record, SendEnd, TakeEnd, lane, reconcile};
-use mrp_loops::{SizedNet, bound, check};
+use mrp_loops::{Levels, SizedNet, bound, check};
 use mrp_net::{ItemNo, LaneKind, Network};
 use mrp_plan::{Plan, plan_all};
 use mrp_qty::Qty;
@@ -47,7 +48,7 @@ const RING_SCHEDULE: LaneNo = LaneNo(3);
 const MANY: u64 = 1_000_000;
 
 /// What came of one look at an end.
-#[derive(Clone, Copy, Debug, PartialEq, Eq)]
+#[derive(Clone, Copy)]
 enum Look {
     /// A record went through.
     Went,
@@ -206,10 +207,10 @@ fn offered<R: Wait>(
 {
     let mut count = 0u64;
     for _ in rt.forever() {
-        if offer_next(rt, network, plan, cursor, end) != Look::Went {
-            break;
+        match offer_next(rt, network, plan, cursor, end) {
+            Look::Went => count = count.saturating_add(1),
+            Look::Full | Look::Over => break,
         }
-        count = count.saturating_add(1);
     }
     count
 }
@@ -305,7 +306,36 @@ fn leaves_all<R: Wait>(rt: &R, alloc: Global, net: &SizedNet<'_>) -> Result<bool
 
 /// Whether a mailbox of one takes the first record of the firm's shipments and gives the second back,
 /// which stays the next one until the first is taken.
-fn refuses_the_second<R: Wait>(
+fn gives_the_second_back<R: Wait>(
+    rt: &R,
+    network: &Network,
+    plan: &Plan,
+    cursor: &mut OutCursor,
+    send: &mut SendEnd,
+    take: &mut TakeEnd,
+) -> bool
+    requires fits { Fits network.now plan.now }
+    requires plan { plan.now ≡ plan_of network.now }
+    requires feeds { Feeds network.now cursor.old send.old }
+    ensures sent { send.new.name ≡ send.old.name }
+    ensures taken { take.new.name ≡ take.old.name }
+{
+    let empty = take.take(rt).is_none();
+    let first = offered(rt, network, plan, cursor, send);
+    let taken = take.take(rt) == Some(line(1, 2, 8, 108));
+    let second = offered(rt, network, plan, cursor, send);
+    empty && taken && (first, second) == (1, 1)
+}
+
+/// Whether of two records that were sent the second is left.
+fn has_left_the_second(done: &Reconciled) -> bool {
+    (done.sent, done.taken) == (2, 1)
+        && done.left.as_slice() == [item_end(2, ItemNo(0), 108)].as_slice()
+        && figures(done, 0) == Some((100, 108, 108))
+}
+
+/// Whether both hold of the firm's shipments over a mailbox of one.
+fn refuses_by_plan<R: Wait>(
     rt: &R,
     alloc: Global,
     net: &SizedNet<'_>,
@@ -314,21 +344,16 @@ fn refuses_the_second<R: Wait>(
     requires fits { Fits net.now.network plan.now }
     requires plan { plan.now ≡ plan_of net.now.network }
 {
-    let network = net.network();
     let (mut cursor, mut send, mut take) = ends(alloc, net, DESPATCH, 1)?;
-    let empty = take.take(rt).is_none();
-    let first = offered(rt, network, plan, &mut cursor, &mut send);
-    let taken = take.take(rt) == Some(line(1, 2, 8, 108));
-    let second = offered(rt, network, plan, &mut cursor, &mut send);
+    let given = gives_the_second_back(rt, net.network(), plan, &mut cursor, &mut send, &mut take);
     let done = reconcile(rt, alloc, send, take)?;
-    Ok(
-        empty
-            && taken
-            && (first, second) == (1, 1)
-            && (done.sent, done.taken) == (2, 1)
-            && done.left.as_slice() == [item_end(2, ItemNo(0), 108)].as_slice()
-            && figures(&done, 0) == Some((100, 108, 108)),
-    )
+    Ok(given && has_left_the_second(&done))
+}
+
+/// The same, by the plan of the network.
+fn refuses_the_second<R: Wait>(rt: &R, alloc: Global, net: &SizedNet<'_>) -> Result<bool, Fail> {
+    let plan = plan_all(alloc, net)?;
+    refuses_by_plan(rt, alloc, net, &plan)
 }
 
 /// Which text is carried between two threads.
@@ -523,9 +548,10 @@ fn carries_shipments<R: Threads + Wait + Sync>(
     alloc: Global,
     net: &SizedNet<'_>,
     capacity: u64,
-) -> Result<bool, Fail>
-    requires { (1 ≤ capacity) × (capacity ≤ 65536) }
-{
+) -> Result<bool, Fail> {
+    if capacity == 0 || capacity > 65_536 {
+        return Ok(false);
+    }
     let Some(done) = carried(rt, alloc, net, DESPATCH, Text::Busy(MANY), capacity)? else {
         return Ok(false);
     };
@@ -546,46 +572,107 @@ fn network_of(alloc: Global, text: &[u8]) -> Result<Network, Fail> {
     Ok(Network::of(alloc, read_tables_uncounted(alloc, text)?)?)
 }
 
+/// What is tried on the lanes of a network.
+#[derive(Clone, Copy)]
+enum Trial {
+    /// All records of the firm's calls are left where none is taken.
+    LeavesAll,
+    /// A mailbox of one refuses the second record of the firm's shipments.
+    RefusesTheSecond,
+    /// The ring's calls come over a mailbox of one, from thread to thread.
+    CarriesTheRing,
+    /// The busy firm's shipments come over a mailbox of that room, from thread to thread.
+    CarriesShipments(u64),
+}
+
+/// Whether a trial goes as it says.
+fn holds<R: Threads + Wait + Sync>(
+    rt: &R,
+    alloc: Global,
+    net: &SizedNet<'_>,
+    trial: Trial,
+) -> Result<bool, Fail> {
+    match trial {
+        Trial::LeavesAll => leaves_all(rt, alloc, net),
+        Trial::RefusesTheSecond => refuses_the_second(rt, alloc, net),
+        Trial::CarriesTheRing => carries_the_ring(rt, alloc, net),
+        Trial::CarriesShipments(capacity) => carries_shipments(rt, alloc, net, capacity),
+    }
+}
+
+/// The same of a network with these low-level codes.
+fn holds_at_levels<R: Threads + Wait + Sync>(
+    rt: &R,
+    alloc: Global,
+    network: &Network,
+    levels: &Levels,
+    trial: Trial,
+) -> Result<bool, Fail>
+    requires { AreCodes network.now levels.now }
+{
+    let net = bound(alloc, network, levels)?;
+    holds(rt, alloc, &net, trial)
+}
+
+/// The same of a network.
+fn holds_in_network<R: Threads + Wait + Sync>(
+    rt: &R,
+    alloc: Global,
+    network: &Network,
+    trial: Trial,
+) -> Result<bool, Fail> {
+    let levels = check(alloc, network)?;
+    holds_at_levels(rt, alloc, network, &levels, trial)
+}
+
+/// The same of the network of a table.
+fn holds_of<R: Threads + Wait + Sync>(
+    rt: &R,
+    alloc: Global,
+    text: &[u8],
+    trial: Trial,
+) -> Result<bool, Fail> {
+    let network = network_of(alloc, text)?;
+    holds_in_network(rt, alloc, &network, trial)
+}
+
 /// Whether the shipments of the busy firm come over a mailbox of that room.
 fn carries_a_million<R: Threads + Wait + Sync>(
     rt: &R,
     alloc: Global,
     capacity: u64,
-) -> Result<bool, Fail>
-    requires { (1 ≤ capacity) × (capacity ≤ 65536) }
-{
+) -> Result<bool, Fail> {
     let text = busy_table(alloc, MANY)?;
-    let network = network_of(alloc, text.as_slice())?;
-    let levels = check(alloc, &network)?;
-    let net = bound(alloc, &network, &levels)?;
-    carries_shipments(rt, alloc, &net, capacity)
+    holds_of(
+        rt,
+        alloc,
+        text.as_slice(),
+        Trial::CarriesShipments(capacity),
+    )
 }
 
 #[test]
 fn records_are_left_where_none_is_taken(rt: HostRuntime) -> Result<(), Fail> {
-    let network = network_of(rt.alloc(), TWO_PLANTS.as_bytes())?;
-    let levels = check(rt.alloc(), &network)?;
-    let net = bound(rt.alloc(), &network, &levels)?;
-    assert!(rt; leaves_all(&rt, rt.alloc(), &net)?);
+    assert!(rt; holds_of(&rt, rt.alloc(), TWO_PLANTS.as_bytes(), Trial::LeavesAll)?);
     Ok(())
 }
 
 #[test]
 fn a_lane_of_one_refuses_the_second_record(rt: HostRuntime) -> Result<(), Fail> {
-    let network = network_of(rt.alloc(), TWO_PLANTS.as_bytes())?;
-    let levels = check(rt.alloc(), &network)?;
-    let net = bound(rt.alloc(), &network, &levels)?;
-    let plan = plan_all(rt.alloc(), &net)?;
-    assert!(rt; refuses_the_second(&rt, rt.alloc(), &net, &plan)?);
+    assert!(rt;
+        holds_of(
+            &rt,
+            rt.alloc(),
+            TWO_PLANTS.as_bytes(),
+            Trial::RefusesTheSecond
+        )?
+    );
     Ok(())
 }
 
 #[test]
 fn one_thread_offers_the_calls_of_a_ring_and_another_takes(rt: HostRuntime) -> Result<(), Fail> {
-    let network = network_of(rt.alloc(), RING.as_bytes())?;
-    let levels = check(rt.alloc(), &network)?;
-    let net = bound(rt.alloc(), &network, &levels)?;
-    assert!(rt; carries_the_ring(&rt, rt.alloc(), &net)?);
+    assert!(rt; holds_of(&rt, rt.alloc(), RING.as_bytes(), Trial::CarriesTheRing)?);
     Ok(())
 }
 
