@@ -36,7 +36,7 @@ use Rattle.mrp_local.specs.Local.{amount_at, booked_on, lanes_in}
 use Rattle.mrp_agent.specs.State.{AgentState, incoming_at, outgoing_at, book_at, out_at, no_book, no_incoming, pair_place, plans_of}
 use Rattle.mrp_agent.specs.Shows.{Shows, OutShows, BooksShow, awaited, awaited_on, block_awaited, book_item, form_of, join_of, joins_of, up_to_last}
 use Rattle.mrp_agent.specs.Kept.{parent_edge, HasItemsOnce, HasPeriods, HasRooms, HasSmallItems, HasSmallOpenings, Indexes, AreIndexes, IsKept}
-use Rattle.mrp_agent.specs.Making.{AreIdle, IsIdleLane, awaited_places, idle_queue, new_figures, place_awaited}
+use Rattle.mrp_agent.specs.Making.{AreFit, AreIdle, IsFirst, IsIdleLane, awaited_places, idle_queue, new_figures, place_awaited}
 use Rattle.mrp_agent.specs.declared.edges.ParentEdge.{ParentEdge}
 use Rattle.mrp_agent.proofs.Made.{books_once}
 use Rattle.mrp_agent.proofs.Owning.{own_within}
@@ -87,13 +87,6 @@ blocks_open V y (lane ∷ lanes) =
     let left = sum_by-append (λ (b : Awaited). cond (eqb b.pair y && not b.ended) 1 0) (awaited_on V nothing lane) (flat_map (awaited_on V nothing) lanes) in
     let right = sum_by-append (λ (c : ℕ). cond (eqb c y) 1 0) (map (place_awaited V) lane.items) (flat_map (λ (l : IncomingLane). map (place_awaited V) l.items) lanes) in
     omega (arith, left, right, blocks_on V lane y lane.items, blocks_open V y lanes)
-
--- the first progress of a plant
-pub record IsFirst (V : PlantRows) (progress : Progress) : Type 0 where
-  pub numbers : progress.numbers ≡ map (λ p. p.number) V.pairs
-  pub size : length progress.waits ≡ length V.pairs
-  pub planned : progress.planned ≡ replicate (length V.pairs) false
-  pub waits : AreCounts progress.waits (joins_of V) progress.planned (λ y. times y (awaited_places V))
 
 pub first_awaits : (V : PlantRows) (progress : Progress) → IsFirst V progress → AreCounts progress.waits (joins_of V) progress.planned (open_blocks (awaited V nothing))
 first_awaits V progress h =
@@ -154,10 +147,6 @@ opened V progress outs = record {
   progress = progress;
   outs = outs;
 }
-
--- each amount has 64 bits
-abbrev pub AreFit : List ℕ → Type 0
-AreFit amounts = (k : ℕ) → slice_index amounts k < 2 ^ 64
 
 module _ (V : PlantRows) (progress : Progress) (outs : List OutFigures) (view : IsView V) (small : HasSmallOpenings V) (first : IsFirst V progress) (idle : AreIdle V.outgoing outs) where
   pub books_open : BooksShow (opened V progress outs) nothing

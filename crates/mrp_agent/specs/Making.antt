@@ -1,5 +1,5 @@
 -- What an agent is made of.
-use Rattle.std.specs.Prelude.{◌≡◌, ℕ, ◌<◌, List, [], length, map, slice_index_or}
+use Rattle.std.specs.Prelude.{◌≡◌, ℕ, ◌<◌, ◌^◌, false, List, [], length, map, replicate, slice_index, slice_index_or}
 use Rattle.std.specs.List.{flat_map, range_with_len}
 use Rattle.mrp_net.specs.declared.lane.LaneKind.{LaneKind}
 use Rattle.mrp_net.specs.declared.lane.LaneKind.TheVariants.{Despatch, Schedule}
@@ -11,8 +11,10 @@ use Rattle.mrp_book.specs.Figures as book
 use Rattle.mrp_book.specs.Figures.{Figures}
 use Rattle.mrp_cursor.specs.Cursor.{OutFigures, Goods}
 use Rattle.mrp_cursor.specs.Shows.{ShowsSent}
+use Rattle.mrp_ready.specs.Counts.{AreCounts}
+use Rattle.mrp_ready.specs.Progress.{Progress, times}
 use Rattle.mrp_agent.specs.State.{pair_place, no_out, no_outgoing}
-use Rattle.mrp_agent.specs.Shows.{form_of}
+use Rattle.mrp_agent.specs.Shows.{form_of, joins_of}
 
 -- the book of each lane, before its first record
 abbrev pub new_figures : PlantRows → IncomingLane → Figures
@@ -41,3 +43,14 @@ IsIdleLane lane o = IsIdle lane.kind (length lane.items) o
 pub record AreIdle (lanes : List OutgoingLane) (outs : List OutFigures) : Type 0 where
   pub size : length outs ≡ length lanes
   pub idle : (k : ℕ) → k < length outs → IsIdleLane (slice_index_or lanes k no_outgoing) (slice_index_or outs k no_out)
+
+-- the first progress of a plant
+pub record IsFirst (V : PlantRows) (progress : Progress) : Type 0 where
+  pub numbers : progress.numbers ≡ map (λ p. p.number) V.pairs
+  pub size : length progress.waits ≡ length V.pairs
+  pub planned : progress.planned ≡ replicate (length V.pairs) false
+  pub waits : AreCounts progress.waits (joins_of V) progress.planned (λ y. times y (awaited_places V))
+
+-- each amount has 64 bits
+abbrev pub AreFit : List ℕ → Type 0
+AreFit amounts = (k : ℕ) → slice_index amounts k < 2 ^ 64

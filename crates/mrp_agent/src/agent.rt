@@ -6,12 +6,12 @@ ghost use Rattle.mrp_agent.specs.Kept.{IsShowing};
 
 use crate::booking::incoming_place;
 use crate::desk::Desk;
-use crate::edges::{ByComponent, ParentEdge, joins, parent_edges};
-use crate::making::{blank_plans, copy_of, first_progress, idle_outs, new_books};
-use crate::places::{ItemPlaces, out_items};
+use crate::edges::ParentEdge;
+use crate::parts::{Amounts, Lanes, Structure};
+use crate::places::ItemPlaces;
 use mrp_book::Book;
 use mrp_cursor::OutCursor;
-use mrp_group::{Groups, group};
+use mrp_group::Groups;
 use mrp_net::{ItemNo, LaneNo, PairNo};
 use mrp_netting::PairPlan;
 use mrp_qty::{Memory, Qty};
@@ -104,33 +104,22 @@ impl Agent {
         ensures opens { IfOk result
             (λ agent. Shows agent opening_state.sent opening_state.taken opening_state.planned) }
     {
-        let items = ItemPlaces::of_pairs(alloc, view.pairs())?;
-        let parents = parent_edges(alloc, &view, view.edges())?;
-        let pairs = view.pairs().len();
-        let edges = group(alloc, &ByComponent, &parents, pairs)?;
-        let joins = joins(alloc, &parents)?;
-        let components = Components::new(alloc, &joins, pairs)?;
-        let out_items = out_items(alloc, view.outgoing())?;
-        let books = new_books(alloc, &view, view.incoming())?;
-        let came = copy_of(alloc, view.receipts())?;
-        let called = copy_of(alloc, view.demands())?;
-        let plans = blank_plans(alloc, view.horizon(), pairs)?;
-        let progress = first_progress(alloc, &view, &joins)?;
-        let outs = idle_outs(alloc, view.outgoing())?;
-        let desk = Desk::new(alloc, view.horizon())?;
+        let structure = Structure::new(alloc, &view)?;
+        let lanes = Lanes::new(alloc, &view)?;
+        let amounts = Amounts::new(alloc, &view)?;
         Ok(Agent {
             view,
-            items,
-            edges,
-            components,
-            out_items,
-            books,
-            came,
-            called,
-            plans,
-            progress,
-            outs,
-            desk,
+            items: structure.items,
+            edges: structure.edges,
+            components: structure.components,
+            out_items: lanes.out_items,
+            books: lanes.books,
+            came: amounts.came,
+            called: amounts.called,
+            plans: amounts.plans,
+            progress: structure.progress,
+            outs: lanes.outs,
+            desk: amounts.desk,
         })
     }
 

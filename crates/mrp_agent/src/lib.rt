@@ -14,6 +14,7 @@ mod edges;
 mod gate;
 pub mod laws;
 mod making;
+mod parts;
 mod places;
 mod planning;
 mod sending;

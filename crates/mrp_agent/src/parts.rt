@@ -1,0 +1,127 @@
+//! The parts that an agent is made of, each with the room for its whole life.
+
+ghost use Rattle.std.specs.Prelude.{◌≡◌, IfOk, length, map, replicate};
+ghost use Rattle.mrp_view.specs.Seen.{IsView};
+
+use crate::desk::Desk;
+use crate::edges::{ByComponent, ParentEdge, joins, parent_edges};
+use crate::making::{blank_plans, copy_of, first_progress, idle_outs, new_books};
+use crate::places::{ItemPlaces, out_items};
+use mrp_book::Book;
+use mrp_cursor::OutCursor;
+use mrp_group::{Groups, group};
+use mrp_netting::PairPlan;
+use mrp_qty::Memory;
+use mrp_ready::{Components, Readiness};
+use mrp_view::PlantView;
+use std::alloc::Global;
+
+/// The pairs of a plant by their places: their items, their edges, and which of them can be planned.
+#[derive(Drop)]
+pub(crate) struct Structure {
+    pub(crate) items: ItemPlaces,
+    pub(crate) edges: Groups<ParentEdge>,
+    pub(crate) components: Components,
+    pub(crate) progress: Readiness,
+}
+
+impl Structure {
+    ghost use Rattle.std.specs.List.{range_with_len};
+    ghost use Rattle.mrp_group.specs.Groups.{IsGrouped};
+    ghost use Rattle.mrp_ready.specs.Counts.{components_of};
+    ghost use Rattle.mrp_agent.specs.Kept.{parent_edge};
+    ghost use Rattle.mrp_agent.specs.Making.{IsFirst};
+    ghost use Rattle.mrp_agent.specs.Shows.{joins_of};
+
+    /// The pairs of a plant where nothing is planned and nothing has come.
+    pub(crate) fn new(alloc: Global, view: &PlantView) -> Result<Structure, Memory>
+        requires seen { IsView view.now }
+        ensures items { IfOk result (λ s. s.items ≡ map (λ p. p.item) view.now.pairs) }
+        ensures edges { IfOk result (λ s. IsGrouped (λ e. e.component) (length view.now.pairs) (map (parent_edge view.now) view.now.edges)
+            s.edges.rows.items s.edges.starts.items) }
+        ensures components { IfOk result
+            (λ s. s.components ≡ map (components_of (joins_of view.now)) (range_with_len 0 (length view.now.pairs))) }
+        ensures first { IfOk result (λ s. IsFirst view.now s.progress) }
+    {
+        let pairs = view.pairs().len();
+        let items = ItemPlaces::of_pairs(alloc, view.pairs())?;
+        let parents = parent_edges(alloc, view, view.edges())?;
+        let edges = group(alloc, &ByComponent, &parents, pairs)?;
+        let joins = joins(alloc, &parents)?;
+        let components = Components::new(alloc, &joins, pairs)?;
+        let progress = first_progress(alloc, view, &joins)?;
+        Ok(Structure {
+            items,
+            edges,
+            components,
+            progress,
+        })
+    }
+}
+
+/// The lanes of a plant: the book of each that comes in, and the items and the cursor of each that goes
+/// out.
+#[derive(Drop)]
+pub(crate) struct Lanes {
+    pub(crate) books: Vec<Book>,
+    pub(crate) out_items: Vec<ItemPlaces>,
+    pub(crate) outs: Vec<OutCursor>,
+}
+
+impl Lanes {
+    ghost use Rattle.mrp_agent.specs.Kept.{HasSmallOpenings};
+    ghost use Rattle.mrp_agent.specs.Making.{AreIdle, new_figures};
+
+    /// The lanes of a plant before the first record.
+    pub(crate) fn new(alloc: Global, view: &PlantView) -> Result<Lanes, Memory>
+        requires seen { IsView view.now }
+        requires openings { HasSmallOpenings view.now }
+        ensures books { IfOk result (λ l. l.books.items ≡ map (new_figures view.now) view.now.incoming) }
+        ensures items { IfOk result (λ l. l.out_items.items ≡ map (λ lane. map (λ i. i.item) lane.items) view.now.outgoing) }
+        ensures outs { IfOk result (λ l. AreIdle view.now.outgoing l.outs.items) }
+    {
+        let books = new_books(alloc, view, view.incoming())?;
+        let out_items = out_items(alloc, view.outgoing())?;
+        let outs = idle_outs(alloc, view.outgoing())?;
+        Ok(Lanes {
+            books,
+            out_items,
+            outs,
+        })
+    }
+}
+
+/// The amounts of a plant by pair and period, and the desk on which plans are drafted.
+#[derive(Drop)]
+pub(crate) struct Amounts {
+    pub(crate) came: Vec<u64>,
+    pub(crate) called: Vec<u64>,
+    pub(crate) plans: Vec<PairPlan>,
+    pub(crate) desk: Desk,
+}
+
+impl Amounts {
+    ghost use Rattle.mrp_netting.specs.Plan.{nothing_planned};
+    ghost use Rattle.mrp_agent.specs.Making.{AreFit};
+
+    /// The amounts that the view has, and no plans.
+    pub(crate) fn new(alloc: Global, view: &PlantView) -> Result<Amounts, Memory>
+        ensures came { IfOk result (λ a. a.came.items ≡ view.now.receipts) }
+        ensures called { IfOk result (λ a. a.called.items ≡ view.now.demands) }
+        ensures plans { IfOk result (λ a. a.plans.items ≡ replicate (length view.now.pairs) (nothing_planned view.now.horizon)) }
+        ensures desk { IfOk result (λ a. length a.desk.gross ≡ view.now.horizon) }
+        ensures receipts { IfOk result (λ _. AreFit view.now.receipts) }
+        ensures demands { IfOk result (λ _. AreFit view.now.demands) }
+    {
+        let came = copy_of(alloc, view.receipts())?;
+        let called = copy_of(alloc, view.demands())?;
+        let plans = blank_plans(alloc, view.horizon(), view.pairs().len())?;
+        let desk = Desk::new(alloc, view.horizon())?;
+        Ok(Amounts {
+            came,
+            called,
+            plans,
+            desk,
+        })
+    }
+}
