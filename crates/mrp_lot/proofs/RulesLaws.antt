@@ -1,7 +1,7 @@
 -- Rows that follow the rules are the plan, and the plan follows them.
 use Rattle.std.specs.Prelude.{◌≡◌, ℕ, ◌+◌, ◌-◌, ◌/◌, ◌≤◌, ◌<◌, ◌==◌, min, max, List, length, slice_index, zero, suc}
-use Rattle.std.proofs.Common.{arith, sym, refl, ◌∙◌, ap, ⊎_elim, ne_eqb}
-use Rattle.std.proofs.lemmas.Bool.{cases_lt, cond-false}
+use Rattle.std.proofs.Common.{arith, sym, refl, ◌∙◌, ap, ⊎_elim, eq-eqb, ne_eqb}
+use Rattle.std.proofs.lemmas.Bool.{cases_lt, cond-false, cond-true}
 use Rattle.std.proofs.lemmas.List.FromFn.{length-map-range_with_len, get_or-map-range_with_len, fill_by_all}
 use Rattle.mrp_lot.specs.declared.params.PairParams.{PairParams}
 use Rattle.mrp_lot.specs.declared.params.Late.{Late}
@@ -13,7 +13,7 @@ use Rattle.mrp_lot.specs.One.{PlanRows, one, need_over, greatest_need, net_after
 use Rattle.mrp_lot.proofs.OneLaws.{balance_before-zero, balance_before-next, order_at-is, lot-ge, one-order, one-available}
 use Rattle.mrp_lot.proofs.OneLaws.{greatest_need-zero, greatest_need-suc, greatest_need-ge}
 use Rattle.mrp_lot.specs.Rules.{balance_in, FollowsRules, IsLeastMultiple, FixedIsLeast, MinMultipleIsLeast, PeriodsIsGreatest}
-use Rattle.mrp_lot.specs.Rules.{FixedIsSmall, MinMultipleIsSmall, LotCovers, PlanFollowsRules, RulesHaveOnePlan}
+use Rattle.mrp_lot.specs.Rules.{FixedIsSmall, MinMultipleIsSmall, NothingIsOrderedWithoutANeed, LotCovers, PlanFollowsRules, RulesHaveOnePlan}
 
 is_least : (q n : ℕ) → 1 ≤ q → IsLeastMultiple q n (least_multiple_of q n)
 is_least q n some = record {
@@ -82,6 +82,13 @@ periods-is_greatest pair incoming gross before t k rule one_at_least within some
       covers = λ n low high inside. omega (arith, ordered, greatest_need-covers pair incoming gross before t n most low (omega arith));
       attained = (found.0, found.1, omega (arith, found.2), omega (arith, found.2, within), ordered ∙ found.3);
     }
+
+-- without a net requirement the test of an order is passed at once
+pub nothing_ordered : NothingIsOrderedWithoutANeed
+nothing_ordered pair incoming gross before t none =
+    let net = net_after pair incoming gross before t in
+    let span = greatest_need pair incoming gross before t (min (periods_covered pair.rule) (length gross - t)) in
+    cond-true (net == 0) 0 (lot_of pair.rule net span) (eq-eqb net 0 none)
 
 pub lot-covers : LotCovers
 lot-covers rule net span is h = lot-ge rule net span is h

@@ -63,6 +63,11 @@ abbrev pub PeriodsIsGreatest : Type 0
 PeriodsIsGreatest = (pair : PairParams) (incoming gross : List ℕ) (before t k : ℕ) → pair.rule ≡ Periods k → 1 ≤ k → t < length gross
     → 0 < net_after pair incoming gross before t → IsGreatestNeed pair incoming gross before t k (order_after pair incoming gross before t)
 
+-- whatever the rule, nothing is ordered in a period without a net requirement
+abbrev pub NothingIsOrderedWithoutANeed : Type 0
+NothingIsOrderedWithoutANeed = (pair : PairParams) (incoming gross : List ℕ) (before t : ℕ) → net_after pair incoming gross before t ≡ 0
+    → order_after pair incoming gross before t ≡ 0
+
 -- any order covers the net requirement, where the span does
 abbrev pub LotCovers : Type 0
 LotCovers = (rule : Rule) (net span : ℕ) → IsRule rule → net ≤ span → net ≤ lot_of rule net span

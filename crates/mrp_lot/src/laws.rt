@@ -5,7 +5,7 @@ ghost use Rattle.std.specs.Prelude.{◌≡◌, ◌≤◌, ◌↔◌, ℕ};
 ghost use Rattle.mrp_lot.specs.Lot.{IsRule};
 ghost use Rattle.mrp_lot.specs.declared.rule.Rule.TheVariants.{Fixed, Periods, MinMultiple};
 ghost use Rattle.mrp_lot.specs.Rules.{FixedIsLeast, MinMultipleIsLeast, FixedIsSmall, MinMultipleIsSmall, PeriodsIsGreatest};
-ghost use Rattle.mrp_lot.specs.Rules.{LotCovers, AvailableCoversSafety, OrdersAreReleased, ReleasesAreBounded};
+ghost use Rattle.mrp_lot.specs.Rules.{NothingIsOrderedWithoutANeed, LotCovers, AvailableCoversSafety, OrdersAreReleased, ReleasesAreBounded};
 ghost use Rattle.mrp_lot.specs.Rules.{RowsStayWithin, PlanFollowsRules, RulesHaveOnePlan};
 
 use crate::{LONGEST_LEAD, MOST_IN_RULE};
@@ -27,6 +27,11 @@ pub fn min_multiple_is_least()
 /// none of those needs is above the order, and one of them is the order.
 pub fn periods_is_greatest()
     ensures { PeriodsIsGreatest }
+{}
+
+/// Whatever the rule, nothing is ordered in a period without a net requirement.
+pub fn nothing_is_ordered_without_a_need()
+    ensures { NothingIsOrderedWithoutANeed }
 {}
 
 /// Whatever the rule, an order covers the net requirement.
