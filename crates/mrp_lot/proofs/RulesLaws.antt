@@ -1,7 +1,7 @@
 -- Rows that follow the rules are the plan, and the plan follows them.
-use Rattle.std.specs.Prelude.{◌≡◌, ℕ, ◌+◌, ◌-◌, ◌/◌, ◌≤◌, ◌<◌, ◌==◌, min, max, List, length, slice_index, zero, suc}
-use Rattle.std.proofs.Common.{arith, sym, refl, ◌∙◌, ap, ⊎_elim, eq-eqb, ne_eqb}
-use Rattle.std.proofs.lemmas.Bool.{cases_lt, cond-false, cond-true}
+use Rattle.std.specs.Prelude.{◌≡◌, ℕ, ◌+◌, ◌-◌, ◌/◌, ◌≤◌, ◌<◌, ◌==◌, if◌then◌else◌, min, max, List, length, slice_index, zero, suc}
+use Rattle.std.proofs.Common.{arith, sym, refl, ◌∙◌, ap, ⊎_elim, eq-eqb, eqb-true, ne_eqb}
+use Rattle.std.proofs.lemmas.Bool.{cases_lt, cond-false, cond-true, cond_both}
 use Rattle.std.proofs.lemmas.List.FromFn.{length-map-range_with_len, get_or-map-range_with_len, fill_by_all}
 use Rattle.mrp_lot.specs.declared.params.PairParams.{PairParams}
 use Rattle.mrp_lot.specs.declared.params.Late.{Late}
@@ -12,8 +12,21 @@ use Rattle.mrp_lot.proofs.LotLaws.{least_multiple-le, least_multiple-lt, least_m
 use Rattle.mrp_lot.specs.One.{PlanRows, one, need_over, greatest_need, net_after, order_after, order_at, balance_before, release_row, late_orders, IsWithin}
 use Rattle.mrp_lot.proofs.OneLaws.{balance_before-zero, balance_before-next, order_at-is, lot-ge, one-order, one-available}
 use Rattle.mrp_lot.proofs.OneLaws.{greatest_need-zero, greatest_need-suc, greatest_need-ge}
-use Rattle.mrp_lot.specs.Rules.{balance_in, FollowsRules, IsLeastMultiple, FixedIsLeast, MinMultipleIsLeast, PeriodsIsGreatest}
+use Rattle.mrp_lot.specs.Rules.{balance_in, FollowsRules, LotForLotIsExact, LotForLotOrdersTheNeed, IsLeastMultiple, FixedIsLeast, MinMultipleIsLeast, PeriodsIsGreatest}
 use Rattle.mrp_lot.specs.Rules.{FixedIsSmall, MinMultipleIsSmall, NothingIsOrderedWithoutANeed, LotCovers, PlanFollowsRules, RulesHaveOnePlan}
+
+pub lot_for_lot-is_exact : LotForLotIsExact
+lot_for_lot-is_exact net span = refl
+
+-- an order is placed only for a net requirement, and one of exactly that is it, also where there is none
+order_placed : (net ordered : ℕ) → ordered ≡ net → (if net == 0 then 0 else ordered) ≡ net
+order_placed net ordered same = cond_both (net == 0) 0 ordered (λ v. v ≡ net) (λ e. sym (eqb-true net 0 e)) (λ e. same)
+
+pub lot_for_lot-orders : LotForLotOrdersTheNeed
+lot_for_lot-orders pair incoming gross before t rule =
+    let net = net_after pair incoming gross before t in
+    let span = greatest_need pair incoming gross before t (min (periods_covered pair.rule) (length gross - t)) in
+    order_placed net (lot_of pair.rule net span) (ap (λ (r : Rule). lot_of r net span) rule)
 
 is_least : (q n : ℕ) → 1 ≤ q → IsLeastMultiple q n (least_multiple_of q n)
 is_least q n some = record {

@@ -3,7 +3,7 @@
 use Rattle.std.specs.Prelude.{◌≡◌, ℕ, ◌+◌, ◌*◌, ◌≤◌, ◌<◌, max, List, length, sum, slice_index, All, zero, suc}
 use Rattle.mrp_qty.specs.declared.quantity.TheConstants.{MOST}
 use Rattle.mrp_lot.specs.declared.rule.Rule.{Rule}
-use Rattle.mrp_lot.specs.declared.rule.Rule.TheVariants.{Fixed, Periods, MinMultiple}
+use Rattle.mrp_lot.specs.declared.rule.Rule.TheVariants.{LotForLot, Fixed, Periods, MinMultiple}
 use Rattle.mrp_lot.specs.declared.params.PairParams.{PairParams}
 use Rattle.mrp_lot.specs.Lot.{IsRule, rule_quantities, lot_of}
 use Rattle.mrp_lot.specs.One.{PlanRows, one, need_over, net_after, order_after, release_row, late_orders, IsWithin}
@@ -33,6 +33,15 @@ pub record IsLeastMultiple (q n ordered : ℕ) : Type 0 where
   pub multiple : (lots : ℕ) × (ordered ≡ q * lots)
   pub covers : n ≤ ordered
   pub least : (lots : ℕ) → n ≤ q * lots → ordered ≤ q * lots
+
+-- lot for lot orders exactly the net requirement
+abbrev pub LotForLotIsExact : Type 0
+LotForLotIsExact = (net span : ℕ) → lot_of LotForLot net span ≡ net
+
+-- and so in each period, also where that is 0
+abbrev pub LotForLotOrdersTheNeed : Type 0
+LotForLotOrdersTheNeed = (pair : PairParams) (incoming gross : List ℕ) (before t : ℕ) → pair.rule ≡ LotForLot
+    → order_after pair incoming gross before t ≡ net_after pair incoming gross before t
 
 -- a fixed quantity orders as few lots as cover the net requirement
 abbrev pub FixedIsLeast : Type 0

@@ -4,11 +4,19 @@
 ghost use Rattle.std.specs.Prelude.{◌≡◌, ◌≤◌, ◌↔◌, ℕ};
 ghost use Rattle.mrp_lot.specs.Lot.{IsRule};
 ghost use Rattle.mrp_lot.specs.declared.rule.Rule.TheVariants.{Fixed, Periods, MinMultiple};
+ghost use Rattle.mrp_lot.specs.Rules.{LotForLotIsExact, LotForLotOrdersTheNeed};
 ghost use Rattle.mrp_lot.specs.Rules.{FixedIsLeast, MinMultipleIsLeast, FixedIsSmall, MinMultipleIsSmall, PeriodsIsGreatest};
 ghost use Rattle.mrp_lot.specs.Rules.{NothingIsOrderedWithoutANeed, LotCovers, AvailableCoversSafety, OrdersAreReleased, ReleasesAreBounded};
 ghost use Rattle.mrp_lot.specs.Rules.{RowsStayWithin, PlanFollowsRules, RulesHaveOnePlan};
 
 use crate::{LONGEST_LEAD, MOST_IN_RULE};
+
+/// Lot for lot orders exactly the net requirement, and with it in each period just what the period
+/// asks beyond the balance and the receipts.
+pub fn lot_for_lot_is_exact()
+    ensures lot { LotForLotIsExact }
+    ensures order { LotForLotOrdersTheNeed }
+{}
 
 /// A fixed quantity orders as few lots as cover the net requirement.
 pub fn fixed_is_least()

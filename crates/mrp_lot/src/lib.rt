@@ -15,9 +15,9 @@ mod rule;
 mod sizing;
 
 pub use laws::{
-    available_covers_safety, fixed_is_least, limits_are_numbers, lot_covers, min_multiple_is_least,
-    nothing_is_ordered_without_a_need, orders_are_released, periods_is_greatest,
-    releases_are_bounded, rows_stay_within, rules_have_one_plan,
+    available_covers_safety, fixed_is_least, limits_are_numbers, lot_covers, lot_for_lot_is_exact,
+    min_multiple_is_least, nothing_is_ordered_without_a_need, orders_are_released,
+    periods_is_greatest, releases_are_bounded, rows_stay_within, rules_have_one_plan,
 };
 pub use params::{Late, PairParams};
 pub use rule::{LONGEST_LEAD, MOST_IN_RULE, Rule};
