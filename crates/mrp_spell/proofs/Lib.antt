@@ -1,8 +1,10 @@
 pub mod Apart
+pub mod Cuts
 pub mod Decimals
 pub mod Lists
 pub mod Mapped
 pub mod Ranges
+pub mod RuleTexts
 pub mod Shares
 pub mod Wholes
 pub mod Written

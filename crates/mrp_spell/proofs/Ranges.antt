@@ -1,5 +1,7 @@
--- What a text spells is in the range that was asked for.
-use Rattle.std.proofs.Common.{◌≡◌, ◌≤◌, ℕ, ◌&&◌, Bool, true, false, leb, if◌then◌else◌, List, Option, Some, None, option_map, refl, subst, arith}
+-- What a text spells is in the range that was asked for, and a number in that range is spelled by its text.
+use Rattle.std.proofs.Common.{◌≡◌, ◌≤◌, ◌<◌, ◌^◌, ℕ, ◌&&◌, Bool, true, false, leb, if◌then◌else◌, List, Option, Some, None, option_map, refl, ap, ◌∙◌, subst, arith}
+use Rattle.std.specs.Fmt.{decimal}
+use Rattle.std.proofs.lemmas.Bool.{and_from}
 use Rattle.std.proofs.lemmas.Bool.Decides.{nat_tests}
 use Rattle.std.specs.Prelude.{codes}
 use Rattle.std.specs.Str.{bytes_eq}
@@ -9,6 +11,7 @@ use Rattle.mrp_lot.specs.declared.rule.Rule.TheVariants.{LotForLot, Fixed, Perio
 use Rattle.mrp_lot.specs.declared.rule.TheConstants.{MOST_IN_RULE}
 use Rattle.mrp_lot.specs.Lot.{IsRule}
 use Rattle.mrp_spell.specs.Spelling.{cut, kept_within, min_rule, min_rule_of, number_of, number_within, numbered_rule, rule_in, rule_of}
+use Rattle.mrp_spell.proofs.Decimals.{number-spelled, number-written}
 
 pub same_Some : {A : Type 0} (x y : A) → ◌≡◌ {A = Option A} (Some x) (Some y) → x ≡ y
 same_Some x y e = cc
@@ -29,6 +32,26 @@ kept_range low high (Some m) n e = by (leb low m) (leb m high) refl refl e
 pub within_range : (text : List ℕ) (low high n : ℕ) → number_within text low high ≡ Some n → (low ≤ n) × (n ≤ high)
 unfolding number_within
 within_range text low high n e = kept_range low high (number_of text) n e
+
+kept_same : (low high : ℕ) (o : Option ℕ) (n : ℕ) → kept_within low high o ≡ Some n → o ≡ Some n
+kept_same low high None n e = absurd (cc)
+kept_same low high (Some m) n e = by (leb low m && leb m high) e
+  where
+    by : (b : Bool) → ◌≡◌ {A = Option ℕ} (if b then Some m else None) (Some n) → ◌≡◌ {A = Option ℕ} (Some m) (Some n)
+    by true e = e
+    by false e = absurd (cc)
+
+-- and its text is the number's
+pub number_is : (text : List ℕ) (low high n : ℕ) → number_within text low high ≡ Some n → text ≡ decimal n
+unfolding number_within
+number_is text low high n e = (number-spelled text n (kept_same low high (number_of text) n e)).0
+
+-- the text of a number within bounds is read as it
+pub number_written : (low high n : ℕ) → low ≤ n → n ≤ high → n < 10 ^ 16 → number_within (decimal n) low high ≡ Some n
+unfolding number_within
+number_written low high n some few small =
+    ap (kept_within low high) (number-written n small)
+    ∙ ap (λ b. let o : Option ℕ = if b then Some n else None in o) (and_from (leb low n) (leb n high) (grind (arith, nat_tests)) (grind (arith, nat_tests)))
 
 -- ---- rules
 

@@ -1,44 +1,30 @@
 -- A supply has one text, and that text is read as it.
-use Rattle.std.proofs.Common.{◌≡◌, ◌≤◌, ◌<◌, ℕ, ◌+◌, ◌-◌, ◌==◌, ◌&&◌, not, Bool, true, false, leb, if◌then◌else◌, List, [], ◌∷◌, ◌++◌, length, map, Option, Some, None, Result, Ok, Err, refl, sym, ap, ◌∙◌, subst, arith}
-use Rattle.std.specs.Char.{is_ascii_digit}
+use Rattle.std.proofs.Common.{◌≡◌, ◌≤◌, ℕ, ◌+◌, ◌-◌, ◌==◌, ◌&&◌, not, Bool, true, false, leb, if◌then◌else◌, List, [], ◌∷◌, ◌++◌, length, map, Option, Some, None, Result, Ok, Err, refl, sym, ap, ◌∙◌, subst, arith}
 use Rattle.std.specs.Fmt.{decimal}
 use Rattle.std.specs.List.{All, IsDistinct, join_with_byte, list_all, list_any, slice_split, sum_by}
 use Rattle.std.specs.Prelude.{codes}
 use Rattle.std.specs.Str.{bytes_eq}
-use Rattle.std.proofs.lemmas.Bool.{and_from, and_parts, ne_eqb, not_from_false}
+use Rattle.std.proofs.lemmas.Bool.{and_from, and_parts, not_from_false}
 use Rattle.std.proofs.lemmas.Bool.Decides.{nat_tests}
 use Rattle.std.proofs.lemmas.List.Elements.{All-cons, All-head, All-nil, All-tail, All-from_recursion}
 use Rattle.std.proofs.lemmas.List.Folds.{list_any_none}
-use Rattle.std.proofs.lemmas.List.Splits.{join_with_byte-slice_split, length-slice_split, slice_split_at, slice_split_none}
+use Rattle.std.proofs.lemmas.List.Splits.{join_with_byte-slice_split, slice_split_at, slice_split_none}
 use Rattle.std.proofs.lemmas.List.Sums.{sum_by-cons}
 use Rattle.std.proofs.lemmas.Map.Keys.{IsDistinct-head, IsDistinct-tail}
 use Rattle.std.proofs.lemmas.Slice.Eq.{bytes_eq-Decides}
 use Rattle.mrp_spell.specs.declared.supplies.TheConstants.{MOST_SHARE, MOST_SOURCES_OF_PAIR}
-use Rattle.mrp_spell.specs.Spelling.{cut, is_colon, is_name, is_name_byte, kept_within, number_of, number_within}
+use Rattle.mrp_spell.specs.Spelling.{cut, is_colon, is_name, is_name_byte, number_within}
 use Rattle.mrp_spell.specs.Supplies.{are_different, are_whole, AreWhole, BuyTerms, from_terms, FromTerms, HasName, in_a_row, is_same_plant, IsShare, IsWholeSupply, MakeTerms, plant_shares, PlantShare, share_before, ShareFrom, source_fields, sources_of, sources_text, SourceTerms, split_sources, supply_in, supply_of, supply_text, SupplyTerms, whole_in_a_row}
 use Rattle.mrp_spell.specs.declared.supplies.SpelledSupply.{SpelledSupply}
 use Rattle.mrp_spell.specs.declared.supplies.SupplyFault.{SupplyFault}
 use Rattle.mrp_spell.specs.declared.supplies.SupplyFault.TheVariants.{NotASupply, Memory}
 use Rattle.mrp_spell.specs.Spelled.{supply_view, TellsSpelled, TellsWritten}
-use Rattle.mrp_spell.proofs.Decimals.{decimal_digits, number-spelled, number-written}
+use Rattle.mrp_spell.proofs.Cuts.{IsPlain, cut_at, cut_none, cut_text, plain, plain_number}
 use Rattle.mrp_spell.proofs.Mapped.{list_any_keys}
-use Rattle.mrp_spell.proofs.Ranges.{same_Some}
-use Rattle.mrp_spell.proofs.Shares.{fields_after, fields_alone}
+use Rattle.mrp_spell.proofs.Ranges.{number_is, number_written, same_Some}
 use Rattle.mrp_spell.proofs.Wholes.{supply_is}
 
 -- ---- what is read is the text of what it is read as
-
-kept_same : (low high : ℕ) (o : Option ℕ) (n : ℕ) → kept_within low high o ≡ Some n → o ≡ Some n
-kept_same low high None n e = absurd (cc)
-kept_same low high (Some m) n e = by (leb low m && leb m high) e
-  where
-    by : (b : Bool) → ◌≡◌ {A = Option ℕ} (if b then Some m else None) (Some n) → ◌≡◌ {A = Option ℕ} (Some m) (Some n)
-    by true e = e
-    by false e = absurd (cc)
-
-number_is : (text : List ℕ) (low high n : ℕ) → number_within text low high ≡ Some n → text ≡ decimal n
-unfolding number_within
-number_is text low high n e = (number-spelled text n (kept_same low high (number_of text) n e)).0
 
 share_fields : List PlantShare → List (List ℕ)
 share_fields [] = []
@@ -101,16 +87,6 @@ sources_are_text text ts e = by (is_name text) e
     by true e = subst (λ l. text ≡ sources_text l) (same_Some (record { plant = text; low = 0; high = MOST_SHARE } ∷ []) ts e) refl
     by false e = split_text text ts e
 
-joined : (x : List ℕ) (fs : List (List ℕ)) → 0 < length fs → join_with_byte 58 (x ∷ fs) ≡ x ++ (58 ∷ join_with_byte 58 fs)
-joined x [] some = absurd (omega arith)
-joined x (y ∷ fs) some = refl
-
-cut_text : (text : List ℕ) (p : List ℕ × List ℕ) → cut text ≡ Some p → text ≡ p.0 ++ (58 ∷ p.1)
-cut_text text p e =
-    sym (join_with_byte-slice_split 58 text) ∙ ap (join_with_byte 58) (fields_after text p e)
-    ∙ joined p.0 (slice_split is_colon p.1) (omega (arith, length-slice_split is_colon p.1))
-    ∙ ap (λ l. p.0 ++ (58 ∷ l)) (join_with_byte-slice_split 58 p.1)
-
 pub supply_is_text : (text : List ℕ) (s : SupplyTerms) → supply_of text ≡ Some s → text ≡ supply_text s
 unfolding supply_of
 supply_is_text text s e = by (cut text) refl e
@@ -134,23 +110,13 @@ supply_is_text text s e = by (cut text) refl e
     by None c e = word (bytes_eq text (codes "make")) (bytes_eq text (codes "buy")) refl refl e
     by (Some p) c e = sources p (bytes_eq p.0 (codes "from")) c refl e
 
--- ---- texts without a colon
-
-abbrev IsPlain : List ℕ → Type 0
-IsPlain text = All (λ b. is_colon b ≡ false) text
-
-plain : (p : ℕ → Bool) → p 58 ≡ false → (text : List ℕ) → list_all p text ≡ true → IsPlain text
-plain p colon [] e = All-nil (λ b. is_colon b ≡ false)
-plain p colon (b ∷ bs) e =
-    let parts = and_parts (p b) (list_all p bs) e in
-    let other : is_colon b ≡ false = ne_eqb b 58 (λ is. let passes = sym parts.0 ∙ ap p is ∙ colon in absurd (cc)) in
-    All-cons (λ b. is_colon b ≡ false) b bs other (plain p colon bs parts.1)
+-- ---- names and shares have no colon
 
 plain_name : (text : List ℕ) → is_name text ≡ true → IsPlain text
 plain_name text e = plain is_name_byte refl text (and_parts (leb 1 (length text) && leb (length text) 20) (list_all is_name_byte text) e).1
 
-plain_number : (n : ℕ) → n ≤ MOST_SHARE - 1 → IsPlain (decimal n)
-plain_number n few = plain is_ascii_digit refl (decimal n) (decimal_digits n (omega (arith, few)))
+plain_share : (n : ℕ) → n ≤ MOST_SHARE - 1 → IsPlain (decimal n)
+plain_share n few = plain_number n (omega (arith, few))
 
 split_joined : (f : List ℕ) (fs : List (List ℕ)) → All IsPlain (f ∷ fs) → slice_split is_colon (join_with_byte 58 (f ∷ fs)) ≡ f ∷ fs
 split_joined f [] plains = slice_split_none is_colon f (All-head IsPlain f [] plains)
@@ -165,35 +131,6 @@ not_name text f g fs e = by (is_name text) refl
     by : (b : Bool) → is_name text ≡ b → b ≡ false
     by false n = refl
     by true n = let same = ap length (sym (slice_split_none is_colon text (plain_name text n)) ∙ e) in absurd (omega (arith, same))
-
-first_same : (x y : List ℕ) (xs ys : List (List ℕ)) → x ∷ xs ≡ y ∷ ys → (x ≡ y) × (xs ≡ ys)
-first_same x y xs ys e = (cc, cc)
-
-cut_at : (xs ys : List ℕ) → IsPlain xs → cut (xs ++ (58 ∷ ys)) ≡ Some (xs, ys)
-cut_at xs ys h = by (cut (xs ++ (58 ∷ ys))) refl
-  where
-    fields : slice_split is_colon (xs ++ (58 ∷ ys)) ≡ xs ∷ slice_split is_colon ys
-    fields = slice_split_at is_colon xs 58 ys h refl
-
-    by : (o : Option (List ℕ × List ℕ)) → cut (xs ++ (58 ∷ ys)) ≡ o → o ≡ Some (xs, ys)
-    by None c =
-        let one = ap length (sym (fields_alone (xs ++ (58 ∷ ys)) c) ∙ fields) in
-        let some = length-slice_split is_colon ys in
-        absurd (omega (arith, one, some))
-    by (Some p) c =
-        let parts = first_same p.0 xs (slice_split is_colon p.1) (slice_split is_colon ys) (sym (fields_after (xs ++ (58 ∷ ys)) p c) ∙ fields) in
-        let rest : p.1 ≡ ys = sym (join_with_byte-slice_split 58 p.1) ∙ ap (join_with_byte 58) parts.1 ∙ join_with_byte-slice_split 58 ys in
-        ap (λ x. Some (x, p.1)) parts.0 ∙ ap (λ y. Some (xs, y)) rest
-
-cut_none : (text : List ℕ) → IsPlain text → cut text ≡ None
-cut_none text h = by (cut text) refl
-  where
-    by : (o : Option (List ℕ × List ℕ)) → cut text ≡ o → o ≡ None
-    by None c = refl
-    by (Some p) c =
-        let one = ap length (sym (slice_split_none is_colon text h) ∙ fields_after text p c) in
-        let some = length-slice_split is_colon p.1 in
-        absurd (omega (arith, one, some))
 
 -- ---- the text of sources is read as them
 
@@ -221,17 +158,11 @@ parts s t ss each shares =
     All-cons IsPart s (t ∷ ss) (omega (arith, one.rises), omega (arith, one.rises, next.rises, next.ends, begins))
     (parts_after s.high (t ∷ ss) (omega (arith, one.rises)) later shares.1)
 
-number_written : (n : ℕ) → 1 ≤ n → n ≤ MOST_SHARE - 1 → number_within (decimal n) 1 (MOST_SHARE - 1) ≡ Some n
-unfolding number_within
-number_written n some few =
-    ap (kept_within 1 (MOST_SHARE - 1)) (number-written n (omega (arith, few)))
-    ∙ ap (λ b. let o : Option ℕ = if b then Some n else None in o) (and_from (leb 1 n) (leb n (MOST_SHARE - 1)) (grind (arith, nat_tests)) (grind (arith, nat_tests)))
-
 shares_written : (ss : List SourceTerms) → All IsPart ss → plant_shares (source_fields ss) ≡ Some (map plant_share ss)
 shares_written [] are = refl
 shares_written (s ∷ ss) are =
     let one : IsPart s = All-head IsPart s ss are in
-    ap (λ o. share_before s.plant o (plant_shares (source_fields ss))) (number_written (s.high - s.low) one.0 one.1)
+    ap (λ o. share_before s.plant o (plant_shares (source_fields ss))) (number_written 1 (MOST_SHARE - 1) (s.high - s.low) one.0 one.1 (omega (arith, one.1)))
     ∙ ap (share_before s.plant (Some (s.high - s.low))) (shares_written ss (All-tail IsPart s ss are))
 
 fields_plain : (ss : List SourceTerms) → All HasName ss → All IsPart ss → All IsPlain (source_fields ss)
@@ -239,7 +170,7 @@ fields_plain [] names are = All-nil IsPlain
 fields_plain (s ∷ ss) names are =
     let one : IsPart s = All-head IsPart s ss are in
     All-cons IsPlain s.plant (decimal (s.high - s.low) ∷ source_fields ss) (plain_name s.plant (All-head HasName s ss names))
-    (All-cons IsPlain (decimal (s.high - s.low)) (source_fields ss) (plain_number (s.high - s.low) one.1) (fields_plain ss (All-tail HasName s ss names) (All-tail IsPart s ss are)))
+    (All-cons IsPlain (decimal (s.high - s.low)) (source_fields ss) (plain_share (s.high - s.low) one.1) (fields_plain ss (All-tail HasName s ss names) (All-tail IsPart s ss are)))
 
 same_length : (ss : List SourceTerms) → length (map plant_share ss) ≡ length ss
 same_length [] = refl

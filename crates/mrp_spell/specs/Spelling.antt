@@ -1,6 +1,6 @@
 -- How names, numbers and lot rules are spelled.
 use Rattle.std.specs.Prelude.{ℕ, ◌<◌, ◌^◌, decimal, ◌+◌, ◌-◌, ◌*◌, ◌==◌, ◌&&◌, ◌||◌, not, nat_lt, nat_le}
-use Rattle.std.specs.Prelude.{Bool, if◌then◌else◌, List, [], ◌∷◌, length, slice_index, codes, Option, Some, None, option_map}
+use Rattle.std.specs.Prelude.{Bool, if◌then◌else◌, List, [], ◌∷◌, ◌++◌, length, slice_index, codes, Option, Some, None, option_map}
 use Rattle.std.specs.Char.{is_ascii_alphanumeric, is_ascii_digit}
 use Rattle.std.specs.List.{before_first, after_first, position_or_len, list_all}
 use Rattle.std.specs.Str.{bytes_eq}
@@ -77,3 +77,10 @@ rule_in text (Some p) = numbered_rule p.0 p.1
 -- `lot`, `fixed:Q`, `periods:K` or `min:M:K`
 unfoldable pub rule_of : List ℕ → Option Rule
 rule_of text = rule_in text (cut text)
+
+-- the one text of a lot rule
+abbrev pub rule_text : Rule → List ℕ
+rule_text LotForLot = codes "lot"
+rule_text (Fixed q) = codes "fixed:" ++ number_text q
+rule_text (Periods k) = codes "periods:" ++ number_text k
+rule_text (MinMultiple m k) = codes "min:" ++ (number_text m ++ (codes ":" ++ number_text k))

@@ -1,6 +1,8 @@
 //! Laws of spelling, each the contract of a function that does nothing.
 ghost use Rattle.std.specs.Prelude.{◌≡◌, ℕ, List, Some};
-ghost use Rattle.mrp_spell.specs.Spelling.{IsShort, number_of, number_text};
+ghost use Rattle.mrp_lot.specs.declared.rule.Rule.{Rule};
+ghost use Rattle.mrp_lot.specs.Lot.{IsRule};
+ghost use Rattle.mrp_spell.specs.Spelling.{IsShort, number_of, number_text, rule_of, rule_text};
 ghost use Rattle.mrp_spell.specs.Supplies.{IsWholeSupply, supply_of, supply_text, SupplyTerms};
 
 use crate::supplies::{MOST_SHARE, MOST_SOURCES_OF_PAIR};
@@ -16,6 +18,13 @@ pub fn supplies_are_whole()
 pub fn supplies_have_one_text()
     ensures read { (supply : SupplyTerms) → IsWholeSupply supply → supply_of (supply_text supply) ≡ Some supply }
     ensures text { (text : List ℕ) (supply : SupplyTerms) → supply_of text ≡ Some supply → (text ≡ supply_text supply) × IsWholeSupply supply }
+{}
+
+/// A lot rule has one text, `lot`, `fixed:Q`, `periods:K` or `min:M:K` with its own numbers, and that
+/// text is read as it: the minimum stands before the multiple.
+pub fn rules_have_one_text()
+    ensures read { (rule : Rule) → IsRule rule → rule_of (rule_text rule) ≡ Some rule }
+    ensures text { (text : List ℕ) (rule : Rule) → rule_of text ≡ Some rule → (text ≡ rule_text rule) × IsRule rule }
 {}
 
 /// A number has one text, and that text is read as it.

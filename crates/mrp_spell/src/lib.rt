@@ -8,7 +8,8 @@ mod rules;
 mod supplies;
 
 pub use laws::{
-    limits_are_numbers, numbers_have_one_text, supplies_are_whole, supplies_have_one_text,
+    limits_are_numbers, numbers_have_one_text, rules_have_one_text, supplies_are_whole,
+    supplies_have_one_text,
 };
 pub use names::is_name;
 pub use numbers::{number, number_within};

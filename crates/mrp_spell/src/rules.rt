@@ -1,9 +1,10 @@
 //! How a lot rule is spelled.
 
-ghost use Rattle.std.specs.Prelude.{◌≡◌, IfSome};
+ghost use Rattle.std.specs.Prelude.{◌≡◌, ◌≢◌, IfSome, MatchOption};
+ghost use Rattle.mrp_lot.specs.declared.rule.Rule.{Rule};
 ghost use Rattle.mrp_lot.specs.Lot.{IsRule};
 ghost use Rattle.mrp_spell.specs.Spelled.{cut_view};
-ghost use Rattle.mrp_spell.specs.Spelling.{cut, min_rule_of, numbered_rule, rule_of};
+ghost use Rattle.mrp_spell.specs.Spelling.{cut, min_rule_of, numbered_rule, rule_of, rule_text};
 
 use crate::numbers::number_within;
 use mrp_lot::{MOST_IN_RULE, Rule};
@@ -17,9 +18,20 @@ pub(crate) fn cut(text: &str) -> Option<(&str, &str)>
     text.split_once(':')
 }
 
-/// The lot rule that a text spells: `lot`, `fixed:Q`, `periods:K` or `min:M:K`.
-#[tactic(auto, unfolding(crate::specs::Spelling::rule_of))]
+/// The lot rule that a text spells: `lot`, `fixed:Q`, `periods:K` or `min:M:K`. Each rule has just one
+/// such text.
 pub fn rule(text: &str) -> Option<Rule>
+    ensures exact { result ≡ rule_of text.now }
+    ensures written { MatchOption result ((rule : Rule) → IsRule rule → text.now ≢ rule_text rule)
+        (λ rule. (text.now ≡ rule_text rule) × IsRule rule) }
+    ensures rule { IfSome result IsRule }
+{
+    read(text)
+}
+
+/// The lot rule that a text spells.
+#[tactic(auto, unfolding(crate::specs::Spelling::rule_of))]
+fn read(text: &str) -> Option<Rule>
     ensures exact { result ≡ rule_of text.now }
     ensures rule { IfSome result IsRule }
 {
