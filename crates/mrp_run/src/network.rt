@@ -23,7 +23,7 @@ use std::sync::Wait;
 use std::thread::Threads;
 
 /// The most turns that [`run_network`] gives a plant: more than any run uses.
-const MOST_TURNS: u64 = 1 << 62;
+pub const MOST_TURNS: u64 = 1 << 62;
 
 /// What a run comes to.
 #[derive(Drop)]

@@ -16,6 +16,7 @@ use mrp_rows::Tables;
 use std::alloc::Global;
 use std::io::Read;
 use std::marker::Brand;
+use std::mem;
 use std::sync::ledger::{Blank, Ledger};
 
 /// The most turns of reading: a row of each kind up to its limit, and the end.
@@ -94,8 +95,13 @@ fn read_rows<R: Read, L: Ledger>(
         });
     }
     let mut draft = first_draft(alloc, &row)?;
-    read_rest(alloc, rows, &mut row, &mut draft, steps)?;
-    accept(draft)
+    match read_rest(alloc, rows, &mut row, &mut draft, steps) {
+        Ok(()) => accept(draft),
+        Err(fault) => {
+            mem::drop(draft);
+            Err(fault)
+        }
+    }
 }
 
 /// The table of all rows read, where each pair that a pair is taken from has a row.
@@ -111,6 +117,7 @@ fn accept(draft: Draft) -> Result<Tables, TableFault>
         // The run and the plants stand before the pairs.
         let above = draft.lists.plants() + 1;
         let pair = draft.lists.sources()[place].pair;
+        mem::drop(draft);
         return Err(TableFault {
             row: (above + pair.0 + 1) as u64,
             kind: TableFaultKind::UnknownPair,

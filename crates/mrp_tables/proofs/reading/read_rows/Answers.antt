@@ -23,26 +23,25 @@ returns-in_err-draft-clause-table g c =
     let takes = some_there c.in_ok-next_row.field-0 (left_of g.R.Read.remaining c.args.rows.now) (left_of g.R.Read.remaining c.next_row.new.rows) 1 (fields_of c.next_row.new.row) c.if-not-branch.false c.in_ok-next_row.ensures.exact in
     rw (p.1, p.2) (first_fault (left_of g.R.Read.remaining c.args.rows.now) (left_of g.R.Read.remaining c.next_row.new.rows) (fields_of c.next_row.new.row) _ takes c.in_err-draft.ensures.exact)
 
-pub returns-in_err-read_rest-clause-table : goal.returns-in_err-read_rest-clause-table
-returns-in_err-read_rest-clause-table g c =
-    let p = err_from_is_err_and c.from_residual-in_err-read_rest.result c.from_residual-in_err-read_rest.ensures.1 in
+pub returns-in-Err-clause-table : goal.returns-in-Err-clause-table
+returns-in-Err-clause-table g c =
     let takes = some_there c.in_ok-next_row.field-0 (left_of g.R.Read.remaining c.args.rows.now) (left_of g.R.Read.remaining c.next_row.new.rows) 1 (fields_of c.next_row.new.row) c.if-not-branch.false c.in_ok-next_row.ensures.exact in
-    rw (p.1, p.2) (rest_fault (left_of g.R.Read.remaining c.args.rows.now) (left_of g.R.Read.remaining c.next_row.new.rows) (fields_of c.next_row.new.row) c.in_ok-draft.draft _ takes c.in_ok-draft.ensures.exact c.in_err-read_rest.ensures.exact)
+    rest_fault (left_of g.R.Read.remaining c.args.rows.now) (left_of g.R.Read.remaining c.next_row.new.rows) (fields_of c.next_row.new.row) c.in_ok-draft.draft _ takes c.in_ok-draft.ensures.exact c.in-Err.ensures.exact
 
-pub returns-clause-table : goal.returns-clause-table
-returns-clause-table g c =
+pub returns-in-Ok-clause-table : goal.returns-in-Ok-clause-table
+returns-in-Ok-clause-table g c =
     let takes = some_there c.in_ok-next_row.field-0 (left_of g.R.Read.remaining c.args.rows.now) (left_of g.R.Read.remaining c.next_row.new.rows) 1 (fields_of c.next_row.new.row) c.if-not-branch.false c.in_ok-next_row.ensures.exact in
     whole (left_of g.R.Read.remaining c.args.rows.now) (left_of g.R.Read.remaining c.next_row.new.rows) (fields_of c.next_row.new.row) c.in_ok-draft.draft c.read_rest.new.draft.lists _
-    takes c.in_ok-draft.ensures.exact c.in_ok-read_rest.ensures.exact c.accept.ensures.exact
+    takes c.in_ok-draft.ensures.exact c.in-Ok.ensures.exact c.accept.ensures.exact
 
 -- a turn for the first row, and so many more
 counted : {E : Type 0} (r : Result Table E) (N : Table) (new mid old rows : ℕ) → IfOk r (λ t. t ≡ N) → mid ≡ old + 1 → new ≡ mid + rows → rows ≡ row_count N → IfOk r (λ t. new ≡ old + row_count t + 1)
 counted (Ok t) N new mid old rows same first more is = omega (arith, ap row_count same, first, more, is)
 counted (Err e) N new mid old rows same first more is = tt
 
-pub returns-clause-counted : goal.returns-clause-counted
-returns-clause-counted g c =
-    let rest = c.in_ok-read_rest.ensures in
+pub returns-in-Ok-clause-counted : goal.returns-in-Ok-clause-counted
+returns-in-Ok-clause-counted g c =
+    let rest = c.in-Ok.ensures in
     counted c.accept.result c.read_rest.new.draft.lists _ _ _ _ c.accept.ensures.same c.tick.ensures rest.counted rest.draft.count
 
 pub returns-in_err-next_row-clause-failed : goal.returns-in_err-next_row-clause-failed
@@ -55,13 +54,12 @@ returns-in_err-draft-clause-failed g c =
     let p = err_from_is_err_and c.from_residual-in_err-draft.result c.from_residual-in_err-draft.ensures.1 in
     rw (p.1, p.2) (λ failed. absurd (first_no_read_fault (fields_of c.next_row.new.row) _ c.in_err-draft.ensures.exact.0 failed))
 
-pub returns-in_err-read_rest-clause-failed : goal.returns-in_err-read_rest-clause-failed
-returns-in_err-read_rest-clause-failed g c =
-    let p = err_from_is_err_and c.from_residual-in_err-read_rest.result c.from_residual-in_err-read_rest.ensures.1 in
-    rw (p.1, p.2) c.in_err-read_rest.ensures.failed
+pub returns-in-Err-clause-failed : goal.returns-in-Err-clause-failed
+returns-in-Err-clause-failed g c =
+    c.in-Err.ensures.failed
 
-pub returns-clause-failed : goal.returns-clause-failed
-returns-clause-failed g c = whole_own c.read_rest.new.draft.lists c.accept.result _ c.accept.ensures.exact
+pub returns-in-Ok-clause-failed : goal.returns-in-Ok-clause-failed
+returns-in-Ok-clause-failed g c = whole_own c.read_rest.new.draft.lists c.accept.result _ c.accept.ensures.exact
 
 -- ---- the turns at a fault
 
@@ -75,19 +73,18 @@ returns-in_err-draft-clause-least g c =
     let p = err_from_is_err_and c.from_residual-in_err-draft.result c.from_residual-in_err-draft.ensures.1 in
     rw (p.1, p.2) (omega (arith, c.in_err-draft.ensures.exact.1, c.tick.ensures))
 
-pub returns-in_err-read_rest-clause-least : goal.returns-in_err-read_rest-clause-least
-returns-in_err-read_rest-clause-least g c =
-    let p = err_from_is_err_and c.from_residual-in_err-read_rest.result c.from_residual-in_err-read_rest.ensures.1 in
-    rw (p.1, p.2) (omega (arith, c.in_err-read_rest.ensures.least, c.in_err-read_rest.ensures.later, c.tick.ensures))
+pub returns-in-Err-clause-least : goal.returns-in-Err-clause-least
+returns-in-Err-clause-least g c =
+    omega (arith, c.in-Err.ensures.least, c.in-Err.ensures.later, c.tick.ensures)
 
 -- the table is all read, so the row that waits is one of those that were counted
 waited : (r : Result Table TableFault) (N : Table) (new mid old rows : ℕ) → IfErr r (λ e. e.row ≤ row_count N) → mid ≡ old + 1 → new ≡ mid + rows → rows ≡ row_count N → IfErr r (λ e. old + max 1 e.row ≤ new)
 waited (Ok t) N new mid old rows above first more is = tt
 waited (Err e) N new mid old rows above first more is = omega (arith, above, first, more, is)
 
-pub returns-clause-least : goal.returns-clause-least
-returns-clause-least g c =
-    let rest = c.in_ok-read_rest.ensures in
+pub returns-in-Ok-clause-least : goal.returns-in-Ok-clause-least
+returns-in-Ok-clause-least g c =
+    let rest = c.in-Ok.ensures in
     waited c.accept.result c.read_rest.new.draft.lists _ _ _ _ c.accept.ensures.above c.tick.ensures rest.counted rest.draft.count
 
 -- ---- and exactly
@@ -102,13 +99,12 @@ returns-in_err-draft-clause-named g c =
     let p = err_from_is_err_and c.from_residual-in_err-draft.result c.from_residual-in_err-draft.ensures.1 in
     rw (p.1, p.2) (of_missing _ _ (first_step _ _ _ c.in_err-draft.ensures.exact.1 c.tick.ensures))
 
-pub returns-in_err-read_rest-clause-named : goal.returns-in_err-read_rest-clause-named
-returns-in_err-read_rest-clause-named g c =
-    let p = err_from_is_err_and c.from_residual-in_err-read_rest.result c.from_residual-in_err-read_rest.ensures.1 in
-    rw (p.1, p.2) (of_missing _ _ (later_step _ _ _ _ c.in_err-read_rest.ensures.later c.tick.ensures c.in_err-read_rest.ensures.least))
+pub returns-in-Err-clause-named : goal.returns-in-Err-clause-named
+returns-in-Err-clause-named g c =
+    of_missing _ _ (later_step _ _ _ _ c.in-Err.ensures.later c.tick.ensures c.in-Err.ensures.least)
 
-pub returns-clause-named : goal.returns-clause-named
-returns-clause-named g c = when_missing c.accept.result _ c.accept.ensures.missing
+pub returns-in-Ok-clause-named : goal.returns-in-Ok-clause-named
+returns-in-Ok-clause-named g c = when_missing c.accept.result _ c.accept.ensures.missing
 
 pub returns-in_err-next_row-clause-ends : goal.returns-in_err-next_row-clause-ends
 returns-in_err-next_row-clause-ends g c =
@@ -123,14 +119,13 @@ returns-in_err-draft-clause-ends g c =
     let p = err_from_is_err_and c.from_residual-in_err-draft.result c.from_residual-in_err-draft.ensures.1 in
     rw (p.1, p.2) (steps_named (left_of g.R.Read.remaining c.args.rows.now) _ _ _ (first_step _ _ _ c.in_err-draft.ensures.exact.1 c.tick.ensures))
 
-pub returns-in_err-read_rest-clause-ends : goal.returns-in_err-read_rest-clause-ends
-returns-in_err-read_rest-clause-ends g c =
-    let p = err_from_is_err_and c.from_residual-in_err-read_rest.result c.from_residual-in_err-read_rest.ensures.1 in
-    rw (p.1, p.2) (steps_named (left_of g.R.Read.remaining c.args.rows.now) _ _ _ (later_step _ _ _ _ c.in_err-read_rest.ensures.later c.tick.ensures c.in_err-read_rest.ensures.least))
+pub returns-in-Err-clause-ends : goal.returns-in-Err-clause-ends
+returns-in-Err-clause-ends g c =
+    steps_named (left_of g.R.Read.remaining c.args.rows.now) _ _ _ (later_step _ _ _ _ c.in-Err.ensures.later c.tick.ensures c.in-Err.ensures.least)
 
-pub returns-clause-ends : goal.returns-clause-ends
-returns-clause-ends g c =
+pub returns-in-Ok-clause-ends : goal.returns-in-Ok-clause-ends
+returns-in-Ok-clause-ends g c =
     let takes = some_there c.in_ok-next_row.field-0 (left_of g.R.Read.remaining c.args.rows.now) (left_of g.R.Read.remaining c.next_row.new.rows) 1 (fields_of c.next_row.new.row) c.if-not-branch.false c.in_ok-next_row.ensures.exact in
     of_each c.accept.result (λ e. OfLeft (left_of g.R.Read.remaining c.args.rows.now) (StepsTo c.args.steps.now c.read_rest.new.steps e.row)) (λ e.
     steps_all (left_of g.R.Read.remaining c.args.rows.now) (left_of g.R.Read.remaining c.next_row.new.rows) (fields_of c.next_row.new.row) e.row c.args.steps.now c.tick.new.self c.read_rest.new.steps
-    takes c.in_ok-read_rest.ensures.all c.tick.ensures)
+    takes c.in-Ok.ensures.all c.tick.ensures)
