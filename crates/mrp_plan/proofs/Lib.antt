@@ -1,3 +1,4 @@
+pub mod Adding
 pub mod Asked
 pub mod Pegs
 pub mod Next

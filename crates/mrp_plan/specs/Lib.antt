@@ -1,3 +1,4 @@
 pub mod Explosion
 pub mod Peg
+pub mod PegLaws
 pub mod Progress

@@ -3,11 +3,13 @@
 
 mod explosion;
 mod fitting;
+mod laws;
 mod pegging;
 mod plan;
 mod terms;
 
 pub use fitting::fits;
+pub use laws::terms_add_up;
 pub use pegging::peg;
 pub use plan::{Plan, plan_all};
 pub use terms::{PegSource, PegTerm};
