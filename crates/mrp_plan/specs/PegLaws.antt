@@ -1,9 +1,15 @@
--- Laws of pegging.
-use Rattle.std.specs.Prelude.{◌≡◌, ℕ, ◌*◌, ◌<◌, List, sum_by, slice_index, All}
+-- Laws of pegging: the terms of a period are its gross requirement, and each of them is what a row of the table asks.
+use Rattle.std.specs.Prelude.{◌≡◌, ℕ, ◌-◌, ◌*◌, ◌/◌, ◌<◌, List, sum_by, slice_index, All, Contains}
 use Rattle.mrp_lot.specs.One.{PlanRows}
-use Rattle.mrp_rows.specs.Table.{Table, IsPair, horizon}
+use Rattle.mrp_rows.specs.declared.rows.BillRow.{BillRow}
+use Rattle.mrp_rows.specs.declared.rows.SourceRow.{SourceRow}
+use Rattle.mrp_rows.specs.Table.{Table, IsTable, IsPair, horizon, source_pair}
+use Rattle.mrp_net.specs.Sums.{demand}
 use Rattle.mrp_net.specs.Plan.{Fits, rows_at}
 use Rattle.mrp_plan.specs.Peg.{peg_terms}
+use Rattle.mrp_plan.specs.declared.terms.PegTerm.{PegTerm}
+use Rattle.mrp_plan.specs.declared.terms.PegSource.{PegSource}
+use Rattle.mrp_plan.specs.declared.terms.PegSource.TheVariants.{Demand, Bill, Plant}
 
 -- the terms of a pair in a period add up to its gross requirement there
 abbrev pub TermsAddUp : Type 0
@@ -14,3 +20,43 @@ TermsAddUp = (N : Table) (table : List PlanRows) → Fits N table → (x t : ℕ
 abbrev pub TermsAreProducts : Type 0
 TermsAreProducts = (N : Table) (table : List PlanRows) (x t : ℕ)
     → All (λ p. (p.quantity ≡ p.release * p.per) × (0 < p.quantity)) (peg_terms N table x t)
+
+-- planned order release of a pair in a period
+abbrev pub released_in : List PlanRows → ℕ → ℕ → ℕ
+released_in table y t = slice_index (rows_at table y).release t
+
+-- the demand rows of the pair itself, one for one
+pub record IsDemandTerm (N : Table) (x t : ℕ) (p : PegTerm) : Type 0 where
+  pub pair : p.pair.0 ≡ x
+  pub per : p.per ≡ 1
+  pub release : p.release ≡ demand N x t
+
+-- a row of a bill, by which the parent takes so many of the pair for each piece of its whole release
+pub record IsBillTerm (N : Table) (table : List PlanRows) (x t : ℕ) (p : PegTerm) : Type 0 where
+  pub row : BillRow
+  pub listed : Contains N.bills row
+  pub parent : row.parent ≡ p.pair
+  pub component : row.component.0 ≡ x
+  pub per : row.per ≡ p.per
+  pub release : p.release ≡ released_in table p.pair.0 t
+
+-- a source, by which a pair takes its share of its release from this one, one for one: what the release makes up to
+-- the share's end in whole pieces, less what it makes up to its beginning
+pub record IsPlantTerm (N : Table) (table : List PlanRows) (x t : ℕ) (p : PegTerm) : Type 0 where
+  pub row : SourceRow
+  pub listed : Contains N.sources row
+  pub taker : row.pair ≡ p.pair
+  pub supplier : source_pair N row ≡ x
+  pub per : p.per ≡ 1
+  pub release : p.release ≡ (released_in table p.pair.0 t * row.high) / 1000 - (released_in table p.pair.0 t * row.low) / 1000
+
+-- what a term of each source is
+abbrev pub IsTermOf : Table → List PlanRows → ℕ → ℕ → PegTerm → PegSource → Type 0
+IsTermOf N table x t p Demand = IsDemandTerm N x t p
+IsTermOf N table x t p Bill = IsBillTerm N table x t p
+IsTermOf N table x t p Plant = IsPlantTerm N table x t p
+
+-- each term is what the rows of its source ask
+abbrev pub TermsHaveRows : Type 0
+TermsHaveRows = (N : Table) (table : List PlanRows) → IsTable N → (x t : ℕ)
+    → All (λ p. IsTermOf N table x t p p.source) (peg_terms N table x t)

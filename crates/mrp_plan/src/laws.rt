@@ -1,10 +1,16 @@
 //! Laws of pegging, each the contract of a function that does nothing.
 
-ghost use Rattle.mrp_plan.specs.PegLaws.{TermsAddUp, TermsAreProducts};
+ghost use Rattle.mrp_plan.specs.PegLaws.{TermsAddUp, TermsAreProducts, TermsHaveRows};
 
 /// In a plan that fits the terms of a pair in a period add up to its gross requirement there, in
 /// pieces, and each is so many pieces for each that is released, never 0.
 pub fn terms_add_up()
     ensures sum { TermsAddUp }
     ensures product { TermsAreProducts }
+{}
+
+/// Each term is what the rows of its source ask: the demand rows of the pair, a row of a bill for the
+/// parent's whole release, or a source for its share of the release of the pair that takes from it.
+pub fn terms_have_rows()
+    ensures { TermsHaveRows }
 {}

@@ -9,7 +9,7 @@ mod plan;
 mod terms;
 
 pub use fitting::fits;
-pub use laws::terms_add_up;
+pub use laws::{terms_add_up, terms_have_rows};
 pub use pegging::peg;
 pub use plan::{Plan, plan_all};
 pub use terms::{PegSource, PegTerm};
