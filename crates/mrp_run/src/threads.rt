@@ -220,6 +220,7 @@ fn crew_for(
 {
     let Ok(crew) = Crew::new(alloc, workers, horizon) else {
         stop.store(true, Ordering::SeqCst);
+        drop(plant);
         return Err(Some(RunFault::Memory));
     };
     Ok(crew)
