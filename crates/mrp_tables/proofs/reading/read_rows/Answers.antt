@@ -23,11 +23,6 @@ returns-in_err-draft-clause-table g c =
     let takes = some_there c.in_ok-next_row.field-0 (left_of g.R.Read.remaining c.args.rows.now) (left_of g.R.Read.remaining c.next_row.new.rows) 1 (fields_of c.next_row.new.row) c.if-not-branch.false c.in_ok-next_row.ensures.exact in
     rw (p.1, p.2) (first_fault (left_of g.R.Read.remaining c.args.rows.now) (left_of g.R.Read.remaining c.next_row.new.rows) (fields_of c.next_row.new.row) _ takes c.in_err-draft.ensures.exact)
 
-pub returns-in-Err-clause-table : goal.returns-in-Err-clause-table
-returns-in-Err-clause-table g c =
-    let takes = some_there c.in_ok-next_row.field-0 (left_of g.R.Read.remaining c.args.rows.now) (left_of g.R.Read.remaining c.next_row.new.rows) 1 (fields_of c.next_row.new.row) c.if-not-branch.false c.in_ok-next_row.ensures.exact in
-    rest_fault (left_of g.R.Read.remaining c.args.rows.now) (left_of g.R.Read.remaining c.next_row.new.rows) (fields_of c.next_row.new.row) c.in_ok-draft.draft _ takes c.in_ok-draft.ensures.exact c.in-Err.ensures.exact
-
 pub returns-in-Ok-clause-table : goal.returns-in-Ok-clause-table
 returns-in-Ok-clause-table g c =
     let takes = some_there c.in_ok-next_row.field-0 (left_of g.R.Read.remaining c.args.rows.now) (left_of g.R.Read.remaining c.next_row.new.rows) 1 (fields_of c.next_row.new.row) c.if-not-branch.false c.in_ok-next_row.ensures.exact in
@@ -54,10 +49,6 @@ returns-in_err-draft-clause-failed g c =
     let p = err_from_is_err_and c.from_residual-in_err-draft.result c.from_residual-in_err-draft.ensures.1 in
     rw (p.1, p.2) (λ failed. absurd (first_no_read_fault (fields_of c.next_row.new.row) _ c.in_err-draft.ensures.exact.0 failed))
 
-pub returns-in-Err-clause-failed : goal.returns-in-Err-clause-failed
-returns-in-Err-clause-failed g c =
-    c.in-Err.ensures.failed
-
 pub returns-in-Ok-clause-failed : goal.returns-in-Ok-clause-failed
 returns-in-Ok-clause-failed g c = whole_own c.read_rest.new.draft.lists c.accept.result _ c.accept.ensures.exact
 
@@ -72,10 +63,6 @@ pub returns-in_err-draft-clause-least : goal.returns-in_err-draft-clause-least
 returns-in_err-draft-clause-least g c =
     let p = err_from_is_err_and c.from_residual-in_err-draft.result c.from_residual-in_err-draft.ensures.1 in
     rw (p.1, p.2) (omega (arith, c.in_err-draft.ensures.exact.1, c.tick.ensures))
-
-pub returns-in-Err-clause-least : goal.returns-in-Err-clause-least
-returns-in-Err-clause-least g c =
-    omega (arith, c.in-Err.ensures.least, c.in-Err.ensures.later, c.tick.ensures)
 
 -- the table is all read, so the row that waits is one of those that were counted
 waited : (r : Result Table TableFault) (N : Table) (new mid old rows : ℕ) → IfErr r (λ e. e.row ≤ row_count N) → mid ≡ old + 1 → new ≡ mid + rows → rows ≡ row_count N → IfErr r (λ e. old + max 1 e.row ≤ new)
@@ -99,10 +86,6 @@ returns-in_err-draft-clause-named g c =
     let p = err_from_is_err_and c.from_residual-in_err-draft.result c.from_residual-in_err-draft.ensures.1 in
     rw (p.1, p.2) (of_missing _ _ (first_step _ _ _ c.in_err-draft.ensures.exact.1 c.tick.ensures))
 
-pub returns-in-Err-clause-named : goal.returns-in-Err-clause-named
-returns-in-Err-clause-named g c =
-    of_missing _ _ (later_step _ _ _ _ c.in-Err.ensures.later c.tick.ensures c.in-Err.ensures.least)
-
 pub returns-in-Ok-clause-named : goal.returns-in-Ok-clause-named
 returns-in-Ok-clause-named g c = when_missing c.accept.result _ c.accept.ensures.missing
 
@@ -119,13 +102,23 @@ returns-in_err-draft-clause-ends g c =
     let p = err_from_is_err_and c.from_residual-in_err-draft.result c.from_residual-in_err-draft.ensures.1 in
     rw (p.1, p.2) (steps_named (left_of g.R.Read.remaining c.args.rows.now) _ _ _ (first_step _ _ _ c.in_err-draft.ensures.exact.1 c.tick.ensures))
 
-pub returns-in-Err-clause-ends : goal.returns-in-Err-clause-ends
-returns-in-Err-clause-ends g c =
-    steps_named (left_of g.R.Read.remaining c.args.rows.now) _ _ _ (later_step _ _ _ _ c.in-Err.ensures.later c.tick.ensures c.in-Err.ensures.least)
-
 pub returns-in-Ok-clause-ends : goal.returns-in-Ok-clause-ends
 returns-in-Ok-clause-ends g c =
     let takes = some_there c.in_ok-next_row.field-0 (left_of g.R.Read.remaining c.args.rows.now) (left_of g.R.Read.remaining c.next_row.new.rows) 1 (fields_of c.next_row.new.row) c.if-not-branch.false c.in_ok-next_row.ensures.exact in
     of_each c.accept.result (λ e. OfLeft (left_of g.R.Read.remaining c.args.rows.now) (StepsTo c.args.steps.now c.read_rest.new.steps e.row)) (λ e.
     steps_all (left_of g.R.Read.remaining c.args.rows.now) (left_of g.R.Read.remaining c.next_row.new.rows) (fields_of c.next_row.new.row) e.row c.args.steps.now c.tick.new.self c.read_rest.new.steps
     takes c.in-Ok.ensures.all c.tick.ensures)
+
+-- ---- a fault of a later row
+
+pub returns-clause-table : goal.returns-clause-table
+returns-clause-table g c =
+    let takes = some_there c.in_ok-next_row.field-0 (left_of g.R.Read.remaining c.args.rows.now) (left_of g.R.Read.remaining c.next_row.new.rows) 1 (fields_of c.next_row.new.row) c.if-not-branch.false c.in_ok-next_row.ensures.exact in
+    rest_fault (left_of g.R.Read.remaining c.args.rows.now) (left_of g.R.Read.remaining c.next_row.new.rows) (fields_of c.next_row.new.row) c.in_ok-draft.draft c.in-Err.fault takes c.in_ok-draft.ensures.exact c.in-Err.ensures.exact
+
+pub returns-clause-named : goal.returns-clause-named
+returns-clause-named g c = of_missing _ _ (later_step _ _ _ _ c.in-Err.ensures.later c.tick.ensures c.in-Err.ensures.least)
+
+pub returns-clause-ends : goal.returns-clause-ends
+returns-clause-ends g c =
+    steps_named (left_of g.R.Read.remaining c.args.rows.now) _ _ _ (later_step _ _ _ _ c.in-Err.ensures.later c.tick.ensures c.in-Err.ensures.least)
