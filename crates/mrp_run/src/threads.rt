@@ -203,8 +203,13 @@ fn run_alone<R: Threads + Wait + Sync, G: Gate>(
     ensures fault { IfErr result (λ why. IfSome why (IsOf number)) }
 {
     let horizon = plant.agent.view().horizon();
-    let mut crew = crew_for(alloc, workers, horizon, stop)?;
-    run_owned(rt, alloc, number, plant, &mut crew, gate, stop, turns)
+    match crew_for(alloc, workers, horizon, stop) {
+        Ok(mut crew) => run_owned(rt, alloc, number, plant, &mut crew, gate, stop, turns),
+        Err(why) => {
+            drop(plant);
+            Err(why)
+        }
+    }
 }
 
 /// A crew of so many workers; where there is no memory for one, `stop` is raised.
@@ -220,7 +225,6 @@ fn crew_for(
 {
     let Ok(crew) = Crew::new(alloc, workers, horizon) else {
         stop.store(true, Ordering::SeqCst);
-        drop(plant);
         return Err(Some(RunFault::Memory));
     };
     Ok(crew)
