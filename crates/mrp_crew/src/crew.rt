@@ -1,7 +1,8 @@
 //! The workers of a plant, and the rooms that they draft in.
 
-ghost use Rattle.std.specs.Prelude.{◌≡◌, ◌+◌, ◌≤◌, min};
+ghost use Rattle.std.specs.Prelude.{◌≡◌, ◌+◌, ◌≤◌, true, false, min};
 ghost use Rattle.mrp_crew.specs.declared.crew.TheConstants.{MOST_WORKERS};
+ghost use Rattle.mrp_crew.specs.declared.fault.CrewFault.{CrewFault};
 
 use crate::fault::CrewFault;
 use crate::room::{Room, refill};
@@ -135,13 +136,22 @@ impl Crew {
         let Drafts { works, all, rooms } = drafts;
         self.rooms = rooms;
         let open = settle_all(agent, works, &mut self.rooms);
-        if !all {
-            return Err(CrewFault::ThreadRefused);
+        if all && open {
+            return Ok(());
         }
-        if !open {
-            return Err(CrewFault::GateShut);
-        }
-        Ok(())
+        Err(wave_fault(all))
+    }
+}
+
+/// Why a wave ended early: one of its threads could not be started, or all could and the gate was shut.
+fn wave_fault(all: bool) -> CrewFault
+    ensures refused { all ≡ false → result ≡ CrewFault.ThreadRefused }
+    ensures shut { all ≡ true → result ≡ CrewFault.GateShut }
+{
+    if all {
+        CrewFault::GateShut
+    } else {
+        CrewFault::ThreadRefused
     }
 }
 

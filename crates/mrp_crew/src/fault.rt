@@ -1,5 +1,7 @@
 //! Why the work of a crew ended early.
 
+ghost use Rattle.std.specs.Prelude.{◌≡◌};
+
 use mrp_qty::Memory;
 use std::alloc::AllocError;
 use thiserror::Error;
@@ -19,12 +21,20 @@ pub enum CrewFault {
 }
 
 impl From<Memory> for CrewFault {
+    ghost use Rattle.mrp_crew.specs.declared.fault.CrewFault.{CrewFault};
+
+    ghost from_gives = { λ _ fault. fault ≡ CrewFault.Memory };
+
     fn from(_refusal: Memory) -> CrewFault {
         CrewFault::Memory
     }
 }
 
 impl From<AllocError> for CrewFault {
+    ghost use Rattle.mrp_crew.specs.declared.fault.CrewFault.{CrewFault};
+
+    ghost from_gives = { λ _ fault. fault ≡ CrewFault.Memory };
+
     fn from(_refusal: AllocError) -> CrewFault {
         CrewFault::Memory
     }
