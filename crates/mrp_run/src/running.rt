@@ -1,5 +1,7 @@
 //! The thread of one plant.
 ghost use Rattle.std.specs.Prelude.{◌≡◌, IfErr, IfOk, IfSome};
+ghost use Rattle.mrp_crew.specs.declared.fault.CrewFault.{CrewFault};
+ghost use Rattle.mrp_run.specs.Faults as faults;
 ghost use Rattle.mrp_run.specs.Faults.{IsOf};
 ghost use Rattle.mrp_run.specs.Plant as at;
 ghost use Rattle.mrp_run.specs.Steps.{IsAtWork, Keeps, Finishes};
@@ -175,11 +177,22 @@ fn plan_all<R: Threads + Wait + Sync, G: Gate>(
     ensures crew { crew.new ≡ crew.old }
     ensures kept { Keeps plant.old plant.new }
     ensures fault { IfErr result (IsOf number) }
+    ensures by_crew { IfErr result (λ fault. (why : CrewFault) × (fault ≡ faults.of_crew number why)) }
 {
     match crew.plan_ready(rt, alloc, &mut plant.agent, number.0, gate) {
         Ok(count) => Ok(count > 0),
-        Err(CrewFault::Memory) => Err(RunFault::Memory),
-        Err(CrewFault::ThreadRefused) => Err(RunFault::ThreadRefused),
-        Err(CrewFault::GateShut) => Err(RunFault::GateShut(number)),
+        Err(fault) => Err(of_crew(fault, number)),
+    }
+}
+
+/// The fault of a plant's crew, as the run answers it.
+fn of_crew(fault: CrewFault, number: PlantNo) -> RunFault
+    ensures exact { result ≡ faults.of_crew number fault }
+    ensures fault { IsOf number result }
+{
+    match fault {
+        CrewFault::Memory => RunFault::Memory,
+        CrewFault::ThreadRefused => RunFault::ThreadRefused,
+        CrewFault::GateShut => RunFault::GateShut(number),
     }
 }

@@ -1,5 +1,5 @@
 //! How the threads of the plants are started and joined.
-ghost use Rattle.std.specs.Prelude.{◌≡◌, ◌≤◌, ◌++◌, [], List, All, IfErr, IfOk, IfSome, OnOk, ℕ, length, slice_index_or, vec_capacity};
+ghost use Rattle.std.specs.Prelude.{◌≡◌, ◌≤◌, ◌++◌, [], List, All, IfErr, IfOk, IfSome, OnOk, Some, ℕ, length, slice_index_or, vec_capacity};
 ghost use Rattle.std.specs.List.{AllZip};
 ghost use Rattle.mrp_crew.specs.declared.crew.TheConstants.{MOST_WORKERS};
 ghost use Rattle.mrp_run.specs.declared.plant.Plant.{Plant};
@@ -16,7 +16,7 @@ use crate::running::run_owned;
 use mrp_agent::Gate;
 use mrp_crew::Crew;
 use mrp_net::PlantNo;
-use mrp_qty::Memory;
+use mrp_qty::{Horizon, Memory};
 use std::alloc::Global;
 use std::snapshot::Snapshot;
 use std::sync::Wait;
@@ -208,11 +208,26 @@ fn run_alone<R: Threads + Wait + Sync, G: Gate>(
     ensures fault { IfErr result (λ why. IfSome why (IsOf number)) }
 {
     let horizon = plant.agent.view().horizon();
-    let Ok(mut crew) = Crew::new(alloc, workers, horizon) else {
+    let mut crew = crew_for(alloc, workers, horizon, stop)?;
+    run_owned(rt, alloc, number, plant, &mut crew, gate, stop, turns)
+}
+
+/// A crew of so many workers; where there is no memory for one, `stop` is raised.
+fn crew_for(
+    alloc: Global,
+    workers: u64,
+    horizon: Horizon,
+    stop: &AtomicBool,
+) -> Result<Crew, Option<RunFault>>
+    requires workers { (1 ≤ workers) × (workers ≤ MOST_WORKERS) }
+    ensures horizon { IfOk result (λ crew. crew.horizon ≡ horizon) }
+    ensures fault { IfErr result (λ why. why ≡ Some RunFault.Memory) }
+{
+    let Ok(crew) = Crew::new(alloc, workers, horizon) else {
         stop.store(true, Ordering::SeqCst);
         return Err(Some(RunFault::Memory));
     };
-    run_owned(rt, alloc, number, plant, &mut crew, gate, stop, turns)
+    Ok(crew)
 }
 
 /// Joins all threads, in the order in which they were started.

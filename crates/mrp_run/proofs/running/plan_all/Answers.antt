@@ -7,20 +7,11 @@ returns-in-Ok-clause-kept g c =
     let xs = c.plan_ready.ensures.planned in
     planned_kept p.agent p.sends.items p.takes.items c.plan_ready.new.agent xs.0 xs.1
 
-pub returns-in-Err-Memory-clause-kept : goal.returns-in-Err-Memory-clause-kept
-returns-in-Err-Memory-clause-kept g c =
+pub returns-in-Err-clause-kept : goal.returns-in-Err-clause-kept
+returns-in-Err-clause-kept g c =
     let p = c.args.plant.now in
     let xs = c.plan_ready.ensures.planned in
     planned_kept p.agent p.sends.items p.takes.items c.plan_ready.new.agent xs.0 xs.1
 
-pub returns-in-Err-ThreadRefused-clause-kept : goal.returns-in-Err-ThreadRefused-clause-kept
-returns-in-Err-ThreadRefused-clause-kept g c =
-    let p = c.args.plant.now in
-    let xs = c.plan_ready.ensures.planned in
-    planned_kept p.agent p.sends.items p.takes.items c.plan_ready.new.agent xs.0 xs.1
-
-pub returns-in-Err-GateShut-clause-kept : goal.returns-in-Err-GateShut-clause-kept
-returns-in-Err-GateShut-clause-kept g c =
-    let p = c.args.plant.now in
-    let xs = c.plan_ready.ensures.planned in
-    planned_kept p.agent p.sends.items p.takes.items c.plan_ready.new.agent xs.0 xs.1
+pub returns-in-Err-clause-by_crew : goal.returns-in-Err-clause-by_crew
+returns-in-Err-clause-by_crew g c = (c.in-Err.fault, c.of_crew.ensures.exact)
