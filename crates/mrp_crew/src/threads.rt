@@ -144,6 +144,7 @@ fn start<'s, E, G: Gate>(
 ) -> Option<Worker>
     requires can { CanDraft agent.now pair }
     requires room { IsRoom agent.now.view.horizon room }
+    requires number { 1 ≤ number }
     ensures { IfSome result (IsStarted agent.now pair) }
 {
     let order = Order {
@@ -155,6 +156,7 @@ fn start<'s, E, G: Gate>(
         move || -> Work
             requires can { CanDraft agent.now pair }
             requires room { IsRoom agent.now.view.horizon room }
+            requires number { 1 ≤ number }
             ensures pair { result.pair ≡ pair }
             ensures worked { WorkedFor agent.entry.now result }
         { draft_pair(agent, plant, gate, number, pair, room) },

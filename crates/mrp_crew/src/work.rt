@@ -1,5 +1,5 @@
 //! What one worker does, and what the workers of a wave bring back.
-ghost use Rattle.std.specs.Prelude.{◌≡◌};
+ghost use Rattle.std.specs.Prelude.{◌≡◌, ◌≤◌};
 ghost use Rattle.mrp_agent.specs.Drafts.{CanDraft};
 ghost use Rattle.mrp_crew.specs.Rooms.{IsRoom, WorkedFor};
 
@@ -51,6 +51,7 @@ pub(crate) fn draft_pair<G: Gate>(
 ) -> Work
     requires can { CanDraft agent.now pair }
     requires room { IsRoom agent.now.view.horizon room }
+    requires number { 1 ≤ number }
     ensures pair { result.pair ≡ pair }
     ensures worked { WorkedFor agent.now result }
 {

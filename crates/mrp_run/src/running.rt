@@ -1,5 +1,5 @@
 //! The thread of one plant.
-ghost use Rattle.std.specs.Prelude.{◌≡◌, IfErr, IfOk, IfSome};
+ghost use Rattle.std.specs.Prelude.{◌≡◌, ◌≤◌, IfErr, IfOk, IfSome};
 ghost use Rattle.mrp_crew.specs.declared.fault.CrewFault.{CrewFault};
 ghost use Rattle.mrp_run.specs.Faults as faults;
 ghost use Rattle.mrp_run.specs.Faults.{IsOf};
@@ -131,6 +131,7 @@ fn begin<G: Gate>(
     gate: &G,
     stop: &AtomicBool,
 ) -> Result<(), Option<RunFault>>
+    requires turn { 1 ≤ turn }
     ensures fault { IfErr result (λ why. IfSome why (IsOf number)) }
 {
     if stop.load(Ordering::SeqCst) {
