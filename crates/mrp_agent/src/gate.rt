@@ -1,18 +1,28 @@
 //! The gate that is asked before each turn of a plant and each work of a worker.
 
-ghost use Rattle.std.specs.Prelude.{◌≤◌};
+ghost use Rattle.std.specs.Prelude.{◌≡◌, ◌≤◌, ℕ, false};
 
 /// Who is asked before a plant's thread begins a turn, and before a worker of a plant begins its work.
 ///
-/// Whoever writes a gate is promised that turns and workers count from 1: each call proves it.
+/// Whoever writes a gate is promised that turns and workers count from 1: each call proves it. What it means
+/// that the gate was shut to a turn or to a worker is said by whoever writes it, or nothing is. The fault of
+/// a shut gate comes only where this holds of some turn or some worker of the plant.
 pub trait Gate: Sync {
+    /// What holds where the gate is shut to a turn of a plant.
+    ghost turn_shut: { ℕ → ℕ → Type 0 } = { λ _ _. Unit {0} };
+
+    /// What holds where the gate is shut to a worker of a plant.
+    ghost worker_shut: { ℕ → ℕ → Type 0 } = { λ _ _. Unit {0} };
+
     /// Whether a plant may begin a turn. Turns count from 1.
     fn turn(&self, plant: usize, turn: u64) -> bool
-        requires counted { 1 ≤ turn };
+        requires counted { 1 ≤ turn }
+        ensures shut { result ≡ false → turn_shut plant turn };
 
     /// Whether a worker of a plant may begin. Workers count from 1.
     fn worker(&self, plant: usize, worker: u64) -> bool
-        requires counted { 1 ≤ worker };
+        requires counted { 1 ≤ worker }
+        ensures shut { result ≡ false → worker_shut plant worker };
 }
 
 /// A gate that is always open.
@@ -20,16 +30,22 @@ pub trait Gate: Sync {
 pub struct NoGate;
 
 impl Gate for NoGate {
-    ghost use Rattle.std.specs.Prelude.{◌≡◌, true};
+    ghost use Rattle.std.specs.Prelude.{◌≡◌, true, false};
+
+    ghost turn_shut = { λ _ _. ⊥ };
+
+    ghost worker_shut = { λ _ _. ⊥ };
 
     fn turn(&self, _plant: usize, _turn: u64) -> bool
         ensures { result ≡ true }
+        ensures shut { result ≡ false → ⊥ }
     {
         true
     }
 
     fn worker(&self, _plant: usize, _worker: u64) -> bool
         ensures { result ≡ true }
+        ensures shut { result ≡ false → ⊥ }
     {
         true
     }

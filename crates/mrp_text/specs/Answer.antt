@@ -4,6 +4,7 @@ use Rattle.mrp_rows.specs.Table.{Table}
 use Rattle.mrp_words.specs.declared.words.Choice.{Choice}
 use Rattle.mrp_words.specs.declared.words.Choice.TheVariants.{Plan, Check, Peg, Cums}
 use Rattle.mrp_text.specs.declared.fault.TextFault.{TextFault}
+use Rattle.mrp_text.specs.declared.fault.TextFault.TheVariants.{GateShut}
 use Rattle.mrp_text.specs.Fault.{status_of}
 use Rattle.mrp_text.specs.Text.{IsPlanReport, IsCodeReport, IsPegReport, IsCumReport, IsRefusal, IsRunRefusal, IsPegRefusal}
 
@@ -17,10 +18,15 @@ IsAnswer Cums = IsCumReport
 -- what a refusal of the network says to a choice
 abbrev pub IsAnswerRefusal : Choice → Table → TextFault → Type 0
 IsAnswerRefusal (Plan workers capacity true) = IsRefusal
-IsAnswerRefusal (Plan workers capacity false) = IsRunRefusal
+IsAnswerRefusal (Plan workers capacity false) = IsRunRefusal (λ _. ⊥)
 IsAnswerRefusal Check = IsRefusal
 IsAnswerRefusal (Peg plant item period) = IsPegRefusal plant.now item.now period
 IsAnswerRefusal Cums = IsRefusal
+
+-- a shut gate
+abbrev pub IsGateShut : TextFault → Type 0
+IsGateShut (GateShut name) = Unit {0}
+IsGateShut _ = ⊥
 
 -- the status of the process: 0 where the work was done, else that of the fault
 abbrev pub exit_status_of : {U : Type 0} → Result U TextFault → ℕ

@@ -7,6 +7,7 @@ use Rattle.mrp_agent.specs.State.{AgentState}
 use Rattle.mrp_crew.proofs.Drafting.{drafts_settle, wave_can, wave_once}
 use Rattle.mrp_crew.proofs.PlanningLaws.{plans_none}
 use Rattle.mrp_crew.proofs.Ready.{all_can_draft}
+use Rattle.mrp_crew.proofs.ShutGates.{memory_is_no_gate, wave_shut}
 use Rattle.mrp_crew.proofs.crew.Crew.plan_wave.Goals as goal
 
 pub returns-in_err-refill-clause-planned : goal.returns-in_err-refill-clause-planned
@@ -47,4 +48,19 @@ settle_all-open-requires-clause-drafts g c =
     let own : PairNo = get_or numbers others no_pair in
     let can : All (CanDraft A) numbers = all_can_draft A c.requires.plannable numbers ready.ensures.numbers ready.ensures.own ready.ensures.exact in
     drafts_settle A (take others numbers ++ own ∷ []) (wave_can (CanDraft A) numbers others own can (All-get_or (CanDraft A) numbers others no_pair (omega arith) can))
-    (wave_once numbers others no_pair own (omega arith) refl ready.ensures.once) c.draft_wave-drafts.result c.draft_wave-drafts.ensures
+    (wave_once numbers others no_pair own (omega arith) refl ready.ensures.once) c.draft_wave-drafts.result c.draft_wave-drafts.ensures.drafts
+
+pub returns-in_err-refill-clause-shut : goal.returns-in_err-refill-clause-shut
+returns-in_err-refill-clause-shut g c =
+    let p = err_from_is_err_and c.from_residual.result c.from_residual.ensures.1 in
+    rw p.1 (memory_is_no_gate p.0 p.2)
+
+pub returns-in_err-works-clause-shut : goal.returns-in_err-works-clause-shut
+returns-in_err-works-clause-shut g c =
+    let p = err_from_is_err_and c.from_residual-in_err-works.result c.from_residual-in_err-works.ensures.1 in
+    rw p.1 (memory_is_no_gate p.0 p.2)
+
+pub returns-in_err-workers-clause-shut : goal.returns-in_err-workers-clause-shut
+returns-in_err-workers-clause-shut g c =
+    let p = err_from_is_err_and c.from_residual-in_err-workers.result c.from_residual-in_err-workers.ensures.1 in
+    rw p.1 (memory_is_no_gate p.0 p.2)
