@@ -47,11 +47,7 @@ pub(crate) fn all_of(
     let mut worst = before;
     for back in backs {
         match back {
-            Ok(plant) => {
-                let Ok(()) = plants.push(plant) else {
-                    unreachable!()
-                };
-            }
+            Ok(plant) => plants.push(plant).unwrap(),
             Err(why) => worst = Some(with_fault(worst, why)),
         }
     }

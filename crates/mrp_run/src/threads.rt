@@ -150,9 +150,7 @@ fn start_all<'s, E, R: Threads + Wait + Sync, G: Gate>(
             stop.store(true, Ordering::SeqCst);
             return Err(RunFault::ThreadRefused);
         };
-        let Ok(()) = threads.push(thread) else {
-            unreachable!()
-        };
+        threads.push(thread).unwrap();
     }
     Ok(())
 }
@@ -185,10 +183,7 @@ fn start<'s, E, R: Threads + Wait + Sync, G: Gate>(
             requires workers { (1 ≤ workers) × (workers ≤ MOST_WORKERS) }
         { run_alone(rt, alloc, number, plant, workers, gate, stop, turns) },
     );
-    match started {
-        Ok(thread) => Some(thread),
-        Err(_) => None,
-    }
+    started.ok()
 }
 
 /// Runs a plant with a crew of its own.
@@ -222,8 +217,6 @@ fn join_all<R: Threads>(rt: &R, threads: Vec<Running>, backs: &mut Vec<Back>)
     ensures first { (plants : ℕ) → AreOfFirst plants threads.items → AreShutOfFirst plants backs.new.items }
 {
     for thread in threads {
-        let Ok(()) = backs.push(thread.join(rt)) else {
-            unreachable!()
-        };
+        backs.push(thread.join(rt)).unwrap();
     }
 }

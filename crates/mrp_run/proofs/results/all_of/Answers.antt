@@ -9,8 +9,8 @@ use Rattle.mrp_run.proofs.JoinedFaults.{plants_in, plants_more, plants_same, wit
 use Rattle.mrp_run.proofs.JoinedThreads.{whole_next, one_left, none_left}
 use Rattle.mrp_run.proofs.results.all_of.Goals as goal
 
-pub loop-back-preserved-in-Ok-push : goal.loop-back-preserved-in-Ok-push
-loop-back-preserved-in-Ok-push c =
+pub loop-back-preserved-in-Ok : goal.loop-back-preserved-in-Ok
+loop-back-preserved-in-Ok c =
     let at = c.loop-back in
     let left = one_left at.yielded (into_iter_items at.back-iterator) _ c.args.backs.items c.in-Some.back at.invariant.whole c.in-Some.ensures.steps.0 in
     let here : vec_len at.plants < vec_capacity at.plants = omega (arith, left, at.invariant.count, at.invariant.room, c.requires.room.1) in

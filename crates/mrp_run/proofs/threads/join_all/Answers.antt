@@ -1,4 +1,5 @@
-use Rattle.std.proofs.Common.{◌≡◌, ◌++◌, ◌∷◌, [], List, length-append, sym, subst, arith}
+use Rattle.std.proofs.Common.{◌≡◌, ◌+◌, ◌++◌, ◌∷◌, ◌∙◌, [], List, is_ok, length-append, vec_len, ap, sym, subst, arith}
+use Rattle.std.proofs.lemmas.Bool.{cond-true}
 use Rattle.std.specs.List.{AllZip}
 use Rattle.std.specs.Vec.Iter.{into_iter_items}
 use Rattle.mrp_run.specs.Joined.{Back, Finished, AreShutOfFirst, started}
@@ -9,9 +10,11 @@ pub loop-thread-preserved : goal.loop-thread-preserved
 loop-thread-preserved g c =
     let at = c.loop-thread in
     let thread = c.in-Some.thread in
-    let pushed : c.push.new.self.items ≡ at.backs.items ++ c.join.result ∷ [] = c.in-Ok.ensures.items in record {
+    let ok = ap is_ok c.unwrap.ensures in
+    let pushed : c.push.new.self.items ≡ at.backs.items ++ c.join.result ∷ [] =
+    c.push.ensures.items ∙ cond-true _ (at.backs.items ++ c.join.result ∷ []) at.backs.items ok in record {
       whole = whole_next at.yielded (into_iter_items at.thread-iterator) _ c.args.threads.items thread at.invariant.whole c.in-Some.ensures.steps.0;
-      count = omega (arith, at.invariant.count, c.in-Ok.ensures.len, length-append at.yielded (thread ∷ []));
+      count = omega (arith, at.invariant.count, c.push.ensures.len ∙ cond-true _ (vec_len at.backs + 1) (vec_len at.backs) ok, length-append at.yielded (thread ∷ []));
       room = omega (arith, at.invariant.room, c.push.ensures.capacity);
       finished = subst (λ (z : List Back). AllZip Finished (started (at.yielded ++ thread ∷ [])) z) (sym pushed)
           (subst (λ z. AllZip Finished z (at.backs.items ++ c.join.result ∷ [])) (sym (started_more at.yielded thread))

@@ -1,4 +1,5 @@
-use Rattle.std.proofs.Common.{◌≡◌, ◌<◌, ◌++◌, ◌∷◌, [], List, length, sym, ap, subst, ◌∙◌, arith}
+use Rattle.std.proofs.Common.{◌≡◌, ◌<◌, ◌++◌, ◌∷◌, [], List, is_ok, length, sym, ap, subst, ◌∙◌, arith}
+use Rattle.std.proofs.lemmas.Bool.{cond-true}
 use Rattle.std.proofs.lemmas.List.{length-map}
 use Rattle.std.proofs.lemmas.List.Elements.{All-push}
 use Rattle.std.specs.Vec.Iter.{into_iter_items}
@@ -17,7 +18,8 @@ loop-plant-preserved g c =
     let at = c.loop-plant in
     let plant = c.in-Some.plant in
     let thread = c.in-Some-start.thread in
-    let pushed : c.push.new.self.items ≡ at.threads.items ++ thread ∷ [] = c.in-Ok.ensures.items in
+    let pushed : c.push.new.self.items ≡ at.threads.items ++ thread ∷ [] =
+    c.push.ensures.items ∙ cond-true _ (at.threads.items ++ thread ∷ []) at.threads.items (ap is_ok c.unwrap.ensures) in
     let left = one_left at.yielded (into_iter_items at.plant-iterator) _ c.args.plants.items plant at.invariant.whole c.in-Some.ensures.steps.0 in
     let size : length at.yielded ≡ length at.threads.items = sym (ap length at.invariant.started_so_far) ∙ length-map at.threads.items (λ t. t.promise.plant.value) in record {
       whole = whole_next at.yielded (into_iter_items at.plant-iterator) _ c.args.plants.items plant at.invariant.whole c.in-Some.ensures.steps.0;
