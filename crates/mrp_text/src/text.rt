@@ -2,6 +2,9 @@
 //!
 //! Their contracts say what the planner does from bytes to bytes: `text` which text is written,
 //! `refusal` what each fault says of the input, `untouched` after which faults nothing is written.
+//!
+//! The network is let go by `drop` and not at the end of a scope: what lets go each of its lists is then
+//! proved once, and not in each of these functions.
 
 ghost use Rattle.std.specs.Prelude.{◌≡◌, ◌≢◌, ◌≤◌, IfErr};
 ghost use Rattle.mrp_text.specs.Fault.{IsBeforeWriting};
@@ -46,7 +49,9 @@ pub fn plan_text<T: Threads + Wait + Sync, R: Read + Drop, W: Write, G: Gate>(
     ensures untouched { IfErr result (λ fault. IsBeforeWriting fault → writer.new ≡ writer.old) }
 {
     let network = network_of(alloc, reader)?;
-    write_run(rt, alloc, &network, writer, settings, gate)
+    let written = write_run(rt, alloc, &network, writer, settings, gate);
+    drop(network);
+    written
 }
 
 /// Reads a table and writes its plan: a row for each pair and period, then a row for each late order.
@@ -80,7 +85,9 @@ pub fn drive_text<R: Read + Drop, W: Write>(
     ensures untouched { IfErr result (λ fault. IsBeforeWriting fault → writer.new ≡ writer.old) }
 {
     let network = network_of(alloc, reader)?;
-    write_plan(alloc, &network, writer, capacity)
+    let written = write_plan(alloc, &network, writer, capacity);
+    drop(network);
+    written
 }
 
 /// Reads a table and writes the low-level code of each pair.
@@ -99,7 +106,9 @@ pub fn check_text<R: Read + Drop, W: Write>(
     ensures untouched { IfErr result (λ fault. fault ≢ TextFault.WriteFault → writer.new ≡ writer.old) }
 {
     let network = network_of(alloc, reader)?;
-    write_codes(alloc, &network, writer)
+    let written = write_codes(alloc, &network, writer);
+    drop(network);
+    written
 }
 
 /// Reads a table and writes what the gross requirement of a pair in a period consists of: a row for
@@ -124,7 +133,9 @@ pub fn peg_text<R: Read + Drop, W: Write>(
     ensures untouched { IfErr result (λ fault. fault ≢ TextFault.WriteFault → writer.new ≡ writer.old) }
 {
     let network = network_of(alloc, reader)?;
-    write_pegs(alloc, &network, writer, plant, item, period)
+    let written = write_pegs(alloc, &network, writer, plant, item, period);
+    drop(network);
+    written
 }
 
 /// Reads a table and writes the cumulative figures of the lanes between its plants, once all plants have
@@ -144,5 +155,7 @@ pub fn cums_text<R: Read + Drop, W: Write>(
     ensures untouched { IfErr result (λ fault. fault ≢ TextFault.WriteFault → writer.new ≡ writer.old) }
 {
     let network = network_of(alloc, reader)?;
-    write_cums(alloc, &network, writer)
+    let written = write_cums(alloc, &network, writer);
+    drop(network);
+    written
 }

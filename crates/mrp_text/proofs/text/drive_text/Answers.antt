@@ -4,9 +4,9 @@ use Rattle.mrp_text.proofs.text.drive_text.Goals as goal
 
 pub returns-clause-text : goal.returns-clause-text
 returns-clause-text g c =
-    writes-of _ _ c.write_plan.result (IsPlanReport c.in_ok-network.network) _
-    (λ text is. (c.in_ok-network.network, c.in_ok-network.ensures.table, c.in_ok-network.ensures.rows, is)) c.write_plan.ensures.text
+    writes-of _ _ c.write_plan-written.result (IsPlanReport c.in_ok-network.network) _
+    (λ text is. (c.in_ok-network.network, c.in_ok-network.ensures.table, c.in_ok-network.ensures.rows, is)) c.write_plan-written.ensures.text
 
 pub returns-clause-refusal : goal.returns-clause-refusal
 returns-clause-refusal g c =
-    refuses-of _ IsRefusal c.in_ok-network.network c.write_plan.result c.in_ok-network.ensures.table c.in_ok-network.ensures.rows (λ e said. said) c.write_plan.ensures.refusal
+    refuses-of _ IsRefusal c.in_ok-network.network c.write_plan-written.result c.in_ok-network.ensures.table c.in_ok-network.ensures.rows (λ e said. said) c.write_plan-written.ensures.refusal

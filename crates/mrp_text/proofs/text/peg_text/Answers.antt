@@ -4,10 +4,10 @@ use Rattle.mrp_text.proofs.text.peg_text.Goals as goal
 
 pub returns-clause-text : goal.returns-clause-text
 returns-clause-text g c =
-    writes-of _ _ c.write_pegs.result (IsPegReport c.args.plant.now c.args.item.now c.args.period c.in_ok-network.network) _
-    (λ text is. (c.in_ok-network.network, c.in_ok-network.ensures.table, c.in_ok-network.ensures.rows, is)) c.write_pegs.ensures.text
+    writes-of _ _ c.write_pegs-written.result (IsPegReport c.args.plant.now c.args.item.now c.args.period c.in_ok-network.network) _
+    (λ text is. (c.in_ok-network.network, c.in_ok-network.ensures.table, c.in_ok-network.ensures.rows, is)) c.write_pegs-written.ensures.text
 
 pub returns-clause-refusal : goal.returns-clause-refusal
 returns-clause-refusal g c =
-    refuses-of _ (IsPegRefusal c.args.plant.now c.args.item.now c.args.period) c.in_ok-network.network c.write_pegs.result
-    c.in_ok-network.ensures.table c.in_ok-network.ensures.rows (λ e said. said) c.write_pegs.ensures.refusal
+    refuses-of _ (IsPegRefusal c.args.plant.now c.args.item.now c.args.period) c.in_ok-network.network c.write_pegs-written.result
+    c.in_ok-network.ensures.table c.in_ok-network.ensures.rows (λ e said. said) c.write_pegs-written.ensures.refusal

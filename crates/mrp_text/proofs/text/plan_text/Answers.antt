@@ -4,9 +4,9 @@ use Rattle.mrp_text.proofs.text.plan_text.Goals as goal
 
 pub returns-clause-text : goal.returns-clause-text
 returns-clause-text g c =
-    writes-of _ _ c.write_run.result (IsPlanReport c.in_ok-network.network) _
-    (λ text is. (c.in_ok-network.network, c.in_ok-network.ensures.table, c.in_ok-network.ensures.rows, is)) c.write_run.ensures.text
+    writes-of _ _ c.write_run-written.result (IsPlanReport c.in_ok-network.network) _
+    (λ text is. (c.in_ok-network.network, c.in_ok-network.ensures.table, c.in_ok-network.ensures.rows, is)) c.write_run-written.ensures.text
 
 pub returns-clause-refusal : goal.returns-clause-refusal
 returns-clause-refusal g c =
-    refuses-of _ IsRunRefusal c.in_ok-network.network c.write_run.result c.in_ok-network.ensures.table c.in_ok-network.ensures.rows (λ e said. said) c.write_run.ensures.refusal
+    refuses-of _ IsRunRefusal c.in_ok-network.network c.write_run-written.result c.in_ok-network.ensures.table c.in_ok-network.ensures.rows (λ e said. said) c.write_run-written.ensures.refusal
