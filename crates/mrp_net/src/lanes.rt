@@ -298,25 +298,69 @@ fn resets(alloc: Global, tables: &Tables, starts: &[usize]) -> Result<Vec<Option
     Ok(resets)
 }
 
+/// What comes by each source, and where the sources of each pair begin.
+#[derive(Drop)]
+struct Coming {
+    sources: Vec<usize>,
+    shipments: Groups<Shipment>,
+    figures: Vec<u64>,
+    shipped: Vec<u64>,
+    resets: Vec<Option<u64>>,
+}
+
+/// The shipments of each source, and what was shipped before them.
+fn ships(
+    alloc: Global,
+    tables: &Tables,
+    starts: &[usize],
+) -> Result<(Groups<Shipment>, Vec<u64>), Memory>
+    requires { AreSourceStarts tables.now starts.now }
+    ensures shipments { IfOk result (λ r. AreShipments tables.now r.0.rows.items r.0.starts.items) }
+    ensures shipped { IfOk result (λ r. AreSent tables.now (shipped_from tables.now) r.1.items) }
+{
+    let all = all_sent(alloc, tables, starts)?;
+    let shipments = shipments(alloc, tables, all.as_slice())?;
+    let shipped = shipped(alloc, tables, all.as_slice())?;
+    Ok((shipments, shipped))
+}
+
+impl Coming {
+    /// What comes by the sources of a table.
+    fn of(alloc: Global, tables: &Tables) -> Result<Coming, Memory>
+        ensures sources { IfOk result (λ c. AreSourceStarts tables.now c.sources.items) }
+        ensures shipments { IfOk result (λ c. AreShipments tables.now c.shipments.rows.items c.shipments.starts.items) }
+        ensures openings { IfOk result (λ c. AreSent tables.now (figure tables.now) c.figures.items) }
+        ensures sent { IfOk result (λ c. AreSent tables.now (shipped_from tables.now) c.shipped.items) }
+        ensures resets { IfOk result (λ c. AreResets tables.now c.resets.items) }
+    {
+        let sources = source_starts(alloc, tables)?;
+        let figures = figures(alloc, tables, sources.as_slice())?;
+        let resets = resets(alloc, tables, sources.as_slice())?;
+        let (shipments, shipped) = ships(alloc, tables, sources.as_slice())?;
+        Ok(Coming {
+            sources,
+            shipments,
+            figures,
+            shipped,
+            resets,
+        })
+    }
+}
+
 /// The lanes and what is sent over them.
 pub fn lane_lists_of(alloc: Global, tables: &Tables) -> Result<LaneLists, Memory>
     ensures { IfOk result (AreLaneLists tables.now) }
 {
     let items = items(alloc, tables)?;
     let lanes = all_lanes(alloc, tables, &items)?;
-    let sources = source_starts(alloc, tables)?;
-    let all = all_sent(alloc, tables, sources.as_slice())?;
-    let shipments = shipments(alloc, tables, all.as_slice())?;
-    let figures = figures(alloc, tables, sources.as_slice())?;
-    let shipped = shipped(alloc, tables, all.as_slice())?;
-    let resets = resets(alloc, tables, sources.as_slice())?;
+    let coming = Coming::of(alloc, tables)?;
     Ok(LaneLists {
         lanes,
         items,
-        sources,
-        shipments,
-        figures,
-        shipped,
-        resets,
+        sources: coming.sources,
+        shipments: coming.shipments,
+        figures: coming.figures,
+        shipped: coming.shipped,
+        resets: coming.resets,
     })
 }
