@@ -3,9 +3,9 @@
 
 ghost use Rattle.std.specs.Prelude.{◌≡◌, length};
 
-use super::network;
+use super::trials::{Trial, holds_of};
 use mrp_book::LaneFigure;
-use mrp_loops::{SizedNet, bound, check};
+use mrp_loops::SizedNet;
 use mrp_net::{Network, PairNo};
 use mrp_netting::PairPlan;
 use mrp_plan::{Plan, plan_all};
@@ -122,27 +122,37 @@ fn ends_with<R: Threads + Wait + Sync>(
 }
 
 /// Whether a run with any of the settings ends so.
-fn all_end<R: Threads + Wait + Sync>(
+fn each_ends<R: Threads + Wait + Sync>(
     rt: &R,
     alloc: Global,
     net: &SizedNet,
+    whole: &Plan,
     ending: &Ending,
-) -> Result<bool, Fail> {
-    let whole = plan_all(alloc, net)?;
+) -> Result<bool, Fail>
+    requires pairs { length whole.now ≡ length net.now.network.pairs }
+{
     for (workers, capacity) in SETTINGS {
-        if !ends_with(rt, alloc, net, &whole, workers, capacity, ending)? {
+        if !ends_with(rt, alloc, net, whole, workers, capacity, ending)? {
             return Ok(false);
         }
     }
     Ok(true)
 }
 
+/// The same, by the plan of the network.
+pub(super) fn all_end<R: Threads + Wait + Sync>(
+    rt: &R,
+    alloc: Global,
+    net: &SizedNet,
+    ending: &Ending,
+) -> Result<bool, Fail> {
+    let whole = plan_all(alloc, net)?;
+    each_ends(rt, alloc, net, &whole, ending)
+}
+
 /// Whether all runs of the ending's table end so.
 fn ends<R: Threads + Wait + Sync>(rt: &R, alloc: Global, ending: &Ending) -> Result<bool, Fail> {
-    let network = network(alloc, ending.table)?;
-    let levels = check(alloc, &network)?;
-    let net = bound(alloc, &network, &levels)?;
-    all_end(rt, alloc, &net, ending)
+    holds_of(rt, alloc, ending.table, Trial::Ends(ending), &NoGate)
 }
 
 #[test]

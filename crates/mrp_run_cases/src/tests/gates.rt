@@ -3,8 +3,8 @@
 //! Gates that wait for one another show that plants, and the workers of a plant, are at work at the same
 //! time: on one thread the first would wait in vain.
 
-use super::network;
-use mrp_loops::{bound, check};
+use super::trials::{Trial, holds_of};
+use mrp_loops::SizedNet;
 use mrp_run::{Gate, NoGate, PlantNo, RunFault, Settings, run_network, run_network_within};
 use mrp_worked::{LONG_RING, RING, TWO_CUSTOMERS, TWO_PLANTS};
 use std::alloc::Global;
@@ -158,40 +158,133 @@ impl Gate for Asked {
     }
 }
 
-/// What a run under a gate answers: its fault, or `None` where it is well.
-fn fault_of<R: Threads + Wait + Sync, G: Gate>(
+/// Whether a run with so many workers answers that fault under a gate, or is well where there is none.
+pub(super) fn answers<R: Threads + Wait + Sync, G: Gate>(
+    rt: &R,
+    alloc: Global,
+    net: &SizedNet,
+    workers: u64,
+    gate: &G,
+    fault: Option<RunFault>,
+) -> bool {
+    let Some(settings) = Settings::new(workers, 1) else {
+        return false;
+    };
+    run_network(rt, alloc, net, settings, gate).err() == fault
+}
+
+/// Whether a run answers that fault within so many turns of a plant, or is well where there is none.
+pub(super) fn answers_within<R: Threads + Wait + Sync>(
+    rt: &R,
+    alloc: Global,
+    net: &SizedNet,
+    turns: u64,
+    fault: Option<RunFault>,
+) -> bool {
+    let Some(settings) = Settings::new(1, 1) else {
+        return false;
+    };
+    run_network_within(rt, alloc, net, settings, &NoGate, turns).err() == fault
+}
+
+/// Whether a run of the table with so many workers answers that fault under a gate.
+fn is_answered<R: Threads + Wait + Sync, G: Gate>(
     rt: &R,
     alloc: Global,
     table: &str,
     workers: u64,
     gate: &G,
-) -> Result<Option<RunFault>, Fail> {
-    let network = network(alloc, table)?;
-    let levels = check(alloc, &network)?;
-    let net = bound(alloc, &network, &levels)?;
-    let settings = Settings::new(workers, 1).ok_or("no settings")?;
-    Ok(run_network(rt, alloc, &net, settings, gate).err())
+    fault: Option<RunFault>,
+) -> Result<bool, Fail> {
+    holds_of(rt, alloc, table, Trial::Answers(workers, fault), gate)
 }
 
-/// What a run of the long ring answers within so many turns of a plant.
-fn fault_within<R: Threads + Wait + Sync>(
+/// The same under a gate that is shut for one turn of one plant.
+fn is_answered_at_turn<R: Threads + Wait + Sync>(
+    rt: &R,
+    alloc: Global,
+    table: &str,
+    plant: usize,
+    turn: u64,
+    fault: Option<RunFault>,
+) -> Result<bool, Fail> {
+    let gate = ShutAtTurn { plant, turn };
+    is_answered(rt, alloc, table, 1, &gate, fault)
+}
+
+/// The same of two customers under a gate that is shut for one worker of one plant.
+fn is_answered_for_worker<R: Threads + Wait + Sync>(
+    rt: &R,
+    alloc: Global,
+    workers: u64,
+    plant: usize,
+    worker: u64,
+    fault: Option<RunFault>,
+) -> Result<bool, Fail> {
+    let gate = ShutForWorker { plant, worker };
+    is_answered(rt, alloc, TWO_CUSTOMERS, workers, &gate, fault)
+}
+
+/// Whether a run of the table is well under a gate where plants 0 and 1 meet.
+fn plants_meet<R: Threads + Wait + Sync>(rt: &R, alloc: Global, table: &str) -> Result<bool, Fail> {
+    let gate = PlantsMeet(Meeting::new(LOOKS));
+    is_answered(rt, alloc, table, 1, &gate, None)
+}
+
+/// Whether a run of two customers with so many workers answers that fault under a gate where the first two
+/// workers of the supplier look for each other so often.
+fn is_answered_where_workers_meet<R: Threads + Wait + Sync>(
+    rt: &R,
+    alloc: Global,
+    looks: u64,
+    workers: u64,
+    fault: Option<RunFault>,
+) -> Result<bool, Fail> {
+    let gate = WorkersMeet(Meeting::new(looks));
+    is_answered(rt, alloc, TWO_CUSTOMERS, workers, &gate, fault)
+}
+
+/// Whether the supplier and both customers asked for a worker.
+fn have_all_asked(gate: &Asked) -> bool {
+    for customer in CUSTOMERS {
+        if !gate.has_asked(customer) {
+            return false;
+        }
+    }
+    gate.has_asked(SUPPLIER)
+}
+
+/// Whether they did in a run with two workers, which is well.
+fn all_ask<R: Threads + Wait + Sync>(rt: &R, alloc: Global) -> Result<bool, Fail> {
+    let gate = Asked([
+        AtomicBool::new(false),
+        AtomicBool::new(false),
+        AtomicBool::new(false),
+    ]);
+    let is_well = is_answered(rt, alloc, TWO_CUSTOMERS, 2, &gate, None)?;
+    Ok(is_well && have_all_asked(&gate))
+}
+
+/// The fault of a gate that is shut to that plant.
+const fn shut(plant: usize) -> Option<RunFault> {
+    Some(RunFault::GateShut(PlantNo(plant)))
+}
+
+/// Whether a run of the long ring answers that fault within so many turns of a plant.
+fn is_answered_within<R: Threads + Wait + Sync>(
     rt: &R,
     alloc: Global,
     turns: u64,
-) -> Result<Option<RunFault>, Fail> {
-    let network = network(alloc, LONG_RING)?;
-    let levels = check(alloc, &network)?;
-    let net = bound(alloc, &network, &levels)?;
-    let settings = Settings::new(1, 1).ok_or("no settings")?;
-    Ok(run_network_within(rt, alloc, &net, settings, &NoGate, turns).err())
+    fault: Option<RunFault>,
+) -> Result<bool, Fail> {
+    let trial = Trial::AnswersWithin(turns, fault);
+    holds_of(rt, alloc, LONG_RING, trial, &NoGate)
 }
 
 #[test]
 fn a_gate_shut_at_the_first_turn_names_its_plant(rt: HostRuntime) -> Result<(), Fail> {
     for plant in [0, 1] {
-        let gate = ShutAtTurn { plant, turn: 1 };
-        let fault = fault_of(&rt, rt.alloc(), TWO_PLANTS, 1, &gate)?;
-        assert_eq!(&rt; fault, Some(RunFault::GateShut(PlantNo(plant))));
+        assert!(&rt; is_answered_at_turn(&rt, rt.alloc(), TWO_PLANTS, plant, 1, shut(plant))?);
     }
     Ok(())
 }
@@ -199,88 +292,66 @@ fn a_gate_shut_at_the_first_turn_names_its_plant(rt: HostRuntime) -> Result<(), 
 #[test]
 fn a_gate_shut_at_the_third_turn_names_its_plant(rt: HostRuntime) -> Result<(), Fail> {
     for plant in [0, 1] {
-        let gate = ShutAtTurn { plant, turn: 3 };
-        let fault = fault_of(&rt, rt.alloc(), LONG_RING, 1, &gate)?;
-        assert_eq!(&rt; fault, Some(RunFault::GateShut(PlantNo(plant))));
+        assert!(&rt; is_answered_at_turn(&rt, rt.alloc(), LONG_RING, plant, 3, shut(plant))?);
     }
     Ok(())
 }
 
 #[test]
 fn a_gate_shut_for_a_plant_that_is_not_there_is_no_fault(rt: HostRuntime) -> Result<(), Fail> {
-    let gate = ShutAtTurn { plant: 2, turn: 1 };
-    assert_eq!(&rt; fault_of(&rt, rt.alloc(), TWO_PLANTS, 1, &gate)?, None);
+    assert!(&rt; is_answered_at_turn(&rt, rt.alloc(), TWO_PLANTS, 2, 1, None)?);
     Ok(())
 }
 
 #[test]
 fn a_gate_shut_for_a_worker_names_its_plant(rt: HostRuntime) -> Result<(), Fail> {
     for plant in [0, 1, 2] {
-        let gate = ShutForWorker { plant, worker: 1 };
-        let fault = fault_of(&rt, rt.alloc(), TWO_CUSTOMERS, 2, &gate)?;
-        assert_eq!(&rt; fault, Some(RunFault::GateShut(PlantNo(plant))));
+        assert!(&rt; is_answered_for_worker(&rt, rt.alloc(), 2, plant, 1, shut(plant))?);
     }
     Ok(())
 }
 
 #[test]
 fn a_second_worker_is_asked_for_where_there_are_two(rt: HostRuntime) -> Result<(), Fail> {
-    let gate = ShutForWorker {
-        plant: SUPPLIER,
-        worker: 2,
-    };
-    let alone = fault_of(&rt, rt.alloc(), TWO_CUSTOMERS, 1, &gate)?;
-    assert_eq!(&rt; alone, None);
-    let two = fault_of(&rt, rt.alloc(), TWO_CUSTOMERS, 2, &gate)?;
-    assert_eq!(&rt; two, Some(RunFault::GateShut(PlantNo(SUPPLIER))));
+    for (workers, fault) in [(1, None), (2, shut(SUPPLIER))] {
+        assert!(&rt; is_answered_for_worker(&rt, rt.alloc(), workers, SUPPLIER, 2, fault)?);
+    }
     Ok(())
 }
 
 #[test]
 fn too_few_turns_stop_a_run(rt: HostRuntime) -> Result<(), Fail> {
     for turns in [0, 1, 2] {
-        let fault = fault_within(&rt, rt.alloc(), turns)?;
-        assert_eq!(&rt; fault, Some(RunFault::Stopped), "within {turns}");
+        let stops = is_answered_within(&rt, rt.alloc(), turns, Some(RunFault::Stopped))?;
+        assert!(&rt; stops, "within {turns}");
     }
-    assert_eq!(&rt; fault_within(&rt, rt.alloc(), 1 << 62)?, None);
+    assert!(&rt; is_answered_within(&rt, rt.alloc(), 1 << 62, None)?);
     Ok(())
 }
 
 #[test]
 fn plants_run_side_by_side(rt: HostRuntime) -> Result<(), Fail> {
     for table in [TWO_PLANTS, RING] {
-        let gate = PlantsMeet(Meeting::new(LOOKS));
-        assert_eq!(&rt; fault_of(&rt, rt.alloc(), table, 1, &gate)?, None);
+        assert!(&rt; plants_meet(&rt, rt.alloc(), table)?);
     }
     Ok(())
 }
 
 #[test]
 fn a_wave_is_on_two_threads(rt: HostRuntime) -> Result<(), Fail> {
-    let gate = WorkersMeet(Meeting::new(LOOKS));
-    assert_eq!(&rt; fault_of(&rt, rt.alloc(), TWO_CUSTOMERS, 2, &gate)?, None);
+    assert!(&rt; is_answered_where_workers_meet(&rt, rt.alloc(), LOOKS, 2, None)?);
     Ok(())
 }
 
 #[test]
 fn a_worker_alone_waits_in_vain_for_another(rt: HostRuntime) -> Result<(), Fail> {
-    let gate = WorkersMeet(Meeting::new(1_000));
-    let fault = fault_of(&rt, rt.alloc(), TWO_CUSTOMERS, 1, &gate)?;
-    assert_eq!(&rt; fault, Some(RunFault::GateShut(PlantNo(SUPPLIER))));
+    let fault = shut(SUPPLIER);
+    assert!(&rt; is_answered_where_workers_meet(&rt, rt.alloc(), 1_000, 1, fault)?);
     Ok(())
 }
 
 #[test]
 fn each_plant_asks_for_workers(rt: HostRuntime) -> Result<(), Fail> {
-    let gate = Asked([
-        AtomicBool::new(false),
-        AtomicBool::new(false),
-        AtomicBool::new(false),
-    ]);
-    assert_eq!(&rt; fault_of(&rt, rt.alloc(), TWO_CUSTOMERS, 2, &gate)?, None);
-    assert!(&rt; gate.has_asked(SUPPLIER));
-    for customer in CUSTOMERS {
-        assert!(&rt; gate.has_asked(customer));
-    }
+    assert!(&rt; all_ask(&rt, rt.alloc())?);
     Ok(())
 }

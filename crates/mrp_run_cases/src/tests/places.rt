@@ -7,10 +7,10 @@
 ghost use Rattle.std.specs.Prelude.{◌≡◌, length};
 
 use super::endings::is_ending;
-use super::network;
-use mrp_loops::{SizedNet, bound, check};
+use super::trials::{Trial, holds_of};
+use mrp_loops::SizedNet;
 use mrp_plan::{Plan, plan_all};
-use mrp_run::{Gate, Outcome, PlantNo, RunFault, Settings, run_network_within};
+use mrp_run::{Gate, NoGate, Outcome, PlantNo, RunFault, Settings, run_network_within};
 use mrp_worked::{Ending, RING_ENDING, TWO_CUSTOMERS_ENDING};
 use std::alloc::Global;
 use std::sync::Wait;
@@ -35,7 +35,7 @@ const CREWS: [(u64, u64); 2] = [(2, 1), (64, 64)];
 
 /// Where a run is broken off, each place by a number.
 #[derive(Clone, Copy)]
-enum Place {
+pub(super) enum Place {
     /// The gate is shut at one look of all that are taken.
     AtLook,
     /// The gate is shut at a look and at all after it.
@@ -222,7 +222,31 @@ fn first_whole<R: Threads + Wait + Sync>(
 
 /// Whether with each of the settings each number is answered as it has to be until a run is whole, and no
 /// run is below the least number.
-fn are_met<R: Threads + Wait + Sync>(
+fn are_met_by<R: Threads + Wait + Sync>(
+    rt: &R,
+    alloc: Global,
+    net: &SizedNet,
+    whole: &Plan,
+    ending: &Ending,
+    all: [(u64, u64); 2],
+    place: Place,
+    least: u64,
+) -> bool
+    requires pairs { length whole.now ≡ length net.now.network.pairs }
+{
+    for (workers, capacity) in all {
+        let Some(settings) = Settings::new(workers, capacity) else {
+            return false;
+        };
+        if first_whole(rt, alloc, net, whole, settings, ending, place) < least {
+            return false;
+        }
+    }
+    true
+}
+
+/// The same, by the plan of the network.
+pub(super) fn are_met<R: Threads + Wait + Sync>(
     rt: &R,
     alloc: Global,
     net: &SizedNet,
@@ -232,13 +256,7 @@ fn are_met<R: Threads + Wait + Sync>(
     least: u64,
 ) -> Result<bool, Fail> {
     let whole = plan_all(alloc, net)?;
-    for (workers, capacity) in all {
-        let settings = Settings::new(workers, capacity).ok_or("no settings")?;
-        if first_whole(rt, alloc, net, &whole, settings, ending, place) < least {
-            return Ok(false);
-        }
-    }
-    Ok(true)
+    Ok(are_met_by(rt, alloc, net, &whole, ending, all, place, least))
 }
 
 /// Whether that holds for the ending's table.
@@ -250,10 +268,8 @@ fn breaks_off<R: Threads + Wait + Sync>(
     place: Place,
     least: u64,
 ) -> Result<bool, Fail> {
-    let network = network(alloc, ending.table)?;
-    let levels = check(alloc, &network)?;
-    let net = bound(alloc, &network, &levels)?;
-    are_met(rt, alloc, &net, ending, all, place, least)
+    let trial = Trial::BreaksOff(ending, all, place, least);
+    holds_of(rt, alloc, ending.table, trial, &NoGate)
 }
 
 /// A worker looks for each pair, and each plant for a turn: 6 pairs and 2 plants, or 5 and 3, so 8 looks are

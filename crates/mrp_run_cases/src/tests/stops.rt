@@ -4,9 +4,9 @@
 //! The plant that stops a run is one without which no other is done: each of the ring, whose plants wait for
 //! one another's calls, or the supplier, whose shipments both customers wait to hear of.
 
-use super::network;
-use mrp_loops::{SizedNet, bound, check};
-use mrp_run::{Gate, PlantNo, RunFault, Settings, run_network};
+use super::trials::{Trial, holds_of};
+use mrp_loops::SizedNet;
+use mrp_run::{Gate, NoGate, PlantNo, RunFault, Settings, run_network};
 use mrp_worked::{RING, TWO_CUSTOMERS};
 use std::alloc::Global;
 use std::sync::Wait;
@@ -112,23 +112,39 @@ fn is_stopped<R: Threads + Wait + Sync>(
         && halt.is_left_alone()
 }
 
+/// Whether that holds with so many workers and so much room.
+fn is_stopped_with<R: Threads + Wait + Sync>(
+    rt: &R,
+    alloc: Global,
+    net: &SizedNet,
+    workers: u64,
+    capacity: u64,
+    plants: usize,
+    plant: usize,
+    turns: u64,
+) -> bool {
+    let Some(settings) = Settings::new(workers, capacity) else {
+        return false;
+    };
+    let halt = Halt::new(plants, plant, turns);
+    is_stopped(rt, alloc, net, settings, &halt)
+}
+
 /// Whether that holds with each of the settings.
-fn are_stopped<R: Threads + Wait + Sync>(
+pub(super) fn are_stopped<R: Threads + Wait + Sync>(
     rt: &R,
     alloc: Global,
     net: &SizedNet,
     plants: usize,
     plant: usize,
     turns: u64,
-) -> Result<bool, Fail> {
+) -> bool {
     for (workers, capacity) in SETTINGS {
-        let settings = Settings::new(workers, capacity).ok_or("no settings")?;
-        let halt = Halt::new(plants, plant, turns);
-        if !is_stopped(rt, alloc, net, settings, &halt) {
-            return Ok(false);
+        if !is_stopped_with(rt, alloc, net, workers, capacity, plants, plant, turns) {
+            return false;
         }
     }
-    Ok(true)
+    true
 }
 
 /// Whether that holds for the table of so many plants.
@@ -140,10 +156,13 @@ fn stops<R: Threads + Wait + Sync>(
     plant: usize,
     turns: u64,
 ) -> Result<bool, Fail> {
-    let network = network(alloc, table)?;
-    let levels = check(alloc, &network)?;
-    let net = bound(alloc, &network, &levels)?;
-    are_stopped(rt, alloc, &net, plants, plant, turns)
+    holds_of(
+        rt,
+        alloc,
+        table,
+        Trial::Stops(plants, plant, turns),
+        &NoGate,
+    )
 }
 
 /// The others have begun their first turn, their second or their hundredth.
