@@ -6,20 +6,18 @@ ghost use Rattle.std.specs.Prelude.{◌≡◌, length};
 mod events;
 mod random;
 mod refusals;
+mod trials;
 
 use mrp_book::LaneFigure;
 use mrp_net::{Network, PairNo};
 use mrp_plan::Plan;
-use mrp_tables::read_tables_uncounted;
 use mrp_worked::is_same_plan;
 use mrp_world::Firm;
+use std::alloc::Global;
 use std::test::Fail;
 
-/// The network of a table's text.
-fn network(rt: &HostRuntime, text: &str) -> Result<Network, Fail> {
-    let tables = read_tables_uncounted(rt.alloc(), text.as_bytes())?;
-    Ok(Network::of(rt.alloc(), tables)?)
-}
+/// An item's figures on a lane: opening, shipped and received.
+type Figures = (u64, u64, u64);
 
 /// Whether each pair that is planned has the plan of the whole network.
 fn follows(firm: &Firm, network: &Network, plan: &Plan) -> bool
@@ -54,13 +52,19 @@ fn is_at_the_end(firm: &Firm) -> bool {
 }
 
 /// Whether the figures are these, each as opening, shipped and received.
-fn are_figures(figures: &[LaneFigure], wanted: &[(u64, u64, u64)]) -> bool {
+fn are_figures(figures: &[LaneFigure], wanted: &[Figures]) -> bool {
     figures.len() == wanted.len()
         && figures.iter().zip(wanted).all(|(figure, (opening, shipped, received))| {
             figure.opening.get() == *opening
                 && figure.shipped.get() == *shipped
                 && figure.received.get() == *received
         })
+}
+
+/// Whether the firm shows these figures.
+fn shows(alloc: Global, firm: &Firm, wanted: &[Figures]) -> Result<bool, Fail> {
+    let figures = firm.figures(alloc)?;
+    Ok(are_figures(figures.as_slice(), wanted))
 }
 
 /// Whether all that was shipped is received.

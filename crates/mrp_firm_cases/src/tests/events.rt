@@ -1,12 +1,13 @@
 //! What plants do at each event, and how firms end.
 
-ghost use Rattle.std.specs.Prelude.{◌≡◌};
+ghost use Rattle.std.specs.Prelude.{◌≡◌, length};
 
-use super::{are_figures, are_received, follows, is_at_the_end, is_planned_whole, network};
+use super::trials::{Trial, holds_of};
+use super::{Figures, are_received, follows, is_at_the_end, is_planned_whole, shows};
 use mrp_book::LaneFigure;
-use mrp_loops::{SizedNet, bound, check};
+use mrp_loops::SizedNet;
 use mrp_net::{LaneNo, Network, PairNo};
-use mrp_plan::plan_all;
+use mrp_plan::{Plan, plan_all};
 use mrp_worked::{
     Ending, IDLE_RING_ENDING, NO_LANES_ENDING, NO_PLANTS_ENDING, ONE_SHARED, ONE_SHARED_ENDING,
     RESET_AT_RELEASE, RESET_AT_RELEASE_ENDING, RESET_LATER, RESET_LATER_ENDING, RING, RING_ENDING,
@@ -18,10 +19,7 @@ use std::alloc::Global;
 use std::test::Fail;
 
 /// An event, whether it is enabled, and how many steps are left after it.
-type Tried = (Event, bool, u64);
-
-/// An item's figures on a lane: opening, shipped and received.
-type Figures = (u64, u64, u64);
+pub(super) type Tried = (Event, bool, u64);
 
 /// A record is sent over the lane of that number.
 const fn send(lane: usize) -> Event {
@@ -60,21 +58,50 @@ fn takes(firm: &mut Firm, tried: &[Tried]) -> bool
 
 /// Whether the firm takes the events so, shows these figures after them, and has planned no pair
 /// otherwise than the network is.
-fn goes_so(
+fn takes_them(
+    alloc: Global,
+    network: &Network,
+    whole: &Plan,
+    firm: &mut Firm,
+    tried: &[Tried],
+    figures: &[Figures],
+) -> Result<bool, Fail>
+    requires network { firm.old.network ≡ network.now }
+    requires pairs { length whole.now ≡ length network.now.pairs }
+{
+    let taken = takes(firm, tried);
+    let shown = shows(alloc, firm, figures)?;
+    Ok(taken && shown && follows(firm, network, whole))
+}
+
+/// The same of a new firm with mailboxes of that room.
+fn goes_by_plan(
+    alloc: Global,
+    net: &SizedNet,
+    whole: &Plan,
+    capacity: u64,
+    tried: &[Tried],
+    figures: &[Figures],
+) -> Result<bool, Fail>
+    requires pairs { length whole.now ≡ length net.now.network.pairs }
+{
+    if capacity == 0 || capacity > MOST_ROOM {
+        return Ok(false);
+    }
+    let mut firm: Firm<'_> = Firm::new(alloc, net, capacity)?;
+    takes_them(alloc, net.network(), whole, &mut firm, tried, figures)
+}
+
+/// The same, by the plan of the network.
+pub(super) fn goes_so(
     alloc: Global,
     net: &SizedNet,
     capacity: u64,
     tried: &[Tried],
     figures: &[Figures],
 ) -> Result<bool, Fail> {
-    if capacity == 0 || capacity > MOST_ROOM {
-        return Ok(false);
-    }
     let whole = plan_all(alloc, net)?;
-    let mut firm: Firm<'_> = Firm::new(alloc, net, capacity)?;
-    let taken = takes(&mut firm, tried);
-    let shown = firm.figures(alloc)?;
-    Ok(taken && are_figures(shown.as_slice(), figures) && follows(&firm, net.network(), &whole))
+    goes_by_plan(alloc, net, &whole, capacity, tried, figures)
 }
 
 /// The same of the firm of a table.
@@ -85,10 +112,7 @@ fn goes(
     tried: &[Tried],
     figures: &[Figures],
 ) -> Result<bool, Fail> {
-    let network = network(rt, table)?;
-    let levels = check(rt.alloc(), &network)?;
-    let net = bound(rt.alloc(), &network, &levels)?;
-    goes_so(rt.alloc(), &net, capacity, tried, figures)
+    holds_of(rt.alloc(), table, Trial::Goes(capacity, tried, figures))
 }
 
 /// Whether the pair is planned with these orders.
@@ -141,8 +165,60 @@ fn are_settled_lanes(figures: &[LaneFigure], wanted: &[&[(u64, u64)]]) -> bool {
     rest.is_empty()
 }
 
-/// Whether the firm begins with so many steps and is driven to this ending, which is the plan of
-/// the network.
+/// Whether the firm shows the figures of this ending.
+fn shows_settled(alloc: Global, firm: &Firm, ending: &Ending) -> Result<bool, Fail> {
+    let shown = firm.figures(alloc)?;
+    Ok(are_settled_lanes(shown.as_slice(), ending.figures))
+}
+
+/// Whether the firm is at this ending, which is the plan of the network.
+fn is_planned_so(firm: &Firm, network: &Network, whole: &Plan, ending: &Ending) -> bool
+    requires network { firm.now.network ≡ network.now }
+    requires pairs { length whole.now ≡ length network.now.pairs }
+{
+    is_at_the_end(firm)
+        && has_all_orders(firm, network, ending.orders)
+        && is_planned_whole(firm, network)
+        && follows(firm, network, whole)
+}
+
+/// Whether the firm begins with so many steps and is driven to this ending.
+fn is_driven_to(
+    alloc: Global,
+    network: &Network,
+    whole: &Plan,
+    firm: &mut Firm,
+    ending: &Ending,
+    wanted: u64,
+) -> Result<bool, Fail>
+    requires network { firm.old.network ≡ network.now }
+    requires pairs { length whole.now ≡ length network.now.pairs }
+{
+    let steps = firm.steps_left();
+    firm.drive();
+    let settled = shows_settled(alloc, firm, ending)?;
+    Ok(steps == wanted && settled && is_planned_so(firm, network, whole, ending))
+}
+
+/// The same of a new firm with mailboxes of that room.
+fn ends_by_plan(
+    alloc: Global,
+    net: &SizedNet,
+    whole: &Plan,
+    capacity: u64,
+    ending: &Ending,
+    wanted: u64,
+) -> Result<bool, Fail>
+    requires pairs { length whole.now ≡ length net.now.network.pairs }
+{
+    if capacity == 0 || capacity > MOST_ROOM {
+        return Ok(false);
+    }
+    let mut firm: Firm<'_> = Firm::new(alloc, net, capacity)?;
+    is_driven_to(alloc, net.network(), whole, &mut firm, ending, wanted)
+}
+
+/// The same, by the plan of the network.
 fn ends_so(
     alloc: Global,
     net: &SizedNet,
@@ -150,27 +226,12 @@ fn ends_so(
     ending: &Ending,
     wanted: u64,
 ) -> Result<bool, Fail> {
-    if capacity == 0 || capacity > MOST_ROOM {
-        return Ok(false);
-    }
-    let network = net.network();
     let whole = plan_all(alloc, net)?;
-    let mut firm: Firm<'_> = Firm::new(alloc, net, capacity)?;
-    let steps = firm.steps_left();
-    firm.drive();
-    let shown = firm.figures(alloc)?;
-    Ok(
-        steps == wanted
-            && is_at_the_end(&firm)
-            && are_settled_lanes(shown.as_slice(), ending.figures)
-            && has_all_orders(&firm, network, ending.orders)
-            && is_planned_whole(&firm, network)
-            && follows(&firm, network, &whole),
-    )
+    ends_by_plan(alloc, net, &whole, capacity, ending, wanted)
 }
 
 /// Whether the firm ends so with mailboxes for 1, 2, 64 and 65,536 records.
-fn ends_at_each_capacity(
+pub(super) fn ends_at_each_capacity(
     alloc: Global,
     net: &SizedNet,
     ending: &Ending,
@@ -186,10 +247,7 @@ fn ends_at_each_capacity(
 
 /// The same of the firm of the ending's table.
 fn ends(rt: &HostRuntime, ending: &Ending, steps: u64) -> Result<bool, Fail> {
-    let network = network(rt, ending.table)?;
-    let levels = check(rt.alloc(), &network)?;
-    let net = bound(rt.alloc(), &network, &levels)?;
-    ends_at_each_capacity(rt.alloc(), &net, ending, steps)
+    holds_of(rt.alloc(), ending.table, Trial::Ends(ending, steps))
 }
 
 #[test]
@@ -450,37 +508,55 @@ fn closed_years_are_added(rt: HostRuntime) -> Result<(), Fail> {
     Ok(())
 }
 
+/// Whether so many of the events are enabled, and the firm shows these figures after them.
+fn counts_so(
+    alloc: Global,
+    firm: &mut Firm,
+    events: &[Event],
+    wanted: u64,
+    figures: &[Figures],
+) -> Result<bool, Fail> {
+    let count = firm.run(events);
+    let shown = shows(alloc, firm, figures)?;
+    Ok(count == wanted && shown)
+}
+
 /// Whether events that aren't enabled count nothing among those that are, and change nothing.
-fn counts_what_is_enabled(alloc: Global, net: &SizedNet) -> Result<bool, Fail> {
+fn counts_in_lists(alloc: Global, firm: &mut Firm) -> Result<bool, Fail> {
+    let none = counts_so(
+        alloc,
+        firm,
+        &[receive(0), plan(0), send(1), plan(1), receive(1), send(7)],
+        0,
+        &[(100, 100, 100), (108, 108, 108)],
+    )?;
+    let some = counts_so(
+        alloc,
+        firm,
+        &[
+            send(0),
+            send(0),
+            plan(0),
+            receive(0),
+            receive(0),
+            send(0),
+            plan(0),
+        ],
+        3,
+        &[(100, 108, 108), (108, 108, 108)],
+    )?;
+    Ok(none && some && firm.steps_left() == 11 && !firm.finished())
+}
+
+/// The same of a new firm with mailboxes of one.
+pub(super) fn counts_what_is_enabled(alloc: Global, net: &SizedNet) -> Result<bool, Fail> {
     let mut firm: Firm<'_> = Firm::new(alloc, net, 1)?;
-    let none = firm.run(&[receive(0), plan(0), send(1), plan(1), receive(1), send(7)]);
-    let begun = firm.figures(alloc)?;
-    let some = firm.run(&[
-        send(0),
-        send(0),
-        plan(0),
-        receive(0),
-        receive(0),
-        send(0),
-        plan(0),
-    ]);
-    let later = firm.figures(alloc)?;
-    Ok(
-        none == 0
-            && are_figures(begun.as_slice(), &[(100, 100, 100), (108, 108, 108)])
-            && some == 3
-            && are_figures(later.as_slice(), &[(100, 108, 108), (108, 108, 108)])
-            && firm.steps_left() == 11
-            && !firm.finished(),
-    )
+    counts_in_lists(alloc, &mut firm)
 }
 
 #[test]
 fn lists_count_the_events_that_are_enabled(rt: HostRuntime) -> Result<(), Fail> {
-    let network = network(&rt, TWO_PLANTS)?;
-    let levels = check(rt.alloc(), &network)?;
-    let net = bound(rt.alloc(), &network, &levels)?;
-    assert!(rt; counts_what_is_enabled(rt.alloc(), &net)?);
+    assert!(rt; holds_of(rt.alloc(), TWO_PLANTS, Trial::CountsWhatIsEnabled)?);
     Ok(())
 }
 

@@ -2,9 +2,10 @@
 
 ghost use Rattle.std.specs.Prelude.{◌≡◌, length};
 
-use super::{are_received, follows, is_at_the_end, is_planned_whole, network};
+use super::trials::{Trial, holds_of};
+use super::{are_received, follows, is_at_the_end, is_planned_whole};
 use mrp_book::LaneFigure;
-use mrp_loops::{SizedNet, bound, check};
+use mrp_loops::SizedNet;
 use mrp_net::{LaneNo, Network, PairNo};
 use mrp_plan::{Plan, plan_all};
 use mrp_worked::{FOUR_PLANTS, RESET_AT_RELEASE, RESET_LATER, RING, SHARED_AFTER_SHIPMENT};
@@ -96,7 +97,29 @@ fn keeps_them(
     Ok(counted && risen && follows(firm, network, plan))
 }
 
-/// Whether the laws hold after each of so many events.
+/// Whether the laws hold after each of so many events, where figures were `before` the first.
+fn keeps_each(
+    alloc: Global,
+    network: &Network,
+    plan: &Plan,
+    firm: &mut Firm,
+    seed: u64,
+    before: &mut Vec<LaneFigure>,
+) -> Result<bool, Fail>
+    requires network { firm.old.network ≡ network.now }
+    requires pairs { length plan.now ≡ length network.now.pairs }
+    ensures network { firm.new.network ≡ firm.old.network }
+{
+    let mut dice = Dice { state: seed };
+    let mut kept = true;
+    for _ in 0..150u64 {
+        let event = any_event(&mut dice, network);
+        kept = keeps_them(alloc, network, plan, firm, event, before)? && kept;
+    }
+    Ok(kept)
+}
+
+/// The same, beginning with the figures that the firm shows.
 fn keeps_the_laws(
     alloc: Global,
     network: &Network,
@@ -108,18 +131,40 @@ fn keeps_the_laws(
     requires pairs { length plan.now ≡ length network.now.pairs }
     ensures network { firm.new.network ≡ firm.old.network }
 {
-    let mut dice = Dice { state: seed };
     let mut before = firm.figures(alloc)?;
-    let mut kept = true;
-    for _ in 0..150u64 {
-        let event = any_event(&mut dice, network);
-        kept = keeps_them(alloc, network, plan, firm, event, &mut before)? && kept;
-    }
-    Ok(kept)
+    keeps_each(alloc, network, plan, firm, seed, &mut before)
+}
+
+/// Whether the firm has received all that it shipped.
+fn has_received_all(alloc: Global, firm: &Firm) -> Result<bool, Fail> {
+    let figures = firm.figures(alloc)?;
+    Ok(are_received(figures.as_slice()))
 }
 
 /// Whether a firm keeps the laws under events in an order that comes from the seed, and is driven
 /// from there to its end.
+fn keeps_to_the_end(
+    alloc: Global,
+    network: &Network,
+    plan: &Plan,
+    firm: &mut Firm,
+    seed: u64,
+) -> Result<bool, Fail>
+    requires network { firm.old.network ≡ network.now }
+    requires pairs { length plan.now ≡ length network.now.pairs }
+{
+    let kept = keeps_the_laws(alloc, network, plan, firm, seed)?;
+    firm.drive();
+    let received = has_received_all(alloc, firm)?;
+    Ok(
+        kept && is_at_the_end(firm)
+            && received
+            && is_planned_whole(firm, network)
+            && follows(firm, network, plan),
+    )
+}
+
+/// The same of a new firm with mailboxes of that room.
 fn keeps_on(
     alloc: Global,
     net: &SizedNet,
@@ -132,26 +177,18 @@ fn keeps_on(
     if capacity == 0 || capacity > MOST_ROOM {
         return Ok(false);
     }
-    let network = net.network();
     let mut firm: Firm<'_> = Firm::new(alloc, net, capacity)?;
-    let kept = keeps_the_laws(alloc, network, plan, &mut firm, seed)?;
-    firm.drive();
-    let figures = firm.figures(alloc)?;
-    Ok(
-        kept && is_at_the_end(&firm)
-            && are_received(figures.as_slice())
-            && is_planned_whole(&firm, network)
-            && follows(&firm, network, plan),
-    )
+    keeps_to_the_end(alloc, net.network(), plan, &mut firm, seed)
 }
 
 /// Whether that holds for so many orders of events, each at capacity 1, 2 and 64.
-fn keep_on(alloc: Global, net: &SizedNet, lists: u64) -> Result<bool, Fail> {
-    let plan = plan_all(alloc, net)?;
+fn keep_on_by_plan(alloc: Global, net: &SizedNet, plan: &Plan, lists: u64) -> Result<bool, Fail>
+    requires pairs { length plan.now ≡ length net.now.network.pairs }
+{
     for seed in 0..lists {
-        if !keeps_on(alloc, net, &plan, 1, seed)?
-            || !keeps_on(alloc, net, &plan, 2, seed)?
-            || !keeps_on(alloc, net, &plan, 64, seed)?
+        if !keeps_on(alloc, net, plan, 1, seed)?
+            || !keeps_on(alloc, net, plan, 2, seed)?
+            || !keeps_on(alloc, net, plan, 64, seed)?
         {
             return Ok(false);
         }
@@ -159,12 +196,15 @@ fn keep_on(alloc: Global, net: &SizedNet, lists: u64) -> Result<bool, Fail> {
     Ok(true)
 }
 
+/// The same, by the plan of the network.
+pub(super) fn keep_on(alloc: Global, net: &SizedNet, lists: u64) -> Result<bool, Fail> {
+    let plan = plan_all(alloc, net)?;
+    keep_on_by_plan(alloc, net, &plan, lists)
+}
+
 /// The same of the firm of a table.
 fn table_keeps_on(rt: &HostRuntime, table: &str, lists: u64) -> Result<bool, Fail> {
-    let network = network(rt, table)?;
-    let levels = check(rt.alloc(), &network)?;
-    let net = bound(rt.alloc(), &network, &levels)?;
-    keep_on(rt.alloc(), &net, lists)
+    holds_of(rt.alloc(), table, Trial::KeepsOn(lists))
 }
 
 #[test]

@@ -1,22 +1,25 @@
 //! Firms whose allocations are refused: each answer is that memory is out, or the true one.
 
-use super::{are_figures, network};
-use mrp_loops::{SizedNet, bound, check};
+use super::shows;
+use super::trials::{Trial, holds_of};
+use mrp_loops::SizedNet;
 use mrp_plan::fits;
 use mrp_worked::TWO_PLANTS;
 use mrp_world::Firm;
 use std::alloc::Global;
 use std::test::Fail;
 
-/// Whether the firm, once made, is driven to its end, and its figures, once made, are these.
+/// Whether the firm is driven to its end, and its figures, once made, are these.
+fn is_driven_to_figures(alloc: Global, firm: &mut Firm) -> Result<bool, Fail> {
+    firm.drive();
+    let shown = shows(alloc, firm, &[(100, 108, 108), (108, 130, 130)])?;
+    Ok(firm.steps_left() == 0 && shown)
+}
+
+/// The same of a new firm, once made.
 fn ends_or_is_refused(alloc: Global, net: &SizedNet) -> Result<bool, Fail> {
     let mut firm: Firm<'_> = Firm::new(alloc, net, 2)?;
-    firm.drive();
-    let figures = firm.figures(alloc)?;
-    Ok(
-        firm.steps_left() == 0
-            && are_figures(figures.as_slice(), &[(100, 108, 108), (108, 130, 130)]),
-    )
+    is_driven_to_figures(alloc, &mut firm)
 }
 
 /// Whether the plan that a firm gives at its end, once given, fits the network.
@@ -27,22 +30,14 @@ fn fits_or_is_refused(alloc: Global, net: &SizedNet) -> Result<bool, Fail> {
 }
 
 /// Whether both hold of a firm.
-fn answers_or_is_refused(alloc: Global, net: &SizedNet) -> Result<bool, Fail> {
+pub(super) fn answers_or_is_refused(alloc: Global, net: &SizedNet) -> Result<bool, Fail> {
     Ok(ends_or_is_refused(alloc, net)? && fits_or_is_refused(alloc, net)?)
-}
-
-/// Whether both hold of the firm of two plants.
-fn two_plants_answer_or_are_refused(rt: &HostRuntime) -> Result<bool, Fail> {
-    let network = network(rt, TWO_PLANTS)?;
-    let levels = check(rt.alloc(), &network)?;
-    let net = bound(rt.alloc(), &network, &levels)?;
-    answers_or_is_refused(rt.alloc(), &net)
 }
 
 /// With an allocation refused this test passes or ends in an error for want of memory; its assertion
 /// never fails.
 #[test]
 fn a_refusal_is_the_only_other_answer(rt: HostRuntime) -> Result<(), Fail> {
-    assert!(rt; two_plants_answer_or_are_refused(&rt)?);
+    assert!(rt; holds_of(rt.alloc(), TWO_PLANTS, Trial::AnswersOrIsRefused)?);
     Ok(())
 }
