@@ -59,7 +59,7 @@ pub enum ChooseFault {
 }
 
 /// The release, and the kit that proves it (`rt version`), as `--version` prints them.
-const VERSION: &str = "0.1.0, proved with rattle-kit-13b, logic dac8208d650f15bf";
+const VERSION: &str = "0.1.0, proved with rattle-kit-13f, logic dac8208d650f15bf";
 
 const ABOUT: &str = "Plans the material of all plants of a firm. The table is read from standard\n\
 input, and the report is written to standard output.";
