@@ -1,5 +1,6 @@
 pub mod Back
 pub mod Bytes
+pub mod First
 pub mod Listed
 pub mod Loop
 pub mod Names

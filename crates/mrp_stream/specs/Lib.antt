@@ -3,3 +3,4 @@ pub mod Laws
 pub mod Left
 pub mod Reading
 pub mod Rows
+pub mod Tests

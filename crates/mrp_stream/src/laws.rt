@@ -2,6 +2,7 @@
 
 ghost use Rattle.std.specs.Prelude.{◌≡◌};
 ghost use Rattle.mrp_stream.specs.Laws.{RecordsHaveOneRow, RowsHaveListedFaults, WrittenHasNoFault, WrittenReadsBack, WrittenRowsAreRead};
+ghost use Rattle.mrp_stream.specs.Tests.{RowsHaveTheirFirstFault};
 
 use crate::MOST_RECORDS;
 
@@ -18,6 +19,11 @@ pub fn records_have_one_row()
 /// A row is refused for a fault of a row alone, never for a failed read or for want of memory.
 pub fn rows_have_listed_faults()
     ensures { RowsHaveListedFaults }
+{}
+
+/// A row is refused for the first test of the list that it fails, and taken where it passes all of them.
+pub fn rows_have_their_first_fault()
+    ensures { RowsHaveTheirFirstFault }
 {}
 
 /// What was written reads back: its rows are those of the records, no other records are read of it, and
