@@ -7,7 +7,9 @@ use Rattle.std.proofs.lemmas.List.Elements.{filter-append}
 use Rattle.std.proofs.lemmas.List.Sums.{sum_by-append}
 use Rattle.mrp_rows.specs.declared.numbers.ItemNo.{ItemNo}
 use Rattle.mrp_rows.specs.Table.{Table}
+use Rattle.mrp_net.specs.declared.lane.Lane.{Lane}
 use Rattle.mrp_net.specs.Lanes.{lanes, lane_at, lane_items, opening}
+use Rattle.mrp_net.specs.Routes.{IsLane}
 use Rattle.mrp_record.specs.declared.record.Record.{Record}
 use Rattle.mrp_record.specs.Entries.{content, contents, entries_of, is_of, moved, quantity_of}
 use Rattle.mrp_book.specs.declared.figure.LaneFigure.{LaneFigure}
@@ -18,7 +20,7 @@ use Rattle.mrp_events.proofs.Small.{legal_cums_are_small}
 use Rattle.mrp_world.specs.Figures.{figure_at}
 use Rattle.mrp_world.specs.Moments.{Moment, Showing, IsAt, IsIn, Receives}
 use Rattle.mrp_world.specs.World.{Held, box_at, AreAt, AreSomewhere}
-use Rattle.mrp_world.proofs.Steps.{moment, plant_is_at, box_is, may_receive}
+use Rattle.mrp_world.proofs.Steps.{moment, plant_is_at, box_is, may_receive, receiver_within}
 
 moved_parts : (item : ℕ) (xs ys : List Record) → moved item (contents (xs ++ ys)) ≡ moved item (contents xs) + moved item (contents ys)
 moved_parts item xs ys =
@@ -67,6 +69,21 @@ pub record Read {A : Type 0} (shows : Showing A) (N : Table) (plants : List A) (
   pub receiver : (lane_at N l).receiver.0 ≡ p
   pub known : p < length N.plants
   pub asked : plant ≡ get_or plants p plant
+
+-- read by the lane that the network gives
+pub read_on : {A : Type 0} (shows : Showing A) (N : Table) (plants : List A) (boxes : List Held) (l : ℕ) (item : ItemNo) (plant : A) (box : Held) (lane : Lane)
+    → l < length (lanes N) → Contains (lane_items N (lane_at N l)) item → AreSomewhere shows N plants boxes → box ≡ get_or boxes l box → lane ≡ lane_at N l
+    → IsLane N lane → plant ≡ get_or plants lane.receiver.0 plant
+    → Read shows N plants boxes l item plant box lane.receiver.0
+read_on shows N plants boxes l item plant box lane within there some held is joins asked = record {
+  within = within;
+  there = there;
+  some = some;
+  held = held;
+  receiver = ap (λ (other : Lane). other.receiver.0) (sym is);
+  known = receiver_within N lane joins;
+  asked = asked;
+}
 
 pub box_read : {A : Type 0} (shows : Showing A) (N : Table) (plants : List A) (boxes : List Held) (l : ℕ) (item : ItemNo) (box : Held)
     → l < length (lanes N) → AreSomewhere shows N plants boxes → box ≡ get_or boxes l box → box ≡ box_at boxes l

@@ -21,21 +21,6 @@ use std::test::Fail;
 /// An event, whether it is enabled, and how many steps are left after it.
 pub(super) type Tried = (Event, bool, u64);
 
-/// A record is sent over the lane of that number.
-const fn send(lane: usize) -> Event {
-    Event::Send(LaneNo(lane))
-}
-
-/// The next record of the lane of that number is received.
-const fn receive(lane: usize) -> Event {
-    Event::Receive(LaneNo(lane))
-}
-
-/// The pair of that number is planned.
-const fn plan(pair: usize) -> Event {
-    Event::Plan(PairNo(pair))
-}
-
 /// Whether an event is enabled where that is wanted, and leaves so many steps.
 fn takes_one(firm: &mut Firm, tried: Tried) -> bool
     ensures network { firm.new.network ≡ firm.old.network }
@@ -250,186 +235,194 @@ fn ends(rt: &HostRuntime, ending: &Ending, steps: u64) -> Result<bool, Fail> {
     holds_of(rt.alloc(), ending.table, Trial::Ends(ending, steps))
 }
 
+const SENT_FIRST: &[Tried] = &[
+    (Event::Receive(LaneNo(0)), false, 14),
+    (Event::Send(LaneNo(0)), true, 13),
+    (Event::Send(LaneNo(0)), false, 13),
+    (Event::Plan(PairNo(0)), false, 13),
+];
+
 #[test]
 fn a_record_is_sent_before_it_is_received(rt: HostRuntime) -> Result<(), Fail> {
-    let tried = [
-        (receive(0), false, 14),
-        (send(0), true, 13),
-        (send(0), false, 13),
-        (plan(0), false, 13),
-    ];
     let figures = [(100, 108, 100), (108, 108, 108)];
-    assert!(rt; goes(&rt, TWO_PLANTS, 1, &tried, &figures)?);
+    assert!(rt; goes(&rt, TWO_PLANTS, 1, SENT_FIRST, &figures)?);
     Ok(())
 }
+
+const PLANNED_AFTER_ITS_BLOCK: &[Tried] = &[
+    (Event::Receive(LaneNo(0)), false, 14),
+    (Event::Send(LaneNo(0)), true, 13),
+    (Event::Send(LaneNo(0)), false, 13),
+    (Event::Plan(PairNo(0)), false, 13),
+    (Event::Receive(LaneNo(0)), true, 12),
+    (Event::Plan(PairNo(0)), false, 12),
+    (Event::Send(LaneNo(0)), true, 11),
+    (Event::Receive(LaneNo(0)), true, 10),
+    (Event::Plan(PairNo(0)), true, 9),
+    (Event::Plan(PairNo(0)), false, 9),
+    (Event::Plan(PairNo(1)), false, 9),
+];
 
 #[test]
 fn a_pair_is_planned_once_its_block_has_ended(rt: HostRuntime) -> Result<(), Fail> {
-    let tried = [
-        (receive(0), false, 14),
-        (send(0), true, 13),
-        (send(0), false, 13),
-        (plan(0), false, 13),
-        (receive(0), true, 12),
-        (plan(0), false, 12),
-        (send(0), true, 11),
-        (receive(0), true, 10),
-        (plan(0), true, 9),
-        (plan(0), false, 9),
-        (plan(1), false, 9),
-    ];
     let figures = [(100, 108, 108), (108, 108, 108)];
-    assert!(rt; goes(&rt, TWO_PLANTS, 1, &tried, &figures)?);
+    assert!(rt; goes(&rt, TWO_PLANTS, 1, PLANNED_AFTER_ITS_BLOCK, &figures)?);
     Ok(())
 }
+
+const SENT_AFTER_ITS_PLAN: &[Tried] = &[
+    (Event::Send(LaneNo(1)), false, 14),
+    (Event::Send(LaneNo(0)), true, 13),
+    (Event::Send(LaneNo(0)), true, 12),
+    (Event::Receive(LaneNo(0)), true, 11),
+    (Event::Receive(LaneNo(0)), true, 10),
+    (Event::Send(LaneNo(1)), false, 10),
+    (Event::Plan(PairNo(0)), true, 9),
+    (Event::Send(LaneNo(1)), true, 8),
+];
 
 #[test]
 fn a_schedule_is_sent_once_its_pair_is_planned(rt: HostRuntime) -> Result<(), Fail> {
-    let tried = [
-        (send(1), false, 14),
-        (send(0), true, 13),
-        (send(0), true, 12),
-        (receive(0), true, 11),
-        (receive(0), true, 10),
-        (send(1), false, 10),
-        (plan(0), true, 9),
-        (send(1), true, 8),
-    ];
     let figures = [(100, 108, 108), (108, 130, 108)];
-    assert!(rt; goes(&rt, TWO_PLANTS, 64, &tried, &figures)?);
+    assert!(rt; goes(&rt, TWO_PLANTS, 64, SENT_AFTER_ITS_PLAN, &figures)?);
     Ok(())
 }
+
+const FIRST_TO_LAST: &[Tried] = &[
+    (Event::Send(LaneNo(0)), true, 13),
+    (Event::Receive(LaneNo(0)), true, 12),
+    (Event::Send(LaneNo(0)), true, 11),
+    (Event::Receive(LaneNo(0)), true, 10),
+    (Event::Plan(PairNo(0)), true, 9),
+    (Event::Send(LaneNo(1)), true, 8),
+    (Event::Send(LaneNo(1)), false, 8),
+    (Event::Plan(PairNo(1)), false, 8),
+    (Event::Receive(LaneNo(1)), true, 7),
+    (Event::Plan(PairNo(1)), false, 7),
+    (Event::Send(LaneNo(1)), true, 6),
+    (Event::Receive(LaneNo(1)), true, 5),
+    (Event::Plan(PairNo(1)), true, 4),
+    (Event::Send(LaneNo(0)), true, 3),
+    (Event::Receive(LaneNo(0)), true, 2),
+    (Event::Send(LaneNo(0)), false, 2),
+    (Event::Receive(LaneNo(0)), false, 2),
+    (Event::Send(LaneNo(1)), true, 1),
+    (Event::Receive(LaneNo(1)), true, 0),
+    (Event::Send(LaneNo(1)), false, 0),
+    (Event::Receive(LaneNo(1)), false, 0),
+    (Event::Plan(PairNo(1)), false, 0),
+];
 
 #[test]
 fn two_plants_from_the_first_event_to_the_last(rt: HostRuntime) -> Result<(), Fail> {
-    let tried = [
-        (send(0), true, 13),
-        (receive(0), true, 12),
-        (send(0), true, 11),
-        (receive(0), true, 10),
-        (plan(0), true, 9),
-        (send(1), true, 8),
-        (send(1), false, 8),
-        (plan(1), false, 8),
-        (receive(1), true, 7),
-        (plan(1), false, 7),
-        (send(1), true, 6),
-        (receive(1), true, 5),
-        (plan(1), true, 4),
-        (send(0), true, 3),
-        (receive(0), true, 2),
-        (send(0), false, 2),
-        (receive(0), false, 2),
-        (send(1), true, 1),
-        (receive(1), true, 0),
-        (send(1), false, 0),
-        (receive(1), false, 0),
-        (plan(1), false, 0),
-    ];
     let figures = [(100, 108, 108), (108, 130, 130)];
-    assert!(rt; goes(&rt, TWO_PLANTS, 1, &tried, &figures)?);
+    assert!(rt; goes(&rt, TWO_PLANTS, 1, FIRST_TO_LAST, &figures)?);
     Ok(())
 }
+
+const NOWHERE: &[Tried] = &[
+    (Event::Send(LaneNo(2)), false, 14),
+    (Event::Receive(LaneNo(2)), false, 14),
+    (Event::Plan(PairNo(2)), false, 14),
+    (Event::Send(LaneNo(usize::MAX)), false, 14),
+    (Event::Receive(LaneNo(usize::MAX)), false, 14),
+    (Event::Plan(PairNo(usize::MAX)), false, 14),
+];
 
 #[test]
 fn a_firm_has_no_other_lanes_and_pairs(rt: HostRuntime) -> Result<(), Fail> {
-    let tried = [
-        (send(2), false, 14),
-        (receive(2), false, 14),
-        (plan(2), false, 14),
-        (send(usize::MAX), false, 14),
-        (receive(usize::MAX), false, 14),
-        (plan(usize::MAX), false, 14),
-    ];
     let figures = [(100, 100, 100), (108, 108, 108)];
-    assert!(rt; goes(&rt, TWO_PLANTS, 1, &tried, &figures)?);
+    assert!(rt; goes(&rt, TWO_PLANTS, 1, NOWHERE, &figures)?);
     Ok(())
 }
+
+const SECOND_SOURCE: &[Tried] = &[
+    (Event::Send(LaneNo(0)), true, 22),
+    (Event::Receive(LaneNo(0)), true, 21),
+    (Event::Plan(PairNo(0)), false, 21),
+    (Event::Send(LaneNo(1)), false, 21),
+    (Event::Send(LaneNo(3)), false, 21),
+    (Event::Send(LaneNo(2)), true, 20),
+    (Event::Plan(PairNo(0)), false, 20),
+    (Event::Receive(LaneNo(2)), true, 19),
+    (Event::Plan(PairNo(0)), true, 18),
+    (Event::Send(LaneNo(1)), true, 17),
+    (Event::Send(LaneNo(3)), true, 16),
+    (Event::Plan(PairNo(1)), false, 16),
+    (Event::Plan(PairNo(2)), false, 16),
+];
 
 #[test]
 fn a_pair_waits_for_its_second_source(rt: HostRuntime) -> Result<(), Fail> {
-    let tried = [
-        (send(0), true, 22),
-        (receive(0), true, 21),
-        (plan(0), false, 21),
-        (send(1), false, 21),
-        (send(3), false, 21),
-        (send(2), true, 20),
-        (plan(0), false, 20),
-        (receive(2), true, 19),
-        (plan(0), true, 18),
-        (send(1), true, 17),
-        (send(3), true, 16),
-        (plan(1), false, 16),
-        (plan(2), false, 16),
-    ];
     let figures = [(0, 0, 0), (0, 4, 0), (0, 0, 0), (0, 3, 0)];
-    assert!(rt; goes(&rt, SHARED, 4, &tried, &figures)?);
+    assert!(rt; goes(&rt, SHARED, 4, SECOND_SOURCE, &figures)?);
     Ok(())
 }
+
+const WITHOUT_A_PART: &[Tried] = &[
+    (Event::Send(LaneNo(0)), true, 20),
+    (Event::Receive(LaneNo(0)), true, 19),
+    (Event::Send(LaneNo(2)), true, 18),
+    (Event::Receive(LaneNo(2)), true, 17),
+    (Event::Plan(PairNo(0)), true, 16),
+    (Event::Send(LaneNo(1)), true, 15),
+    (Event::Receive(LaneNo(1)), true, 14),
+    (Event::Plan(PairNo(1)), true, 13),
+    (Event::Send(LaneNo(3)), true, 12),
+    (Event::Send(LaneNo(1)), true, 11),
+    (Event::Send(LaneNo(1)), false, 11),
+];
 
 #[test]
 fn a_source_without_a_part_has_a_block_without_lines(rt: HostRuntime) -> Result<(), Fail> {
-    let tried = [
-        (send(0), true, 20),
-        (receive(0), true, 19),
-        (send(2), true, 18),
-        (receive(2), true, 17),
-        (plan(0), true, 16),
-        (send(1), true, 15),
-        (receive(1), true, 14),
-        (plan(1), true, 13),
-        (send(3), true, 12),
-        (send(1), true, 11),
-        (send(1), false, 11),
-    ];
     let figures = [(0, 0, 0), (0, 0, 0), (0, 0, 0), (0, 1, 0)];
-    assert!(rt; goes(&rt, ONE_SHARED, 4, &tried, &figures)?);
+    assert!(rt; goes(&rt, ONE_SHARED, 4, WITHOUT_A_PART, &figures)?);
     Ok(())
 }
 
+const CLOSED_LAST: &[Tried] = &[
+    (Event::Send(LaneNo(2)), true, 31),
+    (Event::Send(LaneNo(2)), true, 30),
+    (Event::Send(LaneNo(2)), true, 29),
+    (Event::Send(LaneNo(2)), false, 29),
+    (Event::Receive(LaneNo(2)), true, 28),
+    (Event::Plan(PairNo(0)), true, 27),
+    (Event::Send(LaneNo(3)), true, 26),
+    (Event::Send(LaneNo(3)), true, 25),
+    (Event::Send(LaneNo(3)), false, 25),
+    (Event::Receive(LaneNo(3)), true, 24),
+    (Event::Plan(PairNo(1)), false, 24),
+    (Event::Receive(LaneNo(3)), true, 23),
+    (Event::Plan(PairNo(1)), true, 22),
+    (Event::Plan(PairNo(2)), false, 22),
+    (Event::Send(LaneNo(0)), true, 21),
+    (Event::Receive(LaneNo(0)), true, 20),
+    (Event::Plan(PairNo(2)), true, 19),
+    (Event::Send(LaneNo(1)), true, 18),
+    (Event::Send(LaneNo(1)), true, 17),
+    (Event::Receive(LaneNo(1)), true, 16),
+    (Event::Receive(LaneNo(1)), true, 15),
+    (Event::Plan(PairNo(3)), true, 14),
+    (Event::Plan(PairNo(4)), false, 14),
+    (Event::Receive(LaneNo(2)), true, 13),
+    (Event::Plan(PairNo(4)), true, 12),
+    (Event::Send(LaneNo(3)), true, 11),
+    (Event::Send(LaneNo(3)), true, 10),
+    (Event::Send(LaneNo(3)), true, 9),
+    (Event::Send(LaneNo(3)), false, 9),
+    (Event::Receive(LaneNo(3)), true, 8),
+    (Event::Receive(LaneNo(3)), true, 7),
+    (Event::Plan(PairNo(5)), true, 6),
+    (Event::Receive(LaneNo(3)), true, 5),
+    (Event::Receive(LaneNo(2)), true, 4),
+    (Event::Send(LaneNo(0)), true, 3),
+    (Event::Receive(LaneNo(0)), true, 2),
+    (Event::Send(LaneNo(1)), true, 1),
+    (Event::Receive(LaneNo(1)), true, 0),
+];
+
 #[test]
 fn a_lane_is_closed_after_all_its_blocks(rt: HostRuntime) -> Result<(), Fail> {
-    let tried = [
-        (send(2), true, 31),
-        (send(2), true, 30),
-        (send(2), true, 29),
-        (send(2), false, 29),
-        (receive(2), true, 28),
-        (plan(0), true, 27),
-        (send(3), true, 26),
-        (send(3), true, 25),
-        (send(3), false, 25),
-        (receive(3), true, 24),
-        (plan(1), false, 24),
-        (receive(3), true, 23),
-        (plan(1), true, 22),
-        (plan(2), false, 22),
-        (send(0), true, 21),
-        (receive(0), true, 20),
-        (plan(2), true, 19),
-        (send(1), true, 18),
-        (send(1), true, 17),
-        (receive(1), true, 16),
-        (receive(1), true, 15),
-        (plan(3), true, 14),
-        (plan(4), false, 14),
-        (receive(2), true, 13),
-        (plan(4), true, 12),
-        (send(3), true, 11),
-        (send(3), true, 10),
-        (send(3), true, 9),
-        (send(3), false, 9),
-        (receive(3), true, 8),
-        (receive(3), true, 7),
-        (plan(5), true, 6),
-        (receive(3), true, 5),
-        (receive(2), true, 4),
-        (send(0), true, 3),
-        (receive(0), true, 2),
-        (send(1), true, 1),
-        (receive(1), true, 0),
-    ];
     let figures = [
         (0, 0, 0),
         (0, 10, 10),
@@ -438,73 +431,80 @@ fn a_lane_is_closed_after_all_its_blocks(rt: HostRuntime) -> Result<(), Fail> {
         (0, 5, 5),
         (0, 30, 30),
     ];
-    assert!(rt; goes(&rt, RING, 64, &tried, &figures)?);
+    assert!(rt; goes(&rt, RING, 64, CLOSED_LAST, &figures)?);
     Ok(())
 }
+
+const BEFORE_THE_SHIPMENT: &[Tried] = &[
+    (Event::Send(LaneNo(0)), true, 17),
+    (Event::Receive(LaneNo(0)), true, 16),
+];
 
 #[test]
 fn figures_start_anew_before_the_shipment(rt: HostRuntime) -> Result<(), Fail> {
-    let tried = [(send(0), true, 17), (receive(0), true, 16)];
     let figures = [(100, 100, 100), (108, 108, 108)];
-    assert!(rt; goes(&rt, RESET_LATER, 8, &tried, &figures)?);
+    assert!(rt; goes(&rt, RESET_LATER, 8, BEFORE_THE_SHIPMENT, &figures)?);
     Ok(())
 }
+
+const AFTER_THE_RELEASE: &[Tried] = &[
+    (Event::Send(LaneNo(0)), true, 17),
+    (Event::Send(LaneNo(0)), true, 16),
+    (Event::Send(LaneNo(0)), true, 15),
+    (Event::Receive(LaneNo(0)), true, 14),
+    (Event::Receive(LaneNo(0)), true, 13),
+    (Event::Plan(PairNo(0)), false, 13),
+    (Event::Receive(LaneNo(0)), true, 12),
+    (Event::Plan(PairNo(0)), true, 11),
+    (Event::Send(LaneNo(1)), true, 10),
+];
 
 #[test]
 fn figures_start_anew_after_the_release(rt: HostRuntime) -> Result<(), Fail> {
-    let tried = [
-        (send(0), true, 17),
-        (send(0), true, 16),
-        (send(0), true, 15),
-        (receive(0), true, 14),
-        (receive(0), true, 13),
-        (plan(0), false, 13),
-        (receive(0), true, 12),
-        (plan(0), true, 11),
-        (send(1), true, 10),
-    ];
     let figures = [(100, 108, 108), (108, 130, 108)];
-    assert!(rt; goes(&rt, RESET_LATER, 8, &tried, &figures)?);
+    assert!(rt; goes(&rt, RESET_LATER, 8, AFTER_THE_RELEASE, &figures)?);
     Ok(())
 }
+
+const BEFORE_THE_RELEASE: &[Tried] = &[
+    (Event::Send(LaneNo(0)), true, 17),
+    (Event::Send(LaneNo(0)), true, 16),
+    (Event::Send(LaneNo(0)), true, 15),
+    (Event::Receive(LaneNo(0)), true, 14),
+    (Event::Receive(LaneNo(0)), true, 13),
+    (Event::Receive(LaneNo(0)), true, 12),
+    (Event::Plan(PairNo(0)), true, 11),
+    (Event::Send(LaneNo(1)), true, 10),
+];
 
 #[test]
 fn figures_start_anew_before_the_release(rt: HostRuntime) -> Result<(), Fail> {
-    let tried = [
-        (send(0), true, 17),
-        (send(0), true, 16),
-        (send(0), true, 15),
-        (receive(0), true, 14),
-        (receive(0), true, 13),
-        (receive(0), true, 12),
-        (plan(0), true, 11),
-        (send(1), true, 10),
-    ];
     let figures = [(100, 108, 108), (108, 108, 108)];
-    assert!(rt; goes(&rt, RESET_AT_RELEASE, 8, &tried, &figures)?);
+    assert!(rt; goes(&rt, RESET_AT_RELEASE, 8, BEFORE_THE_RELEASE, &figures)?);
     Ok(())
 }
 
+const CLOSED_YEARS: &[Tried] = &[
+    (Event::Send(LaneNo(0)), true, 17),
+    (Event::Send(LaneNo(0)), true, 16),
+    (Event::Send(LaneNo(0)), true, 15),
+    (Event::Receive(LaneNo(0)), true, 14),
+    (Event::Receive(LaneNo(0)), true, 13),
+    (Event::Receive(LaneNo(0)), true, 12),
+    (Event::Plan(PairNo(0)), true, 11),
+    (Event::Send(LaneNo(1)), true, 10),
+    (Event::Send(LaneNo(1)), true, 9),
+    (Event::Receive(LaneNo(1)), true, 8),
+    (Event::Receive(LaneNo(1)), true, 7),
+    (Event::Send(LaneNo(1)), true, 6),
+    (Event::Send(LaneNo(1)), true, 5),
+    (Event::Send(LaneNo(1)), false, 5),
+];
+
 #[test]
 fn closed_years_are_added(rt: HostRuntime) -> Result<(), Fail> {
-    let tried = [
-        (send(0), true, 17),
-        (send(0), true, 16),
-        (send(0), true, 15),
-        (receive(0), true, 14),
-        (receive(0), true, 13),
-        (receive(0), true, 12),
-        (plan(0), true, 11),
-        (send(1), true, 10),
-        (send(1), true, 9),
-        (receive(1), true, 8),
-        (receive(1), true, 7),
-        (send(1), true, 6),
-        (send(1), true, 5),
-        (send(1), false, 5),
-    ];
     let figures = [(100, 108, 108), (108, 130, 130)];
-    assert!(rt; goes(&rt, RESET_AT_RELEASE, 8, &tried, &figures)?);
+    assert!(rt; goes(&rt, RESET_AT_RELEASE, 8, CLOSED_YEARS, &figures)?);
     Ok(())
 }
 
@@ -521,27 +521,38 @@ fn counts_so(
     Ok(count == wanted && shown)
 }
 
+const NONE_ENABLED: &[Event] = &[
+    Event::Receive(LaneNo(0)),
+    Event::Plan(PairNo(0)),
+    Event::Send(LaneNo(1)),
+    Event::Plan(PairNo(1)),
+    Event::Receive(LaneNo(1)),
+    Event::Send(LaneNo(7)),
+];
+
+const SOME_ENABLED: &[Event] = &[
+    Event::Send(LaneNo(0)),
+    Event::Send(LaneNo(0)),
+    Event::Plan(PairNo(0)),
+    Event::Receive(LaneNo(0)),
+    Event::Receive(LaneNo(0)),
+    Event::Send(LaneNo(0)),
+    Event::Plan(PairNo(0)),
+];
+
 /// Whether events that aren't enabled count nothing among those that are, and change nothing.
 fn counts_in_lists(alloc: Global, firm: &mut Firm) -> Result<bool, Fail> {
     let none = counts_so(
         alloc,
         firm,
-        &[receive(0), plan(0), send(1), plan(1), receive(1), send(7)],
+        NONE_ENABLED,
         0,
         &[(100, 100, 100), (108, 108, 108)],
     )?;
     let some = counts_so(
         alloc,
         firm,
-        &[
-            send(0),
-            send(0),
-            plan(0),
-            receive(0),
-            receive(0),
-            send(0),
-            plan(0),
-        ],
+        SOME_ENABLED,
         3,
         &[(100, 108, 108), (108, 108, 108)],
     )?;

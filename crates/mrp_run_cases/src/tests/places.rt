@@ -272,14 +272,43 @@ fn breaks_off<R: Threads + Wait + Sync>(
     holds_of(rt, alloc, ending.table, trial, &NoGate)
 }
 
+/// The same of the ring at each of these places, with the least number of each.
+fn ring_breaks_off<R: Threads + Wait + Sync>(
+    rt: &R,
+    alloc: Global,
+    all: [(u64, u64); 2],
+    places: &[(Place, u64)],
+) -> Result<bool, Fail> {
+    for (place, least) in places {
+        if !breaks_off(rt, alloc, &RING_ENDING, all, *place, *least)? {
+            return Ok(false);
+        }
+    }
+    Ok(true)
+}
+
+/// The same of the supplier of two customers.
+fn customers_break_off<R: Threads + Wait + Sync>(
+    rt: &R,
+    alloc: Global,
+    all: [(u64, u64); 2],
+    places: &[(Place, u64)],
+) -> Result<bool, Fail> {
+    for (place, least) in places {
+        if !breaks_off(rt, alloc, &TWO_CUSTOMERS_ENDING, all, *place, *least)? {
+            return Ok(false);
+        }
+    }
+    Ok(true)
+}
+
 /// A worker looks for each pair, and each plant for a turn: 6 pairs and 2 plants, or 5 and 3, so 8 looks are
 /// met at least before a run is whole.
 #[test]
 fn a_gate_shut_at_any_look_is_answered(rt: HostRuntime) -> Result<(), Fail> {
-    for place in [Place::AtLook, Place::FromLook] {
-        assert!(&rt; breaks_off(&rt, rt.alloc(), &RING_ENDING, SETTINGS, place, 9)?);
-        assert!(&rt; breaks_off(&rt, rt.alloc(), &TWO_CUSTOMERS_ENDING, SETTINGS, place, 9)?);
-    }
+    let places = [(Place::AtLook, 9), (Place::FromLook, 9)];
+    assert!(&rt; ring_breaks_off(&rt, rt.alloc(), SETTINGS, &places)?);
+    assert!(&rt; customers_break_off(&rt, rt.alloc(), SETTINGS, &places)?);
     Ok(())
 }
 
@@ -287,28 +316,28 @@ fn a_gate_shut_at_any_look_is_answered(rt: HostRuntime) -> Result<(), Fail> {
 /// plant of the other firm may be done in one.
 #[test]
 fn a_gate_shut_at_any_turn_of_a_plant_is_answered(rt: HostRuntime) -> Result<(), Fail> {
-    for plant in [0, 1] {
-        let place = Place::ForTurn(plant);
-        assert!(&rt; breaks_off(&rt, rt.alloc(), &RING_ENDING, SETTINGS, place, 3)?);
-    }
-    for plant in [0, 1, 2] {
-        let place = Place::ForTurn(plant);
-        assert!(&rt; breaks_off(&rt, rt.alloc(), &TWO_CUSTOMERS_ENDING, SETTINGS, place, 2)?);
-    }
+    let ring = [(Place::ForTurn(0), 3), (Place::ForTurn(1), 3)];
+    assert!(&rt; ring_breaks_off(&rt, rt.alloc(), SETTINGS, &ring)?);
+    let customers = [
+        (Place::ForTurn(0), 2),
+        (Place::ForTurn(1), 2),
+        (Place::ForTurn(2), 2),
+    ];
+    assert!(&rt; customers_break_off(&rt, rt.alloc(), SETTINGS, &customers)?);
     Ok(())
 }
 
 /// The supplier's first two pairs are planned by two workers; each other wave is of one pair.
 #[test]
 fn a_gate_shut_for_any_worker_is_answered(rt: HostRuntime) -> Result<(), Fail> {
-    for (plant, least) in [(0, 2), (1, 2)] {
-        let place = Place::ForWorker(plant);
-        assert!(&rt; breaks_off(&rt, rt.alloc(), &RING_ENDING, CREWS, place, least)?);
-    }
-    for (plant, least) in [(0, 3), (1, 2), (2, 2)] {
-        let place = Place::ForWorker(plant);
-        assert!(&rt; breaks_off(&rt, rt.alloc(), &TWO_CUSTOMERS_ENDING, CREWS, place, least)?);
-    }
+    let ring = [(Place::ForWorker(0), 2), (Place::ForWorker(1), 2)];
+    assert!(&rt; ring_breaks_off(&rt, rt.alloc(), CREWS, &ring)?);
+    let customers = [
+        (Place::ForWorker(0), 3),
+        (Place::ForWorker(1), 2),
+        (Place::ForWorker(2), 2),
+    ];
+    assert!(&rt; customers_break_off(&rt, rt.alloc(), CREWS, &customers)?);
     Ok(())
 }
 
@@ -316,8 +345,7 @@ fn a_gate_shut_for_any_worker_is_answered(rt: HostRuntime) -> Result<(), Fail> {
 /// the supplier and a customer one books nothing of the other's in its first turn.
 #[test]
 fn turns_that_run_out_at_any_place_are_answered(rt: HostRuntime) -> Result<(), Fail> {
-    for ending in [RING_ENDING, TWO_CUSTOMERS_ENDING] {
-        assert!(&rt; breaks_off(&rt, rt.alloc(), &ending, SETTINGS, Place::Turns, 3)?);
-    }
+    assert!(&rt; ring_breaks_off(&rt, rt.alloc(), SETTINGS, &[(Place::Turns, 3)])?);
+    assert!(&rt; customers_break_off(&rt, rt.alloc(), SETTINGS, &[(Place::Turns, 3)])?);
     Ok(())
 }

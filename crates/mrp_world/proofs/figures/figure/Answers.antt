@@ -1,9 +1,7 @@
-use Rattle.std.proofs.Common.{◌+◌, ◌∙◌, ℕ, ap, sym, arith}
-use Rattle.mrp_net.specs.declared.lane.Lane.{Lane}
+use Rattle.std.proofs.Common.{◌+◌, ◌∙◌, ℕ, ap, arith}
 use Rattle.mrp_net.specs.Lanes.{lane_at}
 use Rattle.mrp_events.proofs.Small.{openings_are_small}
 use Rattle.mrp_world.proofs.Pieces as piece
-use Rattle.mrp_world.proofs.Steps as step
 use Rattle.mrp_world.proofs.figures.figure.Goals as goal
 
 pub of-opening-requires : goal.of-opening-requires
@@ -17,15 +15,7 @@ pieces-waiting-requires g c =
 pub received-received-requires : goal.received-received-requires
 received-received-requires g c = record {
   lane = piece.may_be_asked g.P.Plant.shows c.args.network.now c.args.plants.now c.args.boxes.now c.args.lane.0 c.args.item _ c.index-boxes-lane.result _
-      (record {
-        within = c.requires.lane;
-        there = c.requires.item;
-        some = c.requires.shown;
-        held = c.index-boxes-lane.is;
-        receiver = ap (λ (lane : Lane). lane.receiver.0) (sym c.lane.ensures.value);
-        known = step.receiver_within _ _ c.lane.ensures.plants;
-        asked = c.index-plants-receiver.is;
-      });
+      (piece.read_on _ _ _ _ _ _ _ _ _ c.requires.lane c.requires.item c.requires.shown c.index-boxes-lane.is c.lane.ensures.value c.lane.ensures.plants c.index-plants-receiver.is);
 }
 
 pub overflow_add-get : goal.overflow_add-get
@@ -35,15 +25,7 @@ overflow_add-get g c =
       c.get.ensures.value,
       piece.shipped_fits g.P.Plant.shows c.args.network.now c.args.plants.now c.args.boxes.now c.args.lane.0 c.args.item c.index-plants-receiver.result c.index-boxes-lane.result
           c.lane.result.receiver.0 c.received-received.result c.pieces-waiting.result
-          (record {
-            within = c.requires.lane;
-            there = c.requires.item;
-            some = c.requires.shown;
-            held = c.index-boxes-lane.is;
-            receiver = ap (λ (lane : Lane). lane.receiver.0) (sym c.lane.ensures.value);
-            known = step.receiver_within _ _ c.lane.ensures.plants;
-            asked = c.index-plants-receiver.is;
-          }) c.received-received.ensures c.pieces-waiting.ensures,
+          (piece.read_on _ _ _ _ _ _ _ _ _ c.requires.lane c.requires.item c.requires.shown c.index-boxes-lane.is c.lane.ensures.value c.lane.ensures.plants c.index-plants-receiver.is) c.received-received.ensures c.pieces-waiting.ensures,
     )
 
 pub of-requires : goal.of-requires
@@ -53,28 +35,12 @@ of-requires g c =
       c.get.ensures.value,
       piece.shipped_fits g.P.Plant.shows c.args.network.now c.args.plants.now c.args.boxes.now c.args.lane.0 c.args.item c.index-plants-receiver.result c.index-boxes-lane.result
           c.lane.result.receiver.0 c.received-received.result c.pieces-waiting.result
-          (record {
-            within = c.requires.lane;
-            there = c.requires.item;
-            some = c.requires.shown;
-            held = c.index-boxes-lane.is;
-            receiver = ap (λ (lane : Lane). lane.receiver.0) (sym c.lane.ensures.value);
-            known = step.receiver_within _ _ c.lane.ensures.plants;
-            asked = c.index-plants-receiver.is;
-          }) c.received-received.ensures c.pieces-waiting.ensures,
+          (piece.read_on _ _ _ _ _ _ _ _ _ c.requires.lane c.requires.item c.requires.shown c.index-boxes-lane.is c.lane.ensures.value c.lane.ensures.plants c.index-plants-receiver.is) c.received-received.ensures c.pieces-waiting.ensures,
     )
 
 pub returns : goal.returns
 returns g c capacity s at =
     piece.figure_is g.P.Plant.shows c.args.network.now capacity c.args.plants.now c.args.boxes.now s c.args.lane.0 c.args.item c.index-plants-receiver.result c.index-boxes-lane.result
     c.lane.result.receiver.0 c.received-received.result c.pieces-waiting.result _ _
-    (record {
-      within = c.requires.lane;
-      there = c.requires.item;
-      some = c.requires.shown;
-      held = c.index-boxes-lane.is;
-      receiver = ap (λ (lane : Lane). lane.receiver.0) (sym c.lane.ensures.value);
-      known = step.receiver_within _ _ c.lane.ensures.plants;
-      asked = c.index-plants-receiver.is;
-    }) c.received-received.ensures c.pieces-waiting.ensures
+    (piece.read_on _ _ _ _ _ _ _ _ _ c.requires.lane c.requires.item c.requires.shown c.index-boxes-lane.is c.lane.ensures.value c.lane.ensures.plants c.index-plants-receiver.is) c.received-received.ensures c.pieces-waiting.ensures
     (c.of-opening.ensures ∙ c.opening.ensures) (c.of.ensures ∙ ap (λ (n : ℕ). n + c.pieces-waiting.result) c.get.ensures.value) at
