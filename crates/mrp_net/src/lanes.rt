@@ -8,7 +8,8 @@ ghost use Rattle.mrp_net.specs.Routes.{taken, AreItems, AreLaneLists};
 ghost use Rattle.mrp_net.specs.Sources.{source_no, sent, AreSourceStarts, AreShipments, AreSent, AreResets, AreResetsOf};
 
 use crate::lane::{Lane, LaneKind, Shipment};
-use mrp_group::{Groups, KeyOf, group, starts};
+use crate::sums::Pieces;
+use mrp_group::{AmountOf, Groups, KeyOf, add_totals, group, starts};
 use mrp_qty::Memory;
 use mrp_rows::{ItemNo, PairNo, PlantNo, SourceRow, Tables};
 use std::alloc::Global;
@@ -61,6 +62,14 @@ impl KeyOf<Sent> for BySource {
 
     fn key(&self, sent: &Sent) -> usize {
         sent.source
+    }
+}
+
+impl AmountOf<Sent> for Pieces {
+    ghost amount_of = { λ _ s. s.shipment.quantity };
+
+    fn amount(&self, sent: &Sent) -> u64 {
+        sent.shipment.quantity.get()
     }
 }
 
@@ -254,24 +263,13 @@ fn figures(alloc: Global, tables: &Tables, starts: &[usize]) -> Result<Vec<u64>,
     Ok(figures)
 }
 
-/// Adds to the sum of each source the quantities of its shipments.
-fn add_shipped(all: &[Sent], shipped: &mut [u64])
-    requires { All (λ s. s.source < length shipped.old) all.now }
-    ensures { AddsTotals (λ s. s.source) (λ s. s.shipment.quantity) all.now shipped.old shipped.new }
-{
-    for sent in all {
-        let source = sent.source;
-        shipped[source] = shipped[source].saturating_add(sent.shipment.quantity.get());
-    }
-}
-
 /// The sum of the shipments by each source.
 fn shipped(alloc: Global, tables: &Tables, all: &[Sent]) -> Result<Vec<u64>, Memory>
     requires { all.now ≡ map (sent tables.now) tables.now.ships }
     ensures { IfOk result (λ v. AreSent tables.now (shipped_from tables.now) v.items) }
 {
     let mut shipped = vec![in alloc; 0; tables.sources().len()]?;
-    add_shipped(all, shipped.as_mut_slice());
+    add_totals(&BySource, &Pieces, all, shipped.as_mut_slice());
     Ok(shipped)
 }
 
@@ -298,25 +296,69 @@ fn resets(alloc: Global, tables: &Tables, starts: &[usize]) -> Result<Vec<Option
     Ok(resets)
 }
 
+/// What comes by each source, and where the sources of each pair begin.
+#[derive(Drop)]
+struct Coming {
+    sources: Vec<usize>,
+    shipments: Groups<Shipment>,
+    figures: Vec<u64>,
+    shipped: Vec<u64>,
+    resets: Vec<Option<u64>>,
+}
+
+/// The shipments of each source, and what was shipped before them.
+fn ships(
+    alloc: Global,
+    tables: &Tables,
+    starts: &[usize],
+) -> Result<(Groups<Shipment>, Vec<u64>), Memory>
+    requires { AreSourceStarts tables.now starts.now }
+    ensures shipments { IfOk result (λ r. AreShipments tables.now r.0.rows.items r.0.starts.items) }
+    ensures shipped { IfOk result (λ r. AreSent tables.now (shipped_from tables.now) r.1.items) }
+{
+    let all = all_sent(alloc, tables, starts)?;
+    let shipments = shipments(alloc, tables, all.as_slice())?;
+    let shipped = shipped(alloc, tables, all.as_slice())?;
+    Ok((shipments, shipped))
+}
+
+impl Coming {
+    /// What comes by the sources of a table.
+    fn of(alloc: Global, tables: &Tables) -> Result<Coming, Memory>
+        ensures sources { IfOk result (λ c. AreSourceStarts tables.now c.sources.items) }
+        ensures shipments { IfOk result (λ c. AreShipments tables.now c.shipments.rows.items c.shipments.starts.items) }
+        ensures openings { IfOk result (λ c. AreSent tables.now (figure tables.now) c.figures.items) }
+        ensures sent { IfOk result (λ c. AreSent tables.now (shipped_from tables.now) c.shipped.items) }
+        ensures resets { IfOk result (λ c. AreResets tables.now c.resets.items) }
+    {
+        let sources = source_starts(alloc, tables)?;
+        let figures = figures(alloc, tables, sources.as_slice())?;
+        let resets = resets(alloc, tables, sources.as_slice())?;
+        let (shipments, shipped) = ships(alloc, tables, sources.as_slice())?;
+        Ok(Coming {
+            sources,
+            shipments,
+            figures,
+            shipped,
+            resets,
+        })
+    }
+}
+
 /// The lanes and what is sent over them.
 pub fn lane_lists_of(alloc: Global, tables: &Tables) -> Result<LaneLists, Memory>
     ensures { IfOk result (AreLaneLists tables.now) }
 {
     let items = items(alloc, tables)?;
     let lanes = all_lanes(alloc, tables, &items)?;
-    let sources = source_starts(alloc, tables)?;
-    let all = all_sent(alloc, tables, sources.as_slice())?;
-    let shipments = shipments(alloc, tables, all.as_slice())?;
-    let figures = figures(alloc, tables, sources.as_slice())?;
-    let shipped = shipped(alloc, tables, all.as_slice())?;
-    let resets = resets(alloc, tables, sources.as_slice())?;
+    let coming = Coming::of(alloc, tables)?;
     Ok(LaneLists {
         lanes,
         items,
-        sources,
-        shipments,
-        figures,
-        shipped,
-        resets,
+        sources: coming.sources,
+        shipments: coming.shipments,
+        figures: coming.figures,
+        shipped: coming.shipped,
+        resets: coming.resets,
     })
 }

@@ -44,6 +44,35 @@ impl Model for Network {
     ghost invariant = { λ n. IsBuilt n.tables n.edges n.amounts n.lanes };
 }
 
+/// What is built of a table.
+#[derive(Drop)]
+struct Parts {
+    edges: Edges,
+    amounts: Amounts,
+    lanes: LaneLists,
+}
+
+impl Parts {
+    ghost use Rattle.mrp_net.specs.Built.{AreAmounts, AreEdges};
+    ghost use Rattle.mrp_net.specs.Routes.{AreLaneLists};
+
+    /// The edges, the sums and the lanes of a table.
+    fn of(alloc: Global, tables: &Tables) -> Result<Parts, Memory>
+        ensures edges { IfOk result (λ p. AreEdges tables.now p.edges) }
+        ensures amounts { IfOk result (λ p. AreAmounts tables.now p.amounts) }
+        ensures lanes { IfOk result (λ p. AreLaneLists tables.now p.lanes) }
+    {
+        let edges = build::edges_of(alloc, tables)?;
+        let amounts = build::amounts_of(alloc, tables)?;
+        let lanes = lanes::lane_lists_of(alloc, tables)?;
+        Ok(Parts {
+            edges,
+            amounts,
+            lanes,
+        })
+    }
+}
+
 impl Network {
     /// The network of a table, which it keeps.
     ///
@@ -54,14 +83,12 @@ impl Network {
         ensures { IfOk result (λ n. n ≡ tables) }
     {
         let _pairs = tables.pairs();
-        let edges = build::edges_of(alloc, &tables)?;
-        let amounts = build::amounts_of(alloc, &tables)?;
-        let lanes = lanes::lane_lists_of(alloc, &tables)?;
+        let parts = Parts::of(alloc, &tables)?;
         Ok(Network {
             tables,
-            edges,
-            amounts,
-            lanes,
+            edges: parts.edges,
+            amounts: parts.amounts,
+            lanes: parts.lanes,
         })
     }
 
