@@ -1,14 +1,15 @@
 -- The first test of a record over the figures is the first of the faults that it has over the list.
-use Rattle.std.proofs.Common.{◌≡◌, ℕ, ◌+◌, ◌<◌, ◌≤◌, ◌==◌, Bool, true, false, cond, not, ◌||◌, ◌&&◌, Some, None, Option, List, [], ◌∷◌, ◌++◌, inl, inr, refl, sym, ◌∙◌, ap, subst, length, map, arith}
+use Rattle.std.proofs.Common.{◌≡◌, ℕ, ◌+◌, ◌==◌, Bool, true, false, cond, not, ◌||◌, ◌&&◌, Some, None, Option, List, [], ◌∷◌, ◌++◌, inl, inr, refl, sym, ◌∙◌, ap, length, map, arith}
 use Rattle.std.specs.Prelude.{nat_lt, nat_le, is_some, option_map, unwrap_or, Result, Ok, Err, IfErr}
-use Rattle.std.specs.List.{find, list_all, list_any}
+use Rattle.std.specs.List.{list_all, list_any}
 use Rattle.std.proofs.lemmas.Bool.{cases_lt, le-ltb, lt-ltb, le-leb, lt-leb}
 use Rattle.mrp_qty.specs.declared.quantity.TheConstants.{MOST}
 use Rattle.mrp_rows.specs.declared.numbers.ItemNo.{ItemNo}
 use Rattle.mrp_record.specs.declared.record.Record.{Record}
 use Rattle.mrp_record.specs.declared.record.Record.TheVariants.{Line, ItemEnd, Reset, Close}
-use Rattle.mrp_record.specs.Entries.{Entry, number_of, content, contents, is_ended, is_closed, line_count, next_period, was_reset, in_force, closed_by}
+use Rattle.mrp_record.specs.Entries.{Entry, contents, is_ended, is_closed, line_count, next_period, was_reset, in_force, closed_by}
 use Rattle.mrp_record.specs.Form.{FormItem, LaneForm, item_on, is_other_open, is_anew, IsInForm}
+use Rattle.mrp_record.proofs.FormItems.{item_is}
 use Rattle.mrp_book.specs.declared.fault.BookFault.{BookFault}
 use Rattle.mrp_book.specs.declared.fault.BookFault.TheVariants as fault
 use Rattle.mrp_book.specs.declared.item.ItemFigure.{ItemFigure}
@@ -18,7 +19,7 @@ use Rattle.mrp_book.specs.Figures.{Figures, figures, figure_of, begun, Shows}
 use Rattle.mrp_book.specs.Laws.{FaultsAreFirst}
 use Rattle.mrp_book.specs.Meanings.{opening_of, reset_of, first_had}
 use Rattle.mrp_book.proofs.Deciding.{find_figure}
-use Rattle.mrp_book.proofs.Following.{begun_agrees, item_is}
+use Rattle.mrp_book.proofs.Following.{begun_agrees}
 
 -- ---- one test more
 

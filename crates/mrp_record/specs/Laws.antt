@@ -151,7 +151,7 @@ abbrev pub is_same_form_item : FormItem → FormItem → Bool
 is_same_form_item a b = a.item == b.item
 
 -- what a list in form tells of a load: deliveries of one piece at least, in the horizon, on a schedule lane in rising
--- periods, and with an opening figure of at most 10^15 no more than that
+-- periods, and with the opening figure at most 10^15 pieces, unless that is more by itself
 pub record IsTold (form : LaneForm) (load : Load) : Type 0 where
   pub some : All (λ line. 1 ≤ line.quantity) load.lines
   pub inside : All (λ line. line.period < form.horizon) load.lines
