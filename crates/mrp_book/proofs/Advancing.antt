@@ -1,5 +1,5 @@
 -- The figures of a list with one record more.
-use Rattle.std.proofs.Common.{◌≡◌, ℕ, ◌+◌, ◌==◌, Bool, true, false, cond, ◌||◌, Some, None, Option, List, [], ◌∷◌, ◌++◌, ◌⊎◌, inl, inr, refl, sym, ◌∙◌, ap, subst, length, map, arith}
+use Rattle.std.proofs.Common.{◌≡◌, ℕ, ◌+◌, ◌==◌, Bool, true, false, cond, ◌||◌, Some, None, Option, List, [], ◌∷◌, ◌++◌, inl, inr, refl, sym, ◌∙◌, ap, subst, length, map, arith}
 use Rattle.std.specs.Prelude.{IsSomeAnd}
 use Rattle.std.specs.List.{IsDistinct, AllByRecursion, find, fold, list_any, sum_by, count_by}
 use Rattle.std.proofs.lemmas.Bool.{cases_Bool, eq-eqb, eqb-true, eqb-false, ne_eqb, or_right}
@@ -8,11 +8,11 @@ use Rattle.std.proofs.lemmas.List.Sums.{fold_push, sum_by_push}
 use Rattle.mrp_record.specs.declared.record.Record.{Record}
 use Rattle.mrp_record.specs.declared.record.Record.TheVariants.{Line, ItemEnd, Reset, Close}
 use Rattle.mrp_record.specs.Entries.{Entry, LineOf, EndOf, ResetOf, Closing, content, contents, is_of, is_line, is_reset, is_end, is_closing, entries_of, is_closed, next_after, figure_after, closed_of, in_force}
-use Rattle.mrp_record.specs.Form.{FormItem, LaneForm, item_on, GoesOn, ResetFits, LineFits, EndFits, EntryFits}
+use Rattle.mrp_record.specs.Form.{FormItem, LaneForm, item_on, GoesOn, ResetFits, EntryFits}
+use Rattle.mrp_record.proofs.Growing.{own_pushed, other_pushed}
 use Rattle.mrp_book.specs.declared.item.ItemFigure.{ItemFigure}
 use Rattle.mrp_book.specs.After.{after, at_item, with_line, with_end, with_reset}
 use Rattle.mrp_book.specs.Figures.{Figures, figures, figure_of, is_same_item, begun, begun_by}
-use Rattle.mrp_book.proofs.Following.{own_pushed, other_pushed, item_is}
 
 -- the figures of an item by its own records
 abbrev figure_from : FormItem → List Entry → ItemFigure

@@ -1,19 +1,20 @@
 -- No test of a record holds exactly where it continues the list.
-use Rattle.std.proofs.Common.{◌≡◌, ◌≢◌, ℕ, ◌+◌, ◌<◌, ◌≤◌, ◌==◌, Bool, true, false, cond, not, ◌||◌, ◌&&◌, Some, None, Option, List, [], ◌∷◌, ◌++◌, ◌⊎◌, inl, inr, refl, sym, ◌∙◌, ap, subst, length, map, arith}
-use Rattle.std.specs.Prelude.{nat_lt, nat_le, is_some, option_map, IsSomeAnd, ◌↔◌}
-use Rattle.std.specs.List.{All, find, list_all, list_any}
-use Rattle.std.proofs.lemmas.Bool.{cases_Bool, eq-eqb, eqb-true, eqb-false, ne_eqb, and_left, and_right, and_cases, and_from, and_parts, not_from_true, not_from_false, not-true, not-false, or_from, or_parts, both_ways, false≢true, true≢false, ltb-false, le-ltb, leb-false, lt-leb}
+use Rattle.std.proofs.Common.{◌≡◌, ◌≢◌, ℕ, ◌+◌, ◌≤◌, ◌==◌, Bool, true, false, cond, not, ◌||◌, ◌&&◌, Some, None, Option, List, [], ◌∷◌, ◌++◌, inl, inr, refl, sym, ◌∙◌, ap, subst, length, map, arith}
+use Rattle.std.specs.Prelude.{nat_lt, nat_le, is_some, option_map, IsSomeAnd}
+use Rattle.std.specs.List.{All, find, list_all}
+use Rattle.std.proofs.lemmas.Bool.{cases_Bool, eq-eqb, eqb-true, eqb-false, ne_eqb, and_left, and_right, and_cases, and_from, and_parts, not_from_true, not-false, or_from, or_parts, both_ways, false≢true, true≢false, ltb-false, le-ltb, leb-false, lt-leb}
 use Rattle.std.proofs.lemmas.List.Elements.{All-head, All-tail, All-nil, All-cons}
 use Rattle.mrp_qty.specs.declared.quantity.TheConstants.{MOST}
 use Rattle.mrp_record.specs.declared.record.Record.{Record}
 use Rattle.mrp_record.specs.declared.record.Record.TheVariants.{Line, ItemEnd, Reset, Close}
-use Rattle.mrp_record.specs.Entries.{Entry, LineOf, EndOf, ResetOf, Closing, number_of, content, contents, is_ended, is_closed, line_count, next_period, was_reset, in_force, closed_by}
+use Rattle.mrp_record.specs.Entries.{Entry, number_of, content, contents, is_ended}
 use Rattle.mrp_record.specs.Form.{FormItem, LaneForm, item_on, is_other_open, is_anew, GoesOn, LineFits, EndFits, ResetFits, EntryFits, Continues, IsInForm}
+use Rattle.mrp_record.proofs.FormItems.{item_is}
 use Rattle.mrp_book.specs.declared.item.ItemFigure.{ItemFigure}
-use Rattle.mrp_book.specs.Faults.{Test, test, first_of, number_tests, with_item, find_item, is_other_begun, line_tests, end_tests, reset_tests, close_tests, own_tests, first_fault, is_period_wrong, is_cum_wrong, is_too_large, is_side_wrong, is_end_wrong, is_reset_missing, is_reset_wrong}
-use Rattle.mrp_book.specs.Figures.{Figures, figures, figure_of, begun, IsForm}
+use Rattle.mrp_book.specs.Faults.{Test, first_of, number_tests, with_item, find_item, is_other_begun, line_tests, end_tests, reset_tests, own_tests, first_fault}
+use Rattle.mrp_book.specs.Figures.{figures, figure_of, begun}
 use Rattle.mrp_book.specs.Laws.{NoFaultIsInForm}
-use Rattle.mrp_book.proofs.Following.{begun_agrees, item_is, in_form_push, in_form_last}
+use Rattle.mrp_book.proofs.Following.{begun_agrees, in_form_push, in_form_last}
 use Rattle.mrp_book.proofs.Turns.{NoneHolds, none_holds}
 
 -- ---- tables of tests

@@ -1,15 +1,17 @@
 -- A list in form, record by record, and which block is open in it.
-use Rattle.std.proofs.Common.{◌≡◌, ◌≢◌, ℕ, ◌+◌, ◌<◌, ◌≤◌, ◌==◌, Bool, true, false, cond, not, ◌||◌, ◌&&◌, Some, None, Option, List, [], ◌∷◌, ◌++◌, ◌⊎◌, inl, inr, refl, sym, ◌∙◌, ap, subst, length, map, append_assoc, get_or, zero, suc, arith}
+use Rattle.std.proofs.Common.{◌≡◌, ℕ, ◌==◌, Bool, true, false, not, ◌&&◌, Some, None, Option, List, [], ◌∷◌, ◌++◌, inl, inr, refl, sym, ◌∙◌, ap, subst, length, get_or, arith}
 use Rattle.std.specs.Prelude.{nat_lt, IsSomeAnd}
-use Rattle.std.specs.List.{All, find, filter, fold, list_any}
-use Rattle.std.proofs.lemmas.Bool.{cases_Bool, eq-eqb, eqb-true, eqb-false, ne_eqb, and_left, and_right, and_cases, and_from, not_from_true, not_from_false, or_from, or_left, or_right, both_ways, false≢true, true≢false, lt-ltb}
+use Rattle.std.specs.List.{All, find, list_any}
+use Rattle.std.proofs.lemmas.Bool.{cases_Bool, eq-eqb, eqb-true, eqb-false, ne_eqb, and_left, and_right, and_cases, and_from, not_from_true, not_from_false, or_from, or_left, or_right, both_ways, true≢false, lt-ltb}
 use Rattle.std.proofs.lemmas.List.{append-nil, map-append, length-append}
-use Rattle.std.proofs.lemmas.List.Elements.{filter-append, All-head, All-tail}
+use Rattle.std.proofs.lemmas.List.Elements.{All-head, All-tail}
 use Rattle.std.proofs.lemmas.List.Sums.{fold_push}
 use Rattle.mrp_record.specs.declared.record.Record.{Record}
-use Rattle.mrp_record.specs.Entries.{Entry, LineOf, EndOf, ResetOf, Closing, content, contents, is_of, is_end, entries_of, is_ended, is_open}
+use Rattle.mrp_record.specs.Entries.{Entry, LineOf, EndOf, ResetOf, Closing, content, contents, is_of, is_end, entries_of, is_open}
 use Rattle.mrp_record.specs.Form.{FormItem, LaneForm, item_on, is_other_open, GoesOn, LineFits, EndFits, ResetFits, EntryFits, Continues, IsInForm}
-use Rattle.mrp_record.proofs.Fronts.{IsBeyond, IsInside, overlap, nothing_after}
+use Rattle.mrp_record.proofs.FormItems.{item_is}
+use Rattle.mrp_record.proofs.Fronts.{overlap, nothing_after}
+use Rattle.mrp_record.proofs.Growing.{last_of, own_pushed, other_pushed}
 use Rattle.mrp_record.proofs.Own.{list_any-append, list_any-front}
 use Rattle.mrp_book.specs.Faults.{is_other_begun}
 use Rattle.mrp_book.specs.Figures.{begun, begun_by}
@@ -35,23 +37,6 @@ in_form_push form records r h c before after s e = elim (overlap records (r ∷ 
 
 pub in_form_last : (form : LaneForm) (records : List Record) (r : Record) → IsInForm form (records ++ r ∷ []) → Continues form records r
 in_form_last form records r h = h records [] r refl
-
-pub in_form_front : (form : LaneForm) (records : List Record) (r : Record) → IsInForm form (records ++ r ∷ []) → IsInForm form records
-in_form_front form records r h before after s e =
-    h before (after ++ r ∷ []) s (ap (λ (z : List Record). z ++ r ∷ []) e ∙ append_assoc before (s ∷ after) (r ∷ []))
-
--- a list is empty or has a last element
-pub record IsPushed (records : List Record) : Type 0 where
-  pub front : List Record
-  pub last : Record
-  pub is : records ≡ front ++ last ∷ []
-
-pub last_of : (records : List Record) → (records ≡ []) ⊎ IsPushed records
-last_of [] = inl refl
-last_of (r ∷ records) = elim (last_of records) [
-  | inl none ↦ inr (record { front = []; last = r; is = ap (λ (z : List Record). r ∷ z) none })
-  | inr p ↦ inr (record { front = r ∷ p.front; last = p.last; is = ap (λ (z : List Record). r ∷ z) p.is })
-]
 
 -- ---- tests over the items of a lane
 
@@ -86,33 +71,10 @@ found_true p q (y ∷ xs) x e h =
           or_right (q y) (list_any q xs) (found_true p q xs x later h)
     ]
 
-pub item_is : (items : List FormItem) (item : ℕ) (i : FormItem) → find (λ j. j.item == item) items ≡ Some i → i.item ≡ item
-item_is [] item i e = absurd (cc)
-item_is (j ∷ items) item i e =
-    elim (cases_Bool (j.item == item)) [
-      | inl here ↦
-          let some : Some j ≡ Some i = rw here at e in
-          let one : j ≡ i = cc in
-          ap (λ (z : FormItem). z.item) (sym one) ∙ eqb-true j.item item here
-      | inr other ↦
-          let later : find (λ (j : FormItem). j.item == item) items ≡ Some i = rw other at e in
-          item_is items item i later
-    ]
-
 -- ---- which block is open after a record
 
 abbrev pub opens : List Entry → Bool
 opens own = nat_lt 0 (length own) && not (list_any is_end own)
-
-pub own_pushed : (item : ℕ) (es : List Entry) (e : Entry) → is_of item e ≡ true → entries_of item (es ++ e ∷ []) ≡ entries_of item es ++ e ∷ []
-own_pushed item es e h =
-    let one : entries_of item (e ∷ []) ≡ e ∷ [] = rw h refl in
-    filter-append (is_of item) es (e ∷ []) ∙ ap (λ (z : List Entry). entries_of item es ++ z) one
-
-pub other_pushed : (item : ℕ) (es : List Entry) (e : Entry) → is_of item e ≡ false → entries_of item (es ++ e ∷ []) ≡ entries_of item es
-other_pushed item es e h =
-    let none : entries_of item (e ∷ []) ≡ [] = rw h refl in
-    filter-append (is_of item) es (e ∷ []) ∙ ap (λ (z : List Entry). entries_of item es ++ z) none ∙ append-nil (entries_of item es)
 
 -- no other block than the record's own is open after it
 others_shut : (form : LaneForm) (es : List Entry) (e : Entry) (i : FormItem) → GoesOn form i es → ((other : ℕ) → is_of other e ≡ (i.item == other))

@@ -1,6 +1,7 @@
 pub mod Advancing
 pub mod Deciding
 pub mod Following
+pub mod Meaning
 pub mod Opening
 pub mod Places
 pub mod Showing

@@ -1,7 +1,7 @@
 -- A new book shows the empty list.
-use Rattle.std.proofs.Common.{◌≡◌, ◌≢◌, ℕ, ◌+◌, ◌<◌, ◌≤◌, ◌==◌, Bool, true, false, cond, List, [], ◌∷◌, ◌++◌, ◌⊎◌, inl, inr, refl, sym, ◌∙◌, ap, subst, length, map, take, get_or, zero, suc, arith, add-one, None}
+use Rattle.std.proofs.Common.{◌≡◌, ℕ, ◌+◌, ◌<◌, ◌≤◌, ◌==◌, Bool, false, List, [], ◌∷◌, ◌++◌, refl, sym, ◌∙◌, ap, subst, length, map, take, get_or, zero, suc, arith, None}
 use Rattle.std.specs.List.{All, AllByRecursion, IsDistinct, list_any}
-use Rattle.std.proofs.lemmas.Bool.{eqb-true, eqb-false, ne_eqb, or_from}
+use Rattle.std.proofs.lemmas.Bool.{or_from}
 use Rattle.std.proofs.lemmas.List.{map-append, take_more}
 use Rattle.std.proofs.lemmas.List.Elements.{All-nil, All-cons, All-push, All-get_or, All-from_recursion}
 use Rattle.indexmap.specs.IndexSet.{insert_key}
@@ -11,14 +11,13 @@ use Rattle.mrp_rows.specs.declared.numbers.ItemNo.{ItemNo}
 use Rattle.mrp_rows.specs.contracts.numbers.ItemNoPartialEq.TheImpl.{eq-value}
 use Rattle.mrp_spell.proofs.Mapped.{list_any_keys}
 use Rattle.mrp_rows.proofs.Keys.{same_test}
-use Rattle.mrp_record.specs.declared.record.Record.{Record}
 use Rattle.mrp_record.specs.Form.{FormItem, LaneForm, IsInForm}
 use Rattle.mrp_record.proofs.Fronts.{nothing_after}
 use Rattle.mrp_book.specs.declared.item.BookItem.{BookItem}
 use Rattle.mrp_book.specs.declared.item.ItemFigure.{ItemFigure}
 use Rattle.mrp_book.specs.After.{opened, IsBook, IsWithin}
 use Rattle.mrp_net.specs.declared.lane.LaneKind.{LaneKind}
-use Rattle.mrp_book.specs.Figures.{Figures, figure_of, figures, form_of, rises_on, form_item, is_same_item, is_same_book_item, IsForm, Shows}
+use Rattle.mrp_book.specs.Figures.{Figures, figure_of, figures, form_of, rises_on, form_item, is_same_item, is_same_book_item, Shows}
 
 -- no item stands among those before it
 pub is_new : (xs : List BookItem) (k : ℕ) (d : BookItem) → IsDistinct is_same_book_item xs → k < length xs → list_any (λ j. j.item.0 == (get_or xs k d).item.0) (take k xs) ≡ false

@@ -1,5 +1,5 @@
 -- The place of an item among those of a book.
-use Rattle.std.proofs.Common.{◌≡◌, ℕ, ◌<◌, ◌==◌, Bool, true, false, cond, ltb, not, ◌||◌, Some, None, Option, List, [], ◌∷◌, ◌++◌, ◌⊎◌, inl, inr, ◌+◌, refl, sym, ◌∙◌, ap, subst, length, map, get_or, set, zero, suc, arith}
+use Rattle.std.proofs.Common.{◌≡◌, ℕ, ◌<◌, ◌==◌, Bool, true, false, cond, ltb, ◌||◌, Some, None, Option, List, [], ◌∷◌, ◌++◌, inl, inr, ◌+◌, refl, sym, ◌∙◌, ap, subst, length, map, get_or, set, zero, suc, arith}
 use Rattle.std.specs.Prelude.{slice_get, position}
 use Rattle.std.specs.List.{find, position_or_len}
 use Rattle.std.proofs.lemmas.Bool.{cases_Bool, ltb-true, ltb-false}
@@ -12,7 +12,7 @@ use Rattle.mrp_book.specs.declared.fault.BookFault.{BookFault}
 use Rattle.mrp_book.specs.declared.fault.BookFault.TheVariants as fault
 use Rattle.mrp_book.specs.declared.item.ItemFigure.{ItemFigure}
 use Rattle.mrp_book.specs.After.{at_item}
-use Rattle.mrp_book.specs.Faults.{Test, test, first_of, with_item, find_item, is_other_begun}
+use Rattle.mrp_book.specs.Faults.{Test, first_of, with_item, find_item, is_other_begun}
 use Rattle.mrp_book.specs.Figures.{Figures}
 
 -- a place that is looked for is inside the list or past its end

@@ -2,3 +2,4 @@ pub mod After
 pub mod Faults
 pub mod Figures
 pub mod Laws
+pub mod Meanings

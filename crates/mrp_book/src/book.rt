@@ -58,6 +58,7 @@ impl Book {
     ghost use Rattle.mrp_record.specs.Form.{item_on, IsInForm, LaneForm};
     ghost use Rattle.mrp_record.specs.declared.record.Record.{Record};
     ghost use Rattle.mrp_book.specs.Figures.{figures, form_of, is_same_book_item, Shows};
+    ghost use Rattle.mrp_book.specs.Meanings.{first_had};
 
     /// The book of a lane's receiver before the first record.
     ///
@@ -102,6 +103,7 @@ impl Book {
         ensures booked { OnOk result ((F : LaneForm) (records : List Record) → Shows F self.old records → Shows F self.new (records ++ entry.now ∷ [])) }
         ensures refused { IfErr result (λ fault. (F : LaneForm) (records : List Record) → Shows F self.old records
             → (first_fault (figures F records) entry.now ≡ Some fault) × (IsInForm F (records ++ entry.now ∷ []) → ⊥)) }
+        ensures first { IfErr result (λ fault. (F : LaneForm) (records : List Record) → Shows F self.old records → first_had F records entry.now ≡ Some fault) }
         ensures unchanged { OnErr result (self.new ≡ self.old) }
     {
         self.book_exactly(*entry)

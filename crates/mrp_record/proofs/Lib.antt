@@ -1,10 +1,16 @@
 pub mod Beginnings
+pub mod Begun
 pub mod BlockForm
 pub mod Figures
+pub mod FormItems
 pub mod Forming
 pub mod Fronts
+pub mod Growing
 pub mod Loads
+pub mod Orders
 pub mod Own
+pub mod OwnFronts
 pub mod Running
 pub mod Standing
 pub mod Tallies
+pub mod Told

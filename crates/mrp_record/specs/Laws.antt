@@ -144,3 +144,29 @@ CumsAreSmall =
     (rising : Bool) (horizon : ℕ) (loads : List Load) → AreLoads loads → AreSmall rising horizon loads
     → (records : List Record) → IsBeginning loads records
     → (load : Load) → Contains loads load → cum load.opening load.item (contents records) ≤ MOST
+
+-- ---- lists in form
+
+abbrev pub is_same_form_item : FormItem → FormItem → Bool
+is_same_form_item a b = a.item == b.item
+
+-- what a list in form tells of a load: deliveries of one piece at least, in the horizon, on a schedule lane in rising
+-- periods, and with the opening figure at most 10^15 pieces, unless that is more by itself
+pub record IsTold (form : LaneForm) (load : Load) : Type 0 where
+  pub some : All (λ line. 1 ≤ line.quantity) load.lines
+  pub inside : All (λ line. line.period < form.horizon) load.lines
+  pub rises : form.rising ≡ true → AllPairs (λ a b. a.period < b.period) load.lines
+  pub figures : load.opening ≤ MOST → load.opening + total load.lines ≤ MOST
+
+-- the list is a legal beginning of these loads, which are those of a lane of that form
+pub record IsBegunBy (form : LaneForm) (records : List Record) (loads : List Load) : Type 0 where
+  pub once : AreLoads loads
+  pub lane : form_of form.rising form.horizon loads ≡ form
+  pub begun : IsBeginning loads records
+  pub told : All (IsTold form) loads
+
+-- a list in form on a lane that has each item once is a legal beginning of some loads
+abbrev pub ListsInFormAreBeginnings : Type 0
+ListsInFormAreBeginnings =
+    (form : LaneForm) → IsDistinct is_same_form_item form.items → (records : List Record) → IsInForm form records
+    → (loads : List Load) × IsBegunBy form records loads

@@ -3,7 +3,7 @@
 ghost use Rattle.mrp_record.specs.Laws.{EmptyIsABeginning, FrontsAreBeginnings, FrontsAreNested, NothingFollowsClosing, ClosedIsWhole, TextsHaveOneLength};
 ghost use Rattle.mrp_record.specs.Laws.{BeginningsAreNoLonger};
 ghost use Rattle.mrp_record.specs.Laws.{EndedBlocksAreWhole, EndedBlocksBringDeliveries, EndedBlocksBringPeriods, EndedBlocksBringTotals, EndedItemsAreDone};
-ghost use Rattle.mrp_record.specs.Laws.{CumIsOpeningAndMoved, BeginningsAreInForm, FiguresAreSmall, CumsAreSmall};
+ghost use Rattle.mrp_record.specs.Laws.{CumIsOpeningAndMoved, BeginningsAreInForm, FiguresAreSmall, CumsAreSmall, ListsInFormAreBeginnings};
 
 /// The list without records is a legal beginning, and so is each front of a legal beginning. Of two
 /// fronts of one text one is a front of the other.
@@ -47,4 +47,11 @@ pub fn beginnings_are_in_form()
     ensures form { BeginningsAreInForm }
     ensures figures { FiguresAreSmall }
     ensures cums { CumsAreSmall }
+{}
+
+/// A list in form, on a lane that has each item once, is a legal beginning of some loads. Their deliveries
+/// are of one piece at least, in the horizon and on a schedule lane in rising periods, and come with the
+/// opening figure to at most 10^15 pieces, unless that is more.
+pub fn lists_in_form_are_beginnings()
+    ensures { ListsInFormAreBeginnings }
 {}

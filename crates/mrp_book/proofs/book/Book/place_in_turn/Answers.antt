@@ -1,4 +1,4 @@
-use Rattle.std.proofs.Common.{true, false, sym, ◌∙◌}
+use Rattle.std.proofs.Common.{sym, ◌∙◌}
 use Rattle.std.proofs.lemmas.Bool.{or_left, or_right, or_from}
 use Rattle.mrp_book.specs.Faults.{is_other_begun}
 use Rattle.mrp_book.proofs.Places.{not_on_lane, out_of_turn, in_turn, shown_at}
