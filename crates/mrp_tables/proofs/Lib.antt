@@ -25,3 +25,7 @@ pub mod StepCount
 pub mod Arrivals
 pub mod NewPair
 pub mod OneWay
+pub mod WrittenFields
+pub mod WrittenRows
+pub mod WrittenPair
+pub mod WrittenTable

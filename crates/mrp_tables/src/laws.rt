@@ -11,6 +11,7 @@ ghost use Rattle.mrp_tables.specs.Grammar.{RunTerms};
 ghost use Rattle.mrp_tables.specs.Missing.{TellsMissing};
 ghost use Rattle.mrp_tables.specs.Reading.{IsCalendarOf, Reads};
 ghost use Rattle.mrp_tables.specs.Tests.{HasFirstFault};
+ghost use Rattle.mrp_tables.specs.Written.{IsWritten};
 ghost use Rattle.mrp_rows.specs.Table.{IsTable, Table};
 
 use crate::reading::MAX_TURNS;
@@ -24,6 +25,14 @@ pub fn turns_are_rows()
 /// What is read is a table: rows that the grammar reads say all that an accepted table says.
 pub fn what_is_read_is_a_table()
     ensures { (rows : List (List (List ℕ))) (N : Table) → Reads rows (Ok N) → IsTable N }
+{}
+
+/// Rows that are read are the table written out: the run row with a text of the calendar's first day, then each
+/// plant, pair, bill, demand, receipt, ship, cum and reset row of the table in its order, with the names of what it
+/// names, its quantities, periods and figures, the rule and the supply in the fields where they are written, and
+/// nothing in the other fields.
+pub fn rows_are_the_table_written_out()
+    ensures { (rows : List (List (List ℕ))) (N : Table) → Reads rows (Ok N) → IsWritten rows N }
 {}
 
 /// The records that the grammar speaks of are all the records of a text.
