@@ -108,12 +108,12 @@ item_added items name = by (list_any (bytes_eq name) items) refl
     by false e = list_any-append (bytes_eq name) items (name ∷ []) ∙ rw (e, (bytes_eq-Decides name name).1 refl) refl
 
 -- a name that is there has a place among the names
-place_within : (names : List (List ℕ)) (name : List ℕ) → list_any (bytes_eq name) names ≡ true → unwrap_or (position (bytes_eq name) names) 0 < length names
+pub place_within : (names : List (List ℕ)) (name : List ℕ) → list_any (bytes_eq name) names ≡ true → unwrap_or (position (bytes_eq name) names) 0 < length names
 place_within names name there =
     let at = position-from_any (bytes_eq name) names there in
     subst (λ (o : Option ℕ). unwrap_or o 0 < length names) (sym at.1) (position_there (bytes_eq name) names at.0 at.1).1
 
-no_place : {X : Type 0} (p : X → Bool) (xs : List X) → list_any p xs ≡ false → position p xs ≡ None
+pub no_place : {X : Type 0} (p : X → Bool) (xs : List X) → list_any p xs ≡ false → position p xs ≡ None
 no_place p xs none = by (position p xs) refl
   where
     by : (o : Option ℕ) → position p xs ≡ o → o ≡ None

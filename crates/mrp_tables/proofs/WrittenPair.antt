@@ -1,10 +1,11 @@
 -- A pair row is what is written of the pair that it adds, its item and its sources; and what is written of the pairs
 -- before it stays.
-use Rattle.std.proofs.Common.{◌≡◌, ◌≤◌, ◌<◌, ℕ, ◌+◌, Bool, true, false, if◌then◌else◌, get_or, List, [], ◌∷◌, ◌++◌, map, length, Option, position, slice_index_or, unwrap_or, Ok, refl, ap, sym, ◌∙◌, subst, arith}
+use Rattle.std.proofs.Common.{◌≡◌, ◌≤◌, ◌<◌, ℕ, ◌+◌, Bool, true, false, if◌then◌else◌, get_or, max, List, [], ◌∷◌, ◌++◌, map, length, Option, position, slice_index_or, unwrap_or, Ok, refl, ap, sym, ◌∙◌, subst, arith}
 use Rattle.std.specs.List.{All, list_any}
 use Rattle.std.specs.Str.{bytes_eq}
-use Rattle.std.proofs.lemmas.List.{get_or_append_left}
+use Rattle.std.proofs.lemmas.List.{get_or_append_left, length_push}
 use Rattle.std.proofs.lemmas.List.Elements.{All-head, All-tail}
+use Rattle.std.proofs.lemmas.Slice.Eq.{bytes_eq-Decides}
 use Rattle.mrp_lot.specs.declared.rule.TheConstants.{LONGEST_LEAD}
 use Rattle.mrp_spell.specs.Spelling.{number_text, rule_of, rule_text}
 use Rattle.mrp_spell.specs.Supplies.{BuyTerms, FromTerms, MakeTerms, named_sources, SourceTerms, supply_of, supply_text, SupplyTerms}
@@ -21,9 +22,9 @@ use Rattle.mrp_rows.specs.Names.{has_plant}
 use Rattle.mrp_rows.specs.Table.{IsOnce, IsRead, IsSourced, sources_of_pair, Table}
 use Rattle.mrp_tables.specs.declared.kind.Kind.TheVariants as kind
 use Rattle.mrp_tables.specs.Grammar.{field, name_of, pair_terms, PairTerms, pair_with, ranged, source_row, supply_kind, with_pair_terms}
-use Rattle.mrp_tables.specs.Written.{item_name, pair_fields, pair_rows, plant_name, source_said, supply_said}
-use Rattle.mrp_tables.proofs.KeepingLists.{position-from_any}
-use Rattle.mrp_tables.proofs.KeepingPair.{Fitting, item_added, new_kept, old_kept}
+use Rattle.mrp_tables.specs.Written.{AreNumbered, item_name, pair_fields, pair_rows, plant_name, source_said, supply_said}
+use Rattle.mrp_tables.proofs.KeepingLists.{position_last, position-from_any}
+use Rattle.mrp_tables.proofs.KeepingPair.{Fitting, item_added, new_kept, no_place, old_kept, place_within}
 use Rattle.mrp_tables.proofs.KeepingShares.{SpellsPair}
 use Rattle.mrp_tables.proofs.KeepingSteps.{after, after_some, same_Ok}
 use Rattle.mrp_tables.proofs.WrittenFields.{all_used, fields_same, IsOfKind, name_text, named_at, plant_found, ranged_text}
@@ -75,6 +76,27 @@ old_item items name i lt = by (list_any (bytes_eq name) items)
     by : (b : Bool) → get_or (if b then items else items ++ name ∷ []) i [] ≡ get_or items i []
     by true = refl
     by false = get_or_append_left items (name ∷ []) [] i lt
+
+-- ---- the number of a pair's item
+
+pub numbered_push : (n : ℕ) (ps : List PairRow) (m : ℕ) (p : PairRow) → AreNumbered n ps m → p.item.0 ≤ m → AreNumbered n (ps ++ p ∷ []) (max m (p.item.0 + 1))
+numbered_push n [] m p h le = (omega (arith, h, le), ap (λ z. max z (p.item.0 + 1)) h)
+numbered_push n (q ∷ qs) m p h le = (h.0, numbered_push (max n (q.item.0 + 1)) qs m p h.1 le)
+
+-- the item of a pair row is there or is the next
+record IsNext (items more : List (List ℕ)) (name : List ℕ) : Type 0 where
+  known : unwrap_or (position (bytes_eq name) more) 0 ≤ length items
+  count : max (length items) (unwrap_or (position (bytes_eq name) more) 0 + 1) ≡ length more
+
+is_next : (items : List (List ℕ)) (name : List ℕ) → IsNext items (add_item items name) name
+is_next items name = by (list_any (bytes_eq name) items) refl
+  where
+    by : (b : Bool) → list_any (bytes_eq name) items ≡ b → IsNext items (if b then items else items ++ name ∷ []) name
+    by true e = let within = place_within items name e in record { known = omega (arith, within); count = omega (arith, within) }
+    by false e =
+        let last = position_last (bytes_eq name) items name (no_place (bytes_eq name) items e) ((bytes_eq-Decides name name).1 refl) in
+        let at : unwrap_or (position (bytes_eq name) (items ++ name ∷ [])) 0 ≡ length items = ap (λ (o : Option ℕ). unwrap_or o 0) last in
+        record { known = omega (arith, at); count = omega (arith, at, length_push items name) }
 
 -- ---- where a pair comes from
 
@@ -149,3 +171,10 @@ module _ (N : Table) (plant : PlantNo) (t : PairTerms) (read : IsRead N) (once :
       pairs_push M 0 N.pairs new_row (length N.pairs) (omega arith)
       ∙ ap (λ l. l ++ pair_fields M (length N.pairs) new_row ∷ []) (pairs_stay N M 0 N.pairs refl (old_item N.items t.item) (old_kept N plant t read once sourced fit says) (λ k d lt. (read.pairs k d lt).item) (omega arith))
       ∙ ap (λ r. pair_rows N 0 N.pairs ++ r ∷ []) (sym (new_said row k said))
+
+-- the pairs with one more are numbered
+pub pair_numbered : (N : Table) (plant : PlantNo) (t : PairTerms) → AreNumbered 0 N.pairs (length N.items) → AreNumbered 0 (with_pair_terms N plant t).pairs (length (with_pair_terms N plant t).items)
+pair_numbered N plant t h =
+    let next = is_next N.items t.item in
+    let p = pair_with (add_item N.items t.item) plant t in
+    subst (λ (m : ℕ). AreNumbered 0 (N.pairs ++ p ∷ []) m) next.count (numbered_push 0 N.pairs (length N.items) p h next.known)

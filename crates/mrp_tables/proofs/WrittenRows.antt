@@ -1,6 +1,7 @@
 -- Each row but a pair's is what is written of what it adds.
 use Rattle.std.proofs.Common.{◌≡◌, ℕ, ◌-◌, ltb, not, true, List, length, Option, Some, Ok, refl, ap, sym, ◌∙◌, subst}
-use Rattle.mrp_cal.specs.Calendar.{CalendarTerms, IsCalendarFrom}
+use Rattle.mrp_cal.specs.Calendar.{CalendarTerms, IsCalendar, IsCalendarFrom}
+use Rattle.mrp_cal.specs.Days.{day_text}
 use Rattle.mrp_qty.specs.declared.horizon.TheConstants.{LONGEST}
 use Rattle.mrp_qty.specs.declared.quantity.TheConstants.{MOST}
 use Rattle.mrp_spell.specs.Spelling.{number_of, number_text}
@@ -24,6 +25,7 @@ use Rattle.mrp_tables.specs.Written.{bill_fields, cum_fields, demand_fields, pai
 use Rattle.mrp_tables.proofs.KeepingParts.{bill_parts, cum_parts, reset_parts, ship_parts}
 use Rattle.mrp_tables.proofs.KeepingRows.{on_lane}
 use Rattle.mrp_tables.proofs.KeepingSteps.{after, after_check, after_some, same_Ok}
+use Rattle.mrp_tables.proofs.WrittenDay.{first_text}
 use Rattle.mrp_tables.proofs.WrittenFields.{five_used, four_used, IsNamed, IsOfKind, name_text, number_is_text, of_kind, pair_found, plant_found, ranged_text, six_used, two_used}
 
 -- ---- plants
@@ -240,11 +242,12 @@ run_kind kind.Ship e = absurd (cc)
 run_kind kind.Cum e = absurd (cc)
 run_kind kind.Reset e = absurd (cc)
 
-pub run_said : (row : List (List ℕ)) (t : RunTerms) (c : CalendarTerms) → first_terms row ≡ Ok t → IsCalendarFrom t.first t.days t.periods c → row ≡ run_fields t.first c
+pub run_said : (row : List (List ℕ)) (t : RunTerms) (c : CalendarTerms) → first_terms row ≡ Ok t → IsCalendarFrom t.first t.days t.periods c → IsCalendar c → row ≡ run_fields c
 unfolding first_terms
-run_said row t c is from =
+run_said row t c is from calendar =
     let a = after (kind_of_row row) _ t is in
     let b = after_check (is_run a.0) _ _ t a.2 in
     let k = of_kind row kind.Run (a.1 ∙ ap (λ (k : Kind). Ok k) (run_kind a.0 b.0)) in
     let says = run_terms_said row t b.1 in
-    four_used row _ t.first (number_text c.days) (number_text c.periods) k.size k.word k.free says.first (says.days ∙ ap number_text (sym from.days)) (says.periods ∙ ap number_text (sym from.periods))
+    four_used row _ (day_text c.first) (number_text c.days) (number_text c.periods) k.size k.word k.free
+    (says.first ∙ first_text t.first c from.first calendar) (says.days ∙ ap number_text (sym from.days)) (says.periods ∙ ap number_text (sym from.periods))

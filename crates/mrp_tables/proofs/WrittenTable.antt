@@ -1,7 +1,6 @@
 -- Rows that are read are the table written out.
-use Rattle.std.proofs.Common.{◌≡◌, ◌≤◌, ◌<◌, ℕ, ◌+◌, List, [], ◌∷◌, ◌++◌, map, Result, Ok, Err, refl, ap, sym, ◌∙◌, subst, append_assoc, append-nil, arith}
+use Rattle.std.proofs.Common.{◌≡◌, ◌≤◌, ◌<◌, ℕ, ◌+◌, List, [], ◌∷◌, ◌++◌, length, map, Result, Ok, Err, refl, ap, sym, ◌∙◌, subst, append_assoc, append-nil, arith}
 use Rattle.mrp_cal.specs.Calendar.{CalendarTerms}
-use Rattle.mrp_cal.specs.DateText.{SpellsDay}
 use Rattle.mrp_cal.specs.declared.fault.CalFault.{CalFault}
 use Rattle.mrp_rows.specs.declared.numbers.PlantNo.{PlantNo}
 use Rattle.mrp_rows.specs.declared.rows.BillRow.{BillRow}
@@ -17,7 +16,7 @@ use Rattle.mrp_tables.specs.declared.kind.Kind.{Kind}
 use Rattle.mrp_tables.specs.declared.kind.Kind.TheVariants as kind
 use Rattle.mrp_tables.specs.Grammar.{◌>>=◌, bill_of, cum_of, demand_of, may_follow, pair_fits, pair_row, pair_terms, PairTerms, place_of, plant_of, receipt_of, reset_of, RunTerms, ship_of, with_pair_terms}
 use Rattle.mrp_tables.specs.Reading.{at_row, empty_table, first_lacking, first_terms, IsCalendarOf, IsReadSoFar, kind_of_row, read_from, Reads, row_after, row_of_kind, rows_after, started, Starts, StartsWith, waiting}
-use Rattle.mrp_tables.specs.Written.{bill_fields, cum_fields, demand_fields, IsWritten, pair_rows, plant_fields, receipt_fields, reset_fields, rows_of, run_fields, ship_fields}
+use Rattle.mrp_tables.specs.Written.{AreNumbered, bill_fields, cum_fields, demand_fields, later_rows, pair_rows, plant_fields, receipt_fields, reset_fields, rows_of, run_fields, ship_fields}
 use Rattle.mrp_tables.proofs.Accept.{waited, was_read, went_on}
 use Rattle.mrp_tables.proofs.Keeping.{follows, row_after_keeps}
 use Rattle.mrp_tables.proofs.KeepingPair.{fits}
@@ -25,7 +24,7 @@ use Rattle.mrp_tables.proofs.KeepingShares.{pair_terms_are}
 use Rattle.mrp_tables.proofs.KeepingSteps.{after, after_check, same_Ok}
 use Rattle.mrp_tables.proofs.Whole.{first_keeps}
 use Rattle.mrp_tables.proofs.WrittenFields.{IsOfKind, of_kind}
-use Rattle.mrp_tables.proofs.WrittenPair.{pair_terms_said, pairs_written}
+use Rattle.mrp_tables.proofs.WrittenPair.{pair_numbered, pair_terms_said, pairs_written}
 use Rattle.mrp_tables.proofs.WrittenRows.{bill_said, cum_said, demand_said, plant_said, receipt_said, reset_said, run_said, ship_said}
 
 abbrev Row : Type 0
@@ -120,10 +119,14 @@ module _ (N : Table) (place : ℕ) (fresh : IsFresh N place) where
 
 -- ---- what a row adds is what it says
 
+abbrev IsNumbered : Table → Type 0
+IsNumbered N = AreNumbered 0 N.pairs (length N.items)
+
 -- the table with a row more, written out, has that row more
 record Adds (N M : Table) (k : Kind) (row : Row) : Type 0 where
   calendar : M.calendar ≡ N.calendar
-  rows : rows_of M ≡ rows_of N ++ row ∷ []
+  numbered : IsNumbered N → IsNumbered M
+  rows : later_rows M ≡ later_rows N ++ row ∷ []
   fresh : IsFresh M (place_of k)
 
 module _ (N : Table) (row : Row) where
@@ -132,6 +135,7 @@ module _ (N : Table) (row : Row) where
       let more : IsFresh (with_plant N x) 1 = record { pairs = fresh.pairs; bills = fresh.bills; demands = fresh.demands; receipts = fresh.receipts; ships = fresh.ships; cums = fresh.cums; resets = fresh.resets } in
       record {
         calendar = refl;
+        numbered = λ h. h;
         rows = at_ends _ (map plant_fields N.plants) _ (from_pairs N) row (map_push plant_fields N.plants x row (plant_said N row x k is)) (no_pairs (with_plant N x) 1 more (omega arith)) (no_pairs N 1 fresh (omega arith));
         fresh = more;
       }
@@ -139,6 +143,7 @@ module _ (N : Table) (row : Row) where
   bill_adds : (x : BillRow) → IsFresh N 3 → IsOfKind row kind.Bill → bill_of N row ≡ Ok x → Adds N (with_bill N x) kind.Bill row
   bill_adds x fresh k is = record {
     calendar = refl;
+    numbered = λ h. h;
     rows = behind (map plant_fields N.plants) _ _ row (behind (pair_rows N 0 N.pairs) _ _ row
         (at_end _ (map (bill_fields N) N.bills) (from_demands N) row (map_push (bill_fields N) N.bills x row (bill_said N row x k is)) (no_demands N 3 fresh (omega arith))));
     fresh = record { pairs = fresh.pairs; bills = λ lt. absurd (omega arith); demands = fresh.demands; receipts = fresh.receipts; ships = fresh.ships; cums = fresh.cums; resets = fresh.resets };
@@ -147,6 +152,7 @@ module _ (N : Table) (row : Row) where
   demand_adds : (x : DemandRow) → IsFresh N 4 → IsOfKind row kind.Demand → demand_of N row ≡ Ok x → Adds N (with_demand N x) kind.Demand row
   demand_adds x fresh k is = record {
     calendar = refl;
+    numbered = λ h. h;
     rows = behind (map plant_fields N.plants) _ _ row (behind (pair_rows N 0 N.pairs) _ _ row (behind (map (bill_fields N) N.bills) _ _ row
         (at_end _ (map (demand_fields N) N.demands) (from_receipts N) row (map_push (demand_fields N) N.demands x row (demand_said N row x k is)) (no_receipts N 4 fresh (omega arith)))));
     fresh = record { pairs = fresh.pairs; bills = fresh.bills; demands = λ lt. absurd (omega arith); receipts = fresh.receipts; ships = fresh.ships; cums = fresh.cums; resets = fresh.resets };
@@ -155,6 +161,7 @@ module _ (N : Table) (row : Row) where
   receipt_adds : (x : ReceiptRow) → IsFresh N 5 → IsOfKind row kind.Receipt → receipt_of N row ≡ Ok x → Adds N (with_receipt N x) kind.Receipt row
   receipt_adds x fresh k is = record {
     calendar = refl;
+    numbered = λ h. h;
     rows = behind (map plant_fields N.plants) _ _ row (behind (pair_rows N 0 N.pairs) _ _ row (behind (map (bill_fields N) N.bills) _ _ row (behind (map (demand_fields N) N.demands) _ _ row
         (at_end _ (map (receipt_fields N) N.receipts) (from_ships N) row (map_push (receipt_fields N) N.receipts x row (receipt_said N row x k is)) (no_ships N 5 fresh (omega arith))))));
     fresh = record { pairs = fresh.pairs; bills = fresh.bills; demands = fresh.demands; receipts = λ lt. absurd (omega arith); ships = fresh.ships; cums = fresh.cums; resets = fresh.resets };
@@ -163,6 +170,7 @@ module _ (N : Table) (row : Row) where
   ship_adds : (x : ShipRow) → IsFresh N 6 → IsOfKind row kind.Ship → ship_of N row ≡ Ok x → Adds N (with_ship N x) kind.Ship row
   ship_adds x fresh k is = record {
     calendar = refl;
+    numbered = λ h. h;
     rows = behind (map plant_fields N.plants) _ _ row (behind (pair_rows N 0 N.pairs) _ _ row (behind (map (bill_fields N) N.bills) _ _ row (behind (map (demand_fields N) N.demands) _ _ row
         (behind (map (receipt_fields N) N.receipts) _ _ row
         (at_end _ (map (ship_fields N) N.ships) (from_cums N) row (map_push (ship_fields N) N.ships x row (ship_said N row x k is)) (no_cums N 6 fresh (omega arith)))))));
@@ -172,6 +180,7 @@ module _ (N : Table) (row : Row) where
   cum_adds : (x : CumRow) → IsFresh N 7 → IsOfKind row kind.Cum → cum_of N row ≡ Ok x → Adds N (with_cum N x) kind.Cum row
   cum_adds x fresh k is = record {
     calendar = refl;
+    numbered = λ h. h;
     rows = behind (map plant_fields N.plants) _ _ row (behind (pair_rows N 0 N.pairs) _ _ row (behind (map (bill_fields N) N.bills) _ _ row (behind (map (demand_fields N) N.demands) _ _ row
         (behind (map (receipt_fields N) N.receipts) _ _ row (behind (map (ship_fields N) N.ships) _ _ row
         (at_end _ (map (cum_fields N) N.cums) (map (reset_fields N) N.resets) row (map_push (cum_fields N) N.cums x row (cum_said N row x k is)) (no_resets N 7 fresh (omega arith))))))));
@@ -181,6 +190,7 @@ module _ (N : Table) (row : Row) where
   reset_adds : (x : ResetRow) → IsFresh N 8 → IsOfKind row kind.Reset → reset_of N row ≡ Ok x → Adds N (with_reset N x) kind.Reset row
   reset_adds x fresh k is = record {
     calendar = refl;
+    numbered = λ h. h;
     rows = behind (map plant_fields N.plants) _ _ row (behind (pair_rows N 0 N.pairs) _ _ row (behind (map (bill_fields N) N.bills) _ _ row (behind (map (demand_fields N) N.demands) _ _ row
         (behind (map (receipt_fields N) N.receipts) _ _ row (behind (map (ship_fields N) N.ships) _ _ row (behind (map (cum_fields N) N.cums) _ _ row
         (map_push (reset_fields N) N.resets x row (reset_said N row x k is))))))));
@@ -197,6 +207,7 @@ pair_adds N M last row so_far fresh k is =
     let pairs = pairs_written N b.0 a.0 so_far.read so_far.once so_far.sourced fit (pair_terms_are row a.0 a.1) row k (pair_terms_said row a.0 a.1) in
     subst (λ (m : Table). Adds N m kind.Pair row) same (record {
       calendar = refl;
+      numbered = pair_numbered N b.0 a.0;
       rows = behind (map plant_fields N.plants) _ _ row
           (at_ends _ (pair_rows N 0 N.pairs) _ (from_bills N) row pairs (no_bills (with_pair_terms N b.0 a.0) 2 (more b.0 a.0) (omega arith)) (no_bills N 2 fresh (omega arith)));
       fresh = more b.0 a.0;
@@ -240,13 +251,14 @@ row_after_adds s t row so_far fresh is =
 
 record AddsAll (N M : Table) (rows : List Row) : Type 0 where
   calendar : M.calendar ≡ N.calendar
-  written : rows_of M ≡ rows_of N ++ rows
+  numbered : IsNumbered N → IsNumbered M
+  written : later_rows M ≡ later_rows N ++ rows
 
 rows_add : (rows : List Row) (number : ℕ) (s : Table × Kind) (M : Table) → IsReadSoFar s.0 s.1 → IsFresh s.0 (place_of s.1) → rows_after number s rows ≡ Ok M → AddsAll s.0 M rows
 unfolding rows_after
 rows_add [] number s M so_far fresh e =
     let same : s.0 ≡ M = cc in
-    subst (λ (m : Table). AddsAll s.0 m []) same (record { calendar = refl; written = sym (append-nil (rows_of s.0)) })
+    subst (λ (m : Table). AddsAll s.0 m []) same (record { calendar = refl; numbered = λ h. h; written = sym (append-nil (later_rows s.0)) })
 rows_add (row ∷ rows) number s M so_far fresh e =
     let a = went_on (at_row number (row_after s row)) (λ t. rows_after (number + 1) t rows) M e in
     let one = was_read number (row_after s row) a.0 a.1 in
@@ -254,26 +266,25 @@ rows_add (row ∷ rows) number s M so_far fresh e =
     let rest = rows_add rows (number + 1) a.0 M (row_after_keeps s a.0 row so_far one) adds.fresh a.2 in
     record {
       calendar = rest.calendar ∙ adds.calendar;
-      written = rest.written ∙ ap (λ l. l ++ rows) adds.rows ∙ append_assoc (rows_of s.0) (row ∷ []) rows;
+      numbered = λ h. rest.numbered (adds.numbered h);
+      written = rest.written ∙ ap (λ l. l ++ rows) adds.rows ∙ append_assoc (later_rows s.0) (row ∷ []) rows;
     }
 
 -- ---- the first row
 
 record HasRun (N : Table) (row : Row) : Type 0 where
-  first : List ℕ
-  day : SpellsDay first N.calendar.first
-  run : row ≡ run_fields first N.calendar
-  empty : rows_of N ≡ []
+  run : row ≡ run_fields N.calendar
+  empty : later_rows N ≡ []
+  numbered : IsNumbered N
   fresh : IsFresh N 0
 
 run_has : (N : Table) (row : Row) (t : RunTerms) (c : Result CalendarTerms CalFault) → first_terms row ≡ Ok t → IsCalendarOf t c → Ok N ≡ started c → HasRun N row
 run_has N row t (Ok c) is says e =
     let same : empty_table c ≡ N = cc in
     subst (λ (m : Table). HasRun m row) same (record {
-      first = t.first;
-      day = says.0.first;
-      run = run_said row t c is says.0;
+      run = run_said row t c is says.0 says.1;
       empty = refl;
+      numbered = refl;
       fresh = record { pairs = λ lt. refl; bills = λ lt. refl; demands = λ lt. refl; receipts = λ lt. refl; ships = λ lt. refl; cums = λ lt. refl; resets = λ lt. refl };
     })
 run_has N row t (Err f) is says e = absurd (cc)
@@ -284,20 +295,33 @@ start_has N row (Err e) is s = absurd (cc s)
 
 -- ---- the whole table
 
+record IsWritten (rows : List Row) (N : Table) : Type 0 where
+  rows_are : rows ≡ rows_of N
+  numbered : IsNumbered N
+
 whole_written : (start : Result Table TableFaultKind) (row : Row) (rows : List Row) (N : Table) → Starts row start → Ok N ≡ read_from start rows → IsWritten (row ∷ rows) N
 whole_written (Ok first) row rows N starts e =
     let a = went_on (rows_after 2 (first, kind.Run) rows) waiting N (sym e) in
     let w = waited a.0 N (first_lacking a.0 a.0.sources) a.2 in
     let has = start_has first row (first_terms row) refl starts in
     let all = rows_add rows 2 (first, kind.Run) a.0 (first_keeps first row starts) has.fresh a.1 in
+    let head : row ≡ run_fields a.0.calendar = has.run ∙ ap run_fields (sym all.calendar) in
+    let rest : rows ≡ later_rows a.0 = sym (all.written ∙ ap (λ l. l ++ rows) has.empty) in
     subst (IsWritten (row ∷ rows)) w.1 (record {
-      first = has.first;
-      day = subst (λ (c : CalendarTerms). SpellsDay has.first c.first) (sym all.calendar) has.day;
-      rows_are = ap (λ r. r ∷ rows) (has.run ∙ ap (run_fields has.first) (sym all.calendar))
-          ∙ ap (λ l. run_fields has.first a.0.calendar ∷ l) (sym (all.written ∙ ap (λ l. l ++ rows) has.empty));
+      rows_are = ap (λ r. r ∷ rows) head ∙ ap (λ l. run_fields a.0.calendar ∷ l) rest;
+      numbered = all.numbered has.numbered;
     })
 whole_written (Err k) row rows N starts e = absurd (cc)
 
-pub written_out : (rows : List (List (List ℕ))) (N : Table) → Reads rows (Ok N) → IsWritten rows N
-written_out [] N e = absurd (cc)
-written_out (row ∷ rows) N reads = whole_written reads.0 row rows N reads.1 reads.2
+is_written : (rows : List Row) (N : Table) → Reads rows (Ok N) → IsWritten rows N
+is_written [] N e = absurd (cc)
+is_written (row ∷ rows) N reads = whole_written reads.0 row rows N reads.1 reads.2
+
+pub written_out : (rows : List Row) (N : Table) → Reads rows (Ok N) → rows ≡ rows_of N
+written_out rows N reads = (is_written rows N reads).rows_are
+
+pub one_list : (a b : List Row) (N : Table) → Reads a (Ok N) → Reads b (Ok N) → a ≡ b
+one_list a b N ra rb = written_out a N ra ∙ sym (written_out b N rb)
+
+pub items_numbered : (rows : List Row) (N : Table) → Reads rows (Ok N) → AreNumbered 0 N.pairs (length N.items)
+items_numbered rows N reads = (is_written rows N reads).numbered

@@ -1,8 +1,8 @@
 -- A table written out: the rows that say it, kind by kind, each kind in the order of its list, field by
 -- field. Nothing here speaks of reading.
-use Rattle.std.specs.Prelude.{◌≡◌, ℕ, ◌+◌, List, [], ◌∷◌, ◌++◌, codes, map, slice_index_or}
+use Rattle.std.specs.Prelude.{◌≡◌, ◌≤◌, ℕ, ◌+◌, max, List, [], ◌∷◌, ◌++◌, codes, map, slice_index_or}
 use Rattle.mrp_cal.specs.Calendar.{CalendarTerms}
-use Rattle.mrp_cal.specs.DateText.{SpellsDay}
+use Rattle.mrp_cal.specs.Days.{day_text}
 use Rattle.mrp_spell.specs.Spelling.{number_text, rule_text}
 use Rattle.mrp_spell.specs.Supplies.{BuyTerms, FromTerms, MakeTerms, SourceTerms, supply_text, SupplyTerms}
 use Rattle.mrp_rows.specs.Table.{item_at, plant_at, sources_of_pair, Table}
@@ -46,8 +46,8 @@ supply_said N x supply.From = FromTerms (map (source_said N) (sources_of_pair N 
 
 -- ---- the eight fields of each kind of row; those that it doesn't use are empty
 
-abbrev pub run_fields : List ℕ → CalendarTerms → List (List ℕ)
-run_fields first c = codes "run" ∷ first ∷ number_text c.days ∷ number_text c.periods ∷ [] ∷ [] ∷ [] ∷ [] ∷ []
+abbrev pub run_fields : CalendarTerms → List (List ℕ)
+run_fields c = codes "run" ∷ day_text c.first ∷ number_text c.days ∷ number_text c.periods ∷ [] ∷ [] ∷ [] ∷ [] ∷ []
 
 abbrev pub plant_fields : List ℕ → List (List ℕ)
 plant_fields name = codes "plant" ∷ name ∷ [] ∷ [] ∷ [] ∷ [] ∷ [] ∷ [] ∷ []
@@ -92,13 +92,18 @@ pair_rows N x [] = []
 pair_rows N x (p ∷ ps) = pair_fields N x p ∷ pair_rows N (x + 1) ps
 
 -- the rows after the run
-abbrev pub rows_of : Table → List (List (List ℕ))
-rows_of N =
+abbrev pub later_rows : Table → List (List (List ℕ))
+later_rows N =
     map plant_fields N.plants ++ (pair_rows N 0 N.pairs ++ (map (bill_fields N) N.bills ++ (map (demand_fields N) N.demands
     ++ (map (receipt_fields N) N.receipts ++ (map (ship_fields N) N.ships ++ (map (cum_fields N) N.cums ++ map (reset_fields N) N.resets))))))
 
--- the rows are the table written out: the run, with a text of the calendar's first day, and the rows after it
-pub record IsWritten (rows : List (List (List ℕ))) (N : Table) : Type 0 where
-  pub first : List ℕ
-  pub day : SpellsDay first N.calendar.first
-  pub rows_are : rows ≡ run_fields first N.calendar ∷ rows_of N
+-- the whole table
+abbrev pub rows_of : Table → List (List (List ℕ))
+rows_of N = run_fields N.calendar ∷ later_rows N
+
+-- ---- the numbers of items
+
+-- of pairs above which there are n items each is of one of those or of the next, and in the end there are m
+abbrev pub AreNumbered : ℕ → List PairRow → ℕ → Type 0
+AreNumbered n [] m = m ≡ n
+AreNumbered n (p ∷ ps) m = (p.item.0 ≤ n) × AreNumbered (max n (p.item.0 + 1)) ps m
