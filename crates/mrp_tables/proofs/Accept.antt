@@ -32,11 +32,11 @@ table_is N last so_far none = complete N last so_far (All-from_position (lacks_p
 
 -- ---- what is read
 
-went_on : {A B : Type 0} (r : Result A TableFault) (more : A → Result B TableFault) (y : B) → go_on r more ≡ Ok y → (x : A) × (r ≡ Ok x) × (more x ≡ Ok y)
+pub went_on : {A B : Type 0} (r : Result A TableFault) (more : A → Result B TableFault) (y : B) → go_on r more ≡ Ok y → (x : A) × (r ≡ Ok x) × (more x ≡ Ok y)
 went_on (Ok x) more y e = (x, refl, e)
 went_on (Err g) more y e = absurd (cc)
 
-was_read : {A : Type 0} (number : ℕ) (r : Result A TableFaultKind) (x : A) → at_row number r ≡ Ok x → r ≡ Ok x
+pub was_read : {A : Type 0} (number : ℕ) (r : Result A TableFaultKind) (x : A) → at_row number r ≡ Ok x → r ≡ Ok x
 was_read number (Ok y) x e = let same : y ≡ x = cc in ap (λ z. Ok z) same
 was_read number (Err g) x e = absurd (cc)
 
@@ -61,7 +61,7 @@ none_lacks N (s ∷ ss) e = by (lacks_pair N s) refl e (none_lacks N ss)
     by true is e rest = absurd (cc)
     by false is e rest = All-cons (λ s. lacks_pair N s ≡ false) s ss is (rest e)
 
-waited : (N M : Table) (o : Option ℕ) → unless_lacking N o ≡ Ok M → (o ≡ None) × (N ≡ M)
+pub waited : (N M : Table) (o : Option ℕ) → unless_lacking N o ≡ Ok M → (o ≡ None) × (N ≡ M)
 waited N M None e = (refl, cc)
 waited N M (Some x) e = absurd (cc)
 

@@ -26,7 +26,7 @@ use Rattle.mrp_tables.proofs.KeepingRows.{plant_keeps, demand_keeps, receipt_kee
 use Rattle.mrp_tables.proofs.KeepingSteps.{after, after_check, same_Ok}
 
 -- a kind stands with the kinds before it
-follows : (k last : Kind) → may_follow k last ≡ true → place_of last ≤ place_of k
+pub follows : (k last : Kind) → may_follow k last ≡ true → place_of last ≤ place_of k
 follows k last e = let parts = and_parts (ltb 0 (place_of k)) (leb (place_of last) (place_of k)) e in grind (arith, nat_tests)
 
 module _ (N : Table) (last : Kind) (row : List (List ℕ)) (so_far : IsReadSoFar N last) where

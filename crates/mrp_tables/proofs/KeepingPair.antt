@@ -41,14 +41,14 @@ nothing : {X : Type 0} (o : Option X) → not (is_some o) ≡ true → o ≡ Non
 nothing None e = refl
 nothing (Some x) e = absurd (cc)
 
-record Fitting (N : Table) (t : PairTerms) (plant : PlantNo) : Type 0 where
-  new : pair_named N (Some plant.0) t.item ≡ None
-  at : plant_no N t.plant ≡ Some plant.0
-  known : All (λ s. has_plant N s.plant ≡ true) (named_sources t.supply)
-  others : names_plant (named_sources t.supply) t.plant ≡ false
-  room : length N.pairs < MOST_PAIRS
+pub record Fitting (N : Table) (t : PairTerms) (plant : PlantNo) : Type 0 where
+  pub new : pair_named N (Some plant.0) t.item ≡ None
+  pub at : plant_no N t.plant ≡ Some plant.0
+  pub known : All (λ s. has_plant N s.plant ≡ true) (named_sources t.supply)
+  pub others : names_plant (named_sources t.supply) t.plant ≡ false
+  pub room : length N.pairs < MOST_PAIRS
 
-fits : (N : Table) (t : PairTerms) (plant : PlantNo) → pair_fits N t ≡ Ok plant → Fitting N t plant
+pub fits : (N : Table) (t : PairTerms) (plant : PlantNo) → pair_fits N t ≡ Ok plant → Fitting N t plant
 unfolding pair_fits
 fits N t plant is =
     let a = after_check (not (is_some (pair_named N (plant_no N t.plant) t.item))) _ _ plant is in
@@ -100,7 +100,7 @@ distinct_items items name d = by (list_any (bytes_eq name) items) refl
 
 -- ---- the items with it
 
-item_added : (items : List (List ℕ)) (name : List ℕ) → list_any (bytes_eq name) (add_item items name) ≡ true
+pub item_added : (items : List (List ℕ)) (name : List ℕ) → list_any (bytes_eq name) (add_item items name) ≡ true
 item_added items name = by (list_any (bytes_eq name) items) refl
   where
     by : (b : Bool) → list_any (bytes_eq name) items ≡ b → list_any (bytes_eq name) (if b then items else items ++ name ∷ []) ≡ true
@@ -108,12 +108,12 @@ item_added items name = by (list_any (bytes_eq name) items) refl
     by false e = list_any-append (bytes_eq name) items (name ∷ []) ∙ rw (e, (bytes_eq-Decides name name).1 refl) refl
 
 -- a name that is there has a place among the names
-place_within : (names : List (List ℕ)) (name : List ℕ) → list_any (bytes_eq name) names ≡ true → unwrap_or (position (bytes_eq name) names) 0 < length names
+pub place_within : (names : List (List ℕ)) (name : List ℕ) → list_any (bytes_eq name) names ≡ true → unwrap_or (position (bytes_eq name) names) 0 < length names
 place_within names name there =
     let at = position-from_any (bytes_eq name) names there in
     subst (λ (o : Option ℕ). unwrap_or o 0 < length names) (sym at.1) (position_there (bytes_eq name) names at.0 at.1).1
 
-no_place : {X : Type 0} (p : X → Bool) (xs : List X) → list_any p xs ≡ false → position p xs ≡ None
+pub no_place : {X : Type 0} (p : X → Bool) (xs : List X) → list_any p xs ≡ false → position p xs ≡ None
 no_place p xs none = by (position p xs) refl
   where
     by : (o : Option ℕ) → position p xs ≡ o → o ≡ None
@@ -216,7 +216,7 @@ module _ (N : Table) (plant : PlantNo) (t : PairTerms) (read : IsRead N) (once :
     resets = once.resets;
   }
 
-  old_kept : (x : ℕ) → x < length N.pairs → sources_of_pair M x ≡ sources_of_pair N x
+  pub old_kept : (x : ℕ) → x < length N.pairs → sources_of_pair M x ≡ sources_of_pair N x
   old_kept x lt =
       let p : SourceRow → Bool = λ s. s.pair.0 == x in
       filter-append p N.sources new_rows
@@ -224,7 +224,7 @@ module _ (N : Table) (plant : PlantNo) (t : PairTerms) (read : IsRead N) (once :
       (All-weaker (λ s. s.pair.0 ≡ length N.pairs) (λ s. (s.pair.0 == x) ≡ false) (λ s e. ne_eqb s.pair.0 x (λ same. absurd (omega arith))) new_rows new_sources))
       ∙ append-nil (filter p N.sources)
 
-  new_kept : sources_of_pair M (length N.pairs) ≡ new_rows
+  pub new_kept : sources_of_pair M (length N.pairs) ≡ new_rows
   new_kept =
       let p : SourceRow → Bool = λ s. s.pair.0 == length N.pairs in
       filter-append p N.sources new_rows

@@ -25,3 +25,8 @@ pub mod StepCount
 pub mod Arrivals
 pub mod NewPair
 pub mod OneWay
+pub mod WrittenDay
+pub mod WrittenFields
+pub mod WrittenRows
+pub mod WrittenPair
+pub mod WrittenTable

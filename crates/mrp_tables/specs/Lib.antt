@@ -8,3 +8,4 @@ pub mod Reading
 pub mod Spelled
 pub mod Steps
 pub mod Tests
+pub mod Written

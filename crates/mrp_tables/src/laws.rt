@@ -1,5 +1,5 @@
 //! Laws of the grammar of tables, each the contract of a function that does nothing.
-ghost use Rattle.std.specs.Prelude.{◌≡◌, ◌+◌, ◌*◌, ℕ, List, Ok, Result};
+ghost use Rattle.std.specs.Prelude.{◌≡◌, ◌+◌, ◌*◌, ℕ, length, List, Ok, Result};
 ghost use Rattle.csv.specs.Reading.{AreRecords, default_config, records};
 ghost use Rattle.csv.specs.declared.parser.State.TheVariants.{StartRecord};
 ghost use Rattle.mrp_cal.specs.Calendar.{CalendarTerms};
@@ -11,6 +11,7 @@ ghost use Rattle.mrp_tables.specs.Grammar.{RunTerms};
 ghost use Rattle.mrp_tables.specs.Missing.{TellsMissing};
 ghost use Rattle.mrp_tables.specs.Reading.{IsCalendarOf, Reads};
 ghost use Rattle.mrp_tables.specs.Tests.{HasFirstFault};
+ghost use Rattle.mrp_tables.specs.Written.{AreNumbered, rows_of};
 ghost use Rattle.mrp_rows.specs.Table.{IsTable, Table};
 
 use crate::reading::MAX_TURNS;
@@ -24,6 +25,24 @@ pub fn turns_are_rows()
 /// What is read is a table: rows that the grammar reads say all that an accepted table says.
 pub fn what_is_read_is_a_table()
     ensures { (rows : List (List (List ℕ))) (N : Table) → Reads rows (Ok N) → IsTable N }
+{}
+
+/// Rows that are read are the table written out: the run row, then each plant, pair, bill, demand, receipt, ship,
+/// cum and reset row of the table in its order, with the names of what it names, its period, its quantity and its
+/// other values each in the field where it is written, and nothing in the fields that it doesn't use.
+pub fn rows_are_the_table_written_out()
+    ensures { (rows : List (List (List ℕ))) (N : Table) → Reads rows (Ok N) → rows ≡ rows_of N }
+{}
+
+/// A table is read from one list of rows alone: reading loses nothing that a row says.
+pub fn tables_have_one_list_of_rows()
+    ensures { (a b : List (List (List ℕ))) (N : Table) → Reads a (Ok N) → Reads b (Ok N) → a ≡ b }
+{}
+
+/// Items are numbered in the order of their first pairs: each pair of a table that is read has an item of a pair
+/// above it, or the next one, and there is no other item.
+pub fn items_are_numbered_by_their_pairs()
+    ensures { (rows : List (List (List ℕ))) (N : Table) → Reads rows (Ok N) → AreNumbered 0 N.pairs (length N.items) }
 {}
 
 /// The records that the grammar speaks of are all the records of a text.

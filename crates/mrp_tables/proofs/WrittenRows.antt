@@ -1,0 +1,253 @@
+-- Each row but a pair's is what is written of what it adds.
+use Rattle.std.proofs.Common.{◌≡◌, ℕ, ◌-◌, ltb, not, true, List, length, Option, Some, Ok, refl, ap, sym, ◌∙◌, subst}
+use Rattle.mrp_cal.specs.Calendar.{CalendarTerms, IsCalendar, IsCalendarFrom}
+use Rattle.mrp_cal.specs.Days.{day_text}
+use Rattle.mrp_qty.specs.declared.horizon.TheConstants.{LONGEST}
+use Rattle.mrp_qty.specs.declared.quantity.TheConstants.{MOST}
+use Rattle.mrp_spell.specs.Spelling.{number_of, number_text}
+use Rattle.mrp_rows.specs.declared.numbers.PairNo.{PairNo}
+use Rattle.mrp_rows.specs.declared.numbers.PlantNo.{PlantNo}
+use Rattle.mrp_rows.specs.declared.rows.TheConstants.{MOST_IN_ROW, MOST_OF_A_KIND, MOST_PER, MOST_PLANTS}
+use Rattle.mrp_rows.specs.declared.rows.BillRow.{BillRow}
+use Rattle.mrp_rows.specs.declared.rows.CumRow.{CumRow}
+use Rattle.mrp_rows.specs.declared.rows.DemandRow.{DemandRow}
+use Rattle.mrp_rows.specs.declared.rows.ReceiptRow.{ReceiptRow}
+use Rattle.mrp_rows.specs.declared.rows.ResetRow.{ResetRow}
+use Rattle.mrp_rows.specs.declared.rows.ShipRow.{ShipRow}
+use Rattle.mrp_rows.specs.Names.{has_plant, pair_named, plant_no}
+use Rattle.mrp_rows.specs.Table.{horizon, Table}
+use Rattle.mrp_tables.specs.declared.kind.Kind.{Kind}
+use Rattle.mrp_tables.specs.declared.kind.Kind.TheVariants as kind
+use Rattle.mrp_tables.specs.Grammar.{amount_terms, AmountTerms, bill_fits, bill_of, bill_terms, BillTerms, cum_of, cum_terms, demand_of, field, known_pair, lane_terms, LaneTerms, name_of}
+use Rattle.mrp_tables.specs.Grammar.{plant_of, plant_terms, ranged, receipt_of, reset_of, reset_terms, run_terms, RunTerms, ship_of, ship_terms}
+use Rattle.mrp_tables.specs.Reading.{first_terms, is_run, kind_of_row}
+use Rattle.mrp_tables.specs.Written.{bill_fields, cum_fields, demand_fields, pair_item, pair_plant, plant_fields, plant_name, receipt_fields, reset_fields, run_fields, ship_fields}
+use Rattle.mrp_tables.proofs.KeepingParts.{bill_parts, cum_parts, reset_parts, ship_parts}
+use Rattle.mrp_tables.proofs.KeepingRows.{on_lane}
+use Rattle.mrp_tables.proofs.KeepingSteps.{after, after_check, after_some, same_Ok}
+use Rattle.mrp_tables.proofs.WrittenDay.{first_text}
+use Rattle.mrp_tables.proofs.WrittenFields.{five_used, four_used, IsNamed, IsOfKind, name_text, number_is_text, of_kind, pair_found, plant_found, ranged_text, six_used, two_used}
+
+-- ---- plants
+
+name_said : (N : Table) (row : List (List ℕ)) (name : List ℕ) → plant_of N row ≡ Ok name → field row 1 ≡ name
+unfolding plant_of
+name_said N row name is =
+    let a = after (plant_terms row) _ name is in
+    let b = after_check (not (has_plant N a.0)) _ _ name a.2 in
+    let c = after_check (ltb (length N.plants) MOST_PLANTS) _ _ name b.1 in
+    name_text (field row 1) a.0 a.1 ∙ same_Ok a.0 name c.1
+
+pub plant_said : (N : Table) (row : List (List ℕ)) (name : List ℕ) → IsOfKind row kind.Plant → plant_of N row ≡ Ok name → row ≡ plant_fields name
+plant_said N row name k is = two_used row _ name k.size k.word k.free (name_said N row name is)
+
+-- ---- bills
+
+record BillSaid (row : List (List ℕ)) (t : BillTerms) : Type 0 where
+  plant : field row 1 ≡ t.plant
+  parent : field row 2 ≡ t.parent
+  component : field row 3 ≡ t.component
+  per : field row 4 ≡ number_text t.per
+
+bill_terms_said : (row : List (List ℕ)) (t : BillTerms) → bill_terms row ≡ Ok t → BillSaid row t
+unfolding bill_terms
+bill_terms_said row t is =
+    let a = after (name_of (field row 1)) _ t is in
+    let b = after (name_of (field row 2)) _ t a.2 in
+    let c = after (name_of (field row 3)) _ t b.2 in
+    let d = after (ranged (field row 4) 1 MOST_PER) _ t c.2 in
+    let same : record { plant = a.0; parent = b.0; component = c.0; per = d.0 } ≡ t = same_Ok _ t d.2 in
+    subst (BillSaid row) same (record {
+      plant = name_text (field row 1) a.0 a.1;
+      parent = name_text (field row 2) b.0 b.1;
+      component = name_text (field row 3) c.0 c.1;
+      per = ranged_text (field row 4) 1 MOST_PER d.0 d.1;
+    })
+
+pub bill_said : (N : Table) (row : List (List ℕ)) (b : BillRow) → IsOfKind row kind.Bill → bill_of N row ≡ Ok b → row ≡ bill_fields N b
+bill_said N row b k is =
+    let a = after (bill_terms row) (bill_fits N) b is in
+    let says = bill_terms_said row a.0 a.1 in
+    let p = bill_parts N a.0 b a.2 in
+    let x = pair_found N a.0.plant a.0.parent p.x p.parent in
+    let y = pair_found N a.0.plant a.0.component p.y p.component in
+    subst (λ (z : BillRow). row ≡ bill_fields N z) p.same
+    (five_used row _ (pair_plant N p.x) (pair_item N p.x) (pair_item N p.y) (number_text a.0.per) k.size k.word k.free (says.plant ∙ x.plant) (says.parent ∙ x.item) (says.component ∙ y.item) says.per)
+
+-- ---- demands and receipts
+
+record AmountSaid (row : List (List ℕ)) (t : AmountTerms) : Type 0 where
+  plant : field row 1 ≡ t.plant
+  item : field row 2 ≡ t.item
+  period : field row 3 ≡ number_text t.period
+  quantity : field row 4 ≡ number_text t.quantity
+
+amount_terms_said : (row : List (List ℕ)) (periods : ℕ) (t : AmountTerms) → amount_terms row periods ≡ Ok t → AmountSaid row t
+unfolding amount_terms
+amount_terms_said row periods t is =
+    let a = after (name_of (field row 1)) _ t is in
+    let b = after (name_of (field row 2)) _ t a.2 in
+    let c = after (ranged (field row 3) 0 (periods - 1)) _ t b.2 in
+    let d = after (ranged (field row 4) 1 MOST_IN_ROW) _ t c.2 in
+    let same : record { plant = a.0; item = b.0; period = c.0; quantity = d.0 } ≡ t = same_Ok _ t d.2 in
+    subst (AmountSaid row) same (record {
+      plant = name_text (field row 1) a.0 a.1;
+      item = name_text (field row 2) b.0 b.1;
+      period = ranged_text (field row 3) 0 (periods - 1) c.0 c.1;
+      quantity = ranged_text (field row 4) 1 MOST_IN_ROW d.0 d.1;
+    })
+
+known_said : (N : Table) (plant item : List ℕ) (found : PlantNo × PairNo) → known_pair N plant item ≡ Ok found → IsNamed N plant item found.1.0
+unfolding known_pair
+known_said N plant item found is =
+    let a = after_some (plant_no N plant) _ _ found is in
+    let b = after_some (pair_named N (Some a.0) item) _ _ found a.2 in
+    let same : ◌≡◌ {A = PlantNo × PairNo} (record { 0 = a.0 }, record { 0 = b.0 }) found = same_Ok _ found b.2 in
+    subst (λ (f : PlantNo × PairNo). IsNamed N plant item f.1.0) same (pair_found N plant item b.0 (ap (λ (o : Option ℕ). pair_named N o item) a.1 ∙ b.1))
+
+pub demand_said : (N : Table) (row : List (List ℕ)) (x : DemandRow) → IsOfKind row kind.Demand → demand_of N row ≡ Ok x → row ≡ demand_fields N x
+unfolding demand_of
+demand_said N row x k is =
+    let a = after (amount_terms row (horizon N)) _ x is in
+    let b = after (known_pair N a.0.plant a.0.item) _ x a.2 in
+    let c = after_check (ltb (length N.demands) MOST_OF_A_KIND) _ _ x b.2 in
+    let same : record { pair = b.0.1; period = a.0.period; quantity = a.0.quantity } ≡ x = same_Ok _ x c.1 in
+    let says = amount_terms_said row (horizon N) a.0 a.1 in
+    let names = known_said N a.0.plant a.0.item b.0 b.1 in
+    subst (λ (z : DemandRow). row ≡ demand_fields N z) same
+    (five_used row _ (pair_plant N b.0.1.0) (pair_item N b.0.1.0) (number_text a.0.period) (number_text a.0.quantity) k.size k.word k.free (says.plant ∙ names.plant) (says.item ∙ names.item) says.period says.quantity)
+
+pub receipt_said : (N : Table) (row : List (List ℕ)) (x : ReceiptRow) → IsOfKind row kind.Receipt → receipt_of N row ≡ Ok x → row ≡ receipt_fields N x
+unfolding receipt_of
+receipt_said N row x k is =
+    let a = after (amount_terms row (horizon N)) _ x is in
+    let b = after (known_pair N a.0.plant a.0.item) _ x a.2 in
+    let c = after_check (ltb (length N.receipts) MOST_OF_A_KIND) _ _ x b.2 in
+    let same : record { pair = b.0.1; period = a.0.period; quantity = a.0.quantity } ≡ x = same_Ok _ x c.1 in
+    let says = amount_terms_said row (horizon N) a.0 a.1 in
+    let names = known_said N a.0.plant a.0.item b.0 b.1 in
+    subst (λ (z : ReceiptRow). row ≡ receipt_fields N z) same
+    (five_used row _ (pair_plant N b.0.1.0) (pair_item N b.0.1.0) (number_text a.0.period) (number_text a.0.quantity) k.size k.word k.free (says.plant ∙ names.plant) (says.item ∙ names.item) says.period says.quantity)
+
+-- ---- what one plant ships to another
+
+record LaneSaid (row : List (List ℕ)) (t : LaneTerms) : Type 0 where
+  from : field row 1 ≡ t.from
+  to : field row 2 ≡ t.to
+  item : field row 3 ≡ t.item
+
+lane_said : (row : List (List ℕ)) (t : LaneTerms) → lane_terms row ≡ Ok t → LaneSaid row t
+unfolding lane_terms
+lane_said row t is =
+    let a = after (name_of (field row 1)) _ t is in
+    let b = after (name_of (field row 2)) _ t a.2 in
+    let c = after (name_of (field row 3)) _ t b.2 in
+    let same : record { from = a.0; to = b.0; item = c.0 } ≡ t = same_Ok _ t c.2 in
+    subst (LaneSaid row) same (record { from = name_text (field row 1) a.0 a.1; to = name_text (field row 2) b.0 b.1; item = name_text (field row 3) c.0 c.1 })
+
+record ShipSaid (row : List (List ℕ)) (t : LaneTerms × ℕ × ℕ) : Type 0 where
+  lane : LaneSaid row t.0
+  period : field row 4 ≡ number_text t.1
+  quantity : field row 5 ≡ number_text t.2
+
+ship_terms_said : (row : List (List ℕ)) (periods : ℕ) (t : LaneTerms × ℕ × ℕ) → ship_terms row periods ≡ Ok t → ShipSaid row t
+unfolding ship_terms
+ship_terms_said row periods t is =
+    let a = after (lane_terms row) _ t is in
+    let b = after (ranged (field row 4) 0 (periods - 1)) _ t a.2 in
+    let c = after (ranged (field row 5) 1 MOST_IN_ROW) _ t b.2 in
+    let same : ◌≡◌ {A = LaneTerms × ℕ × ℕ} (a.0, b.0, c.0) t = same_Ok _ t c.2 in
+    subst (ShipSaid row) same (record {
+      lane = lane_said row a.0 a.1;
+      period = ranged_text (field row 4) 0 (periods - 1) b.0 b.1;
+      quantity = ranged_text (field row 5) 1 MOST_IN_ROW c.0 c.1;
+    })
+
+record FigureSaid (row : List (List ℕ)) (t : LaneTerms × ℕ) : Type 0 where
+  lane : LaneSaid row t.0
+  figure : field row 4 ≡ number_text t.1
+
+cum_terms_said : (row : List (List ℕ)) (t : LaneTerms × ℕ) → cum_terms row ≡ Ok t → FigureSaid row t
+unfolding cum_terms
+cum_terms_said row t is =
+    let a = after (lane_terms row) _ t is in
+    let b = after (ranged (field row 4) 0 MOST) _ t a.2 in
+    let same : ◌≡◌ {A = LaneTerms × ℕ} (a.0, b.0) t = same_Ok _ t b.2 in
+    subst (FigureSaid row) same (record { lane = lane_said row a.0 a.1; figure = ranged_text (field row 4) 0 MOST b.0 b.1 })
+
+reset_terms_said : (row : List (List ℕ)) (periods : ℕ) (t : LaneTerms × ℕ) → reset_terms row periods ≡ Ok t → FigureSaid row t
+unfolding reset_terms
+reset_terms_said row periods t is =
+    let a = after (lane_terms row) _ t is in
+    let b = after (ranged (field row 4) 0 (periods - 1)) _ t a.2 in
+    let same : ◌≡◌ {A = LaneTerms × ℕ} (a.0, b.0) t = same_Ok _ t b.2 in
+    subst (FigureSaid row) same (record { lane = lane_said row a.0 a.1; figure = ranged_text (field row 4) 0 (periods - 1) b.0 b.1 })
+
+pub ship_said : (N : Table) (row : List (List ℕ)) (x : ShipRow) → IsOfKind row kind.Ship → ship_of N row ≡ Ok x → row ≡ ship_fields N x
+ship_said N row x k is =
+    let p = ship_parts N row x is in
+    let says = ship_terms_said row (horizon N) p.terms p.read in
+    let on = on_lane N p.terms.0 p.lane p.known in
+    let from = plant_found N p.terms.0.from p.lane.0.0 on.from in
+    let to = pair_found N p.terms.0.to p.terms.0.item p.lane.1.0 on.pair in
+    subst (λ (z : ShipRow). row ≡ ship_fields N z) p.same
+    (six_used row _ (plant_name N p.lane.0.0) (pair_plant N p.lane.1.0) (pair_item N p.lane.1.0) (number_text p.terms.1) (number_text p.terms.2) k.size k.word k.free
+    (says.lane.from ∙ from) (says.lane.to ∙ to.plant) (says.lane.item ∙ to.item) says.period says.quantity)
+
+pub cum_said : (N : Table) (row : List (List ℕ)) (x : CumRow) → IsOfKind row kind.Cum → cum_of N row ≡ Ok x → row ≡ cum_fields N x
+cum_said N row x k is =
+    let p = cum_parts N row x is in
+    let says = cum_terms_said row p.terms p.read in
+    let on = on_lane N p.terms.0 p.lane p.known in
+    let from = plant_found N p.terms.0.from p.lane.0.0 on.from in
+    let to = pair_found N p.terms.0.to p.terms.0.item p.lane.1.0 on.pair in
+    subst (λ (z : CumRow). row ≡ cum_fields N z) p.same
+    (five_used row _ (plant_name N p.lane.0.0) (pair_plant N p.lane.1.0) (pair_item N p.lane.1.0) (number_text p.terms.1) k.size k.word k.free
+    (says.lane.from ∙ from) (says.lane.to ∙ to.plant) (says.lane.item ∙ to.item) says.figure)
+
+pub reset_said : (N : Table) (row : List (List ℕ)) (x : ResetRow) → IsOfKind row kind.Reset → reset_of N row ≡ Ok x → row ≡ reset_fields N x
+reset_said N row x k is =
+    let p = reset_parts N row x is in
+    let says = reset_terms_said row (horizon N) p.terms p.read in
+    let on = on_lane N p.terms.0 p.lane p.known in
+    let from = plant_found N p.terms.0.from p.lane.0.0 on.from in
+    let to = pair_found N p.terms.0.to p.terms.0.item p.lane.1.0 on.pair in
+    subst (λ (z : ResetRow). row ≡ reset_fields N z) p.same
+    (five_used row _ (plant_name N p.lane.0.0) (pair_plant N p.lane.1.0) (pair_item N p.lane.1.0) (number_text p.terms.1) k.size k.word k.free
+    (says.lane.from ∙ from) (says.lane.to ∙ to.plant) (says.lane.item ∙ to.item) says.figure)
+
+-- ---- the run
+
+record RunSaid (row : List (List ℕ)) (t : RunTerms) : Type 0 where
+  first : field row 1 ≡ t.first
+  days : field row 2 ≡ number_text t.days
+  periods : field row 3 ≡ number_text t.periods
+
+run_terms_said : (row : List (List ℕ)) (t : RunTerms) → run_terms row ≡ Ok t → RunSaid row t
+unfolding run_terms
+run_terms_said row t is =
+    let a = after_some (number_of (field row 2)) _ _ t is in
+    let b = after (ranged (field row 3) 1 LONGEST) _ t a.2 in
+    let same : record { first = field row 1; days = a.0; periods = b.0 } ≡ t = same_Ok _ t b.2 in
+    subst (RunSaid row) same (record { first = refl; days = number_is_text (field row 2) a.0 a.1; periods = ranged_text (field row 3) 1 LONGEST b.0 b.1 })
+
+run_kind : (k : Kind) → is_run k ≡ true → k ≡ kind.Run
+run_kind kind.Run e = refl
+run_kind kind.Plant e = absurd (cc)
+run_kind kind.Pair e = absurd (cc)
+run_kind kind.Bill e = absurd (cc)
+run_kind kind.Demand e = absurd (cc)
+run_kind kind.Receipt e = absurd (cc)
+run_kind kind.Ship e = absurd (cc)
+run_kind kind.Cum e = absurd (cc)
+run_kind kind.Reset e = absurd (cc)
+
+pub run_said : (row : List (List ℕ)) (t : RunTerms) (c : CalendarTerms) → first_terms row ≡ Ok t → IsCalendarFrom t.first t.days t.periods c → IsCalendar c → row ≡ run_fields c
+unfolding first_terms
+run_said row t c is from calendar =
+    let a = after (kind_of_row row) _ t is in
+    let b = after_check (is_run a.0) _ _ t a.2 in
+    let k = of_kind row kind.Run (a.1 ∙ ap (λ (k : Kind). Ok k) (run_kind a.0 b.0)) in
+    let says = run_terms_said row t b.1 in
+    four_used row _ (day_text c.first) (number_text c.days) (number_text c.periods) k.size k.word k.free
+    (says.first ∙ first_text t.first c from.first calendar) (says.days ∙ ap number_text (sym from.days)) (says.periods ∙ ap number_text (sym from.periods))
