@@ -1,6 +1,6 @@
 -- Bill, demand, receipt, ship, cum and reset rows that are written of a table are read as its own, one after the other.
-use Rattle.std.proofs.Common.{◌≡◌, ◌≤◌, ◌<◌, ◌^◌, ℕ, ◌+◌, ◌-◌, ◌==◌, ◌&&◌, Bool, true, false, leb, ltb, if◌then◌else◌, List, [], ◌∷◌, ◌++◌, codes, length, map, Option, Some, None, option_map, slice_get, unwrap_or, Ok, refl, ap, sym, ◌∙◌, subst, append_assoc, append-nil, arith}
-use Rattle.std.specs.List.{All, list_all, list_any}
+use Rattle.std.proofs.Common.{◌≡◌, ◌≤◌, ◌<◌, ◌^◌, ℕ, ◌+◌, ◌-◌, ◌==◌, true, false, leb, ltb, List, [], ◌∷◌, ◌++◌, codes, length, map, Option, Some, None, option_map, slice_get, unwrap_or, Ok, refl, ap, sym, ◌∙◌, subst, append_assoc, append-nil, arith}
+use Rattle.std.specs.List.{list_all}
 use Rattle.std.specs.Str.{is_utf8}
 use Rattle.std.proofs.lemmas.Bool.{and_from}
 use Rattle.std.proofs.lemmas.Bool.Decides.{nat_tests}
@@ -9,7 +9,7 @@ use Rattle.std.proofs.lemmas.List.Elements.{All-get_or}
 use Rattle.csv.specs.Records.{field_at}
 use Rattle.mrp_qty.specs.declared.horizon.TheConstants.{LONGEST}
 use Rattle.mrp_qty.specs.declared.quantity.TheConstants.{MOST}
-use Rattle.mrp_spell.specs.Spelling.{is_name, IsShort, number_text, number_within}
+use Rattle.mrp_spell.specs.Spelling.{is_name, number_text, number_within}
 use Rattle.mrp_spell.proofs.Ranges.{number_written}
 use Rattle.mrp_rows.specs.declared.rows.BillRow.{BillRow}
 use Rattle.mrp_rows.specs.declared.rows.CumRow.{CumRow}
@@ -18,7 +18,6 @@ use Rattle.mrp_rows.specs.declared.rows.PairRow.{PairRow}
 use Rattle.mrp_rows.specs.declared.rows.ReceiptRow.{ReceiptRow}
 use Rattle.mrp_rows.specs.declared.rows.ResetRow.{ResetRow}
 use Rattle.mrp_rows.specs.declared.rows.ShipRow.{ShipRow}
-use Rattle.mrp_rows.specs.declared.rows.Supply.{Supply}
 use Rattle.mrp_rows.specs.declared.rows.Supply.TheVariants as supply
 use Rattle.mrp_rows.specs.declared.rows.TheConstants.{MOST_BILLS, MOST_IN_ROW, MOST_OF_A_KIND, MOST_PER}
 use Rattle.mrp_rows.specs.Growing.{with_bill, with_cum, with_demand, with_receipt, with_reset, with_ship}
@@ -28,7 +27,7 @@ use Rattle.mrp_tables.specs.declared.kind.Kind.{Kind}
 use Rattle.mrp_tables.specs.declared.kind.Kind.TheVariants as kind
 use Rattle.mrp_tables.specs.Grammar.{amount_terms, bill_fits, bill_row, bill_terms, cum_between, cum_of, cum_row, cum_terms, demand_of, demand_row, field, has_bill, is_empty_from, is_made, is_make, kind_of, known_lane, known_pair, lane_terms, may_follow, place_of, receipt_of, receipt_row, reset_between, reset_of, reset_row, reset_terms, row_kind, ship_of, ship_row, ship_terms, used}
 use Rattle.mrp_tables.specs.Reading.{at_row, go_on, kind_of_row, row_after, row_of_kind, rows_after}
-use Rattle.mrp_tables.specs.Written.{bill_fields, cum_fields, demand_fields, item_name, pair_item, pair_plant, plant_name, receipt_fields, reset_fields, ship_fields}
+use Rattle.mrp_tables.specs.Written.{bill_fields, cum_fields, demand_fields, pair_item, pair_plant, plant_name, receipt_fields, reset_fields, ship_fields}
 use Rattle.mrp_tables.proofs.BackNames.{at_place, none_before, pair_by_names, plant_at_place, plant_of_pair, stands}
 use Rattle.mrp_tables.proofs.BackTexts.{name_is_text, number_is_text, word_is_text}
 
@@ -138,7 +137,7 @@ period_written n periods lt few = number_written 0 (periods - 1) n (omega arith)
 -- ---- the rows of a table
 
 module _ (N : Table) (table : IsTable N) where
-  plant_is_name : (p : ℕ) → p < length N.plants → is_name (plant_name N p) ≡ true
+  pub plant_is_name : (p : ℕ) → p < length N.plants → is_name (plant_name N p) ≡ true
   plant_is_name p lt = All-get_or IsName N.plants p [] lt table.read.plants
 
   plant_of_pair_is_name : (x : ℕ) → IsPair N x → is_name (pair_plant N x) ≡ true
@@ -305,5 +304,8 @@ module _ (N : Table) (table : IsTable N) where
   demands_end : (last : Kind) → place_of last ≤ place_of kind.Demand → Ends (with_demands [], last) from_demands N
   demands_end last low = one_by_one kind.Demand with_demands (demand_fields N) N.demands _ N demand_step (λ l h. receipts_end l (omega (arith, h))) [] N.demands last refl low
 
-  pub bills_end : (last : Kind) → place_of last ≤ place_of kind.Bill → Ends (with_bills [], last) (map (bill_fields N) N.bills ++ from_demands) N
+  abbrev pub from_bills : List Row
+  from_bills = map (bill_fields N) N.bills ++ from_demands
+
+  pub bills_end : (last : Kind) → place_of last ≤ place_of kind.Bill → Ends (with_bills [], last) from_bills N
   bills_end last low = one_by_one kind.Bill with_bills (bill_fields N) N.bills from_demands N bill_step (λ l h. demands_end l (omega (arith, h))) [] N.bills last refl low

@@ -1,5 +1,5 @@
 -- What is written of names, numbers, days, rules and supplies is ASCII, so that it is text.
-use Rattle.std.proofs.Common.{◌≡◌, ◌<◌, ◌≤◌, ℕ, ◌^◌, ◌+◌, ◌-◌, ◌/◌, ◌%◌, zero, suc, Bool, true, false, ltb, List, [], ◌∷◌, ◌++◌, codes, refl, arith}
+use Rattle.std.proofs.Common.{◌≡◌, ◌<◌, ℕ, ◌-◌, zero, suc, Bool, true, ltb, List, [], ◌∷◌, codes, refl, arith}
 use Rattle.std.specs.Char.{is_ascii_digit}
 use Rattle.std.specs.List.{All, join_with_byte, list_all}
 use Rattle.std.specs.Str.{IsAscii, is_utf8}
@@ -8,13 +8,12 @@ use Rattle.std.proofs.lemmas.Bool.Decides.{nat_tests}
 use Rattle.std.proofs.lemmas.List.Elements.{All-head, All-tail}
 use Rattle.std.proofs.lemmas.Str.{IsAscii-append, IsUtf8-from_ascii, is_utf8-from_IsUtf8}
 use Rattle.std.proofs.lemmas.Str.Ascii.{IsAscii-nil}
-use Rattle.mrp_cal.specs.Calendar.{CalendarTerms, IsCalendar}
 use Rattle.mrp_cal.specs.DateText.{date_text, HasDateShape}
 use Rattle.mrp_lot.specs.Lot.{IsRule}
 use Rattle.mrp_lot.specs.declared.rule.Rule.{Rule}
 use Rattle.mrp_lot.specs.declared.rule.Rule.TheVariants.{LotForLot, Fixed, Periods, MinMultiple}
 use Rattle.mrp_spell.specs.Spelling.{is_name, is_name_byte, IsShort, number_text, rule_text}
-use Rattle.mrp_spell.specs.Supplies.{AreWhole, BuyTerms, FromTerms, HasName, IsShare, IsWholeSupply, MakeTerms, source_fields, sources_text, SourceTerms, supply_text, SupplyTerms}
+use Rattle.mrp_spell.specs.Supplies.{BuyTerms, FromTerms, HasName, IsShare, IsWholeSupply, MakeTerms, source_fields, sources_text, SourceTerms, supply_text, SupplyTerms}
 use Rattle.mrp_spell.proofs.Decimals.{decimal_digits}
 
 more : (b : ℕ) (bs : List ℕ) → b < 128 → IsAscii bs → IsAscii (b ∷ bs)
@@ -95,8 +94,22 @@ small (b ∷ bs) h = more b bs h.0 (small bs h.1)
 
 shaped : (y m d : ℕ) → HasDateShape (date_text y m d) → IsAscii (date_text y m d)
 shaped y m d s =
-    small (date_text y m d) (omega (arith, s.year.0.1), (omega (arith, s.year.1.1), (omega (arith, s.year.2.1), (omega (arith, s.year.3.1), (omega arith,
-    (omega (arith, s.month.0.1), (omega (arith, s.month.1.1), (omega arith, (omega (arith, s.day.0.1), (omega (arith, s.day.1.1), tt))))))))))
+    small (date_text y m d) (
+      omega (arith, s.year.0.1),
+      (
+        omega (arith, s.year.1.1),
+        (
+          omega (arith, s.year.2.1),
+          (
+            omega (arith, s.year.3.1),
+            (
+              omega arith,
+              (omega (arith, s.month.0.1), (omega (arith, s.month.1.1), (omega arith, (omega (arith, s.day.0.1), (omega (arith, s.day.1.1), tt))))),
+            ),
+          ),
+        ),
+      ),
+    )
 
 -- ---- all of it is text
 

@@ -33,3 +33,5 @@ pub mod WrittenTable
 pub mod BackTexts
 pub mod BackNames
 pub mod BackRows
+pub mod BackPair
+pub mod BackTable
