@@ -179,7 +179,8 @@ module _ (N : Table) (table : IsTable N) where
       let nc = item_of_pair_is_name y is.component in
       let few : b.per < 10 ^ 16 = omega (arith, is.few) in
       row_read (with_bills before) (with_bills (before ++ b ∷ [])) last kind.Bill (bill_fields N b)
-      (kind_read (bill_fields N b) kind.Bill (five_texts (codes "bill") (pair_plant N x) (pair_item N x) (pair_item N y) (number_text b.per) (word_is_text (codes "bill") refl) (name_is_text _ na) (name_is_text _ nb) (name_is_text _ nc) (number_is_text b.per few)) refl refl refl)
+      (kind_read (bill_fields N b) kind.Bill (five_texts (codes "bill") (pair_plant N x) (pair_item N x) (pair_item N y) (number_text b.per)
+      (word_is_text (codes "bill") refl) (name_is_text _ na) (name_is_text _ nb) (name_is_text _ nc) (number_is_text b.per few)) refl refl refl)
       (may_stand kind.Bill last (omega arith) low)
       (bill_read (with_bills before) (pair_plant N x) (pair_item N x) (pair_item N y) (number_text b.per) (plant_at N x) x y b.per na nb nc (number_written 1 MOST_PER b.per is.some is.few few)
       (plant_of_pair N table x is.parent) (pair_by_names N table x is.parent)
@@ -197,7 +198,8 @@ module _ (N : Table) (table : IsTable N) where
       let early : d.period < 10 ^ 16 = omega (arith, is.period, table.read.limits.periods) in
       let few : d.quantity < 10 ^ 16 = omega (arith, is.quantity) in
       row_read (with_demands before) (with_demands (before ++ d ∷ [])) last kind.Demand (demand_fields N d)
-      (kind_read (demand_fields N d) kind.Demand (five_texts (codes "demand") (pair_plant N x) (pair_item N x) (number_text d.period) (number_text d.quantity) (word_is_text (codes "demand") refl) (name_is_text _ na) (name_is_text _ nb) (number_is_text d.period early) (number_is_text d.quantity few)) refl refl refl)
+      (kind_read (demand_fields N d) kind.Demand (five_texts (codes "demand") (pair_plant N x) (pair_item N x) (number_text d.period) (number_text d.quantity)
+      (word_is_text (codes "demand") refl) (name_is_text _ na) (name_is_text _ nb) (number_is_text d.period early) (number_is_text d.quantity few)) refl refl refl)
       (may_stand kind.Demand last (omega arith) low)
       (demand_read (with_demands before) (pair_plant N x) (pair_item N x) (number_text d.period) (number_text d.quantity) (plant_at N x) x d.period d.quantity na nb
       (period_written d.period (horizon N) is.period table.read.limits.periods) (number_written 1 MOST_IN_ROW d.quantity is.some is.quantity few)
@@ -214,7 +216,8 @@ module _ (N : Table) (table : IsTable N) where
       let early : d.period < 10 ^ 16 = omega (arith, is.period, table.read.limits.periods) in
       let few : d.quantity < 10 ^ 16 = omega (arith, is.quantity) in
       row_read (with_receipts before) (with_receipts (before ++ d ∷ [])) last kind.Receipt (receipt_fields N d)
-      (kind_read (receipt_fields N d) kind.Receipt (five_texts (codes "receipt") (pair_plant N x) (pair_item N x) (number_text d.period) (number_text d.quantity) (word_is_text (codes "receipt") refl) (name_is_text _ na) (name_is_text _ nb) (number_is_text d.period early) (number_is_text d.quantity few)) refl refl refl)
+      (kind_read (receipt_fields N d) kind.Receipt (five_texts (codes "receipt") (pair_plant N x) (pair_item N x) (number_text d.period) (number_text d.quantity)
+      (word_is_text (codes "receipt") refl) (name_is_text _ na) (name_is_text _ nb) (number_is_text d.period early) (number_is_text d.quantity few)) refl refl refl)
       (may_stand kind.Receipt last (omega arith) low)
       (receipt_read (with_receipts before) (pair_plant N x) (pair_item N x) (number_text d.period) (number_text d.quantity) (plant_at N x) x d.period d.quantity na nb
       (period_written d.period (horizon N) is.period table.read.limits.periods) (number_written 1 MOST_IN_ROW d.quantity is.some is.quantity few)
@@ -234,7 +237,8 @@ module _ (N : Table) (table : IsTable N) where
       let early : s.period < 10 ^ 16 = omega (arith, is.period, table.read.limits.periods) in
       let few : s.quantity < 10 ^ 16 = omega (arith, is.quantity) in
       row_read (with_ships before) (with_ships (before ++ s ∷ [])) last kind.Ship (ship_fields N s)
-      (kind_read (ship_fields N s) kind.Ship (six_texts (codes "ship") (plant_name N f) (pair_plant N x) (pair_item N x) (number_text s.period) (number_text s.quantity) (word_is_text (codes "ship") refl) (name_is_text _ na) (name_is_text _ nb) (name_is_text _ nc) (number_is_text s.period early) (number_is_text s.quantity few)) refl refl refl)
+      (kind_read (ship_fields N s) kind.Ship (six_texts (codes "ship") (plant_name N f) (pair_plant N x) (pair_item N x) (number_text s.period) (number_text s.quantity)
+      (word_is_text (codes "ship") refl) (name_is_text _ na) (name_is_text _ nb) (name_is_text _ nc) (number_is_text s.period early) (number_is_text s.quantity few)) refl refl refl)
       (may_stand kind.Ship last (omega arith) low)
       (ship_read (with_ships before) (plant_name N f) (pair_plant N x) (pair_item N x) (number_text s.period) (number_text s.quantity) f (plant_at N x) x s.period s.quantity na nb nc
       (period_written s.period (horizon N) is.period table.read.limits.periods) (number_written 1 MOST_IN_ROW s.quantity is.some is.quantity few)
@@ -253,7 +257,8 @@ module _ (N : Table) (table : IsTable N) where
       let nc = item_of_pair_is_name x is.pair in
       let few : c.figure < 10 ^ 16 = omega (arith, is.figure) in
       row_read (with_cums before) (with_cums (before ++ c ∷ [])) last kind.Cum (cum_fields N c)
-      (kind_read (cum_fields N c) kind.Cum (five_texts (codes "cum") (plant_name N f) (pair_plant N x) (pair_item N x) (number_text c.figure) (word_is_text (codes "cum") refl) (name_is_text _ na) (name_is_text _ nb) (name_is_text _ nc) (number_is_text c.figure few)) refl refl refl)
+      (kind_read (cum_fields N c) kind.Cum (five_texts (codes "cum") (plant_name N f) (pair_plant N x) (pair_item N x) (number_text c.figure)
+      (word_is_text (codes "cum") refl) (name_is_text _ na) (name_is_text _ nb) (name_is_text _ nc) (number_is_text c.figure few)) refl refl refl)
       (may_stand kind.Cum last (omega arith) low)
       (cum_read (with_cums before) (plant_name N f) (pair_plant N x) (pair_item N x) (number_text c.figure) f (plant_at N x) x c.figure na nb nc (number_written 0 MOST c.figure (omega arith) is.figure few)
       (plant_at_place N table f is.from) (plant_of_pair N table x is.pair) (pair_by_names N table x is.pair) taken
@@ -273,7 +278,8 @@ module _ (N : Table) (table : IsTable N) where
       let nc = item_of_pair_is_name x is.pair in
       let early : r.period < 10 ^ 16 = omega (arith, is.period, table.read.limits.periods) in
       row_read (with_resets before) (with_resets (before ++ r ∷ [])) last kind.Reset (reset_fields N r)
-      (kind_read (reset_fields N r) kind.Reset (five_texts (codes "reset") (plant_name N f) (pair_plant N x) (pair_item N x) (number_text r.period) (word_is_text (codes "reset") refl) (name_is_text _ na) (name_is_text _ nb) (name_is_text _ nc) (number_is_text r.period early)) refl refl refl)
+      (kind_read (reset_fields N r) kind.Reset (five_texts (codes "reset") (plant_name N f) (pair_plant N x) (pair_item N x) (number_text r.period)
+      (word_is_text (codes "reset") refl) (name_is_text _ na) (name_is_text _ nb) (name_is_text _ nc) (number_is_text r.period early)) refl refl refl)
       (may_stand kind.Reset last (omega arith) low)
       (reset_read (with_resets before) (plant_name N f) (pair_plant N x) (pair_item N x) (number_text r.period) f (plant_at N x) x r.period na nb nc (period_written r.period (horizon N) is.period table.read.limits.periods)
       (plant_at_place N table f is.from) (plant_of_pair N table x is.pair) (pair_by_names N table x is.pair) taken
