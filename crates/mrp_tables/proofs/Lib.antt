@@ -30,3 +30,8 @@ pub mod WrittenFields
 pub mod WrittenRows
 pub mod WrittenPair
 pub mod WrittenTable
+pub mod BackTexts
+pub mod BackNames
+pub mod BackRows
+pub mod BackPair
+pub mod BackTable

@@ -1,5 +1,5 @@
 -- The first source that takes from a pair without a row.
-use Rattle.std.proofs.Common.{◌≡◌, ℕ, ◌≤◌, true, false, not, ltb, List, [], ◌∷◌, ◌++◌, Some, None, refl, ap, ◌∙◌, arith}
+use Rattle.std.proofs.Common.{◌≡◌, true, false, not, List, [], ◌∷◌, ◌++◌, Some, None, refl, ap, ◌∙◌, arith}
 use Rattle.std.specs.List.{All}
 use Rattle.std.proofs.lemmas.Bool.{lt-ltb, le-ltb}
 use Rattle.std.proofs.lemmas.List.Elements.{All-head, All-tail}
@@ -7,7 +7,7 @@ use Rattle.mrp_rows.specs.Growing.{lacks_pair}
 use Rattle.mrp_rows.specs.Table.{source_pair, Table}
 use Rattle.mrp_rows.specs.declared.rows.SourceRow.{SourceRow}
 use Rattle.mrp_tables.specs.Missing.{HasPair, TellsMissing}
-use Rattle.mrp_tables.specs.Reading.{first_lacking, waiting}
+use Rattle.mrp_tables.specs.Reading.{first_lacking}
 
 has : (N : Table) (s : SourceRow) → HasPair N s → lacks_pair N s ≡ false
 has N s is = ap not (lt-ltb (source_pair N s) _ is)

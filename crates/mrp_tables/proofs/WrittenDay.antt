@@ -54,7 +54,7 @@ shaped [] s = absurd (omega (arith, s.ten))
 date_same : (y₁ y₂ m₁ m₂ d₁ d₂ : ℕ) → y₁ ≡ y₂ → m₁ ≡ m₂ → d₁ ≡ d₂ → date_text y₁ m₁ d₁ ≡ date_text y₂ m₂ d₂
 date_same y₁ y₂ m₁ m₂ d₁ d₂ y m d = rw (y, m, d) refl
 
-no_days : (z : ℤ) (n : ℕ) → n ≡ 0 → z +ℤ pos n ≡ z
+pub no_days : (z : ℤ) (n : ℕ) → n ≡ 0 → z +ℤ pos n ≡ z
 no_days z n e = omega (arith, ints, e)
 
 -- the text of a calendar's first day

@@ -1,5 +1,5 @@
 //! Laws of the grammar of tables, each the contract of a function that does nothing.
-ghost use Rattle.std.specs.Prelude.{◌≡◌, ◌+◌, ◌*◌, ℕ, length, List, Ok, Result};
+ghost use Rattle.std.specs.Prelude.{◌≡◌, ◌↔◌, ◌+◌, ◌*◌, ℕ, length, List, Ok, Result};
 ghost use Rattle.csv.specs.Reading.{AreRecords, default_config, records};
 ghost use Rattle.csv.specs.declared.parser.State.TheVariants.{StartRecord};
 ghost use Rattle.mrp_cal.specs.Calendar.{CalendarTerms};
@@ -43,6 +43,18 @@ pub fn tables_have_one_list_of_rows()
 /// above it, or the next one, and there is no other item.
 pub fn items_are_numbered_by_their_pairs()
     ensures { (rows : List (List (List ℕ))) (N : Table) → Reads rows (Ok N) → AreNumbered 0 N.pairs (length N.items) }
+{}
+
+/// Every table whose items are numbered by their pairs is read from what is written of it.
+pub fn tables_written_out_are_read()
+    ensures { (N : Table) → IsTable N → AreNumbered 0 N.pairs (length N.items) → Reads (rows_of N) (Ok N) }
+{}
+
+/// A table is read from its own rows alone: what is read is a table with its items numbered by its pairs, from the
+/// rows that are written of it, and each such table is read from them.
+pub fn a_table_is_read_from_its_own_rows_alone()
+    ensures { (rows : List (List (List ℕ))) (N : Table)
+        → Reads rows (Ok N) ↔ ((rows ≡ rows_of N) × IsTable N × AreNumbered 0 N.pairs (length N.items)) }
 {}
 
 /// The records that the grammar speaks of are all the records of a text.
