@@ -1,9 +1,9 @@
 //! The command line: what words choose.
 
 ghost use Rattle.std.specs.Prelude.{◌≡◌, Some, true, false, [], codes, IfOk, IfErr};
-ghost use Rattle.clap.specs.Words.{app_of, fault_of, found_of, rows_of, subcommand_rows_of, takes};
+ghost use Rattle.clap.specs.Words.{app_of, fault_of, found_of, rows_of, subcommand_rows_of, takes, with_subcommand};
 ghost use Rattle.mrp_words.specs.Choice.{IsChosenBy, IsCommand, IsInRange, IsMeantBy, IsMemory, IsRefusalOf, flag_at, number_at, text_at, texts_of};
-ghost use Rattle.mrp_words.specs.CommandLine.{IsRuled, IsWorded, check_words, cums_words, mrp, peg_words, plan_words};
+ghost use Rattle.mrp_words.specs.CommandLine.{IsRuled, IsWorded, check_words, cums_words, mrp, peg_words, plan_words, program_words};
 ghost use Rattle.mrp_words.specs.CommandLine as rule;
 ghost use Rattle.mrp_words.specs.Values.{HasFlag, HasName, HasNumber, HasPlanValues, HasPegValues, IsWholeCommand};
 
@@ -58,8 +58,8 @@ pub enum ChooseFault {
     Memory,
 }
 
-/// The release, and the kit that proves it (`rt version`), as `--version` prints them.
-const VERSION: &str = "0.1.0, proved with rattle-kit-13f, logic dac8208d650f15bf";
+/// The release, and the logic that its proofs are checked by (`rt version`), as `--version` prints them.
+const VERSION: &str = "0.1.0, proved with Rattle, logic dac8208d650f15bf";
 
 const ABOUT: &str = "Plans the material of all plants of a firm. The table is read from standard\n\
 input, and the report is written to standard output.";
@@ -148,15 +148,35 @@ pub fn choose<'a>(alloc: Global, words: &'a [&'a str]) -> Result<Choice<'a>, Cho
 fn program<'a>(alloc: Global) -> Result<Command<'a>, AllocError>
     ensures { IfOk result (λ command. app_of command ≡ mrp) }
 {
+    let plan = plan_command(alloc)?;
+    let planned = described(alloc).subcommand(plan)?;
+    let checked = planned.subcommand(check_command(alloc))?;
+    let pegged = with_peg(alloc, checked)?;
+    pegged.subcommand(cums_command(alloc))
+}
+
+/// What the command line says of itself, without a command.
+fn described<'a>(alloc: Global) -> Command<'a>
+    ensures { app_of result ≡ program_words (codes "mrp") }
+{
     Command::new(alloc, "mrp")
         .version(VERSION)
         .about(ABOUT)
         .after_help(AFTER)
         .subcommand_required(true)
-        .subcommand(plan_command(alloc)?)?
-        .subcommand(check_command(alloc))?
-        .subcommand(peg_command(alloc)?)?
-        .subcommand(cums_command(alloc))
+}
+
+/// The command line with `peg` behind its other commands.
+fn with_peg<'a>(alloc: Global, command: Command<'a>) -> Result<Command<'a>, AllocError>
+    ensures { IfOk result (λ more. app_of more ≡ with_subcommand (app_of command.entry) peg_words.top) }
+{
+    match peg_command(alloc) {
+        Ok(peg) => command.subcommand(peg),
+        Err(refusal) => {
+            drop(command);
+            Err(refusal)
+        }
+    }
 }
 
 /// `plan`.

@@ -15,7 +15,7 @@ fn version_is_one_line(rt: HostRuntime) -> Result<(), Fail> {
         assert!(rt; error.kind() == ErrorKind::DisplayVersion);
         assert_eq!(rt;
             line.as_str(),
-            "mrp 0.1.0, proved with rattle-kit-13f, logic dac8208d650f15bf\n"
+            "mrp 0.1.0, proved with Rattle, logic dac8208d650f15bf\n"
         );
     }
     Ok(())
