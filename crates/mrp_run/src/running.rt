@@ -1,5 +1,5 @@
 //! The thread of one plant.
-ghost use Rattle.std.specs.Prelude.{◌≡◌, ◌≤◌, IfErr, IfOk, IfSome};
+ghost use Rattle.std.specs.Prelude.{◌≡◌, ◌≤◌, IfErr, IfOk, IfSome, OnOk};
 ghost use Rattle.mrp_crew.specs.declared.fault.CrewFault.{CrewFault};
 ghost use Rattle.mrp_run.specs.Faults as faults;
 ghost use Rattle.mrp_run.specs.Faults.{IsOf};
@@ -75,30 +75,6 @@ pub(crate) fn run_owned<R: Threads + Wait + Sync, G: Gate>(
     rt: &R,
     alloc: Global,
     number: PlantNo,
-    plant: Plant,
-    crew: &mut Crew,
-    gate: &G,
-    stop: &AtomicBool,
-    turns: u64,
-) -> Result<Plant, Option<RunFault>>
-    requires work { IsAtWork plant }
-    requires horizon { crew.old.horizon ≡ plant.agent.view.horizon }
-    ensures crew { crew.new ≡ crew.old }
-    ensures finishes { IfOk result (λ after. Finishes plant after) }
-    ensures fault { IfErr result (λ why. IfSome why (IsOf number)) }
-{
-    let outcome = work(rt, alloc, number, plant, crew, gate, stop, turns);
-    if outcome.is_err() {
-        stop.store(true, Ordering::SeqCst);
-    }
-    outcome
-}
-
-/// Turn by turn, until the plant is done.
-fn work<R: Threads + Wait + Sync, G: Gate>(
-    rt: &R,
-    alloc: Global,
-    number: PlantNo,
     mut plant: Plant,
     crew: &mut Crew,
     gate: &G,
@@ -111,11 +87,38 @@ fn work<R: Threads + Wait + Sync, G: Gate>(
     ensures finishes { IfOk result (λ after. Finishes plant after) }
     ensures fault { IfErr result (λ why. IfSome why (IsOf number)) }
 {
+    match work(rt, alloc, number, &mut plant, crew, gate, stop, turns) {
+        Ok(()) => Ok(plant),
+        Err(why) => {
+            stop.store(true, Ordering::SeqCst);
+            drop(plant);
+            Err(why)
+        }
+    }
+}
+
+/// Turn by turn, until the plant is done.
+fn work<R: Threads + Wait + Sync, G: Gate>(
+    rt: &R,
+    alloc: Global,
+    number: PlantNo,
+    plant: &mut Plant,
+    crew: &mut Crew,
+    gate: &G,
+    stop: &AtomicBool,
+    turns: u64,
+) -> Result<(), Option<RunFault>>
+    requires work { IsAtWork plant.old }
+    requires horizon { crew.old.horizon ≡ plant.old.agent.view.horizon }
+    ensures crew { crew.new ≡ crew.old }
+    ensures finishes { OnOk result (Finishes plant.old plant.new) }
+    ensures fault { IfErr result (λ why. IfSome why (IsOf number)) }
+{
     for turn in 0..turns {
         begin(number, turn + 1, gate, stop)?;
-        let moved = take_turn(rt, alloc, number, &mut plant, crew, gate)?;
+        let moved = take_turn(rt, alloc, number, plant, crew, gate)?;
         if plant.agent.done() {
-            return Ok(plant);
+            return Ok(());
         }
         if !moved {
             thread::yield_now();

@@ -5,13 +5,13 @@ use Rattle.mrp_run.proofs.running.work.Goals as goal
 
 pub take_turn-requires-clause-work : goal.take_turn-requires-clause-work
 take_turn-requires-clause-work g c κs within =
-    let p = c.args.plant in
+    let p = c.args.plant.now in
     let q = c.loop-turn.plant in
     still_works p.agent p.sends.items p.takes.items q.agent q.sends.items q.takes.items c.loop-turn.invariant.kept c.requires.work
 
 pub returns-then-done-clause-finishes : goal.returns-then-done-clause-finishes
 returns-then-done-clause-finishes g c =
-    let p = c.args.plant in
+    let p = c.args.plant.now in
     let q = c.loop-turn.plant in
     let r = c.take_turn.new.plant in
     let kept = one_after_another p.agent p.sends.items p.takes.items q.agent q.sends.items q.takes.items r.agent r.sends.items r.takes.items c.loop-turn.invariant.kept c.take_turn.ensures.kept in
@@ -22,7 +22,7 @@ returns-then-done-clause-finishes g c =
 
 pub loop-turn-preserved : goal.loop-turn-preserved
 loop-turn-preserved g c =
-    let p = c.args.plant in
+    let p = c.args.plant.now in
     let q = c.loop-turn.plant in
     let r = c.take_turn.new.plant in
     record {
