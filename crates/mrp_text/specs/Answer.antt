@@ -1,10 +1,11 @@
 -- What is answered to a choice of words.
-use Rattle.std.specs.Prelude.{ℕ, true, false, List, Result, Ok, Err}
+use Rattle.std.specs.Prelude.{◌≢◌, ℕ, true, false, List, Result, Ok, Err}
 use Rattle.mrp_rows.specs.Table.{Table}
 use Rattle.mrp_words.specs.declared.words.Choice.{Choice}
 use Rattle.mrp_words.specs.declared.words.Choice.TheVariants.{Plan, Check, Peg, Cums}
 use Rattle.mrp_text.specs.declared.fault.TextFault.{TextFault}
-use Rattle.mrp_text.specs.Fault.{status_of}
+use Rattle.mrp_text.specs.declared.fault.TextFault.TheVariants.{WriteFault}
+use Rattle.mrp_text.specs.Fault.{IsBeforeWriting, status_of}
 use Rattle.mrp_text.specs.Text.{IsPlanReport, IsCodeReport, IsPegReport, IsCumReport, IsRefusal, IsRunRefusal, IsPegRefusal}
 
 -- the report that a choice asks for
@@ -21,6 +22,14 @@ IsAnswerRefusal (Plan workers capacity false) = IsRunRefusal
 IsAnswerRefusal Check = IsRefusal
 IsAnswerRefusal (Peg plant item period) = IsPegRefusal plant.now item.now period
 IsAnswerRefusal Cums = IsRefusal
+
+-- the faults after which nothing of the report is written: of a plan those that are met before its first byte,
+-- of every other report all but a failed write
+abbrev pub IsBeforeReport : Choice → TextFault → Type 0
+IsBeforeReport (Plan workers capacity single) fault = IsBeforeWriting fault
+IsBeforeReport Check fault = fault ≢ WriteFault
+IsBeforeReport (Peg plant item period) fault = fault ≢ WriteFault
+IsBeforeReport Cums fault = fault ≢ WriteFault
 
 -- the status of the process: 0 where the work was done, else that of the fault
 abbrev pub exit_status_of : {U : Type 0} → Result U TextFault → ℕ

@@ -2,8 +2,7 @@
 
 ghost use Rattle.std.specs.Prelude.{◌≡◌, IfErr};
 ghost use Rattle.mrp_words.specs.Choice.{IsInRange};
-ghost use Rattle.mrp_text.specs.Answer.{IsAnswer, IsAnswerRefusal, exit_status_of};
-ghost use Rattle.mrp_text.specs.Fault.{IsBeforeWriting};
+ghost use Rattle.mrp_text.specs.Answer.{IsAnswer, IsAnswerRefusal, IsBeforeReport, exit_status_of};
 ghost use Rattle.mrp_text.specs.Text.{Writes, OfTable, IsTextRefusal};
 
 use crate::fault::{TextFault, status};
@@ -20,8 +19,9 @@ use std::thread::Threads;
 ///
 /// # Errors
 ///
-/// As [`TextFault`] says. Nothing is written after a fault of the input. A plan that isn't asked for on a
-/// single thread may wait.
+/// As [`TextFault`] says. Nothing is written after a fault of the input; of the codes, the terms and the
+/// figures nothing after every fault but [`TextFault::WriteFault`]. A plan that isn't asked for on a single
+/// thread may wait.
 pub fn answer<T: Threads + Wait + Sync, R: Read + Drop, W: Write>(
     rt: &T,
     alloc: Global,
@@ -32,7 +32,7 @@ pub fn answer<T: Threads + Wait + Sync, R: Read + Drop, W: Write>(
     requires { IsInRange choice }
     ensures text { Writes (W.contents writer.old) (W.contents writer.new) result (λ text. OfTable (R.remaining reader) (λ N. IsAnswer choice.entry N text)) }
     ensures refusal { IfErr result (IsTextRefusal (R.remaining reader) (IsAnswerRefusal choice.entry)) }
-    ensures untouched { IfErr result (λ fault. IsBeforeWriting fault → writer.new ≡ writer.old) }
+    ensures untouched { IfErr result (λ fault. IsBeforeReport choice.entry fault → writer.new ≡ writer.old) }
 {
     match choice {
         Choice::Plan {
