@@ -1,21 +1,24 @@
 -- An agent after one of its pairs is planned.
-use Rattle.std.proofs.Common.{◌≡◌, ℕ, Bool, true, List, set}
+use Rattle.std.proofs.Common.{◌≡◌, ℕ, ◌+◌, ◌<◌, Bool, true, List, length, get_or, set, get_or-set_same, sym, ap, ◌∙◌, arith}
 use Rattle.std.specs.List.{Contains}
 use Rattle.mrp_rows.specs.declared.numbers.PairNo.{PairNo}
 use Rattle.mrp_record.specs.declared.record.Record.{Record}
-use Rattle.mrp_ready.specs.Progress.{IsListed}
+use Rattle.mrp_ready.specs.Progress.{IsListed, left_of}
 use Rattle.mrp_events.specs.State.{changed}
 use Rattle.mrp_agent.specs.Drafts.{CanDraft, drafted, ready_numbers}
 use Rattle.mrp_agent.specs.Kept.{Indexes}
 use Rattle.mrp_agent.specs.Marking.{IsMarked}
 use Rattle.mrp_agent.specs.Shows.{Shows}
-use Rattle.mrp_agent.specs.State.{AgentState}
-use Rattle.mrp_agent.proofs.Placing.{IsAtPlace, listed_now, placed_now}
+use Rattle.mrp_agent.specs.State.{AgentState, no_plan, plans_of}
+use Rattle.mrp_agent.proofs.Placing.{IsAtPlace, listed_now, place_within, placed_now}
 use Rattle.mrp_agent.proofs.Shown.{others_stay, planning_shows}
 use Rattle.mrp_agent.proofs.Staying.{drafts_stay}
 
 -- it shows the pair as planned, and the other pairs that could be planned still can, to the same plans
 pub record HasPlanned (old : AgentState) (x : PairNo) (new : AgentState) : Type 0 where
+  pub view : new.view ≡ old.view
+  pub kept : plans_of new x.0 ≡ drafted old x
+  pub left : left_of new.progress.planned + 1 ≡ left_of old.progress.planned
   pub shows : (sent taken : ℕ → List Record) (planned : ℕ → Bool) → Shows old sent taken planned → Shows new sent taken (changed planned x.0 true)
   pub others : (y : PairNo) → Contains (ready_numbers old) y → (y.0 ≡ x.0 → ⊥) → Contains (ready_numbers new) y
   pub drafts : (y : PairNo) → Contains (ready_numbers old) y → drafted new y ≡ drafted old y
@@ -26,7 +29,15 @@ pub has_planned : {A S B new : AgentState} {I : Indexes} {x : PairNo} {place : �
 has_planned {A} {S} {B} {new} {I} {x} {place} same placed can listed written marked =
     let here : IsAtPlace S I x place = placed_now same placed in
     let ready = listed_now same listed in
+    let within : place < length S.plans = omega (arith, place_within here, here.kept.rooms.plans) in
     record {
+      view = ap (λ (a : AgentState). a.view) marked.same ∙ ap (λ (a : AgentState). a.view) written;
+      kept =
+          ap (λ (a : AgentState). plans_of a x.0) marked.same
+          ∙ ap (λ (a : AgentState). plans_of a x.0) written
+          ∙ ap (λ (k : ℕ). get_or (set S.plans place (drafted S x)) k no_plan) (sym here.at)
+          ∙ get_or-set_same S.plans place (drafted S x) no_plan within;
+      left = marked.settled.left ∙ ap (λ (a : AgentState). left_of a.progress.planned) written;
       shows = planning_shows S B new I x place here.kept can ready here.at written marked;
       others = others_stay S B new I x place here.kept can.own here.at written marked;
       drafts = drafts_stay S B new I x place here.kept can ready here.at written marked;

@@ -1,9 +1,9 @@
-use Rattle.std.proofs.Common.{◌≡◌, sym, ap, ◌∙◌}
+use Rattle.std.proofs.Common.{◌≡◌, sym, ap, ◌∙◌, arith}
 use Rattle.mrp_agent.specs.State.{AgentState}
 use Rattle.mrp_agent.specs.Drafts.{drafted}
 use Rattle.mrp_agent.specs.contracts.agent.Agent.{the_view}
 use Rattle.mrp_agent.proofs.Desks.{kept_written, plans_written, same_periods}
-use Rattle.mrp_agent.proofs.Placing.{IsAtPlace, indexes_of, own_is_found, place_is_found, ready_at}
+use Rattle.mrp_agent.proofs.Placing.{IsAtPlace, indexes_of, own_is_found, place_is_found, place_within, ready_at}
 use Rattle.mrp_agent.proofs.Planned.{HasPlanned, has_planned}
 use Rattle.mrp_agent.proofs.agent.Agent.settle.Goals as goal
 use Rattle.mrp_agent.proofs.agent.Agent.settle.Goals.{After-mark_planned, In-Some}
@@ -16,6 +16,10 @@ placed c = place_is_found c.self.view_is c.self.invariant c.requires.can.own c.p
 
 is_draft : (c : In-Some) → c.args.plan.now ≡ drafted (the_view c.self.inside) c.args.x
 is_draft c = c.requires.draft ∙ ap (λ (a : AgentState). drafted a c.args.x) (sym c.self.view_is)
+
+pub index_mut-requires : goal.index_mut-requires
+index_mut-requires c =
+    omega (arith, place_within (placed (goal.at.index_mut-requires c).In-Some), c.self.invariant.rooms.plans, c.self.inside.plans.ok.0)
 
 pub copy_from-requires : goal.copy_from-requires
 copy_from-requires c =
@@ -50,3 +54,12 @@ returns-clause-others c = (planned (goal.at.returns-clause-others c).After-mark_
 
 pub returns-clause-drafts : goal.returns-clause-drafts
 returns-clause-drafts c = (planned (goal.at.returns-clause-drafts c).After-mark_planned).drafts
+
+pub returns-clause-view : goal.returns-clause-view
+returns-clause-view c = (planned (goal.at.returns-clause-view c).After-mark_planned).view
+
+pub returns-clause-left : goal.returns-clause-left
+returns-clause-left c = (planned (goal.at.returns-clause-left c).After-mark_planned).left
+
+pub returns-clause-kept : goal.returns-clause-kept
+returns-clause-kept c = (planned (goal.at.returns-clause-kept c).After-mark_planned).kept ∙ sym c.requires.draft
