@@ -2,7 +2,7 @@
 use Rattle.std.proofs.Common.{◌≡◌, ℕ, zero, suc, ◌+◌, ◌<◌, ◌≤◌, ◌^◌, ◌==◌, Bool, true, false, cond, inl, inr, List, [], ◌∷◌, ◌++◌, length, get_or, set, map, take, refl, sym, ap, subst, ◌∙◌, arith, length-append, All, Contains}
 use Rattle.std.specs.List.{AllByRecursion, IsDistinct, sum_by}
 use Rattle.std.proofs.lemmas.Bool.{cases_Bool, eqb-true, eq-eqb, false≢true}
-use Rattle.std.proofs.lemmas.List.{map-append, take_all}
+use Rattle.std.proofs.lemmas.List.{map-append, take_all, take_more}
 use Rattle.std.proofs.lemmas.List.Elements.{All-head, All-tail, All-get_or, All-map, All-contains_itself, All-weaker, All-from_recursion, filter-append}
 use Rattle.std.proofs.lemmas.List.Sums.{sum_by-append}
 use Rattle.mrp_qty.specs.declared.quantity.TheConstants.{MOST}
@@ -51,6 +51,15 @@ open_apart N l (item ∷ items) h = (open_none_alike N l item items h.0, open_ap
 
 pub opened_apart : (N : Table) (l : ℕ) → IsTable N → IsDistinct is_same_item (counts_of N l []).items
 opened_apart N l is = open_apart N l (lane_items N (lane_at N l)) (lane_items_stand_once N is (lane_at N l))
+
+-- one item more is opened
+pub opened_more : (N : Table) (l : ℕ) (on_lane : List ItemNo) (index : ℕ) (items items' : List ItemPieces) (opened : ItemPieces) → index < length on_lane
+    → items ≡ map (item_of N l []) (take index on_lane) → opened ≡ item_of N l [] (get_or on_lane index (record { 0 = 0 })) → items' ≡ items ++ opened ∷ []
+    → items' ≡ map (item_of N l []) (take (index + 1) on_lane)
+opened_more N l on_lane index items items' opened there so_far is new =
+    let item = get_or on_lane index (record { 0 = 0 }) in
+    new ∙ ap (λ (z : List ItemPieces). z ++ opened ∷ []) so_far ∙ ap (λ (i : ItemPieces). map (item_of N l []) (take index on_lane) ++ i ∷ []) is
+    ∙ sym (map-append (item_of N l []) (take index on_lane) (item ∷ [])) ∙ ap (map (item_of N l [])) (sym (take_more on_lane index (record { 0 = 0 }) there))
 
 -- the items opened one by one are all
 pub opened_all : (N : Table) (l : ℕ) (on_lane : List ItemNo) (index : ℕ) (items : List ItemPieces) → items ≡ map (item_of N l []) (take index on_lane)

@@ -1,19 +1,20 @@
 -- What an end holds before the first record, after one record more, and at the end.
 use Rattle.std.proofs.Common.{◌≡◌, ℕ, ◌+◌, ◌<◌, ◌≤◌, ◌^◌, true, List, [], ◌∷◌, ◌++◌, length, sym, ap, subst, ◌∙◌, arith, length-append, All, Option}
+use Rattle.std.proofs.lemmas.List.{length-map}
 use Rattle.crossbeam_queue.specs.declared.array_queue.Doing.{Doing}
 use Rattle.crossbeam_queue.specs.declared.array_queue.Slotted.{Slotted}
 use Rattle.crossbeam_queue.specs.Passes.{Pass, IsPassOf, IsSamePass, view}
 use Rattle.mrp_qty.specs.declared.quantity.TheConstants.{MOST}
 use Rattle.mrp_rows.specs.Table.{Table}
 use Rattle.mrp_net.specs.declared.lane.LaneNo.{LaneNo}
-use Rattle.mrp_net.specs.Lanes.{lanes}
+use Rattle.mrp_net.specs.Lanes.{lane_at, lane_items, lanes}
 use Rattle.mrp_loops.specs.Sized.{IsSized}
 use Rattle.mrp_record.specs.declared.record.Record.{Record}
 use Rattle.mrp_lane.specs.declared.tally.ItemPieces.{ItemPieces}
 use Rattle.mrp_lane.specs.declared.view.LaneView.{LaneView}
 use Rattle.mrp_lane.specs.Ends.{End, Name, HasLegalList, Holds, end_of}
 use Rattle.mrp_lane.specs.Reconciled.{figures_of, figures_on}
-use Rattle.mrp_lane.specs.Tallies.{Counts, pieces_in, counted, counts_of}
+use Rattle.mrp_lane.specs.Tallies.{Counts, pieces_in, counted, counts_of, item_of}
 use Rattle.mrp_lane.specs.Views.{IsLegal, sending, taking, after_send, Takes}
 use Rattle.mrp_lane.proofs.Counting.{counted_more, length_fits, record_fits, figures_fit, figures_are}
 use Rattle.mrp_lane.proofs.Rule.{empty_is_legal}
@@ -129,3 +130,24 @@ figures_agree box box' p p' lane l' sent taken counts counts' s t h h' is is' sa
     let legal' : IsLegal N l t.list = subst (λ (n : Name). IsLegal n.network n.lane t.list) (sym same) (subst HasLegalList is' h'.legal) in
     let sized : IsSized N = subst (λ (e : End). IsSized e.name.network) is h.sized in
     (λ j. figures_of (record { 0 = number j }) (count j).items (count' j).items) ∙ figures_are N l s.list t.list sized.table legal legal'
+
+-- the two ends count the same items
+pub sizes_agree : {Q A : Type 0} (box box' : Box Q A) (p p' : Pass Record LaneView) (l l' : ℕ) (sent taken : List Record) (counts counts' : Counts) (s t : End)
+    → Holds box p l sent counts → Holds box' p' l' taken counts' → end_of box p l sent ≡ s → end_of box' p' l' taken ≡ t → s.name ≡ t.name
+    → length counts'.items ≡ length counts.items
+sizes_agree box box' p p' l l' sent taken counts counts' s t h h' is is' same =
+    let items_of = λ (n : Name). lane_items n.network (lane_at n.network n.lane) in
+    let size : length counts.items ≡ length (items_of s.name) =
+    ap (λ (t : Counts). length t.items) h.counted ∙ length-map (lane_items (view p).network (lane_at (view p).network l)) (item_of (view p).network l sent)
+    ∙ ap (λ (e : End). length (items_of e.name)) is in
+    let size' : length counts'.items ≡ length (items_of t.name) =
+    ap (λ (t : Counts). length t.items) h'.counted ∙ length-map (lane_items (view p').network (lane_at (view p').network l')) (item_of (view p').network l' taken)
+    ∙ ap (λ (e : End). length (items_of e.name)) is' in
+    size' ∙ ap (λ (n : Name). length (items_of n)) (sym same) ∙ sym size
+
+-- a mailbox's passes at two places of it
+pub both_ours : {Q A : Type 0} (box box' there : Box Q A) (p p' : Pass Record LaneView) (l l' : ℕ) (sent taken : List Record) (counts counts' : Counts) (s t : End)
+    → Holds box p l sent counts → Holds box' p' l' taken counts' → end_of box p l sent ≡ s → end_of box' p' l' taken ≡ t → s.name ≡ t.name
+    → there ≡ box → IsPassOf there p'
+both_ours box box' there p p' l l' sent taken counts counts' s t h h' is is' same at =
+    (ap (λ (e : End). e.name.mailbox) is' ∙ ap (λ (n : Name). n.mailbox) (sym same) ∙ ap (λ (e : End). e.name.mailbox) (sym is) ∙ h.ours.0 ∙ ap (λ b. b.table.shared.table_id) (sym at), h'.ours.1)

@@ -1,11 +1,20 @@
-use Rattle.std.proofs.Common.{◌<◌, length, refl, sym, subst, ◌∙◌}
+use Rattle.std.proofs.Common.{◌<◌, length, min, refl, sym, ap, subst, ◌∙◌, arith}
 use Rattle.std.specs.Arc.{arc_value}
 use Rattle.mrp_rows.specs.Table.{Table}
-use Rattle.mrp_net.specs.Lanes.{lanes}
+use Rattle.mrp_net.specs.Lanes.{lane_at, lanes}
+use Rattle.mrp_net.specs.Texts.{longest_text}
 use Rattle.mrp_loops.specs.Sized.{IsSized}
 use Rattle.mrp_lane.proofs.Ending.{opens_sending, opens_taking, still_ours}
 use Rattle.mrp_lane.proofs.Rule.{begins}
 use Rattle.mrp_lane.proofs.making.lane.Goals as goal
+use Rattle.mrp_lane.proofs.making.lane.Goals.{After-network-network}
+use Rattle.mrp_lane.specs.declared.view.LaneView.{LaneView}
+
+is_sized : (c : After-network-network) → IsSized c.network-network.result.now
+is_sized c = subst IsSized (sym c.network-network.ensures.value) c.network-network.ensures.sized
+
+there : (c : After-network-network) → c.args.lane.0 < length (lanes c.network-network.result.now)
+there c = subst (λ (N : Table). c.args.lane.0 < length (lanes N)) (sym c.network-network.ensures.value) c.requires.lane
 
 pub ruled-requires-clause-rule : goal.ruled-requires-clause-rule
 ruled-requires-clause-rule c = begins
@@ -27,3 +36,50 @@ invariant_of-take c =
     opens_taking mailbox pass c.network-network.result.now c.args.lane.0 c.in_ok-of-2.field-0
     (still_ours c.in_ok-mailbox.mailbox mailbox pass pass (c.in_ok-takers_mailbox.ensures ∙ c.in_ok-mailbox-2.ensures.ok) c.name-takers_pass.ensures.takers (refl, refl, refl))
     c.name-takers_pass.ensures.takes (subst IsSized (sym is) c.network-network.ensures.sized) (subst (λ (N : Table). c.args.lane.0 < length (lanes N)) (sym is) c.requires.lane) c.in_ok-of-2.ensures
+
+pub longest_text-requires : goal.longest_text-requires
+longest_text-requires c = there c
+
+pub ruled-requires-clause-cap : goal.ruled-requires-clause-cap
+ruled-requires-clause-cap c = omega (arith, c.min-room.ensures, c.longest_text.ensures, c.requires.capacity.0)
+
+pub name-takers_pass-requires-clause-pass : goal.name-takers_pass-requires-clause-pass
+name-takers_pass-requires-clause-pass c = c.in_ok-mailbox.ensures.1
+
+pub name-takers_pass-requires-clause-first : goal.name-takers_pass-requires-clause-first
+name-takers_pass-requires-clause-first c = c.in_ok-mailbox.ensures.3
+
+pub of-requires-clause-sized : goal.of-requires-clause-sized
+of-requires-clause-sized c = is_sized (goal.at.of-requires-clause-sized c).After-network-network
+
+pub of-requires-clause-lane : goal.of-requires-clause-lane
+of-requires-clause-lane c = there (goal.at.of-requires-clause-lane c).After-network-network
+
+pub of-requires-2-clause-sized : goal.of-requires-2-clause-sized
+of-requires-2-clause-sized c = is_sized (goal.at.of-requires-2-clause-sized c).After-network-network
+
+pub of-requires-2-clause-lane : goal.of-requires-2-clause-lane
+of-requires-2-clause-lane c = there (goal.at.of-requires-2-clause-lane c).After-network-network
+
+pub returns-clause-network : goal.returns-clause-network
+returns-clause-network c = ap (λ (v : LaneView). v.network) c.name-takers_pass.ensures.sends ∙ c.network-network.ensures.value
+
+pub returns-clause-lane : goal.returns-clause-lane
+returns-clause-lane c = refl
+
+pub returns-clause-room : goal.returns-clause-room
+returns-clause-room c =
+    ap (λ b. b.cap) c.in_ok-mailbox-2.ensures.ok ∙ c.in_ok-mailbox.ensures.0 ∙ c.min-room.ensures
+    ∙ ap (min c.args.capacity) (c.longest_text.ensures ∙ ap (λ (N : Table). longest_text N (lane_at N c.args.lane.0)) c.network-network.ensures.value)
+
+pub returns-clause-same : goal.returns-clause-same
+returns-clause-same c =
+    let names = c.name-takers_pass.ensures in
+    let mailbox = names.same.0 ∙ c.in_ok-mailbox.ensures.1.0 ∙ sym names.takers.0 in
+    let network = ap (λ (v : LaneView). v.network) names.sends ∙ sym (ap (λ (v : LaneView). v.network) names.takes) in
+    let room = ap (λ b. b.cap) (sym c.in_ok-takers_mailbox.ensures) in
+    λ j. record { mailbox = mailbox j; network = network j; lane = c.args.lane.0; room = room j }
+
+pub returns-clause-empty : goal.returns-clause-empty
+returns-clause-empty c =
+    (ap (λ (v : LaneView). v.sent) c.name-takers_pass.ensures.sends, ap (λ (v : LaneView). v.taken) c.name-takers_pass.ensures.takes)
