@@ -1,4 +1,6 @@
-use Rattle.std.proofs.Common.{subst, sym}
+use Rattle.std.proofs.Common.{◌∙◌, ap, subst, sym}
+use Rattle.clap.specs.Simple.{App}
+use Rattle.clap.specs.Takes.{takes}
 use Rattle.clap.specs.Words.{app_of, subcommand_rows_of}
 use Rattle.mrp_words.specs.Choice.{IsMeantBy, texts_of}
 use Rattle.mrp_words.specs.Values.{IsWholeCommand}
@@ -24,3 +26,12 @@ returns-in-Ok-try_get_matches_from-clause-free c =
 
 pub returns-in-Err-clause-refused : goal.returns-in-Err-clause-refused
 returns-in-Err-clause-refused c = its_kind (app_of c.in-Ok.command) (texts_of c.args.words.now) c.in-Err.error c.in-Ok.ensures c.in-Err.ensures.kinds
+
+pub returns-in-Ok-try_get_matches_from-clause-range : goal.returns-in-Ok-try_get_matches_from-clause-range
+returns-in-Ok-try_get_matches_from-clause-range c = c.chosen.ensures.range
+
+pub returns-in-Ok-try_get_matches_from-clause-taken : goal.returns-in-Ok-try_get_matches_from-clause-taken
+returns-in-Ok-try_get_matches_from-clause-taken c = λ taken. tt
+
+pub returns-in-Err-clause-taken : goal.returns-in-Err-clause-taken
+returns-in-Err-clause-taken c = λ taken. c.in-Err.ensures.passes (ap (λ (a : App). takes a (texts_of c.args.words.now)) c.in-Ok.ensures ∙ taken)
