@@ -1,4 +1,5 @@
 use Rattle.std.proofs.Common.{◌≤◌, length, map, arith}
+use Rattle.std.proofs.lemmas.Grind.{common_steps}
 use Rattle.std.proofs.lemmas.List.{length-map}
 use Rattle.mrp_rows.specs.declared.numbers.PairNo.{PairNo}
 use Rattle.mrp_loops.proofs.OnePlan.{one_plan_by}
@@ -17,3 +18,9 @@ returns-clause-value c =
     let whole : length order ≤ c.loop-k.k = omega (arith, length-map c.in_code_order-order.result.now (λ (x : PairNo). x.0)) in
     (one_plan_by c.args.net.now.network order c.in_code_order-order.ensures.planning).only c.loop-k.pairs.items
     (all_planned c.args.net.now.network c.args.net.now.needs order c.loop-k.k c.loop-k.pairs.items c.in_code_order-order.ensures.planning whole c.loop-k.invariant.planned)
+
+pub loop-k-init : goal.loop-k-init
+loop-k-init c = grind (arith, common_steps)
+
+pub loop-k-preserved : goal.loop-k-preserved
+loop-k-preserved c = grind (arith, common_steps)
