@@ -1,3 +1,5 @@
+use Rattle.std.proofs.lemmas.Grind.{common_steps}
+use Rattle.std.proofs.Common.{arith}
 use Rattle.mrp_ready.proofs.Listing.{fresh_inside, lowered_free, lowered_waiting}
 use Rattle.mrp_ready.proofs.readiness.Readiness.lower.Goals as goal
 
@@ -19,3 +21,12 @@ invariant_of-self-else-index-eq0 c =
 pub returns-else-index-eq0-clause-listed : goal.returns-else-index-eq0-clause-listed
 returns-else-index-eq0-clause-listed c =
     (lowered_waiting _ c.args.self.now c.self.inside.ready.gone c.self.inside.left c.args.y c.index_mut.result.now c.index.result.now c.self.invariant c.self.view_is c.requires.known c.requires.waits c.index_mut.ensures.value c.index.ensures c.if-index-eq0.false).listed
+
+pub returns-then-index-eq0-clause-fewer : goal.returns-then-index-eq0-clause-fewer
+returns-then-index-eq0-clause-fewer c = grind (arith, common_steps)
+
+pub returns-then-index-eq0-clause-others : goal.returns-then-index-eq0-clause-others
+returns-then-index-eq0-clause-others c = grind (arith, common_steps)
+
+pub returns-else-index-eq0-clause-fewer : goal.returns-else-index-eq0-clause-fewer
+returns-else-index-eq0-clause-fewer c = grind (arith, common_steps)
