@@ -1,5 +1,5 @@
-use Rattle.std.proofs.lemmas.Grind.{common_steps}
 use Rattle.std.proofs.Common.{arith}
+use Rattle.std.proofs.lemmas.Grind.{common_steps}
 use Rattle.mrp_ready.proofs.waits.count_blocks.Goals as goal
 
 pub overflow_add-waits : goal.overflow_add-waits

@@ -1,6 +1,6 @@
 use borrow.Author.Rules.{rules}
-use Rattle.std.proofs.lemmas.Grind.{common_steps}
 use Rattle.std.proofs.Common.{arith}
+use Rattle.std.proofs.lemmas.Grind.{common_steps}
 use Rattle.mrp_ready.proofs.waits.first_waits.Goals as goal
 
 pub returns-in_err-waits-clause-size : goal.returns-in_err-waits-clause-size

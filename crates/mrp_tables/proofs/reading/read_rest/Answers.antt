@@ -1,3 +1,4 @@
+use borrow.Author.Rules.{rules}
 use Rattle.std.proofs.Common.{arith}
 use Rattle.std.proofs.lemmas.Result.{err_from_is_err_and}
 use Rattle.mrp_tables.specs.Left.{left_of, state_of}
@@ -40,3 +41,18 @@ loop-number-preserved g c = record {
   goes = next_true c.in_ok-read_next.field-0 (left_of g.R.Read.remaining c.args.rows.now) (left_of g.R.Read.remaining c.loop-number.rows) (left_of g.R.Read.remaining c.read_next.new.rows) 2 c.loop-number.number
       (state_of c.args.draft.now) (state_of c.loop-number.draft) (state_of c.read_next.new.draft) c.if-not-branch.false c.loop-number.invariant.goes c.in_ok-read_next.ensures.exact;
 }
+
+pub returns-in_err-read_next-clause-draft : goal.returns-in_err-read_next-clause-draft
+returns-in_err-read_next-clause-draft g c = search rules
+
+pub returns-in_err-read_next-clause-kept : goal.returns-in_err-read_next-clause-kept
+returns-in_err-read_next-clause-kept g c = search rules
+
+pub returns-in_err-read_next-clause-counted : goal.returns-in_err-read_next-clause-counted
+returns-in_err-read_next-clause-counted g c = search rules
+
+pub returns-in_err-read_next-clause-all : goal.returns-in_err-read_next-clause-all
+returns-in_err-read_next-clause-all g c = search rules
+
+pub returns-in_err-read_next-clause-turns : goal.returns-in_err-read_next-clause-turns
+returns-in_err-read_next-clause-turns g c = search rules

@@ -1,3 +1,4 @@
+use borrow.Author.Rules.{rules}
 use Rattle.std.proofs.Common.{◌≡◌, ◌+◌, ◌≤◌, max, ℕ, Result, Ok, Err, IfOk, IfErr, ap, arith}
 use Rattle.std.proofs.lemmas.Result.{err_from_is_err_and}
 use Rattle.csv.specs.Records.{fields_of}
@@ -122,3 +123,24 @@ returns-clause-named g c = of_missing _ _ (later_step _ _ _ _ c.in-Err.ensures.l
 pub returns-clause-ends : goal.returns-clause-ends
 returns-clause-ends g c =
     steps_named (left_of g.R.Read.remaining c.args.rows.now) _ _ _ (later_step _ _ _ _ c.in-Err.ensures.later c.tick.ensures c.in-Err.ensures.least)
+
+pub returns-in_err-next_row-clause-counted : goal.returns-in_err-next_row-clause-counted
+returns-in_err-next_row-clause-counted g c = search rules
+
+pub returns-in_err-next_row-clause-turns : goal.returns-in_err-next_row-clause-turns
+returns-in_err-next_row-clause-turns g c = search rules
+
+pub returns-in_err-draft-clause-counted : goal.returns-in_err-draft-clause-counted
+returns-in_err-draft-clause-counted g c = search rules
+
+pub returns-in_err-draft-clause-turns : goal.returns-in_err-draft-clause-turns
+returns-in_err-draft-clause-turns g c = search rules
+
+pub returns-in-Ok-clause-turns : goal.returns-in-Ok-clause-turns
+returns-in-Ok-clause-turns g c = search rules
+
+pub returns-clause-turns : goal.returns-clause-turns
+returns-clause-turns g c = search rules
+
+pub returns-clause-least : goal.returns-clause-least
+returns-clause-least g c = search rules

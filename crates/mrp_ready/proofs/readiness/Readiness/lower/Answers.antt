@@ -1,5 +1,5 @@
-use Rattle.std.proofs.lemmas.Grind.{common_steps}
 use Rattle.std.proofs.Common.{arith}
+use Rattle.std.proofs.lemmas.Grind.{common_steps}
 use Rattle.mrp_ready.proofs.Listing.{fresh_inside, lowered_free, lowered_waiting}
 use Rattle.mrp_ready.proofs.readiness.Readiness.lower.Goals as goal
 
