@@ -1,6 +1,7 @@
 //! The text functions on worked tables: the bytes of each report, and the line and the status of
 //! each fault. The calls of the crates below are tried in `mrp_cases` and `mrp_plan_cases`.
 
+mod commands;
 mod damage;
 mod figures;
 mod firms;
@@ -33,7 +34,7 @@ plan,P1,WHEEL,1,2026-01-12,0,0,0,20,0\nplan,P1,WHEEL,2,2026-01-19,20,0,20,0,0\n\
 plan,P1,WHEEL,3,2026-01-26,0,0,0,0,0\n";
 
 /// What a text function left: the bytes that the writer has, or the line of the fault and its status
-/// with a leading `!` where bytes were written before it.
+/// with a leading `!` where bytes were written before it, and a `?` behind it where it wasn't written whole.
 fn outcome(
     alloc: Global,
     written: Vec<u8>,
@@ -48,7 +49,9 @@ fn outcome(
     }
     line.push(b'0' + status(&fault).min(9))?;
     line.push(b' ')?;
-    let _ = write_fault(&fault, &mut line);
+    if write_fault(&fault, &mut line).is_err() {
+        line.push(b'?')?;
+    }
     text_of(alloc, line.as_slice())
 }
 

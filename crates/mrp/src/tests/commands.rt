@@ -1,0 +1,109 @@
+//! Each command from its words to its report: the choice, and what is done for it.
+
+use super::figures::{FIRM_OF_TWO, FIRM_OF_TWO_CUMS};
+use super::{BICYCLE, BICYCLE_PLAN, outcome};
+use crate::named_words;
+use mrp_text::answer;
+use mrp_words::choose;
+use std::alloc::Global;
+use std::sync::Wait;
+use std::test::Fail;
+use std::thread::Threads;
+
+/// What is written for these words and this table, or the fault.
+fn done<T: Threads + Wait + Sync>(
+    rt: &T,
+    alloc: Global,
+    words: &[&str],
+    table: &str,
+) -> Result<String, Fail> {
+    let choice = choose(alloc, words)?;
+    let mut written = Vec::new(alloc);
+    let answer = answer(rt, alloc, choice, table.as_bytes(), &mut written);
+    Ok(outcome(alloc, written, answer)?)
+}
+
+/// Whether this report is written.
+fn writes<T: Threads + Wait + Sync>(
+    rt: &T,
+    alloc: Global,
+    words: &[&str],
+    table: &str,
+    report: &str,
+) -> Result<bool, Fail> {
+    let text = done(rt, alloc, words, table)?;
+    Ok(text.as_str() == report)
+}
+
+#[test]
+fn plan_is_done_by_threads(rt: HostRuntime) -> Result<(), Fail> {
+    let words = ["mrp", "plan", "--workers", "2", "--capacity", "1"];
+    assert!(&rt; writes(&rt, rt.alloc(), &words, BICYCLE, BICYCLE_PLAN)?);
+    Ok(())
+}
+
+#[test]
+fn plan_is_done_on_one_thread(rt: HostRuntime) -> Result<(), Fail> {
+    assert!(&rt;
+        writes(
+            &rt,
+            rt.alloc(),
+            &["mrp", "plan", "--single"],
+            BICYCLE,
+            BICYCLE_PLAN
+        )?
+    );
+    Ok(())
+}
+
+#[test]
+fn check_is_done(rt: HostRuntime) -> Result<(), Fail> {
+    let report = "code,P1,BIKE,0\ncode,P1,WHEEL,1\n";
+    assert!(&rt; writes(&rt, rt.alloc(), &["mrp", "check"], BICYCLE, report)?);
+    Ok(())
+}
+
+#[test]
+fn peg_is_done(rt: HostRuntime) -> Result<(), Fail> {
+    let words = ["mrp", "peg", "P1", "WHEEL", "2"];
+    assert!(&rt;
+        writes(
+            &rt,
+            rt.alloc(),
+            &words,
+            BICYCLE,
+            "peg,bill,P1,BIKE,10,2,20\n"
+        )?
+    );
+    Ok(())
+}
+
+#[test]
+fn cums_is_done(rt: HostRuntime) -> Result<(), Fail> {
+    assert!(&rt;
+        writes(
+            &rt,
+            rt.alloc(),
+            &["mrp", "cums"],
+            FIRM_OF_TWO,
+            FIRM_OF_TWO_CUMS
+        )?
+    );
+    Ok(())
+}
+
+/// Whether the words behind the program's own name are these arguments, which are four.
+fn names_four<R: AllocGlobal>(rt: &R, arguments: &[String]) -> Result<bool, Fail> {
+    let words = named_words(rt, arguments)?;
+    Ok(words.len() == 5 && words[0] == "mrp" && words[1] == "peg" && words[4] == "2")
+}
+
+#[test]
+fn the_program_is_named_mrp_wherever_it_lies(rt: HostRuntime) -> Result<(), Fail> {
+    let mut arguments = Vec::with_capacity(rt.alloc(), 5)?;
+    for word in ["bin/planner", "peg", "P1", "WHEEL", "2"] {
+        arguments.push(String::from_str(rt.alloc(), word)?)?;
+    }
+    assert!(&rt; names_four(&rt, arguments.as_slice())?);
+    Ok(())
+}
