@@ -1,7 +1,30 @@
-use Rattle.std.proofs.Common.{refl}
-use Rattle.mrp_agent.proofs.Asked.{next_within}
+use Rattle.std.proofs.Common.{ℕ, ◌+◌, List, get_or, slice_index, refl, sym, ap, subst, ◌∙◌}
+use Rattle.std.proofs.lemmas.List.{take_all}
+use Rattle.mrp_agent.specs.declared.edges.ParentEdge.{ParentEdge}
+use Rattle.mrp_agent.specs.Asking.{CanAsk, asked_by}
+use Rattle.mrp_agent.proofs.Asked.{more_asked, next_within, no_edge, none_asked}
 use Rattle.mrp_agent.proofs.drafting.add_asked.Goals as goal
 
 pub add_edge-requires-clause-within : goal.add_edge-requires-clause-within
 add_edge-requires-clause-within c =
     next_within c.args.plans.now c.args.edges.now c.loop-edge.edge-index _ c.args.gross.now c.loop-edge.gross c.loop-edge.invariant c.loop-edge-test.true refl c.requires.within
+
+pub loop-edge-init : goal.loop-edge-init
+loop-edge-init c = none_asked c.args.plans.now c.args.edges.now _
+
+pub add_edge-requires-clause-edge : goal.add_edge-requires-clause-edge
+add_edge-requires-clause-edge c =
+    let edge = get_or c.args.edges.now c.loop-edge.edge-index no_edge in
+    subst (λ (n : ℕ). CanAsk c.args.plans.now n edge) (sym c.loop-edge.invariant.size) (c.requires.edges c.loop-edge.edge-index no_edge c.loop-edge-test.true)
+
+pub loop-edge-preserved : goal.loop-edge-preserved
+loop-edge-preserved c =
+    more_asked c.args.plans.now c.args.edges.now c.loop-edge.edge-index _ c.args.gross.now c.loop-edge.gross c.add_edge.new.gross c.loop-edge.invariant c.loop-edge-test.true refl c.add_edge.ensures.size c.add_edge.ensures.each
+
+pub returns-clause-each : goal.returns-clause-each
+returns-clause-each c =
+    let all = take_all c.loop-edge.edge-index c.args.edges.now c.loop-edge-test.false in
+    λ t low. c.loop-edge.invariant.each t low ∙ ap (λ (edges : List ParentEdge). slice_index c.args.gross.now t + asked_by c.args.plans.now edges t) all
+
+pub returns-clause-size : goal.returns-clause-size
+returns-clause-size c = c.loop-edge.invariant.size
