@@ -110,6 +110,43 @@ takes_on box p q l counts counts' r (may, h) same takes count =
           (goes_on h r (taken_is_legal (view p) (view q) r l h.lane takes) q counts' same (ap (λ (v : LaneView). v.named) is) (ap (λ (v : LaneView). v.network) is) (ap (λ (v : LaneView). v.lane) is) count),
     )
 
+-- nothing was sent or taken
+stays : {Q A : Type 0} {box : Box Q A} {p : Pass Record LaneView} {l : ℕ} {list : List Record} {counts : Counts} → Holds box p l list counts
+    → (q : Pass Record LaneView) → IsSamePass p q → view q ≡ view p → Holds box q l list counts
+stays {Q} {A} {box} {p} {l} {list} {counts} h q same is = record {
+  ours = (same.0 ∙ h.ours.0, same.2 ∙ h.ours.1);
+  named = ap (λ (v : LaneView). v.named) is ∙ h.named;
+  lane = ap (λ (v : LaneView). v.lane) is ∙ h.lane;
+  sized = subst (λ (v : LaneView). IsSized v.network) (sym is) h.sized;
+  there = subst (λ (v : LaneView). l < length (lanes v.network)) (sym is) h.there;
+  legal = subst (λ (v : LaneView). IsLegal v.network l list) (sym is) h.legal;
+  counted = h.counted ∙ ap (λ (v : LaneView). counts_of v.network l list) (sym is);
+}
+
+pub stays_sending : {Q A : Type 0} (box : Box Q A) (p q : Pass Record LaneView) (l : ℕ) (counts : Counts) → ((view p).sends ≡ true) × Holds box p l (view p).sent counts
+    → IsSamePass p q → view q ≡ view p → ((view q).sends ≡ true) × Holds box q l (view q).sent counts
+stays_sending box p q l counts (may, h) same is = (
+  ap (λ (v : LaneView). v.sends) is ∙ may,
+  subst (λ (v : LaneView). Holds box q l v.sent counts) (sym is) (stays h q same is),
+)
+
+pub stays_taking : {Q A : Type 0} (box : Box Q A) (p q : Pass Record LaneView) (l : ℕ) (counts : Counts) → ((view p).takes ≡ true) × Holds box p l (view p).taken counts
+    → IsSamePass p q → view q ≡ view p → ((view q).takes ≡ true) × Holds box q l (view q).taken counts
+stays_taking box p q l counts (may, h) same is = (
+  ap (λ (v : LaneView). v.takes) is ∙ may,
+  subst (λ (v : LaneView). Holds box q l v.taken counts) (sym is) (stays h q same is),
+)
+
+-- the pass's mailbox, where a call was given it
+pub ours_there : {Q A : Type 0} {box there : Box Q A} {p : Pass Record LaneView} {l : ℕ} {list : List Record} {counts : Counts} → Holds box p l list counts → there ≡ box → IsPassOf there p
+ours_there {Q} {A} {box} {there} {p} {l} {list} {counts} h at = (h.ours.0 ∙ ap (λ b. b.table.shared.table_id) (sym at), h.ours.1)
+
+-- an end keeps its name
+pub same_name : {Q A : Type 0} (box : Box Q A) (p q : Pass Record LaneView) (l : ℕ) (list : List Record) (e : End) → end_of box p l list ≡ e
+    → IsSamePass p q → (view q).network ≡ (view p).network → (end_of box q l list).name ≡ e.name
+same_name box p q l list e is same network =
+    (λ j. record { mailbox = same.0 j; network = network j; lane = l; room = box.cap }) ∙ ap (λ (e : End). e.name) is
+
 -- ---- at the end
 
 pub small_figures : {Q A : Type 0} (box : Box Q A) (p : Pass Record LaneView) (l : ℕ) (list : List Record) (counts : Counts) → Holds box p l list counts

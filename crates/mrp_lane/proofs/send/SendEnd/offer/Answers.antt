@@ -1,8 +1,10 @@
-use Rattle.std.proofs.Common.{ℕ, [], ◌∷◌, ◌++◌, sym, subst}
+use Rattle.std.proofs.Common.{ℕ, [], ◌∷◌, ◌++◌, sym, ap, subst, ◌∙◌}
+use Rattle.std.specs.Arc.{arc_value}
 use Rattle.crossbeam_queue.specs.Passes.{view}
+use Rattle.mrp_lane.specs.declared.view.LaneView.{LaneView}
 use Rattle.mrp_lane.specs.Ends.{End, IsNext}
 use Rattle.mrp_lane.specs.Views.{IsLegal}
-use Rattle.mrp_lane.proofs.Ending.{number_fits, more_fits, sends_on}
+use Rattle.mrp_lane.proofs.Ending.{number_fits, more_fits, ours_there, same_name, sends_on, stays_sending}
 use Rattle.mrp_lane.proofs.send.SendEnd.offer.Goals as goal
 
 pub push-requires-clause-legal : goal.push-requires-clause-legal
@@ -21,3 +23,22 @@ pub invariant_of-self-2 : goal.invariant_of-self-2
 invariant_of-self-2 g c =
     sends_on _ c.self.inside.pass c.push.new.pass c.self.inside.lane.0 c.self.inside.tally c.add.new.self c.args.entry c.self.invariant
     (subst (λ (e : End). IsNext e c.args.entry) (sym c.self.view_is) c.requires.legal) c.push.ensures.same c.in_default.ensures.sent c.add.ensures
+
+pub push-requires-clause-pass : goal.push-requires-clause-pass
+push-requires-clause-pass g c = ours_there c.self.invariant.1 c.deref.ensures
+
+pub push-requires-clause-sends : goal.push-requires-clause-sends
+push-requires-clause-sends g c = c.self.invariant.0
+
+pub push-requires-clause-named : goal.push-requires-clause-named
+push-requires-clause-named g c = c.self.invariant.1.named
+
+pub invariant_of-self : goal.invariant_of-self
+invariant_of-self g c = stays_sending _ c.self.inside.pass c.push.new.pass c.self.inside.lane.0 c.self.inside.tally c.self.invariant c.in-Err.ensures.same c.in-Err.ensures.unchanged
+
+pub returns-clause-name : goal.returns-clause-name
+returns-clause-name g c =
+    same_name (arc_value c.self.inside.mailbox) c.self.inside.pass c.push.new.pass c.self.inside.lane.0 _ _ c.self.view_is c.push.ensures.same (ap (λ (v : LaneView). v.network) c.in_default.ensures.sent)
+
+pub returns-clause-sent : goal.returns-clause-sent
+returns-clause-sent g c = ap (λ (v : LaneView). v.sent) c.in_default.ensures.sent ∙ ap (λ (e : End). e.list ++ c.args.entry ∷ []) c.self.view_is

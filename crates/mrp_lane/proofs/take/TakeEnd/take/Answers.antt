@@ -1,5 +1,9 @@
+use Rattle.std.proofs.Common.{[], ◌∷◌, ◌++◌, ap, ◌∙◌}
+use Rattle.std.specs.Arc.{arc_value}
 use Rattle.crossbeam_queue.specs.Passes.{view}
-use Rattle.mrp_lane.proofs.Ending.{number_fits, more_fits, taken_is_legal, taken_stays_legal, takes_on}
+use Rattle.mrp_lane.specs.declared.view.LaneView.{LaneView}
+use Rattle.mrp_lane.specs.Ends.{End}
+use Rattle.mrp_lane.proofs.Ending.{number_fits, more_fits, ours_there, same_name, stays_taking, taken_is_legal, taken_stays_legal, takes_on}
 use Rattle.mrp_lane.proofs.take.TakeEnd.take.Goals as goal
 
 pub add-requires-clause-number : goal.add-requires-clause-number
@@ -19,3 +23,23 @@ invariant_of-self-2 g c =
 
 pub returns-clause-legal : goal.returns-clause-legal
 returns-clause-legal g c = taken_stays_legal (view c.self.inside.pass) (view c.pop.new.pass) c.in_ok-entry.entry c.self.inside.lane.0 c.self.invariant.1.lane c.in_ok-entry.ensures.taken
+
+pub pop-requires-clause-pass : goal.pop-requires-clause-pass
+pop-requires-clause-pass g c = ours_there c.self.invariant.1 c.deref.ensures
+
+pub pop-requires-clause-takes : goal.pop-requires-clause-takes
+pop-requires-clause-takes g c = c.self.invariant.0
+
+pub pop-requires-clause-named : goal.pop-requires-clause-named
+pop-requires-clause-named g c = c.self.invariant.1.named
+
+pub invariant_of-self : goal.invariant_of-self
+invariant_of-self g c =
+    stays_taking _ c.self.inside.pass c.pop.new.pass c.self.inside.lane.0 c.self.inside.tally c.self.invariant c.pop.ensures.same c.in_err-entry.ensures.unchanged
+
+pub returns-clause-name : goal.returns-clause-name
+returns-clause-name g c =
+    same_name (arc_value c.self.inside.mailbox) c.self.inside.pass c.pop.new.pass c.self.inside.lane.0 _ _ c.self.view_is c.pop.ensures.same (ap (λ (v : LaneView). v.network) c.in_ok-entry.ensures.taken.0)
+
+pub returns-clause-taken : goal.returns-clause-taken
+returns-clause-taken g c = ap (λ (v : LaneView). v.taken) c.in_ok-entry.ensures.taken.0 ∙ ap (λ (e : End). e.list ++ c.in_ok-entry.entry ∷ []) c.self.view_is
