@@ -1,4 +1,6 @@
-use Rattle.std.proofs.Common.{Some, None, refl}
+use borrow.Author.Rules.{rules}
+use Rattle.std.proofs.Common.{Some, None, refl, arith}
+use Rattle.std.proofs.lemmas.Grind.{common_steps}
 use Rattle.std.proofs.lemmas.Result.{err_from_is_err_and}
 use Rattle.mrp_book.specs.After.{with_end}
 use Rattle.mrp_book.specs.Faults.{end_tests}
@@ -22,3 +24,9 @@ returns c =
       own_fault t (end_tests c.args.number c.args.lines c.args.cumulative) None c.in_ok-check_end.ensures,
       booked t c.index_mut.result.now c.add_end.new.self with_end None c.index_mut.ensures.value c.add_end.ensures,
     )
+
+pub returns-in_err-check_number : goal.returns-in_err-check_number
+returns-in_err-check_number c = search rules
+
+pub returns-in_err-place : goal.returns-in_err-place
+returns-in_err-place c = grind (arith, common_steps)

@@ -1,4 +1,6 @@
-use Rattle.std.proofs.Common.{Some, None, refl}
+use borrow.Author.Rules.{rules}
+use Rattle.std.proofs.Common.{Some, None, refl, arith}
+use Rattle.std.proofs.lemmas.Grind.{common_steps}
 use Rattle.std.proofs.lemmas.Result.{err_from_is_err_and}
 use Rattle.mrp_book.specs.After.{with_line}
 use Rattle.mrp_book.specs.Faults.{line_tests}
@@ -25,3 +27,12 @@ returns c =
       own_fault t (line_tests c.args.self.now.rising c.args.self.now.horizon c.args.number c.args.period c.args.quantity c.args.cumulative) None checked,
       booked t c.index_mut.result.now c.add_line.new.self (with_line c.args.period c.args.quantity) (Some c.args.item.0) c.index_mut.ensures.value c.add_line.ensures,
     )
+
+pub returns-in_err-check_number : goal.returns-in_err-check_number
+returns-in_err-check_number c = search rules
+
+pub returns-in_err-place : goal.returns-in_err-place
+returns-in_err-place c = grind (arith, common_steps)
+
+pub add_line-requires-clause-figure : goal.add_line-requires-clause-figure
+add_line-requires-clause-figure c = grind (arith, common_steps)
