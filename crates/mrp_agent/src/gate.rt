@@ -1,18 +1,28 @@
 //! The gate that is asked before each turn of a plant and each work of a worker.
 
-ghost use Rattle.std.specs.Prelude.{◌≤◌};
+ghost use Rattle.std.specs.Prelude.{◌≡◌, ◌≤◌, ℕ, false};
 
 /// Who is asked before a plant's thread begins a turn, and before a worker of a plant begins its work.
 ///
-/// Whoever writes a gate is promised that turns and workers count from 1: each call proves it.
+/// Whoever writes a gate is promised that turns and workers count from 1: each call proves it. And they may
+/// say what holds where the gate answers false: the fault of a shut gate comes only where that holds of some
+/// turn or some worker of the plant.
 pub trait Gate: Sync {
+    /// What holds where the gate is shut to a turn of a plant.
+    ghost turn_shut: { ℕ → ℕ → Type 0 } = { λ _ _. Unit {0} };
+
+    /// What holds where the gate is shut to a worker of a plant.
+    ghost worker_shut: { ℕ → ℕ → Type 0 } = { λ _ _. Unit {0} };
+
     /// Whether a plant may begin a turn. Turns count from 1.
     fn turn(&self, plant: usize, turn: u64) -> bool
-        requires counted { 1 ≤ turn };
+        requires counted { 1 ≤ turn }
+        ensures shut { result ≡ false → turn_shut plant turn };
 
     /// Whether a worker of a plant may begin. Workers count from 1.
     fn worker(&self, plant: usize, worker: u64) -> bool
-        requires counted { 1 ≤ worker };
+        requires counted { 1 ≤ worker }
+        ensures shut { result ≡ false → worker_shut plant worker };
 }
 
 /// A gate that is always open.
@@ -21,6 +31,10 @@ pub struct NoGate;
 
 impl Gate for NoGate {
     ghost use Rattle.std.specs.Prelude.{◌≡◌, true};
+
+    ghost turn_shut = { λ _ _. ⊥ };
+
+    ghost worker_shut = { λ _ _. ⊥ };
 
     fn turn(&self, _plant: usize, _turn: u64) -> bool
         ensures { result ≡ true }
