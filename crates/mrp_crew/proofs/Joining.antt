@@ -13,21 +13,21 @@ use Rattle.mrp_crew.specs.Rooms.{AreDrafts, IsRoom, WorkedFor, pairs_of}
 use Rattle.mrp_crew.specs.Started.{ordered}
 use Rattle.mrp_crew.proofs.Fronts.{reverse-push}
 
-abbrev Worker : Type 0
-Worker = PromisedHandle Work Order
+abbrev Worker : Type 0 → Type 0
+Worker G = PromisedHandle Work (Order G)
 
 -- one more thread
-ordered-push : (workers more : List Worker) (h : Worker) → more ≡ workers ++ h ∷ [] → ordered more ≡ ordered workers ++ h.promise.pair ∷ []
-ordered-push workers more h is = ap ordered is ∙ map-append (λ (w : Worker). w.promise.pair) workers (h ∷ [])
+ordered-push : {G : Type 0} (workers more : List (Worker G)) (h : Worker G) → more ≡ workers ++ h ∷ [] → ordered more ≡ ordered workers ++ h.promise.pair ∷ []
+ordered-push {G} workers more h is = ap ordered is ∙ map-append (λ (w : Worker G). w.promise.pair) workers (h ∷ [])
 
-pub started_next : (pairs : List PairNo) (i : ℕ) (d : PairNo) (workers more : List Worker) (h : Worker) → i < length pairs → take i pairs ≡ ordered workers
+pub started_next : {G : Type 0} (pairs : List PairNo) (i : ℕ) (d : PairNo) (workers more : List (Worker G)) (h : Worker G) → i < length pairs → take i pairs ≡ ordered workers
     → more ≡ workers ++ h ∷ [] → h.promise.pair ≡ get_or pairs i d → take (i + 1) pairs ≡ ordered more
 started_next pairs i d workers more h within so_far pushed its =
     ap (λ (n : ℕ). take n pairs) (add-one i) ∙ take-suc pairs i d within ∙ ap (λ (z : List PairNo). z ++ get_or pairs i d ∷ []) so_far
     ∙ ap (λ (x : PairNo). ordered workers ++ x ∷ []) (sym its) ∙ sym (ordered-push workers more h pushed)
 
 -- one is joined
-pub joined_pairs : (workers rest : List Worker) (h : Worker) (works more : List Work) (w : Work) (pairs : List PairNo) → workers ≡ rest ++ h ∷ [] → more ≡ works ++ w ∷ []
+pub joined_pairs : {G : Type 0} (workers rest : List (Worker G)) (h : Worker G) (works more : List Work) (w : Work) (pairs : List PairNo) → workers ≡ rest ++ h ∷ [] → more ≡ works ++ w ∷ []
     → w.pair ≡ h.promise.pair → ordered workers ++ pairs_of (reverse works) ≡ pairs → ordered rest ++ pairs_of (reverse more) ≡ pairs
 joined_pairs workers rest h works more w pairs popped pushed its so_far =
     ap (λ (z : List Work). ordered rest ++ pairs_of z) (ap (λ (z : List Work). reverse z) pushed ∙ reverse-push works w)
@@ -42,7 +42,7 @@ only_pair before works w own none pushed its =
     ap (λ (z : List Work). pairs_of (reverse z)) (pushed ∙ ap (λ (z : List Work). z ++ w ∷ []) none) ∙ ap (λ (x : PairNo). x ∷ []) its
 
 -- a thread was refused
-pub refused_drafts : (A : AgentState) (others : List PairNo) (own : PairNo) (workers : List Worker) (rest : List PairNo) (drafts : Drafts) → drafts.all ≡ false
+pub refused_drafts : {G : Type 0} (A : AgentState) (others : List PairNo) (own : PairNo) (workers : List (Worker G)) (rest : List PairNo) (drafts : Drafts) → drafts.all ≡ false
     → others ≡ ordered workers ++ rest → pairs_of (reverse drafts.works.items) ≡ ordered workers ++ [] → All (WorkedFor A) drafts.works.items
     → All (IsRoom A.view.horizon) drafts.rooms.items → AreDrafts A (others ++ own ∷ []) drafts
 refused_drafts A others own workers rest drafts refused started pairs worked rooms = record {
@@ -55,7 +55,7 @@ refused_drafts A others own workers rest drafts refused started pairs worked roo
 }
 
 -- all threads were started
-pub whole_drafts : (A : AgentState) (others : List PairNo) (own : PairNo) (workers : List Worker) (rest : List PairNo) (drafts : Drafts) → rest ≡ []
+pub whole_drafts : {G : Type 0} (A : AgentState) (others : List PairNo) (own : PairNo) (workers : List (Worker G)) (rest : List PairNo) (drafts : Drafts) → rest ≡ []
     → others ≡ ordered workers ++ rest → pairs_of (reverse drafts.works.items) ≡ ordered workers ++ own ∷ [] → All (WorkedFor A) drafts.works.items
     → All (IsRoom A.view.horizon) drafts.rooms.items → AreDrafts A (others ++ own ∷ []) drafts
 whole_drafts A others own workers rest drafts none started pairs worked rooms =

@@ -4,3 +4,4 @@ pub mod Fronts
 pub mod Keeping
 pub mod Drafting
 pub mod Joining
+pub mod ShutGates

@@ -1,5 +1,6 @@
 pub mod Planning
 pub mod State
+pub mod Shut
 pub mod Rooms
 pub mod Started
 pub mod Settled

@@ -7,6 +7,7 @@ use Rattle.mrp_crew.specs.declared.room.Room.{Room}
 use Rattle.mrp_crew.specs.declared.work.Order.{Order}
 use Rattle.mrp_crew.specs.declared.work.Work.{Work}
 use Rattle.mrp_crew.specs.declared.work.Drafts.{Drafts}
+use Rattle.mrp_crew.specs.Shut.{IsLetIn}
 
 -- room for a plan of so many periods
 pub record IsRoom (horizon : ℕ) (room : Room) : Type 0 where
@@ -19,10 +20,12 @@ pub record WorkedFor (A : AgentState) (work : Work) : Type 0 where
   pub room : IsRoom A.view.horizon work.room
   pub plan : work.open ≡ true → work.room.plan ≡ drafted A work.pair
 
--- what the thread of an order brings back is of the order's pair, for the order's agent
-pub record Fulfils (order : Order) (work : Work) : Type 0 where
+-- what the thread of an order brings back is of the order's pair, for the order's agent; where the gate
+-- was shut to it, this holds of the order's plant
+pub record Fulfils {G : Type 0} (Shut : ℕ → Type 0) (order : Order G) (work : Work) : Type 0 where
   pub pair : work.pair ≡ order.pair
   pub worked : WorkedFor order.agent.value work
+  pub shut : IsLetIn (Shut order.plant) work
 
 -- the pairs of some results
 abbrev pub pairs_of : List Work → List PairNo

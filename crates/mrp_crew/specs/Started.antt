@@ -1,5 +1,5 @@
 -- The threads of a wave.
-use Rattle.std.specs.Prelude.{◌≡◌, List, map}
+use Rattle.std.specs.Prelude.{◌≡◌, ℕ, List, map}
 use Rattle.std.specs.declared.thread.PromisedHandle.{PromisedHandle}
 use Rattle.mrp_rows.specs.declared.numbers.PairNo.{PairNo}
 use Rattle.mrp_agent.specs.State.{AgentState}
@@ -7,14 +7,19 @@ use Rattle.mrp_crew.specs.declared.work.Order.{Order}
 use Rattle.mrp_crew.specs.declared.work.Work.{Work}
 
 -- the pairs that threads were started for
-abbrev pub ordered : List (PromisedHandle Work Order) → List PairNo
+abbrev pub ordered : {G : Type 0} → List (PromisedHandle Work (Order G)) → List PairNo
 ordered workers = map (λ worker. worker.promise.pair) workers
 
 -- a thread that was started for the agent as it stands
-abbrev pub IsFor : AgentState → PromisedHandle Work Order → Type 0
+abbrev pub IsFor : {G : Type 0} → AgentState → PromisedHandle Work (Order G) → Type 0
 IsFor A worker = worker.promise.agent.value ≡ A
 
+-- for a worker of the plant
+abbrev pub IsAt : {G : Type 0} → ℕ → PromisedHandle Work (Order G) → Type 0
+IsAt plant worker = worker.promise.plant ≡ plant
+
 -- and for a pair
-pub record IsStarted (A : AgentState) (pair : PairNo) (worker : PromisedHandle Work Order) : Type 0 where
+pub record IsStarted {G : Type 0} (A : AgentState) (plant : ℕ) (pair : PairNo) (worker : PromisedHandle Work (Order G)) : Type 0 where
   pub agent : IsFor A worker
+  pub plant_is : IsAt plant worker
   pub pair_is : worker.promise.pair ≡ pair

@@ -45,10 +45,11 @@ impl Model for Crew {
 }
 
 impl Crew {
-    ghost use Rattle.std.specs.Prelude.{◌<◌, List, [], length, IfOk, OnOk};
+    ghost use Rattle.std.specs.Prelude.{◌<◌, List, [], length, IfErr, IfOk, OnOk};
     ghost use Rattle.mrp_rows.specs.declared.numbers.PairNo.{PairNo};
     ghost use Rattle.mrp_agent.specs.Drafts.{ready_numbers};
     ghost use Rattle.mrp_crew.specs.Planning.{IsPlannable, PlansAll};
+    ghost use Rattle.mrp_crew.specs.Shut.{WasShut};
 
     /// A crew of 1 to [`MOST_WORKERS`] workers that plan for so many periods.
     ///
@@ -101,6 +102,7 @@ impl Crew {
         ensures crew { self.new ≡ self.old }
         ensures planned { (xs : List PairNo) × PlansAll agent.old agent.new xs
             × IfOk result (λ count. (count ≡ length xs) × (ready_numbers agent.new ≡ [])) }
+        ensures shut { IfErr result (λ fault. fault ≡ CrewFault.GateShut → WasShut G.worker_shut plant) }
     {
         let before = agent.left();
         while agent.ready().is_some() {
@@ -123,6 +125,7 @@ impl Crew {
         requires ready { 0 < length (ready_numbers agent.old) }
         ensures crew { self.new ≡ self.old }
         ensures planned { (xs : List PairNo) × PlansAll agent.old agent.new xs × OnOk result (0 < length xs) }
+        ensures shut { IfErr result (λ fault. fault ≡ CrewFault.GateShut → WasShut G.worker_shut plant) }
     {
         refill(alloc, &mut self.rooms, self.horizon, self.workers)?;
         let pairs = agent.ready_pairs();

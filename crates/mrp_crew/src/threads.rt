@@ -1,23 +1,25 @@
 //! The threads of a wave: started, and joined.
-ghost use Rattle.std.specs.Prelude.{◌≡◌, ◌+◌, ◌++◌, ◌<◌, ◌≤◌, List, [], ◌∷◌, length, reverse, All, IfSome, vec_capacity};
+ghost use Rattle.std.specs.Prelude.{◌≡◌, ◌+◌, ◌++◌, ◌<◌, ◌≤◌, List, [], ◌∷◌, length, reverse, All, IfSome, ℕ, vec_capacity};
 ghost use Rattle.std.specs.Bool.{OnTrue};
 ghost use Rattle.mrp_rows.specs.declared.numbers.PairNo.{PairNo};
 ghost use Rattle.mrp_agent.specs.Drafts.{CanDraft};
 ghost use Rattle.mrp_agent.specs.State.{AgentState};
 ghost use Rattle.mrp_crew.specs.Rooms.{AreDrafts, IsRoom, WorkedFor, pairs_of};
-ghost use Rattle.mrp_crew.specs.Started.{IsFor, IsStarted, ordered};
+ghost use Rattle.mrp_crew.specs.Shut.{AreLetIn, IsLetIn, WasShut};
+ghost use Rattle.mrp_crew.specs.Started.{IsAt, IsFor, IsStarted, ordered};
 
 use crate::room::{Room, put_back};
 use crate::work::{Drafts, Order, Work, draft_pair};
 use mrp_agent::{Agent, Gate};
 use mrp_net::PairNo;
+use std::marker::PhantomData;
 use std::snapshot::Snapshot;
 use std::sync::Wait;
 use std::thread;
 use std::thread::{PromisedHandle, Scope, Threads};
 
 /// A thread that drafts the plan of a pair.
-pub(crate) type Worker = PromisedHandle<Work, Order>;
+pub(crate) type Worker<G> = PromisedHandle<Work, Order<G>>;
 
 /// Drafts the plans of pairs, of one in the calling thread and of each other one in a thread of its own.
 /// It returns when all of them have returned.
@@ -29,7 +31,7 @@ pub(crate) fn draft_wave<R: Threads + Wait + Sync, G: Gate>(
     others: &[PairNo],
     own: PairNo,
     rooms: Vec<Room>,
-    workers: Vec<Worker>,
+    workers: Vec<Worker<G>>,
     works: Vec<Work>,
 ) -> Drafts
     requires others { All (CanDraft agent.now) others.now }
@@ -38,7 +40,8 @@ pub(crate) fn draft_wave<R: Threads + Wait + Sync, G: Gate>(
     requires enough { length others.now < length rooms.items }
     requires workers { (workers.items ≡ []) × (length others.now ≤ vec_capacity workers) }
     requires works { (works.items ≡ []) × (length others.now < vec_capacity works) }
-    ensures { AreDrafts agent.now (others.now ++ own ∷ []) result }
+    ensures drafts { AreDrafts agent.now (others.now ++ own ∷ []) result }
+    ensures shut { AreLetIn (WasShut G.worker_shut plant) result.works.items }
 {
     thread::scope(
         thread::scope_env(),
@@ -50,7 +53,8 @@ pub(crate) fn draft_wave<R: Threads + Wait + Sync, G: Gate>(
             requires enough { length others.now < length rooms.items }
             requires workers { (workers.items ≡ []) × (length others.now ≤ vec_capacity workers) }
             requires works { (works.items ≡ []) × (length others.now < vec_capacity works) }
-            ensures { AreDrafts agent.entry.now (others.entry.now ++ own ∷ []) result }
+            ensures drafts { AreDrafts agent.entry.now (others.entry.now ++ own ∷ []) result }
+            ensures shut { AreLetIn (WasShut G.worker_shut plant) result.works.items }
         {
             draft_beside(
                 scope, rt, agent, plant, gate, others, own, rooms, workers, works,
@@ -69,7 +73,7 @@ fn draft_beside<'s, E, R: Threads, G: Gate>(
     others: &[PairNo],
     own: PairNo,
     mut rooms: Vec<Room>,
-    mut workers: Vec<Worker>,
+    mut workers: Vec<Worker<G>>,
     mut works: Vec<Work>,
 ) -> Drafts
     requires others { All (CanDraft agent.now) others.now }
@@ -78,7 +82,8 @@ fn draft_beside<'s, E, R: Threads, G: Gate>(
     requires enough { length others.now < length rooms.items }
     requires workers { (workers.items ≡ []) × (length others.now ≤ vec_capacity workers) }
     requires works { (works.items ≡ []) × (length others.now < vec_capacity works) }
-    ensures { AreDrafts agent.now (others.now ++ own ∷ []) result }
+    ensures drafts { AreDrafts agent.now (others.now ++ own ∷ []) result }
+    ensures shut { AreLetIn (WasShut G.worker_shut plant) result.works.items }
 {
     let Some(room) = rooms.pop() else {
         unreachable!()
@@ -106,7 +111,7 @@ fn start_all<'s, E, G: Gate>(
     gate: &'s G,
     pairs: &[PairNo],
     rooms: &mut Vec<Room>,
-    workers: &mut Vec<Worker>,
+    workers: &mut Vec<Worker<G>>,
 ) -> bool
     requires can { All (CanDraft agent.now) pairs.now }
     requires rooms { All (IsRoom agent.now.view.horizon) rooms.old.items }
@@ -116,6 +121,7 @@ fn start_all<'s, E, G: Gate>(
     ensures started { (rest : List PairNo) × (pairs.now ≡ ordered workers.new.items ++ rest) × OnTrue result (rest ≡ []) }
     ensures few { length workers.new.items ≤ length pairs.now }
     ensures agent { All (IsFor agent.now) workers.new.items }
+    ensures plant { All (IsAt plant) workers.new.items }
 {
     for pair in pairs {
         let Some(room) = rooms.pop() else {
@@ -141,15 +147,17 @@ fn start<'s, E, G: Gate>(
     number: u64,
     pair: PairNo,
     room: Room,
-) -> Option<Worker>
+) -> Option<Worker<G>>
     requires can { CanDraft agent.now pair }
     requires room { IsRoom agent.now.view.horizon room }
     requires number { 1 ≤ number }
-    ensures { IfSome result (IsStarted agent.now pair) }
+    ensures { IfSome result (IsStarted agent.now plant pair) }
 {
     let order = Order {
         agent: Snapshot::of(agent),
         pair,
+        plant,
+        gate: PhantomData,
     };
     let started = scope.spawn_with(
         order,
@@ -159,6 +167,7 @@ fn start<'s, E, G: Gate>(
             requires number { 1 ≤ number }
             ensures pair { result.pair ≡ pair }
             ensures worked { WorkedFor agent.entry.now result }
+            ensures shut { IsLetIn (WasShut G.worker_shut plant) result }
         { draft_pair(agent, plant, gate, number, pair, room) },
     );
     match started {
@@ -168,10 +177,11 @@ fn start<'s, E, G: Gate>(
 }
 
 /// Joins the threads, the last first, and puts their results behind those before them.
-fn join_all<R: Threads>(rt: &R, mut workers: Vec<Worker>, works: &mut Vec<Work>)
+fn join_all<R: Threads, G: Gate>(rt: &R, mut workers: Vec<Worker<G>>, works: &mut Vec<Work>)
     requires room { length workers.items + length works.old.items ≤ vec_capacity works.old }
     ensures pairs { pairs_of (reverse works.new.items) ≡ ordered workers.items ++ pairs_of (reverse works.old.items) }
     ensures worked { (A : AgentState) → All (IsFor A) workers.items → All (WorkedFor A) works.old.items → All (WorkedFor A) works.new.items }
+    ensures shut { (plant : ℕ) → All (IsAt plant) workers.items → AreLetIn (WasShut G.worker_shut plant) works.old.items → AreLetIn (WasShut G.worker_shut plant) works.new.items }
 {
     while let Some(worker) = workers.pop() {
         let Ok(()) = works.push(worker.join(rt)) else {

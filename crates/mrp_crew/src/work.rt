@@ -2,10 +2,12 @@
 ghost use Rattle.std.specs.Prelude.{◌≡◌, ◌≤◌};
 ghost use Rattle.mrp_agent.specs.Drafts.{CanDraft};
 ghost use Rattle.mrp_crew.specs.Rooms.{IsRoom, WorkedFor};
+ghost use Rattle.mrp_crew.specs.Shut.{IsLetIn, WasShut};
 
 use crate::room::Room;
 use mrp_agent::{Agent, Gate};
 use mrp_net::PairNo;
+use std::marker::PhantomData;
 use std::snapshot::Snapshot;
 use std::thread::Promise;
 
@@ -18,17 +20,31 @@ pub(crate) struct Work {
     pub(crate) room: Room,
 }
 
-/// What a thread is started for: the plan of a pair, as the agent stands then.
-#[derive(Drop)]
-pub(crate) struct Order {
+/// What a thread is started for: the plan of a pair of a plant, as the agent stands then, at a gate of the
+/// kind `G`.
+pub(crate) struct Order<G> {
     pub(crate) agent: Snapshot<Agent>,
     pub(crate) pair: PairNo,
+    pub(crate) plant: usize,
+    pub(crate) gate: PhantomData<G>,
 }
 
-impl Promise<Work> for Order {
-    ghost use Rattle.mrp_crew.specs.Rooms.{Fulfils};
+impl<G> Drop for Order<G> {
+    fn drop(self) {
+        let Order {
+            agent: _agent,
+            pair: _,
+            plant: _,
+            gate: _,
+        } = self;
+    }
+}
 
-    ghost kept_by = { Fulfils };
+impl<G: Gate> Promise<Work> for Order<G> {
+    ghost use Rattle.mrp_crew.specs.Rooms.{Fulfils};
+    ghost use Rattle.mrp_crew.specs.Shut.{WasShut};
+
+    ghost kept_by = { λ order work. Fulfils (WasShut G.worker_shut) order work };
 }
 
 /// What the workers of a wave bring back, whether all of them could be started, and the rooms that none
@@ -54,6 +70,7 @@ pub(crate) fn draft_pair<G: Gate>(
     requires number { 1 ≤ number }
     ensures pair { result.pair ≡ pair }
     ensures worked { WorkedFor agent.now result }
+    ensures shut { IsLetIn (WasShut G.worker_shut plant) result }
 {
     if !gate.worker(plant, number) {
         return Work {

@@ -1,4 +1,5 @@
-use Rattle.std.proofs.Common.{◌≡◌, [], ◌∷◌, ◌++◌, length, reverse, List, ap, subst, arith, length-append}
+use Rattle.std.proofs.Common.{◌≡◌, true, Some, [], ◌∷◌, ◌++◌, length, reverse, List, ap, subst, arith, length-append}
+use Rattle.std.proofs.lemmas.List.Elements.{All-pop}
 use Rattle.mrp_rows.specs.declared.numbers.PairNo.{PairNo}
 use Rattle.mrp_view.specs.View.{PlantRows}
 use Rattle.mrp_agent.specs.State.{AgentState}
@@ -40,5 +41,12 @@ loop-work-preserved c =
       );
       plannable = plannable_after A B next.0 before.plannable next.1;
       drafts = still_to_settle A B work (reverse rest) are next.1.view c.settle-kept.ensures.others;
+      let_in = λ each.
+          let so_far = before.let_in each in
+          let parts = All-pop (λ (w : Work). w.open ≡ true) c.loop-work.works.items rest (Some work) popped so_far.1 in
+          (c.settle-kept.ensures.let_in so_far.0 parts.1, parts.0);
       rooms = c.put_back.ensures first.view.horizon before.rooms room;
     }
+
+pub returns-clause-let_in : goal.returns-clause-let_in
+returns-clause-let_in c = λ each. (c.loop-work.invariant.let_in each).0

@@ -11,6 +11,7 @@ invariant-loop-work l = record {
   planned : (xs : List PairNo) × PlansAll l.initial.agent l.agent xs × (l.all ≡ true → length xs + length l.works.items ≡ length l.initial.works.items);
   plannable : IsPlannable l.agent;
   drafts : AreToSettle l.agent (reverse l.works.items);
+  let_in : All (λ work. work.open ≡ true) l.initial.works.items → (l.all ≡ true) × All (λ work. work.open ≡ true) l.works.items;
   rooms : All (IsRoom l.initial.agent.view.horizon) l.rooms.items;
 }
 

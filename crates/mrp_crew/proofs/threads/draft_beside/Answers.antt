@@ -4,13 +4,14 @@ use Rattle.mrp_rows.specs.declared.numbers.PairNo.{PairNo}
 use Rattle.mrp_agent.specs.State.{AgentState}
 use Rattle.mrp_crew.specs.declared.work.Work.{Work}
 use Rattle.mrp_crew.specs.Rooms.{IsRoom, WorkedFor, pairs_of}
+use Rattle.mrp_crew.specs.Shut.{AreLetIn, IsLetIn, WasShut}
 use Rattle.mrp_crew.specs.Started.{ordered}
 use Rattle.mrp_crew.proofs.Keeping.{when_true}
 use Rattle.mrp_crew.proofs.Joining.{only_pair, refused_drafts, whole_drafts}
 use Rattle.mrp_crew.proofs.threads.draft_beside.Goals as goal
 
-pub returns-then-not-all : goal.returns-then-not-all
-returns-then-not-all g c =
+pub returns-then-not-all-clause-drafts : goal.returns-then-not-all-clause-drafts
+returns-then-not-all-clause-drafts g c =
     let A : AgentState = c.args.agent.now in
     let workers = c.start_all-all.new.workers.items in
     let started = c.start_all-all.ensures.started in
@@ -25,8 +26,8 @@ draft_pair-drafted-requires-clause-room g c κs within =
     let h = c.args.agent.now.view.horizon in
     (All-pop (IsRoom h) c.args.rooms.items c.pop.new.self.items (Some c.in-Some.room) c.in-Some.ensures.items c.requires.rooms).1
 
-pub returns : goal.returns
-returns g c =
+pub returns-clause-drafts : goal.returns-clause-drafts
+returns-clause-drafts g c =
     let A : AgentState = c.args.agent.now in
     let workers = c.start_all-all.new.workers.items in
     let started = c.start_all-all.ensures.started in
@@ -38,3 +39,15 @@ returns g c =
     (c.join_all-2.ensures.pairs
     ∙ ap (λ (z : List PairNo). ordered workers ++ z) (only_pair c.args.works.items c.push.new.self.items w c.args.own c.requires.works.0 c.in-Ok.ensures.items c.draft_pair-drafted.ensures.pair))
     (c.join_all-2.ensures.worked A c.start_all-all.ensures.agent one) c.start_all-all.ensures.rooms
+
+pub returns-then-not-all-clause-shut : goal.returns-then-not-all-clause-shut
+returns-then-not-all-clause-shut g c =
+    let Shut : Type 0 = WasShut g.G.Gate.worker_shut c.args.plant in
+    c.join_all.ensures.shut c.args.plant c.start_all-all.ensures.plant (subst (AreLetIn Shut) (sym c.requires.works.0) (All-nil (IsLetIn Shut)))
+
+pub returns-clause-shut : goal.returns-clause-shut
+returns-clause-shut g c =
+    let Shut : Type 0 = WasShut g.G.Gate.worker_shut c.args.plant in
+    let nothing : AreLetIn Shut c.args.works.items = subst (AreLetIn Shut) (sym c.requires.works.0) (All-nil (IsLetIn Shut)) in
+    c.join_all-2.ensures.shut c.args.plant c.start_all-all.ensures.plant
+    (subst (AreLetIn Shut) (sym c.in-Ok.ensures.items) (All-push (IsLetIn Shut) c.args.works.items c.draft_pair-drafted.result nothing c.draft_pair-drafted.ensures.shut))

@@ -1,10 +1,11 @@
-use Rattle.std.proofs.Common.{◌≡◌, [], ◌∷◌, ◌++◌, length, List, ap, sym, subst, arith, All, length-append}
+use Rattle.std.proofs.Common.{◌≡◌, ℕ, [], ◌∷◌, ◌++◌, length, List, ap, sym, subst, arith, All, length-append}
 use Rattle.std.proofs.lemmas.List.Elements.{All-push, All-pop}
 use Rattle.std.proofs.Common.{Some}
 use Rattle.mrp_agent.specs.State.{AgentState}
 use Rattle.mrp_crew.specs.declared.work.Work.{Work}
 use Rattle.mrp_crew.specs.Rooms.{WorkedFor}
-use Rattle.mrp_crew.specs.Started.{IsFor}
+use Rattle.mrp_crew.specs.Shut.{AreLetIn, IsLetIn, WasShut}
+use Rattle.mrp_crew.specs.Started.{IsAt, IsFor}
 use Rattle.mrp_crew.proofs.Joining.{joined_pairs}
 use Rattle.mrp_crew.proofs.threads.join_all.Goals as goal
 
@@ -23,4 +24,10 @@ loop-worker-preserved g c =
           subst (All (WorkedFor A)) (sym pushed)
           (All-push (WorkedFor A) c.loop-worker.works.items w (before.worked A told worked)
           (subst (λ (B : AgentState). WorkedFor B w) (All-pop (IsFor A) c.loop-worker.workers.items c.pop.new.self.items (Some h) popped (before.told A told)).1 c.join.ensures.worked));
+      at = λ plant at. (All-pop (IsAt plant) c.loop-worker.workers.items c.pop.new.self.items (Some h) popped (before.at plant at)).0;
+      shut = λ plant at shut.
+          subst (AreLetIn (WasShut g.G.Gate.worker_shut plant)) (sym pushed)
+          (All-push (IsLetIn (WasShut g.G.Gate.worker_shut plant)) c.loop-worker.works.items w (before.shut plant at shut)
+          (subst (λ (p : ℕ). IsLetIn (WasShut g.G.Gate.worker_shut p) w) (All-pop (IsAt plant) c.loop-worker.workers.items c.pop.new.self.items (Some h) popped (before.at plant at)).1
+          c.join.ensures.shut));
     }

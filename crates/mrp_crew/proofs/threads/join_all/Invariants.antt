@@ -1,8 +1,9 @@
-use Rattle.std.proofs.Common.{◌≡◌, ◌+◌, ◌≤◌, ◌++◌, length, reverse, All}
+use Rattle.std.proofs.Common.{◌≡◌, ℕ, ◌+◌, ◌≤◌, ◌++◌, length, reverse, All}
 use Rattle.std.specs.Prelude.{vec_capacity}
 use Rattle.mrp_agent.specs.State.{AgentState}
 use Rattle.mrp_crew.specs.Rooms.{WorkedFor, pairs_of}
-use Rattle.mrp_crew.specs.Started.{IsFor, ordered}
+use Rattle.mrp_crew.specs.Shut.{AreLetIn, WasShut}
+use Rattle.mrp_crew.specs.Started.{IsAt, IsFor, ordered}
 use Rattle.mrp_crew.proofs.threads.join_all.Given as goal
 
 -- the pairs of the threads that are left, and then those of the results, the last one's first
@@ -12,6 +13,9 @@ invariant-loop-worker g l = record {
   room : length l.workers.items + length l.works.items ≤ vec_capacity l.works;
   told : (A : AgentState) → All (IsFor A) l.initial.workers.items → All (IsFor A) l.workers.items;
   worked : (A : AgentState) → All (IsFor A) l.initial.workers.items → All (WorkedFor A) l.initial.works.items → All (WorkedFor A) l.works.items;
+  at : (plant : ℕ) → All (IsAt plant) l.initial.workers.items → All (IsAt plant) l.workers.items;
+  shut : (plant : ℕ) → All (IsAt plant) l.initial.workers.items → AreLetIn (WasShut g.G.Gate.worker_shut plant) l.initial.works.items
+      → AreLetIn (WasShut g.G.Gate.worker_shut plant) l.works.items;
 }
 
 abbrev pub decreases-loop-worker : goal.decreases-loop-worker

@@ -3,7 +3,7 @@ use Rattle.std.proofs.lemmas.List.{take-append-drop}
 use Rattle.std.proofs.lemmas.List.Elements.{All-push, All-pop}
 use Rattle.mrp_rows.specs.declared.numbers.PairNo.{PairNo}
 use Rattle.mrp_crew.specs.Rooms.{IsRoom}
-use Rattle.mrp_crew.specs.Started.{IsFor}
+use Rattle.mrp_crew.specs.Started.{IsAt, IsFor}
 use Rattle.mrp_crew.proofs.Joining.{started_next}
 use Rattle.mrp_crew.proofs.threads.start_all.Goals as goal
 
@@ -28,4 +28,5 @@ loop-pair-preserved g c =
       places = omega (arith, before.places, c.push.ensures.capacity);
       rooms = (All-pop (IsRoom c.args.agent.now.view.horizon) c.loop-pair.rooms.items c.pop.new.self.items (Some room) popped before.rooms).0;
       told = subst (All (IsFor c.args.agent.now)) (sym pushed) (All-push (IsFor c.args.agent.now) c.loop-pair.workers.items h before.told c.in-Some-start.ensures.agent);
+      at = subst (All (IsAt c.args.plant)) (sym pushed) (All-push (IsAt c.args.plant) c.loop-pair.workers.items h before.at c.in-Some-start.ensures.plant_is);
     }

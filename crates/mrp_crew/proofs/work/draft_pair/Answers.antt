@@ -12,3 +12,6 @@ returns-clause-worked g c = record {
   };
   plan = λ open_. c.draft.ensures.plan;
 }
+
+pub returns-then-not-worker-clause-shut : goal.returns-then-not-worker-clause-shut
+returns-then-not-worker-clause-shut g c = λ closed. (c.args.number, c.worker.ensures.shut c.if-not-worker.true)

@@ -32,3 +32,8 @@ returns-clause-planned g c =
         none_ready (ready_numbers c.loop-alloc.agent) c.ready.result c.ready.ensures (sym c.is_some.ensures ∙ c.loop-alloc-test.false),
       ),
     )
+
+pub returns-in_err-plan_wave-clause-shut : goal.returns-in_err-plan_wave-clause-shut
+returns-in_err-plan_wave-clause-shut g c =
+    let p = err_from_is_err_and c.from_residual.result c.from_residual.ensures.1 in
+    rw (p.1, p.2) c.in_err-plan_wave.ensures.shut

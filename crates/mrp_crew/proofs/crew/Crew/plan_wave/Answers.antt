@@ -7,6 +7,9 @@ use Rattle.mrp_agent.specs.State.{AgentState}
 use Rattle.mrp_crew.proofs.Drafting.{drafts_settle, wave_can, wave_once}
 use Rattle.mrp_crew.proofs.PlanningLaws.{plans_none}
 use Rattle.mrp_crew.proofs.Ready.{all_can_draft}
+use Rattle.mrp_crew.proofs.ShutGates.{memory_is_no_gate, refusal_is_no_gate, shut_to_one}
+use Rattle.mrp_crew.specs.Shut.{WasShut}
+use Rattle.mrp_crew.proofs.crew.Crew.plan_wave.Goals.{else-all-via-then-all+else-open, else-all-via-else-all}
 use Rattle.mrp_crew.proofs.crew.Crew.plan_wave.Goals as goal
 
 pub returns-in_err-refill-clause-planned : goal.returns-in_err-refill-clause-planned
@@ -47,4 +50,28 @@ settle_all-open-requires-clause-drafts g c =
     let own : PairNo = get_or numbers others no_pair in
     let can : All (CanDraft A) numbers = all_can_draft A c.requires.plannable numbers ready.ensures.numbers ready.ensures.own ready.ensures.exact in
     drafts_settle A (take others numbers ++ own ∷ []) (wave_can (CanDraft A) numbers others own can (All-get_or (CanDraft A) numbers others no_pair (omega arith) can))
-    (wave_once numbers others no_pair own (omega arith) refl ready.ensures.once) c.draft_wave-drafts.result c.draft_wave-drafts.ensures
+    (wave_once numbers others no_pair own (omega arith) refl ready.ensures.once) c.draft_wave-drafts.result c.draft_wave-drafts.ensures.drafts
+
+pub returns-in_err-refill-clause-shut : goal.returns-in_err-refill-clause-shut
+returns-in_err-refill-clause-shut g c =
+    let p = err_from_is_err_and c.from_residual.result c.from_residual.ensures.1 in
+    rw p.1 (λ is. absurd (memory_is_no_gate p.0 p.2 is))
+
+pub returns-in_err-works-clause-shut : goal.returns-in_err-works-clause-shut
+returns-in_err-works-clause-shut g c =
+    let p = err_from_is_err_and c.from_residual-in_err-works.result c.from_residual-in_err-works.ensures.1 in
+    rw p.1 (λ is. absurd (memory_is_no_gate p.0 p.2 is))
+
+pub returns-in_err-workers-clause-shut : goal.returns-in_err-workers-clause-shut
+returns-in_err-workers-clause-shut g c =
+    let p = err_from_is_err_and c.from_residual-in_err-workers.result c.from_residual-in_err-workers.ensures.1 in
+    rw p.1 (λ is. absurd (memory_is_no_gate p.0 p.2 is))
+
+pub returns-clause-shut : goal.returns-clause-shut
+returns-clause-shut g c = λ is.
+    elim c.else-all.branch [
+      | else-all-via-then-all+else-open w ↦
+          shut_to_one (WasShut g.G.Gate.worker_shut c.args.plant) c.draft_wave-drafts.result.works.items c.settle_all-open.result c.draft_wave-drafts.ensures.shut
+          c.settle_all-open.ensures.let_in w.if-open.false
+      | else-all-via-else-all w ↦ absurd (refusal_is_no_gate c.wave_fault.result (c.wave_fault.ensures.refused w.if-all.false) is)
+    ]

@@ -1,0 +1,15 @@
+-- For whom a gate was shut.
+use Rattle.std.specs.Prelude.{◌≡◌, ℕ, false, List, All}
+use Rattle.mrp_crew.specs.declared.work.Work.{Work}
+
+-- the gate was shut to some worker of the plant
+abbrev pub WasShut : (ℕ → ℕ → Type 0) → ℕ → Type 0
+WasShut shut plant = (worker : ℕ) × shut plant worker
+
+-- the worker was let in, or this holds
+abbrev pub IsLetIn : Type 0 → Work → Type 0
+IsLetIn Shut work = work.open ≡ false → Shut
+
+-- each of them was, or this holds
+abbrev pub AreLetIn : Type 0 → List Work → Type 0
+AreLetIn Shut works = All (IsLetIn Shut) works
