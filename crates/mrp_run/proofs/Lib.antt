@@ -13,3 +13,4 @@ pub mod JoinedFaults
 pub mod JoinedThreads
 pub mod JoinedNetwork
 pub mod GatheredPlans
+pub mod CrewFaults

@@ -22,20 +22,20 @@ abbrev pub Finished : Plant → Back → Type 0
 Finished before back = IfOk back (Finishes before)
 
 -- what the thread of a duty brings back: its plant, finished, or a fault, and a shut gate is this plant's
-pub record Fulfils (duty : Duty) (back : Back) : Type 0 where
+pub record Fulfils {G : Type 0} (Shut : ℕ → Type 0) (duty : Duty G) (back : Back) : Type 0 where
   pub finished : Finished duty.plant.value back
-  pub fault : IfErr back (λ why. IfSome why (IsOf duty.number))
+  pub fault : IfErr back (λ why. IfSome why (IsOf Shut duty.number))
 
 -- the plants that threads were started for
-abbrev pub started : List (PromisedHandle Back Duty) → List Plant
+abbrev pub started : {G : Type 0} → List (PromisedHandle Back (Duty G)) → List Plant
 started threads = map (λ thread. thread.promise.plant.value) threads
 
 -- each thread is of one of the first so many plants, and so are shut gates that were brought back
-abbrev pub AreOfFirst : ℕ → List (PromisedHandle Back Duty) → Type 0
+abbrev pub AreOfFirst : {G : Type 0} → ℕ → List (PromisedHandle Back (Duty G)) → Type 0
 AreOfFirst plants threads = All (λ thread. thread.promise.number.0 < plants) threads
 
-abbrev pub AreShutOfFirst : ℕ → List Back → Type 0
-AreShutOfFirst plants backs = All (λ back. IfErr back (λ why. IfSome why (IsOfFirst plants))) backs
+abbrev pub AreShutOfFirst : (ℕ → Type 0) → ℕ → List Back → Type 0
+AreShutOfFirst Shut plants backs = All (λ back. IfErr back (λ why. IfSome why (IsOfFirst Shut plants))) backs
 
 -- ---- faults
 
@@ -53,11 +53,9 @@ faults_in backs = filter_map fault_in backs
 
 -- ---- rooms
 
--- room for so many threads, for what they bring back, and for their plants
+-- room for what so many threads bring back, and for their plants
 pub record AreRooms (plants : ℕ) (rooms : Rooms) : Type 0 where
-  pub no_threads : rooms.threads.items ≡ []
   pub no_backs : rooms.backs.items ≡ []
   pub no_plants : rooms.plants.items ≡ []
-  pub threads : plants ≤ vec_capacity rooms.threads
   pub backs : plants ≤ vec_capacity rooms.backs
   pub again : plants ≤ vec_capacity rooms.plants

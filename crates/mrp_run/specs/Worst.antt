@@ -33,13 +33,13 @@ IsWorstOf worst faults = MatchOption worst (faults ≡ []) (λ fault. IsWorst fa
 
 -- ---- whose it is
 
--- a shut gate is that of one of the first so many plants
-abbrev pub IsOfFirst : ℕ → RunFault → Type 0
-IsOfFirst plants Memory = Unit {0}
-IsOfFirst plants ThreadRefused = Unit {0}
-IsOfFirst plants (GateShut plant) = plant.0 < plants
-IsOfFirst plants Stopped = Unit {0}
+-- a shut gate is that of one of the first so many plants, and it was shut
+abbrev pub IsOfFirst : (ℕ → Type 0) → ℕ → RunFault → Type 0
+IsOfFirst Shut plants Memory = Unit {0}
+IsOfFirst Shut plants ThreadRefused = Unit {0}
+IsOfFirst Shut plants (GateShut plant) = (plant.0 < plants) × Shut plant.0
+IsOfFirst Shut plants Stopped = Unit {0}
 
 -- or of a plant of the network
-abbrev pub IsFaultIn : Table → RunFault → Type 0
-IsFaultIn N fault = IsOfFirst (length N.plants) fault
+abbrev pub IsFaultIn : (ℕ → Type 0) → Table → RunFault → Type 0
+IsFaultIn Shut N fault = IsOfFirst Shut (length N.plants) fault

@@ -2,6 +2,7 @@
 ghost use Rattle.std.specs.Prelude.{IfErr, IfOk};
 ghost use Rattle.mrp_loops.specs.Sized.{IsSized};
 ghost use Rattle.mrp_run.specs.Ends.{AreThrough};
+ghost use Rattle.mrp_run.specs.Faults.{WasShut};
 ghost use Rattle.mrp_run.specs.Outcome.{IsOutcome};
 ghost use Rattle.mrp_run.specs.Worst.{IsFaultIn};
 
@@ -52,7 +53,7 @@ pub fn run_network<R: Threads + Wait + Sync, G: Gate>(
     gate: &G,
 ) -> Result<Outcome, RunFault>
     ensures outcome { IfOk result (λ o. IsOutcome net.now.network o) }
-    ensures gate { IfErr result (IsFaultIn net.now.network) }
+    ensures gate { IfErr result (IsFaultIn (WasShut G.turn_shut G.worker_shut) net.now.network) }
 {
     run_network_within(rt, alloc, net, settings, gate, MOST_TURNS)
 }
@@ -71,7 +72,7 @@ pub fn run_network_within<R: Threads + Wait + Sync, G: Gate>(
     turns: u64,
 ) -> Result<Outcome, RunFault>
     ensures outcome { IfOk result (λ o. IsOutcome net.now.network o) }
-    ensures gate { IfErr result (IsFaultIn net.now.network) }
+    ensures gate { IfErr result (IsFaultIn (WasShut G.turn_shut G.worker_shut) net.now.network) }
 {
     let ready = ready_plants(alloc, net, settings.capacity())?;
     let through = run_plants(rt, alloc, ready, settings.workers(), gate, turns)?;

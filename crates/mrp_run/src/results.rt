@@ -6,7 +6,9 @@ ghost use Rattle.mrp_run.specs.Joined.{faults_in, reason};
 
 use crate::fault::RunFault;
 use crate::plant::Plant;
+use mrp_agent::Gate;
 use mrp_net::PlantNo;
+use std::marker::PhantomData;
 use std::snapshot::Snapshot;
 use std::thread::Promise;
 
@@ -14,17 +16,28 @@ use std::thread::Promise;
 /// raised `stop`.
 pub(crate) type Back = Result<Plant, Option<RunFault>>;
 
-/// What a thread is started for: to finish a plant, as it stands then.
-#[derive(Drop)]
-pub(crate) struct Duty {
+/// What a thread is started for: to finish a plant, as it stands then, at a gate of the kind `G`.
+pub(crate) struct Duty<G> {
     pub(crate) number: PlantNo,
     pub(crate) plant: Snapshot<Plant>,
+    pub(crate) gate: PhantomData<G>,
 }
 
-impl Promise<Back> for Duty {
+impl<G> Drop for Duty<G> {
+    fn drop(self) {
+        let Duty {
+            number: _,
+            plant: _plant,
+            gate: _,
+        } = self;
+    }
+}
+
+impl<G: Gate> Promise<Back> for Duty<G> {
+    ghost use Rattle.mrp_run.specs.Faults.{WasShut};
     ghost use Rattle.mrp_run.specs.Joined.{Fulfils};
 
-    ghost kept_by = { Fulfils };
+    ghost kept_by = { λ duty back. Fulfils (WasShut G.turn_shut G.worker_shut) duty back };
 }
 
 /// The plants of all threads, where each brought one back and no fault was met before.

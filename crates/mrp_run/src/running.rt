@@ -2,7 +2,7 @@
 ghost use Rattle.std.specs.Prelude.{◌≡◌, ◌≤◌, IfErr, IfOk, IfSome, OnOk};
 ghost use Rattle.mrp_crew.specs.declared.fault.CrewFault.{CrewFault};
 ghost use Rattle.mrp_run.specs.Faults as faults;
-ghost use Rattle.mrp_run.specs.Faults.{IsOf};
+ghost use Rattle.mrp_run.specs.Faults.{IsOf, WasShut};
 ghost use Rattle.mrp_run.specs.Plant as at;
 ghost use Rattle.mrp_run.specs.Steps.{IsAtWork, Keeps, Finishes};
 
@@ -55,7 +55,7 @@ pub fn run_plant<R: Threads + Wait + Sync, G: Gate>(
     ensures crew { crew.new ≡ crew.old }
     ensures kept { IfOk result (λ r. at.Kept agent sends.items takes.items r.0 r.1.items r.2.items) }
     ensures finished { IfOk result (λ r. at.HasFinished agent sends.items takes.items r.0 r.1.items r.2.items) }
-    ensures fault { IfErr result (λ why. IfSome why (IsOf plant)) }
+    ensures fault { IfErr result (λ why. IfSome why (IsOf (WasShut G.turn_shut G.worker_shut) plant)) }
 {
     let owned = Plant {
         agent,
@@ -85,7 +85,7 @@ pub(crate) fn run_owned<R: Threads + Wait + Sync, G: Gate>(
     requires horizon { crew.old.horizon ≡ plant.agent.view.horizon }
     ensures crew { crew.new ≡ crew.old }
     ensures finishes { IfOk result (λ after. Finishes plant after) }
-    ensures fault { IfErr result (λ why. IfSome why (IsOf number)) }
+    ensures fault { IfErr result (λ why. IfSome why (IsOf (WasShut G.turn_shut G.worker_shut) number)) }
 {
     match work(rt, alloc, number, &mut plant, crew, gate, stop, turns) {
         Ok(()) => Ok(plant),
@@ -112,7 +112,7 @@ fn work<R: Threads + Wait + Sync, G: Gate>(
     requires horizon { crew.old.horizon ≡ plant.old.agent.view.horizon }
     ensures crew { crew.new ≡ crew.old }
     ensures finishes { OnOk result (Finishes plant.old plant.new) }
-    ensures fault { IfErr result (λ why. IfSome why (IsOf number)) }
+    ensures fault { IfErr result (λ why. IfSome why (IsOf (WasShut G.turn_shut G.worker_shut) number)) }
 {
     for turn in 0..turns {
         begin(number, turn + 1, gate, stop)?;
@@ -135,7 +135,7 @@ fn begin<G: Gate>(
     stop: &AtomicBool,
 ) -> Result<(), Option<RunFault>>
     requires turn { 1 ≤ turn }
-    ensures fault { IfErr result (λ why. IfSome why (IsOf number)) }
+    ensures fault { IfErr result (λ why. IfSome why (IsOf (WasShut G.turn_shut G.worker_shut) number)) }
 {
     if stop.load(Ordering::SeqCst) {
         Err(None)
@@ -159,7 +159,7 @@ fn take_turn<R: Threads + Wait + Sync, G: Gate>(
     requires horizon { crew.old.horizon ≡ plant.old.agent.view.horizon }
     ensures crew { crew.new ≡ crew.old }
     ensures kept { Keeps plant.old plant.new }
-    ensures fault { IfErr result (IsOf number) }
+    ensures fault { IfErr result (IsOf (WasShut G.turn_shut G.worker_shut) number) }
 {
     let came = book_all(rt, plant);
     let planned = plan_all(rt, alloc, number, plant, crew, gate)?;
@@ -180,7 +180,7 @@ fn plan_all<R: Threads + Wait + Sync, G: Gate>(
     requires horizon { crew.old.horizon ≡ plant.old.agent.view.horizon }
     ensures crew { crew.new ≡ crew.old }
     ensures kept { Keeps plant.old plant.new }
-    ensures fault { IfErr result (IsOf number) }
+    ensures fault { IfErr result (IsOf (WasShut G.turn_shut G.worker_shut) number) }
     ensures by_crew { IfErr result (λ fault. (why : CrewFault) × (fault ≡ faults.of_crew number why)) }
 {
     match crew.plan_ready(rt, alloc, &mut plant.agent, number.0, gate) {
@@ -191,8 +191,7 @@ fn plan_all<R: Threads + Wait + Sync, G: Gate>(
 
 /// The fault of a plant's crew, as the run answers it.
 fn of_crew(fault: CrewFault, number: PlantNo) -> RunFault
-    ensures exact { result ≡ faults.of_crew number fault }
-    ensures fault { IsOf number result }
+    ensures { result ≡ faults.of_crew number fault }
 {
     match fault {
         CrewFault::Memory => RunFault::Memory,

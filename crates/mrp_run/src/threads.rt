@@ -4,7 +4,7 @@ ghost use Rattle.std.specs.List.{AllZip};
 ghost use Rattle.mrp_crew.specs.declared.crew.TheConstants.{MOST_WORKERS};
 ghost use Rattle.mrp_run.specs.declared.plant.Plant.{Plant};
 ghost use Rattle.mrp_run.specs.Ends.{EachAt};
-ghost use Rattle.mrp_run.specs.Faults.{IsOf};
+ghost use Rattle.mrp_run.specs.Faults.{IsOf, WasShut};
 ghost use Rattle.mrp_run.specs.Joined.{AreOfFirst, AreRooms, AreShutOfFirst, Finished, started};
 ghost use Rattle.mrp_run.specs.Steps.{Finishes, IsAtWork};
 ghost use Rattle.mrp_run.specs.Worst.{IsOfFirst};
@@ -18,6 +18,7 @@ use mrp_crew::Crew;
 use mrp_net::PlantNo;
 use mrp_qty::{Horizon, Memory};
 use std::alloc::Global;
+use std::marker::PhantomData;
 use std::snapshot::Snapshot;
 use std::sync::Wait;
 use std::sync::atomic::{AtomicBool, Ordering};
@@ -25,12 +26,11 @@ use std::thread;
 use std::thread::{PromisedHandle, Scope, Threads};
 
 /// The thread of a plant.
-pub(crate) type Running = PromisedHandle<Back, Duty>;
+pub(crate) type Running<G> = PromisedHandle<Back, Duty<G>>;
 
-/// Room for the threads of all plants, for what they bring back, and for the plants again.
+/// Room for what the threads of all plants bring back, and for the plants again.
 #[derive(Drop)]
 pub(crate) struct Rooms {
-    pub(crate) threads: Vec<Running>,
     pub(crate) backs: Vec<Back>,
     pub(crate) plants: Vec<Plant>,
 }
@@ -53,8 +53,9 @@ pub(crate) fn run_plants<R: Threads + Wait + Sync, G: Gate>(
     requires workers { (1 ≤ workers) × (workers ≤ MOST_WORKERS) }
     ensures all { IfOk result (λ after. length after.items ≡ length plants.items) }
     ensures each { IfOk result (λ after. EachAt (λ p P. Finishes (slice_index_or plants.items p P) P) after.items) }
-    ensures gate { IfErr result (IsOfFirst (length plants.items)) }
+    ensures gate { IfErr result (IsOfFirst (WasShut G.turn_shut G.worker_shut) (length plants.items)) }
 {
+    let threads = new_threads(alloc, plants.len())?;
     let rooms = new_rooms(alloc, plants.len())?;
     let stop = AtomicBool::new(false);
     let stop = &stop;
@@ -64,11 +65,23 @@ pub(crate) fn run_plants<R: Threads + Wait + Sync, G: Gate>(
         move |scope| -> Result<Vec<Plant>, RunFault>
             requires work { All IsAtWork plants.items }
             requires workers { (1 ≤ workers) × (workers ≤ MOST_WORKERS) }
+            requires threads { (threads.items ≡ []) × (length plants.items ≤ vec_capacity threads) }
             requires rooms { AreRooms (length plants.items) rooms }
             ensures each { IfOk result (λ after. AllZip Finishes plants.items after.items) }
-            ensures gate { IfErr result (IsOfFirst (length plants.items)) }
-        { run_beside(scope, rt, alloc, plants, workers, gate, stop, turns, rooms) },
+            ensures gate { IfErr result (IsOfFirst (WasShut G.turn_shut G.worker_shut) (length plants.items)) }
+        {
+            run_beside(
+                scope, rt, alloc, plants, workers, gate, stop, turns, threads, rooms,
+            )
+        },
     )
+}
+
+/// Room for the threads of so many plants.
+fn new_threads<G: Gate>(alloc: Global, plants: usize) -> Result<Vec<Running<G>>, Memory>
+    ensures { IfOk result (λ threads. (threads.items ≡ []) × (plants ≤ vec_capacity threads)) }
+{
+    Ok(Vec::with_capacity(alloc, plants)?)
 }
 
 /// Room for so many plants.
@@ -76,7 +89,6 @@ fn new_rooms(alloc: Global, plants: usize) -> Result<Rooms, Memory>
     ensures { IfOk result (AreRooms plants) }
 {
     Ok(Rooms {
-        threads: Vec::with_capacity(alloc, plants)?,
         backs: Vec::with_capacity(alloc, plants)?,
         plants: Vec::with_capacity(alloc, plants)?,
     })
@@ -92,16 +104,17 @@ fn run_beside<'s, E, R: Threads + Wait + Sync, G: Gate>(
     gate: &'s G,
     stop: &'s AtomicBool,
     turns: u64,
+    mut threads: Vec<Running<G>>,
     rooms: Rooms,
 ) -> Result<Vec<Plant>, RunFault>
     requires work { All IsAtWork plants.items }
     requires workers { (1 ≤ workers) × (workers ≤ MOST_WORKERS) }
+    requires threads { (threads.items ≡ []) × (length plants.items ≤ vec_capacity threads) }
     requires rooms { AreRooms (length plants.items) rooms }
     ensures each { IfOk result (λ after. AllZip Finishes plants.items after.items) }
-    ensures gate { IfErr result (IsOfFirst (length plants.items)) }
+    ensures gate { IfErr result (IsOfFirst (WasShut G.turn_shut G.worker_shut) (length plants.items)) }
 {
     let Rooms {
-        mut threads,
         mut backs,
         plants: all,
     } = rooms;
@@ -135,7 +148,7 @@ fn start_all<'s, E, R: Threads + Wait + Sync, G: Gate>(
     gate: &'s G,
     stop: &'s AtomicBool,
     turns: u64,
-    threads: &mut Vec<Running>,
+    threads: &mut Vec<Running<G>>,
 ) -> Result<(), RunFault>
     requires work { All IsAtWork plants.items }
     requires workers { (1 ≤ workers) × (workers ≤ MOST_WORKERS) }
@@ -166,7 +179,7 @@ fn start<'s, E, R: Threads + Wait + Sync, G: Gate>(
     gate: &'s G,
     stop: &'s AtomicBool,
     turns: u64,
-) -> Option<Running>
+) -> Option<Running<G>>
     requires work { IsAtWork plant }
     requires workers { (1 ≤ workers) × (workers ≤ MOST_WORKERS) }
     ensures plant { IfSome result (λ thread. thread.promise.plant.value ≡ plant) }
@@ -175,6 +188,7 @@ fn start<'s, E, R: Threads + Wait + Sync, G: Gate>(
     let duty = Duty {
         number,
         plant: Snapshot::of(&plant),
+        gate: PhantomData,
     };
     let started = scope.spawn_with(
         duty,
@@ -200,7 +214,7 @@ fn run_alone<R: Threads + Wait + Sync, G: Gate>(
     requires work { IsAtWork plant }
     requires workers { (1 ≤ workers) × (workers ≤ MOST_WORKERS) }
     ensures plant { Finished plant result }
-    ensures fault { IfErr result (λ why. IfSome why (IsOf number)) }
+    ensures fault { IfErr result (λ why. IfSome why (IsOf (WasShut G.turn_shut G.worker_shut) number)) }
 {
     let horizon = plant.agent.view().horizon();
     match crew_for(alloc, workers, horizon, stop) {
@@ -231,10 +245,10 @@ fn crew_for(
 }
 
 /// Joins all threads, in the order in which they were started.
-fn join_all<R: Threads>(rt: &R, threads: Vec<Running>, backs: &mut Vec<Back>)
+fn join_all<R: Threads, G: Gate>(rt: &R, threads: Vec<Running<G>>, backs: &mut Vec<Back>)
     requires room { (backs.old.items ≡ []) × (length threads.items ≤ vec_capacity backs.old) }
     ensures finished { AllZip Finished (started threads.items) backs.new.items }
-    ensures first { (plants : ℕ) → AreOfFirst plants threads.items → AreShutOfFirst plants backs.new.items }
+    ensures first { (plants : ℕ) → AreOfFirst plants threads.items → AreShutOfFirst (WasShut G.turn_shut G.worker_shut) plants backs.new.items }
 {
     for thread in threads {
         backs.push(thread.join(rt)).unwrap();

@@ -46,6 +46,8 @@ impl Gate for Meeting {
 pub(super) struct ShutTo(pub(super) u64);
 
 impl Gate for ShutTo {
+    ghost turn_shut = { λ _ _. ⊥ };
+
     fn turn(&self, _plant: usize, _turn: u64) -> bool {
         true
     }
@@ -84,6 +86,10 @@ impl Counting {
 }
 
 impl Gate for Counting {
+    ghost turn_shut = { λ _ _. ⊥ };
+
+    ghost worker_shut = { λ _ _. ⊥ };
+
     fn turn(&self, _plant: usize, _turn: u64) -> bool {
         true
     }

@@ -30,6 +30,8 @@ struct ShutAtTurn {
 }
 
 impl Gate for ShutAtTurn {
+    ghost worker_shut = { λ _ _. ⊥ };
+
     fn turn(&self, plant: usize, turn: u64) -> bool {
         plant != self.plant || turn != self.turn
     }
@@ -47,6 +49,8 @@ struct ShutForWorker {
 }
 
 impl Gate for ShutForWorker {
+    ghost turn_shut = { λ _ _. ⊥ };
+
     fn turn(&self, _plant: usize, _turn: u64) -> bool {
         true
     }

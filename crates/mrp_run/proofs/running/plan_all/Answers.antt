@@ -1,3 +1,4 @@
+use Rattle.mrp_run.proofs.CrewFaults.{crew_is_of}
 use Rattle.mrp_run.proofs.Keeping.{planned_kept}
 use Rattle.mrp_run.proofs.running.plan_all.Goals as goal
 
@@ -14,4 +15,8 @@ returns-in-Err-clause-kept g c =
     planned_kept p.agent p.sends.items p.takes.items c.plan_ready.new.agent xs.0 xs.1
 
 pub returns-in-Err-clause-by_crew : goal.returns-in-Err-clause-by_crew
-returns-in-Err-clause-by_crew g c = (c.in-Err.fault, c.of_crew.ensures.exact)
+returns-in-Err-clause-by_crew g c = (c.in-Err.fault, c.of_crew.ensures)
+
+pub returns-in-Err-clause-fault : goal.returns-in-Err-clause-fault
+returns-in-Err-clause-fault g c =
+    crew_is_of g.G.Gate.turn_shut g.G.Gate.worker_shut c.args.number c.in-Err.fault c.of_crew.result c.of_crew.ensures c.in-Err.ensures.shut

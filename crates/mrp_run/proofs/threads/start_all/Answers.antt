@@ -1,4 +1,4 @@
-use Rattle.std.proofs.Common.{◌≡◌, ◌<◌, ◌++◌, ◌∷◌, [], List, is_ok, length, sym, ap, subst, ◌∙◌, arith}
+use Rattle.std.proofs.Common.{◌≡◌, ◌<◌, ◌++◌, ◌∷◌, [], List, is_ok, length, vec_len, vec_capacity, sym, ap, subst, ◌∙◌, arith}
 use Rattle.std.proofs.lemmas.Bool.{cond-true}
 use Rattle.std.proofs.lemmas.List.{length-map}
 use Rattle.std.proofs.lemmas.List.Elements.{All-push}
@@ -12,6 +12,14 @@ use Rattle.mrp_run.proofs.threads.start_all.Goals as goal
 pub start-requires-clause-work : goal.start-requires-clause-work
 start-requires-clause-work g c = λ κs met.
     holds_next IsAtWork c.loop-plant.yielded (into_iter_items c.loop-plant.plant-iterator) _ c.args.plants.items c.in-Some.plant c.loop-plant.invariant.whole c.in-Some.ensures.steps.0 c.requires.work
+
+pub unwrap-requires : goal.unwrap-requires
+unwrap-requires g c =
+    let at = c.loop-plant in
+    let left = one_left at.yielded (into_iter_items at.plant-iterator) _ c.args.plants.items c.in-Some.plant at.invariant.whole c.in-Some.ensures.steps.0 in
+    let size : length at.yielded ≡ length at.threads.items = sym (ap length at.invariant.started_so_far) ∙ length-map at.threads.items (λ t. t.promise.plant.value) in
+    let here : vec_len at.threads < vec_capacity at.threads = omega (arith, left, size, at.invariant.room, c.requires.room.1, at.threads.ok.0) in
+    c.push.ensures.succeeds here
 
 pub loop-plant-preserved : goal.loop-plant-preserved
 loop-plant-preserved g c =
