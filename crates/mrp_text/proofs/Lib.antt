@@ -2,3 +2,4 @@ pub mod LineFacts
 pub mod LoopNames
 pub mod NameFacts
 pub mod TextFacts
+pub mod GateFacts

@@ -4,7 +4,7 @@ use Rattle.mrp_rows.specs.Table.{Table}
 use Rattle.mrp_words.specs.declared.words.Choice.{Choice}
 use Rattle.mrp_words.specs.declared.words.Choice.TheVariants.{Plan, Check, Peg, Cums}
 use Rattle.mrp_text.specs.declared.fault.TextFault.{TextFault}
-use Rattle.mrp_text.specs.declared.fault.TextFault.TheVariants.{WriteFault}
+use Rattle.mrp_text.specs.declared.fault.TextFault.TheVariants.{GateShut, WriteFault}
 use Rattle.mrp_text.specs.Fault.{IsBeforeWriting, status_of}
 use Rattle.mrp_text.specs.Text.{IsPlanReport, IsCodeReport, IsPegReport, IsCumReport, IsRefusal, IsRunRefusal, IsPegRefusal}
 
@@ -15,10 +15,10 @@ IsAnswer Check = IsCodeReport
 IsAnswer (Peg plant item period) = IsPegReport plant.now item.now period
 IsAnswer Cums = IsCumReport
 
--- what a refusal of the network says to a choice
+-- what a refusal of the network says to a choice; no gate is ever shut there
 abbrev pub IsAnswerRefusal : Choice → Table → TextFault → Type 0
 IsAnswerRefusal (Plan workers capacity true) = IsRefusal
-IsAnswerRefusal (Plan workers capacity false) = IsRunRefusal
+IsAnswerRefusal (Plan workers capacity false) = IsRunRefusal (λ _. ⊥)
 IsAnswerRefusal Check = IsRefusal
 IsAnswerRefusal (Peg plant item period) = IsPegRefusal plant.now item.now period
 IsAnswerRefusal Cums = IsRefusal
@@ -30,6 +30,11 @@ IsBeforeReport (Plan workers capacity single) fault = IsBeforeWriting fault
 IsBeforeReport Check fault = fault ≢ WriteFault
 IsBeforeReport (Peg plant item period) fault = fault ≢ WriteFault
 IsBeforeReport Cums fault = fault ≢ WriteFault
+
+-- no shut gate
+abbrev pub IsNoShutGate : TextFault → Type 0
+IsNoShutGate (GateShut plant) = ⊥
+IsNoShutGate _ = Unit {0}
 
 -- the status of the process: 0 where the work was done, else that of the fault
 abbrev pub exit_status_of : {U : Type 0} → Result U TextFault → ℕ

@@ -1,5 +1,5 @@
 -- The fault of a text after a fault of a run by threads, where there is memory for the name of a plant.
-use Rattle.std.specs.Prelude.{◌≡◌, Some, slice_get, string_bytes}
+use Rattle.std.specs.Prelude.{◌≡◌, ◌<◌, length, Some, slice_get, string_bytes}
 use Rattle.mrp_rows.specs.Table.{Table}
 use Rattle.mrp_rows.specs.declared.numbers.PlantNo.{PlantNo}
 use Rattle.mrp_run.specs.declared.fault.RunFault.{RunFault}
@@ -17,3 +17,10 @@ IsOfRun N run.Memory said = said ≡ fault.Memory
 IsOfRun N run.ThreadRefused said = said ≡ fault.ThreadRefused
 IsOfRun N (run.GateShut plant) said = IsShutFor N plant said
 IsOfRun N run.Stopped said = said ≡ fault.Stopped
+
+-- a shut gate is that of a plant of the network
+abbrev pub IsInNetwork : Table → RunFault → Type 0
+IsInNetwork N run.Memory = Unit {0}
+IsInNetwork N run.ThreadRefused = Unit {0}
+IsInNetwork N (run.GateShut plant) = plant.0 < length N.plants
+IsInNetwork N run.Stopped = Unit {0}

@@ -114,25 +114,25 @@ IsRefusal N fault.WriteFault = Unit {0}
 IsRefusal N fault.Memory = Unit {0}
 IsRefusal N _ = ⊥
 
--- the name of a plant of the network
-abbrev pub IsPlantNamed : Table → List ℕ → Type 0
-IsPlantNamed N name = (p : ℕ) × (slice_get N.plants p ≡ Some name)
+-- the name of a plant of the network of which this holds
+abbrev pub IsPlantNamed : (ℕ → Type 0) → Table → List ℕ → Type 0
+IsPlantNamed Shut N name = (p : ℕ) × (slice_get N.plants p ≡ Some name) × Shut p
 
 -- what a run of a network by threads meets, which may end without a plan: a thread was refused, a gate was
 -- shut for a plant of the network, a plant used its turns, or memory was refused
-abbrev pub IsRunFault : Table → TextFault → Type 0
-IsRunFault N fault.ThreadRefused = Unit {0}
-IsRunFault N (fault.GateShut name) = IsPlantNamed N (string_bytes name)
-IsRunFault N fault.Stopped = Unit {0}
-IsRunFault N fault.Memory = Unit {0}
-IsRunFault N _ = ⊥
+abbrev pub IsRunFault : (ℕ → Type 0) → Table → TextFault → Type 0
+IsRunFault Shut N fault.ThreadRefused = Unit {0}
+IsRunFault Shut N (fault.GateShut name) = IsPlantNamed Shut N (string_bytes name)
+IsRunFault Shut N fault.Stopped = Unit {0}
+IsRunFault Shut N fault.Memory = Unit {0}
+IsRunFault Shut N _ = ⊥
 
 -- what a refusal of a network says that is run by threads where it can be planned
-abbrev pub IsRunRefusal : Table → TextFault → Type 0
-IsRunRefusal N fault.ThreadRefused = IsPlannable N
-IsRunRefusal N (fault.GateShut name) = IsPlannable N × IsPlantNamed N (string_bytes name)
-IsRunRefusal N fault.Stopped = IsPlannable N
-IsRunRefusal N other = IsRefusal N other
+abbrev pub IsRunRefusal : (ℕ → Type 0) → Table → TextFault → Type 0
+IsRunRefusal Shut N fault.ThreadRefused = IsPlannable N
+IsRunRefusal Shut N (fault.GateShut name) = IsPlannable N × IsPlantNamed Shut N (string_bytes name)
+IsRunRefusal Shut N fault.Stopped = IsPlannable N
+IsRunRefusal Shut N other = IsRefusal N other
 
 -- the same of a question about a pair in a period, which is asked of a network that can be planned:
 -- no such pair; or the pair, and no such period

@@ -2,7 +2,7 @@
 
 ghost use Rattle.std.specs.Prelude.{◌≡◌, IfErr};
 ghost use Rattle.mrp_words.specs.Choice.{IsInRange};
-ghost use Rattle.mrp_text.specs.Answer.{IsAnswer, IsAnswerRefusal, IsBeforeReport, exit_status_of};
+ghost use Rattle.mrp_text.specs.Answer.{IsAnswer, IsAnswerRefusal, IsBeforeReport, IsNoShutGate, exit_status_of};
 ghost use Rattle.mrp_text.specs.Text.{Writes, OfTable, IsTextRefusal};
 
 use crate::fault::{TextFault, status};
@@ -32,6 +32,7 @@ pub fn answer<T: Threads + Wait + Sync, R: Read + Drop, W: Write>(
     requires { IsInRange choice }
     ensures text { Writes (W.contents writer.old) (W.contents writer.new) result (λ text. OfTable (R.remaining reader) (λ N. IsAnswer choice.entry N text)) }
     ensures refusal { IfErr result (IsTextRefusal (R.remaining reader) (IsAnswerRefusal choice.entry)) }
+    ensures gate { IfErr result IsNoShutGate }
     ensures untouched { IfErr result (λ fault. IsBeforeReport choice.entry fault → writer.new ≡ writer.old) }
 {
     match choice {

@@ -2,8 +2,8 @@
 
 ghost use Rattle.std.specs.Prelude.{◌<◌, IfOk, IfErr, length};
 ghost use Rattle.mrp_net.specs.Plan.{Fits};
-ghost use Rattle.mrp_run.specs.Worst.{IsFaultIn};
-ghost use Rattle.mrp_text.specs.Runs.{IsOfRun, IsShutFor};
+ghost use Rattle.mrp_run.specs.Faults.{WasShut};
+ghost use Rattle.mrp_text.specs.Runs.{IsInNetwork, IsOfRun, IsShutFor};
 ghost use Rattle.mrp_text.specs.Text.{IsPlannable, IsRunFault};
 
 use crate::fault::TextFault;
@@ -26,7 +26,7 @@ pub(crate) fn run_plan<T: Threads + Wait + Sync, G: Gate>(
 ) -> Result<Plan, TextFault>
     requires plannable { IsPlannable net.now.network }
     ensures fits { IfOk result (Fits net.now.network) }
-    ensures fault { IfErr result (IsRunFault net.now.network) }
+    ensures fault { IfErr result (IsRunFault (WasShut G.turn_shut G.worker_shut) net.now.network) }
 {
     match run_network(rt, alloc, net, settings, gate) {
         Ok(outcome) => Ok(Plan::gather(net, outcome.plans)),
@@ -36,7 +36,7 @@ pub(crate) fn run_plan<T: Threads + Wait + Sync, G: Gate>(
 
 /// The fault of a text that a fault of a run is; an error where memory for the name of a plant is refused.
 fn named(alloc: Global, network: &Network, fault: RunFault) -> Result<TextFault, AllocError>
-    requires plant { IsFaultIn network.now fault }
+    requires plant { IsInNetwork network.now fault }
     ensures { IfOk result (IsOfRun network.now fault) }
 {
     match fault {

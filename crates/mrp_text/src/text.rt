@@ -7,6 +7,7 @@
 //! proved once, and not in each of these functions.
 
 ghost use Rattle.std.specs.Prelude.{◌≡◌, ◌≢◌, ◌≤◌, IfErr};
+ghost use Rattle.mrp_run.specs.Faults.{WasShut};
 ghost use Rattle.mrp_text.specs.Fault.{IsBeforeWriting};
 ghost use Rattle.mrp_text.specs.Text.{Writes, OfTable, IsPlanReport, IsCodeReport};
 ghost use Rattle.mrp_text.specs.Text.{IsPegReport, IsCumReport};
@@ -45,7 +46,7 @@ pub fn plan_text<T: Threads + Wait + Sync, R: Read + Drop, W: Write, G: Gate>(
     gate: &G,
 ) -> Result<(), TextFault>
     ensures text { Writes (W.contents writer.old) (W.contents writer.new) result (λ text. OfTable (R.remaining reader) (λ N. IsPlanReport N text)) }
-    ensures refusal { IfErr result (IsTextRefusal (R.remaining reader) IsRunRefusal) }
+    ensures refusal { IfErr result (IsTextRefusal (R.remaining reader) (IsRunRefusal (WasShut G.turn_shut G.worker_shut))) }
     ensures untouched { IfErr result (λ fault. IsBeforeWriting fault → writer.new ≡ writer.old) }
 {
     let network = network_of(alloc, reader)?;

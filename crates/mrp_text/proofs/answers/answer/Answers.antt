@@ -1,3 +1,6 @@
+use Rattle.std.proofs.Common.{◌≡◌, false, rules}
+use Rattle.mrp_text.specs.Text.{IsPegRefusal, IsRefusal, IsRunRefusal}
+use Rattle.mrp_text.proofs.GateFacts.{never_gate, open_answer, open_refuses}
 use Rattle.mrp_text.proofs.answers.answer.Goals as goal
 
 pub returns-in-Plan-default-default-true-clause-text : goal.returns-in-Plan-default-default-true-clause-text
@@ -14,3 +17,24 @@ returns-in-Peg-clause-text g c = rw (c.in-Peg.is) c.peg_text.ensures.text
 
 pub returns-in-Cums-clause-text : goal.returns-in-Cums-clause-text
 returns-in-Cums-clause-text g c = rw (c.in-Cums.is) c.cums_text.ensures.text
+
+pub returns-in-Some-clause-refusal : goal.returns-in-Some-clause-refusal
+returns-in-Some-clause-refusal g c =
+    let off : c.in-Plan.single ≡ false = search rules in
+    rw (c.in-Plan.is) (open_answer _ c.plan_text.result c.in-Plan.workers c.in-Plan.capacity c.in-Plan.single off c.plan_text.ensures.refusal)
+
+pub returns-in-Plan-default-default-true-clause-gate : goal.returns-in-Plan-default-default-true-clause-gate
+returns-in-Plan-default-default-true-clause-gate g c = never_gate _ IsRefusal c.drive_text.result (λ N name said. said) c.drive_text.ensures.refusal
+
+pub returns-in-Some-clause-gate : goal.returns-in-Some-clause-gate
+returns-in-Some-clause-gate g c =
+    never_gate _ (IsRunRefusal (λ _. ⊥)) c.plan_text.result (λ N name said. said.1.2) (open_refuses _ c.plan_text.result c.plan_text.ensures.refusal)
+
+pub returns-in-Check-clause-gate : goal.returns-in-Check-clause-gate
+returns-in-Check-clause-gate g c = never_gate _ IsRefusal c.check_text.result (λ N name said. said) c.check_text.ensures.refusal
+
+pub returns-in-Peg-clause-gate : goal.returns-in-Peg-clause-gate
+returns-in-Peg-clause-gate g c = never_gate _ (IsPegRefusal c.in-Peg.plant.now c.in-Peg.item.now c.in-Peg.period) c.peg_text.result (λ N name said. said) c.peg_text.ensures.refusal
+
+pub returns-in-Cums-clause-gate : goal.returns-in-Cums-clause-gate
+returns-in-Cums-clause-gate g c = never_gate _ IsRefusal c.cums_text.result (λ N name said. said) c.cums_text.ensures.refusal

@@ -1,0 +1,66 @@
+-- What a fault of a run says of its gate, and that a gate that is always open is never answered as shut.
+use Rattle.std.proofs.Common.{◌≡◌, ◌⊎◌, ℕ, Bool, true, false, List, Option, Result, Ok, Err, IfErr, inl, inr, ⊎_elim, subst, sym}
+use Rattle.std.proofs.lemmas.Bool.{false≢true}
+use Rattle.mrp_rows.specs.Table.{Table}
+use Rattle.mrp_run.specs.declared.fault.RunFault.{RunFault}
+use Rattle.mrp_run.specs.declared.fault.RunFault.TheVariants as run
+use Rattle.mrp_run.specs.Faults.{WasShut}
+use Rattle.mrp_run.specs.Worst.{IsFaultIn}
+use Rattle.mrp_text.specs.declared.fault.TextFault.{TextFault}
+use Rattle.mrp_text.specs.declared.fault.TextFault.TheVariants as fault
+use Rattle.mrp_words.specs.declared.words.Choice.TheVariants.{Plan}
+use Rattle.mrp_text.specs.Answer.{IsAnswerRefusal, IsNoShutGate}
+use Rattle.mrp_text.specs.Runs.{IsInNetwork, IsOfRun, IsShutFor}
+use Rattle.mrp_text.specs.Text.{IsRunFault, IsRunRefusal, IsTextRefusal}
+
+pub in_network : (Shut : ℕ → Type 0) (N : Table) (f : RunFault) → IsFaultIn Shut N f → IsInNetwork N f
+in_network Shut N run.Memory is = tt
+in_network Shut N run.ThreadRefused is = tt
+in_network Shut N (run.GateShut plant) is = is.0
+in_network Shut N run.Stopped is = tt
+
+-- the fault that a run's fault is
+pub run_fault : (Shut : ℕ → Type 0) (N : Table) (f : RunFault) (said : TextFault) → IsFaultIn Shut N f → IsOfRun N f said → IsRunFault Shut N said
+run_fault Shut N run.Memory said is of = subst (IsRunFault Shut N) (sym of) tt
+run_fault Shut N run.ThreadRefused said is of = subst (IsRunFault Shut N) (sym of) tt
+run_fault Shut N (run.GateShut plant) (fault.GateShut name) is of = (plant.0, of, is.1)
+run_fault Shut N (run.GateShut plant) _ is of = absurd of
+run_fault Shut N run.Stopped said is of = subst (IsRunFault Shut N) (sym of) tt
+
+-- ---- a gate that is always open
+
+never_shut : (p : ℕ) → WasShut (λ _ _. ⊥) (λ _ _. ⊥) p → ⊥
+never_shut p shut = ⊎_elim (λ turn. turn.1) (λ worker. worker.1) shut
+
+open_refusal : (N : Table) (f : TextFault) → IsRunRefusal (WasShut (λ _ _. ⊥) (λ _ _. ⊥)) N f → IsRunRefusal (λ _. ⊥) N f
+open_refusal N fault.ThreadRefused said = said
+open_refusal N (fault.GateShut name) said = absurd (never_shut said.1.0 said.1.2)
+open_refusal N fault.Stopped said = said
+open_refusal N _ said = said
+
+open_text : (known : Option (List ℕ)) (f : TextFault) → IsTextRefusal known (IsRunRefusal (WasShut (λ _ _. ⊥) (λ _ _. ⊥))) f → IsTextRefusal known (IsRunRefusal (λ _. ⊥)) f
+open_text known (fault.Table e) said = said
+open_text known fault.Memory said = said
+open_text known f said = (said.0, said.1, said.2, open_refusal said.0 f said.3)
+
+pub open_refuses : {U : Type 0} (known : Option (List ℕ)) (r : Result U TextFault) → IfErr r (IsTextRefusal known (IsRunRefusal (WasShut (λ _ _. ⊥) (λ _ _. ⊥))))
+    → IfErr r (IsTextRefusal known (IsRunRefusal (λ _. ⊥)))
+open_refuses known (Ok u) said = tt
+open_refuses known (Err f) said = open_text known f said
+
+-- so of a plan that isn't asked for on one thread
+pub open_answer : {U : Type 0} (known : Option (List ℕ)) (r : Result U TextFault) (workers capacity : ℕ) (single : Bool) → single ≡ false
+    → IfErr r (IsTextRefusal known (IsRunRefusal (WasShut (λ _ _. ⊥) (λ _ _. ⊥)))) → IfErr r (IsTextRefusal known (IsAnswerRefusal (Plan workers capacity single)))
+open_answer known r workers capacity true e said = absurd (false≢true (sym e))
+open_answer known r workers capacity false e said = open_refuses known r said
+
+-- ---- a refusal that is no shut gate
+
+no_gate : (known : Option (List ℕ)) (says : Table → TextFault → Type 0) (f : TextFault) → ((N : Table) (name : _) → ¬ says N (fault.GateShut name)) → IsTextRefusal known says f → IsNoShutGate f
+no_gate known says (fault.GateShut name) never said = never said.0 name said.3
+no_gate known says _ never said = tt
+
+pub never_gate : {U : Type 0} (known : Option (List ℕ)) (says : Table → TextFault → Type 0) (r : Result U TextFault) → ((N : Table) (name : _) → ¬ says N (fault.GateShut name))
+    → IfErr r (IsTextRefusal known says) → IfErr r IsNoShutGate
+never_gate known says (Ok u) never said = tt
+never_gate known says (Err f) never said = no_gate known says f never said
