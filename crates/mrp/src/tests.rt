@@ -3,6 +3,7 @@
 
 mod commands;
 mod damage;
+mod endings;
 mod figures;
 mod firms;
 mod memory;

@@ -7,6 +7,21 @@ use std::test::Fail;
 const AT_THE_BOUND: &str = "run,2026-01-05,7,1,,,,\nplant,A,,,,,,\npair,A,Y,make,lot,0,0,0\n\
 pair,A,X,buy,lot,0,0,0\nbill,A,Y,X,1000000,,,\ndemand,A,Y,0,1000000000,,,\n";
 
+/// One piece more: A/X needs more than the bound.
+pub(super) const NEED_TOO_LARGE: &str =
+    "run,2026-01-05,7,1,,,,\nplant,A,,,,,,\npair,A,Y,make,lot,0,0,0\n\
+pair,A,X,buy,lot,0,0,0\nbill,A,Y,X,1000000,,,\ndemand,A,Y,0,1000000000,,,\ndemand,A,X,0,1,,,\n";
+
+/// The same, and A/Z has more than the bound.
+pub(super) const SUPPLY_TOO_LARGE: &str = "run,2026-01-05,7,1,,,,\nplant,A,,,,,,\nplant,B,,,,,,\n\
+pair,A,Y,make,lot,0,0,0\npair,A,X,buy,lot,0,0,0\npair,A,Z,from:B,lot,0,1,0\n\
+pair,B,Z,buy,lot,0,0,0\nbill,A,Y,X,1000000,,,\ndemand,A,Y,0,1000000000,,,\n\
+demand,A,X,0,1,,,\ncum,B,A,Z,1000000000000000,,,\n";
+
+/// A pair that is its own component.
+pub(super) const OWN_LOOP: &str =
+    "run,2026-01-05,7,1,,,,\nplant,A,,,,,,\npair,A,X,make,lot,0,0,0\nbill,A,X,X,1,,,\n";
+
 #[test]
 fn loops_are_named(rt: HostRuntime) -> Result<(), Fail> {
     let between = "run,2026-01-05,7,1,,,,\nplant,A,,,,,,\nplant,B,,,,,,\n\
@@ -15,8 +30,7 @@ pair,A,X,from:B,lot,0,0,0\npair,B,X,from:A,lot,0,0,0\n";
         plan(rt.alloc(), between)?.as_str(),
         "1 mrp: loop A/X B/X\n"
     );
-    let own = "run,2026-01-05,7,1,,,,\nplant,A,,,,,,\npair,A,X,make,lot,0,0,0\nbill,A,X,X,1,,,\n";
-    assert_eq!(rt; plan(rt.alloc(), own)?.as_str(), "1 mrp: loop A/X\n");
+    assert_eq!(rt; plan(rt.alloc(), OWN_LOOP)?.as_str(), "1 mrp: loop A/X\n");
     let above = "run,2026-01-05,7,1,,,,\nplant,A,,,,,,\npair,A,W,buy,lot,0,0,0\n\
 pair,A,X,make,lot,0,0,0\npair,A,Y,make,lot,0,0,0\nbill,A,Y,X,1,,,\nbill,A,X,W,2,,,\n\
 bill,A,Y,W,1,,,\nbill,A,X,Y,1,,,\ndemand,A,Y,0,3,,,\n";
@@ -29,18 +43,12 @@ fn quantities_end_at_the_bound(rt: HostRuntime) -> Result<(), Fail> {
     let rows = "plan,A,Y,0,2026-01-05,1000000000,0,1000000000,1000000000,0\n\
 plan,A,X,0,2026-01-05,1000000000000000,0,1000000000000000,1000000000000000,0\n";
     assert_eq!(rt; plan(rt.alloc(), AT_THE_BOUND)?.as_str(), rows);
-    let past = "run,2026-01-05,7,1,,,,\nplant,A,,,,,,\npair,A,Y,make,lot,0,0,0\n\
-pair,A,X,buy,lot,0,0,0\nbill,A,Y,X,1000000,,,\ndemand,A,Y,0,1000000000,,,\ndemand,A,X,0,1,,,\n";
     assert_eq!(rt;
-        plan(rt.alloc(), past)?.as_str(),
+        plan(rt.alloc(), NEED_TOO_LARGE)?.as_str(),
         "1 mrp: NeedTooLarge A/X\n"
     );
-    let supply = "run,2026-01-05,7,1,,,,\nplant,A,,,,,,\nplant,B,,,,,,\n\
-pair,A,Y,make,lot,0,0,0\npair,A,X,buy,lot,0,0,0\npair,A,Z,from:B,lot,0,1,0\n\
-pair,B,Z,buy,lot,0,0,0\nbill,A,Y,X,1000000,,,\ndemand,A,Y,0,1000000000,,,\n\
-demand,A,X,0,1,,,\ncum,B,A,Z,1000000000000000,,,\n";
     assert_eq!(rt;
-        plan(rt.alloc(), supply)?.as_str(),
+        plan(rt.alloc(), SUPPLY_TOO_LARGE)?.as_str(),
         "1 mrp: SupplyTooLarge A/Z\n"
     );
     Ok(())

@@ -62,3 +62,13 @@ fn other_words_are_refused(rt: HostRuntime) {
     let help = refusal(alloc, &["mrp", "--help"]);
     assert!(rt; help == Some(ErrorKind::DisplayHelp));
 }
+
+#[test]
+fn words_that_no_command_has_are_refused(rt: HostRuntime) {
+    let alloc = rt.alloc();
+    assert!(rt; refusal(alloc, &["mrp", "plan", "--worker", "2"]).is_some());
+    assert!(rt; refusal(alloc, &["mrp", "plan", "--workers"]).is_some());
+    assert!(rt; refusal(alloc, &["mrp", "plan", "--single=1"]).is_some());
+    assert!(rt; refusal(alloc, &["mrp", "plan", "--single", "--single"]).is_some());
+    assert!(rt; refusal(alloc, &["mrp", "check", "now"]).is_some());
+}

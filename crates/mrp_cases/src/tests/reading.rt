@@ -193,6 +193,54 @@ fn other_rows_are_tested_against_the_rows_before_them(rt: HostRuntime) -> Result
 }
 
 #[test]
+fn each_kind_of_row_has_names_and_numbers(rt: HostRuntime) -> Result<(), Fail> {
+    let refused = [
+        ("bill,A,X Z,Y,1,,,", TableFaultKind::BadName),
+        ("demand,A,X!,0,1,,,", TableFaultKind::BadName),
+        ("receipt,A,,0,1,,,", TableFaultKind::BadName),
+        ("ship,B,A,Y Y,0,1,,", TableFaultKind::BadName),
+        ("cum,B,A Z,Y,1,,,", TableFaultKind::BadName),
+        ("reset,B,A,Y?,1,,,", TableFaultKind::BadName),
+        ("bill,A,X,Y,0,,,", TableFaultKind::BadNumber),
+        ("receipt,A,X,4,30,,,", TableFaultKind::BadNumber),
+        ("ship,B,A,Y,4,1,,", TableFaultKind::BadNumber),
+        ("cum,B,A,Y,1000000000000001,,,", TableFaultKind::BadNumber),
+        ("reset,B,A,Y,4,,,", TableFaultKind::BadNumber),
+    ];
+    for (row, kind) in refused {
+        assert_eq!(rt; refusal(&rt, row)?, Some((7, kind)));
+    }
+    let no_name: &[u8] = b"run,2026-01-05,7,4,,,,\nplant,A B,,,,,,\n";
+    assert_eq!(rt; fault_of(&rt, no_name), Some((2, TableFaultKind::BadName)));
+    Ok(())
+}
+
+#[test]
+fn each_kind_of_row_names_what_is_there(rt: HostRuntime) -> Result<(), Fail> {
+    let refused = [
+        ("bill,C,X,Y,1,,,", TableFaultKind::UnknownPlant),
+        ("demand,C,X,0,1,,,", TableFaultKind::UnknownPlant),
+        ("receipt,C,X,0,1,,,", TableFaultKind::UnknownPlant),
+        ("ship,C,A,Y,0,1,,", TableFaultKind::UnknownPlant),
+        ("cum,B,C,Y,1,,,", TableFaultKind::UnknownPlant),
+        ("reset,C,A,Y,1,,,", TableFaultKind::UnknownPlant),
+        ("demand,A,Z,0,1,,,", TableFaultKind::UnknownPair),
+        ("receipt,B,X,0,1,,,", TableFaultKind::UnknownPair),
+        ("ship,A,B,X,0,1,,", TableFaultKind::UnknownPair),
+        ("cum,A,B,X,1,,,", TableFaultKind::UnknownPair),
+        ("reset,A,B,X,1,,,", TableFaultKind::UnknownPair),
+        ("cum,A,B,Y,1,,,", TableFaultKind::NotSourced),
+        ("reset,A,B,Y,1,,,", TableFaultKind::NotSourced),
+    ];
+    for (row, kind) in refused {
+        assert_eq!(rt; refusal(&rt, row)?, Some((7, kind)));
+    }
+    let twice = "bill,A,X,Y,1,,,\nbill,A,X,Y,2,,,";
+    assert_eq!(rt; refusal(&rt, twice)?, Some((8, TableFaultKind::Repeated)));
+    Ok(())
+}
+
+#[test]
 fn shipments_of_new_figures_stand_in_order(rt: HostRuntime) -> Result<(), Fail> {
     let out_of_order = "ship,B,A,Y,2,8,,\nship,B,A,Y,1,8,,\nreset,B,A,Y,1,,,\n";
     assert_eq!(rt;

@@ -61,6 +61,20 @@ fn damaged_rows(rt: HostRuntime) {
     assert!(rt; are_refused(rt.alloc(), &rows));
 }
 
+/// Whether a row that isn't UTF-8 is refused for that.
+fn no_text_is_refused(alloc: Global) -> bool {
+    let Some(network) = network_of(alloc, TWO_PLANTS) else {
+        return false;
+    };
+    let row: &[u8] = b"line,1,\xff,2,8,108\n";
+    is_refused(alloc, &network, row, 1, RecordFaultKind::NotUtf8)
+}
+
+#[test]
+fn a_row_that_is_no_text(rt: HostRuntime) {
+    assert!(rt; no_text_is_refused(rt.alloc()));
+}
+
 /// A reader of a text, seven bytes a call, whose call number `fails` fails.
 #[derive(Drop)]
 struct Failing<'t> {

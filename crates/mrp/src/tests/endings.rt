@@ -1,0 +1,90 @@
+//! How the program ends: the line that is reported, that it was written whole, and the status.
+
+use crate::{Ending, after_help, ended, unread};
+use mrp_report::ReportFault;
+use mrp_tables::{TableFault, TableFaultKind};
+use mrp_text::TextFault;
+use std::alloc::Global;
+use std::io;
+use std::io::ErrorKind;
+
+/// Whether the program ends with that status, after a line that was written whole.
+fn is_end(end: Ending, status: u8, written: &[u8], line: &str) -> bool {
+    end.status == status && end.reported.is_ok() && written == line.as_bytes()
+}
+
+/// Whether a fault of the work is reported so.
+fn ends(alloc: Global, fault: TextFault, status: u8, line: &str) -> bool {
+    let mut written = Vec::new(alloc);
+    let end = ended(&Err(fault), &mut written);
+    is_end(end, status, written.as_slice(), line)
+}
+
+#[test]
+fn faults_are_reported(rt: HostRuntime) {
+    let alloc = rt.alloc();
+    assert!(rt; ends(alloc, TextFault::NoPair, 1, "mrp: no pair\n"));
+    assert!(rt; ends(alloc, TextFault::NoPeriod, 1, "mrp: no period\n"));
+    assert!(rt; ends(alloc, TextFault::ThreadRefused, 3, "mrp: ThreadRefused\n"));
+    assert!(rt; ends(alloc, TextFault::Stopped, 3, "mrp: Stopped\n"));
+    assert!(rt; ends(alloc, TextFault::WriteFault, 3, "mrp: WriteFault\n"));
+    assert!(rt; ends(alloc, TextFault::Memory, 3, "mrp: Memory\n"));
+}
+
+/// Whether a fault of the table's third row is reported so.
+fn ends_at_row(alloc: Global, kind: TableFaultKind, status: u8, line: &str) -> bool {
+    ends(
+        alloc,
+        TextFault::Table(TableFault { row: 3, kind }),
+        status,
+        line,
+    )
+}
+
+#[test]
+fn faults_of_rows_are_reported(rt: HostRuntime) {
+    let named = [
+        (TableFaultKind::ReadFault, 3, "mrp: row 3: ReadFault\n"),
+        (TableFaultKind::NotUtf8, 1, "mrp: row 3: NotUtf8\n"),
+        (TableFaultKind::UnknownKind, 1, "mrp: row 3: UnknownKind\n"),
+        (TableFaultKind::BadName, 1, "mrp: row 3: BadName\n"),
+        (TableFaultKind::BadRule, 1, "mrp: row 3: BadRule\n"),
+        (TableFaultKind::NotMade, 1, "mrp: row 3: NotMade\n"),
+        (TableFaultKind::NotSourced, 1, "mrp: row 3: NotSourced\n"),
+        (TableFaultKind::TooMany, 1, "mrp: row 3: TooMany\n"),
+        (TableFaultKind::ResetOrder, 1, "mrp: row 3: ResetOrder\n"),
+        (TableFaultKind::Memory, 3, "mrp: Memory\n"),
+    ];
+    for (kind, status, line) in named {
+        assert!(rt; ends_at_row(rt.alloc(), kind, status, line));
+    }
+}
+
+/// Whether the end after help is so.
+fn ends_after_help(
+    alloc: Global,
+    printed: Result<(), ReportFault>,
+    status: u8,
+    line: &str,
+) -> bool {
+    let mut written = Vec::new(alloc);
+    let end = after_help(printed, &mut written);
+    is_end(end, status, written.as_slice(), line)
+}
+
+/// Whether the end where the words can't be read is so.
+fn ends_unread(alloc: Global, kind: ErrorKind, status: u8, line: &str) -> bool {
+    let mut written = Vec::new(alloc);
+    let end = unread(&io::Error::from(kind), &mut written);
+    is_end(end, status, written.as_slice(), line)
+}
+
+#[test]
+fn what_came_of_the_words_is_reported(rt: HostRuntime) {
+    let alloc = rt.alloc();
+    assert!(rt; ends_after_help(alloc, Ok(()), 0, ""));
+    assert!(rt; ends_after_help(alloc, Err(ReportFault::WriteFault), 3, "mrp: WriteFault\n"));
+    let no_text = "mrp: a word of the command is not UTF-8\n";
+    assert!(rt; ends_unread(alloc, ErrorKind::InvalidData, 2, no_text));
+    assert!(rt; ends_unread(alloc, ErrorKind::OutOfMemory, 3, "mrp: Memory\n"));
+}
