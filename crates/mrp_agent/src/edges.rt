@@ -11,7 +11,7 @@ use mrp_view::{PlantEdge, PlantView};
 use std::alloc::{AllocError, Global};
 
 /// An edge of the plant by the places of its pairs.
-#[derive(Clone, Copy, Debug)]
+#[derive(Clone, Copy)]
 pub(crate) struct ParentEdge {
     /// The place of the component.
     pub(crate) component: usize,

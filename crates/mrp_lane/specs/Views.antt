@@ -2,7 +2,7 @@
 use Rattle.std.specs.Prelude.{◌≡◌, ℕ, true, false, List, [], ◌∷◌, ◌++◌, pos}
 use mathlib.Core.Option.{some}
 use lib.ListN.{get_elem?}
-use Rattle.mrp_rows.specs.Table.{Table}
+use Rattle.mrp_rows.specs.Table.{Table, empty_table}
 use Rattle.mrp_net.specs.Lanes.{lane_at}
 use Rattle.mrp_record.specs.declared.record.Record.{Record}
 use Rattle.mrp_record.specs.Text.{IsBeginning}
@@ -17,19 +17,7 @@ IsLegal N l records = IsBeginning (loads N (lane_at N l)) records
 
 -- the first pass of a mailbox may push and pop, and isn't told yet whose mailbox it is
 abbrev pub blank : Table
-blank = record {
-  calendar = record { first = pos 0; days = 0; periods = 0 };
-  plants = [];
-  items = [];
-  pairs = [];
-  sources = [];
-  bills = [];
-  demands = [];
-  receipts = [];
-  ships = [];
-  cums = [];
-  resets = [];
-}
+blank = empty_table (record { first = pos 0; days = 0; periods = 0 })
 
 abbrev pub unnamed : LaneView
 unnamed = record { sends = true; takes = true; named = false; network = blank; lane = 0; sent = []; taken = [] }

@@ -30,7 +30,7 @@ pub struct LaneLists {
 
 /// An item that is taken over a route. The number of a route is its customer's times the number of
 /// plants, plus its supplier's.
-#[derive(Clone, Copy, Debug)]
+#[derive(Clone, Copy)]
 struct Taken {
     route: usize,
     item: ItemNo,
@@ -48,7 +48,7 @@ impl KeyOf<Taken> for ByRoute {
 }
 
 /// A shipment and the number of the source by which it comes.
-#[derive(Clone, Copy, Debug)]
+#[derive(Clone, Copy)]
 struct Sent {
     source: usize,
     shipment: Shipment,

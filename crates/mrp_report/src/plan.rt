@@ -40,7 +40,7 @@ const LONGEST_PERIOD: usize = 116;
 const LONGEST_ROW: usize = 164;
 
 /// The figures of one period of a plan, in pieces.
-#[derive(Clone, Copy, Debug)]
+#[derive(Clone, Copy)]
 pub(crate) struct Period {
     pub(crate) number: usize,
     pub(crate) gross: Qty,

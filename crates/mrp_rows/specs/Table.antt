@@ -46,6 +46,22 @@ horizon N = N.calendar.periods
 abbrev pub pair_no : Table → ℕ → ℕ → ℕ
 pair_no N plant item = unwrap_or (position (λ p. (p.plant.0 == plant) && (p.item.0 == item)) N.pairs) (length N.pairs)
 
+-- the table of a calendar without any row
+abbrev pub empty_table : CalendarTerms → Table
+empty_table c = record {
+  calendar = c;
+  plants = [];
+  items = [];
+  pairs = [];
+  sources = [];
+  bills = [];
+  demands = [];
+  receipts = [];
+  ships = [];
+  cums = [];
+  resets = [];
+}
+
 -- a pair of the table
 abbrev pub IsPair : Table → ℕ → Type 0
 IsPair N x = x < length N.pairs

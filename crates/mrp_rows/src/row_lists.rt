@@ -14,7 +14,7 @@ use std::alloc::{AllocError, Global};
 use std::marker::Model;
 
 /// A pair by its plant and its item.
-#[derive(Clone, Copy, Debug, PartialEq, Eq, Hash)]
+#[derive(Clone, Copy, PartialEq, Eq, Hash)]
 pub(crate) struct PairKey {
     plant: PlantNo,
     item: ItemNo,
@@ -54,32 +54,20 @@ impl Model for RowLists {
 }
 
 impl RowLists {
-    ghost use Rattle.std.specs.Prelude.{◌≡◌, ◌≤◌, ◌<◌, ◌==◌, ◌&&◌, [], length, option_map, position, IfOk, IfSome, OnOk};
+    ghost use Rattle.std.specs.Prelude.{◌≡◌, ◌≤◌, ◌<◌, ◌==◌, ◌&&◌, length, option_map, position, IfOk, IfSome, OnOk};
     ghost use Rattle.mrp_rows.specs.declared.rows.TheConstants.{MOST_BILLS, MOST_OF_A_KIND, MOST_PAIRS, MOST_PLANTS, MOST_SOURCES};
     ghost use Rattle.std.specs.Prelude.{false, is_some, slice_get, unwrap_or, Some};
     ghost use Rattle.std.specs.List.{list_any};
     ghost use Rattle.mrp_rows.specs.Names.{has_plant, pair_named, plant_no};
     ghost use Rattle.mrp_rows.specs.Growing.{lacks_pair, with_plant, with_item, with_pair, with_source, with_bill};
     ghost use Rattle.mrp_rows.specs.Growing.{with_demand, with_receipt, with_ship, with_cum, with_reset};
-    ghost use Rattle.mrp_rows.specs.Table.{item_at, IsName, IsRead, IsPairRow, IsSourceRow, IsBillRow};
+    ghost use Rattle.mrp_rows.specs.Table.{empty_table, item_at, IsName, IsRead, IsPairRow, IsSourceRow, IsBillRow};
     ghost use Rattle.mrp_rows.specs.Table.{IsDemandRow, IsReceiptRow, IsShipRow, IsCumRow, IsResetRow};
 
     /// The lists after the run row.
     pub fn new(alloc: Global, calendar: Calendar) -> RowLists
         ensures rows { IsRead result }
-        ensures table { result ≡ record {
-          calendar = calendar;
-          plants = [];
-          items = [];
-          pairs = [];
-          sources = [];
-          bills = [];
-          demands = [];
-          receipts = [];
-          ships = [];
-          cums = [];
-          resets = [];
-        } }
+        ensures table { result ≡ empty_table calendar }
     {
         RowLists {
             calendar,

@@ -7,10 +7,9 @@ use Rattle.csv.specs.Reading.{ExplainsRead, ReadRecord, stops_reader}
 use Rattle.csv.specs.declared.error.ErrorKind.{ErrorKind}
 use Rattle.csv.specs.declared.error.ErrorKind.TheVariants as error
 use Rattle.csv.specs.declared.reader.Reader.{Reader}
-use Rattle.mrp_rows.specs.Table.{Table}
+use Rattle.mrp_rows.specs.Table.{Table, empty_table}
 use Rattle.mrp_tables.specs.declared.fault.TableFaultKind.TheVariants as table_fault
 use Rattle.mrp_tables.specs.Left.{GivesAll, left_of, MayCome, OfLeft, StartsBadly, TakesRow}
-use Rattle.mrp_tables.specs.Reading.{empty_table}
 use Rattle.mrp_tables.proofs.Taken.{ends_rows, explains_as, takes_row}
 use Rattle.mrp_tables.proofs.Loop.{of_left_from}
 use Rattle.mrp_stream.specs.declared.fault.RecordFaultKind.{RecordFaultKind}

@@ -11,14 +11,14 @@ use Rattle.mrp_cal.proofs.Days.{spells_day}
 use Rattle.mrp_qty.specs.declared.horizon.TheConstants.{LONGEST}
 use Rattle.mrp_rows.specs.declared.rows.TheConstants.{MOST_PLANTS}
 use Rattle.mrp_rows.specs.Growing.{with_plant}
-use Rattle.mrp_rows.specs.Table.{IsName, IsTable, Table}
+use Rattle.mrp_rows.specs.Table.{IsName, IsTable, Table, empty_table}
 use Rattle.mrp_spell.specs.Spelling.{is_name, number_of, number_text, number_within}
 use Rattle.mrp_spell.proofs.Decimals.{number-written}
 use Rattle.mrp_spell.proofs.Ranges.{number_written}
 use Rattle.mrp_tables.specs.declared.kind.Kind.{Kind}
 use Rattle.mrp_tables.specs.declared.kind.Kind.TheVariants as kind
 use Rattle.mrp_tables.specs.Grammar.{place_of, plant_of, plant_row, run_terms, RunTerms}
-use Rattle.mrp_tables.specs.Reading.{empty_table, first_terms, go_on, kind_of_row, Reads, row_after, row_of_kind, StartsWith, waiting}
+use Rattle.mrp_tables.specs.Reading.{first_terms, go_on, kind_of_row, Reads, row_after, row_of_kind, StartsWith, waiting}
 use Rattle.mrp_tables.specs.Written.{AreNumbered, later_rows, pair_rows, plant_fields, rows_of, run_fields}
 use Rattle.mrp_tables.proofs.Accept.{what_is_read}
 use Rattle.mrp_tables.proofs.BackNames.{at_place, none_before}

@@ -91,15 +91,25 @@ plant_read N row name read is =
 
 -- ---- bills
 
-per_is : (row : List (List ℕ)) (t : BillTerms) → bill_terms row ≡ Ok t → (1 ≤ t.per) × (t.per ≤ MOST_PER)
+-- each field of a bill row is read as it stands in the terms
+pub record BillRead (row : List (List ℕ)) (t : BillTerms) : Type 0 where
+  pub plant : name_of (field row 1) ≡ Ok t.plant
+  pub parent : name_of (field row 2) ≡ Ok t.parent
+  pub component : name_of (field row 3) ≡ Ok t.component
+  pub per : ranged (field row 4) 1 MOST_PER ≡ Ok t.per
+
+pub bill_terms_read : (row : List (List ℕ)) (t : BillTerms) → bill_terms row ≡ Ok t → BillRead row t
 unfolding bill_terms
-per_is row t is =
+bill_terms_read row t is =
     let a = after (name_of (field row 1)) _ t is in
     let b = after (name_of (field row 2)) _ t a.2 in
     let c = after (name_of (field row 3)) _ t b.2 in
     let d = after (ranged (field row 4) 1 MOST_PER) _ t c.2 in
     let same : record { plant = a.0; parent = b.0; component = c.0; per = d.0 } ≡ t = same_Ok _ t d.2 in
-    subst (λ (x : BillTerms). (1 ≤ x.per) × (x.per ≤ MOST_PER)) same (ranged_is (field row 4) 1 MOST_PER d.0 d.1)
+    subst (BillRead row) same (record { plant = a.1; parent = b.1; component = c.1; per = d.1 })
+
+per_is : (row : List (List ℕ)) (t : BillTerms) → bill_terms row ≡ Ok t → (1 ≤ t.per) × (t.per ≤ MOST_PER)
+per_is row t is = ranged_is (field row 4) 1 MOST_PER t.per (bill_terms_read row t is).per
 
 bill_within : (N : Table) (t : BillTerms) (b : BillRow) → (1 ≤ t.per) × (t.per ≤ MOST_PER) → bill_fits N t ≡ Ok b → IsBillRow N b × (length N.bills < MOST_BILLS)
 bill_within N t b per is =

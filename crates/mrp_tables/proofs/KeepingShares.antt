@@ -1,6 +1,6 @@
 -- What a pair row spells: a name, numbers in their ranges, and sources that are other plants each, with
 -- shares that follow one another to the whole.
-use Rattle.std.proofs.Common.{◌≡◌, ◌≤◌, ℕ, List, [], ◌∷◌, length, map, Ok, sym, subst, arith}
+use Rattle.std.proofs.Common.{◌≡◌, ◌≤◌, ℕ, List, [], ◌∷◌, length, map, Ok, Some, sym, subst, arith}
 use Rattle.std.specs.List.{All}
 use Rattle.std.proofs.lemmas.List.Elements.{All-nil}
 use Rattle.mrp_lot.specs.Lot.{IsRule}
@@ -16,6 +16,29 @@ use Rattle.mrp_tables.specs.Grammar.{field, name_of, PairTerms, pair_terms, rang
 use Rattle.mrp_tables.proofs.KeepingRead.{named_is, ranged_is}
 use Rattle.mrp_tables.proofs.KeepingSteps.{after, after_some, same_Ok}
 
+-- each field of a pair row is read as it stands in the terms
+pub record PairRead (row : List (List ℕ)) (t : PairTerms) : Type 0 where
+  pub plant : name_of (field row 1) ≡ Ok t.plant
+  pub item : name_of (field row 2) ≡ Ok t.item
+  pub supply : supply_of (field row 3) ≡ Some t.supply
+  pub rule : rule_of (field row 4) ≡ Some t.rule
+  pub lead : ranged (field row 5) 0 LONGEST_LEAD ≡ Ok t.lead
+  pub on_hand : ranged (field row 6) 0 MOST_IN_ROW ≡ Ok t.on_hand
+  pub safety : ranged (field row 7) 0 MOST_IN_ROW ≡ Ok t.safety
+
+pub pair_terms_read : (row : List (List ℕ)) (t : PairTerms) → pair_terms row ≡ Ok t → PairRead row t
+unfolding pair_terms
+pair_terms_read row t is =
+    let a = after (name_of (field row 1)) _ t is in
+    let b = after (name_of (field row 2)) _ t a.2 in
+    let c = after (ranged (field row 5) 0 LONGEST_LEAD) _ t b.2 in
+    let d = after (ranged (field row 6) 0 MOST_IN_ROW) _ t c.2 in
+    let e = after (ranged (field row 7) 0 MOST_IN_ROW) _ t d.2 in
+    let f = after_some (rule_of (field row 4)) _ _ t e.2 in
+    let g = after_some (supply_of (field row 3)) _ _ t f.2 in
+    let same : record { plant = a.0; item = b.0; supply = g.0; rule = f.0; lead = c.0; on_hand = d.0; safety = e.0 } ≡ t = same_Ok _ t g.2 in
+    subst (PairRead row) same (record { plant = a.1; item = b.1; supply = g.1; rule = f.1; lead = c.1; on_hand = d.1; safety = e.1 })
+
 pub record SpellsPair (t : PairTerms) : Type 0 where
   pub item : IsName t.item
   pub supply : IsWholeSupply t.supply
@@ -25,24 +48,15 @@ pub record SpellsPair (t : PairTerms) : Type 0 where
   pub safety : IsAmount t.safety
 
 pub pair_terms_are : (row : List (List ℕ)) (t : PairTerms) → pair_terms row ≡ Ok t → SpellsPair t
-unfolding pair_terms
 pair_terms_are row t is =
-    let a = after (name_of (field row 1)) _ t is in
-    let b = after (name_of (field row 2)) _ t a.2 in
-    let c = after (ranged (field row 5) 0 LONGEST_LEAD) _ t b.2 in
-    let d = after (ranged (field row 6) 0 MOST_IN_ROW) _ t c.2 in
-    let e = after (ranged (field row 7) 0 MOST_IN_ROW) _ t d.2 in
-    let f = after_some (rule_of (field row 4)) _ _ t e.2 in
-    let g = after_some (supply_of (field row 3)) _ _ t f.2 in
-    let same : record { plant = a.0; item = b.0; supply = g.0; rule = f.0; lead = c.0; on_hand = d.0; safety = e.0 } ≡ t = same_Ok _ t g.2 in
-    subst SpellsPair same (record {
-      item = named_is (field row 2) b.0 b.1;
-      supply = supply_is (field row 3) g.0 g.1;
-      rule = rule_is (field row 4) f.0 f.1;
-      lead = (ranged_is (field row 5) 0 LONGEST_LEAD c.0 c.1).1;
-      on_hand = (ranged_is (field row 6) 0 MOST_IN_ROW d.0 d.1).1;
-      safety = (ranged_is (field row 7) 0 MOST_IN_ROW e.0 e.1).1;
-    })
+    let read = pair_terms_read row t is in record {
+      item = named_is (field row 2) t.item read.item;
+      supply = supply_is (field row 3) t.supply read.supply;
+      rule = rule_is (field row 4) t.rule read.rule;
+      lead = (ranged_is (field row 5) 0 LONGEST_LEAD t.lead read.lead).1;
+      on_hand = (ranged_is (field row 6) 0 MOST_IN_ROW t.on_hand read.on_hand).1;
+      safety = (ranged_is (field row 7) 0 MOST_IN_ROW t.safety read.safety).1;
+    }
 
 -- the shares of the rows are those of the terms
 pub shares_are : (N : Table) (x low : ℕ) (ss : List SourceTerms) → ShareFrom low ss MOST_SHARE → AreShares low (map (source_row N x) ss)

@@ -12,10 +12,10 @@ use Rattle.mrp_tables.specs.declared.fault.TableFaultKind.{TableFaultKind}
 use Rattle.mrp_tables.specs.declared.fault.TableFaultKind.TheVariants as fault
 use Rattle.mrp_tables.specs.declared.kind.Kind.{Kind}
 use Rattle.mrp_tables.specs.declared.kind.Kind.TheVariants as kind
-use Rattle.mrp_rows.specs.Table.{Table}
+use Rattle.mrp_rows.specs.Table.{Table, empty_table}
 use Rattle.mrp_tables.specs.Grammar.{RunTerms}
 use Rattle.mrp_tables.specs.Left.{IsSoundTo, OfLeft, records_in, StartsBadly, state_of, TakesRow, TellsFirstAt}
-use Rattle.mrp_tables.specs.Reading.{empty_table, first_lacking, first_terms, go_on, IsCalendarOf, IsReadSoFar, IsSoundAbove, OfRecords, pair_row_number, OfRows, read_from, Reads, rows_after, started, Starts, StartsWith, TellsRows, unless_lacking, waiting}
+use Rattle.mrp_tables.specs.Reading.{first_lacking, first_terms, go_on, IsCalendarOf, IsReadSoFar, IsSoundAbove, OfRecords, pair_row_number, OfRows, read_from, Reads, rows_after, started, Starts, StartsWith, TellsRows, unless_lacking, waiting}
 use Rattle.mrp_tables.proofs.Keeping.{empty_keeps}
 use Rattle.mrp_tables.proofs.Loop.{kind_no_text, of_left_from, of_rows_from, of_unless}
 

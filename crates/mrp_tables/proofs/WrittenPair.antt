@@ -7,8 +7,8 @@ use Rattle.std.proofs.lemmas.List.{get_or_append_left, length_push}
 use Rattle.std.proofs.lemmas.List.Elements.{All-head, All-tail}
 use Rattle.std.proofs.lemmas.Slice.Eq.{bytes_eq-Decides}
 use Rattle.mrp_lot.specs.declared.rule.TheConstants.{LONGEST_LEAD}
-use Rattle.mrp_spell.specs.Spelling.{number_text, rule_of, rule_text}
-use Rattle.mrp_spell.specs.Supplies.{BuyTerms, FromTerms, MakeTerms, named_sources, SourceTerms, supply_of, supply_text, SupplyTerms}
+use Rattle.mrp_spell.specs.Spelling.{number_text, rule_text}
+use Rattle.mrp_spell.specs.Supplies.{BuyTerms, FromTerms, MakeTerms, named_sources, SourceTerms, supply_text, SupplyTerms}
 use Rattle.mrp_spell.proofs.RuleTexts.{rule_is_text}
 use Rattle.mrp_spell.proofs.Written.{supply_is_text}
 use Rattle.mrp_rows.specs.declared.numbers.PlantNo.{PlantNo}
@@ -21,12 +21,11 @@ use Rattle.mrp_rows.specs.Growing.{add_item}
 use Rattle.mrp_rows.specs.Names.{has_plant}
 use Rattle.mrp_rows.specs.Table.{IsOnce, IsRead, IsSourced, sources_of_pair, Table}
 use Rattle.mrp_tables.specs.declared.kind.Kind.TheVariants as kind
-use Rattle.mrp_tables.specs.Grammar.{field, name_of, pair_terms, PairTerms, pair_with, ranged, source_row, supply_kind, with_pair_terms}
+use Rattle.mrp_tables.specs.Grammar.{field, pair_terms, PairTerms, pair_with, source_row, supply_kind, with_pair_terms}
 use Rattle.mrp_tables.specs.Written.{AreNumbered, item_name, pair_fields, pair_rows, plant_name, source_said, supply_said}
 use Rattle.mrp_tables.proofs.KeepingLists.{position_last, position-from_any}
 use Rattle.mrp_tables.proofs.KeepingPair.{Fitting, item_added, new_kept, no_place, old_kept, place_within}
-use Rattle.mrp_tables.proofs.KeepingShares.{SpellsPair}
-use Rattle.mrp_tables.proofs.KeepingSteps.{after, after_some, same_Ok}
+use Rattle.mrp_tables.proofs.KeepingShares.{pair_terms_read, SpellsPair}
 use Rattle.mrp_tables.proofs.WrittenFields.{all_used, fields_same, IsOfKind, name_text, named_at, plant_found, ranged_text}
 
 -- ---- what a pair row spells
@@ -41,25 +40,16 @@ pub record PairSaid (row : List (List ℕ)) (t : PairTerms) : Type 0 where
   pub safety : field row 7 ≡ number_text t.safety
 
 pub pair_terms_said : (row : List (List ℕ)) (t : PairTerms) → pair_terms row ≡ Ok t → PairSaid row t
-unfolding pair_terms
 pair_terms_said row t is =
-    let a = after (name_of (field row 1)) _ t is in
-    let b = after (name_of (field row 2)) _ t a.2 in
-    let c = after (ranged (field row 5) 0 LONGEST_LEAD) _ t b.2 in
-    let d = after (ranged (field row 6) 0 MOST_IN_ROW) _ t c.2 in
-    let e = after (ranged (field row 7) 0 MOST_IN_ROW) _ t d.2 in
-    let f = after_some (rule_of (field row 4)) _ _ t e.2 in
-    let g = after_some (supply_of (field row 3)) _ _ t f.2 in
-    let same : record { plant = a.0; item = b.0; supply = g.0; rule = f.0; lead = c.0; on_hand = d.0; safety = e.0 } ≡ t = same_Ok _ t g.2 in
-    subst (PairSaid row) same (record {
-      plant = name_text (field row 1) a.0 a.1;
-      item = name_text (field row 2) b.0 b.1;
-      supply = supply_is_text (field row 3) g.0 g.1;
-      rule = rule_is_text (field row 4) f.0 f.1;
-      lead = ranged_text (field row 5) 0 LONGEST_LEAD c.0 c.1;
-      on_hand = ranged_text (field row 6) 0 MOST_IN_ROW d.0 d.1;
-      safety = ranged_text (field row 7) 0 MOST_IN_ROW e.0 e.1;
-    })
+    let read = pair_terms_read row t is in record {
+      plant = name_text (field row 1) t.plant read.plant;
+      item = name_text (field row 2) t.item read.item;
+      supply = supply_is_text (field row 3) t.supply read.supply;
+      rule = rule_is_text (field row 4) t.rule read.rule;
+      lead = ranged_text (field row 5) 0 LONGEST_LEAD t.lead read.lead;
+      on_hand = ranged_text (field row 6) 0 MOST_IN_ROW t.on_hand read.on_hand;
+      safety = ranged_text (field row 7) 0 MOST_IN_ROW t.safety read.safety;
+    }
 
 -- ---- names among names
 

@@ -23,6 +23,7 @@ use Rattle.mrp_tables.specs.Grammar.{plant_of, plant_terms, ranged, receipt_of, 
 use Rattle.mrp_tables.specs.Reading.{first_terms, is_run, kind_of_row}
 use Rattle.mrp_tables.specs.Written.{bill_fields, cum_fields, demand_fields, pair_item, pair_plant, plant_fields, plant_name, receipt_fields, reset_fields, run_fields, ship_fields}
 use Rattle.mrp_tables.proofs.KeepingParts.{bill_parts, cum_parts, reset_parts, ship_parts}
+use Rattle.mrp_tables.proofs.KeepingRead.{bill_terms_read}
 use Rattle.mrp_tables.proofs.KeepingRows.{on_lane}
 use Rattle.mrp_tables.proofs.KeepingSteps.{after, after_check, after_some, same_Ok}
 use Rattle.mrp_tables.proofs.WrittenDay.{first_text}
@@ -50,19 +51,13 @@ record BillSaid (row : List (List ℕ)) (t : BillTerms) : Type 0 where
   per : field row 4 ≡ number_text t.per
 
 bill_terms_said : (row : List (List ℕ)) (t : BillTerms) → bill_terms row ≡ Ok t → BillSaid row t
-unfolding bill_terms
 bill_terms_said row t is =
-    let a = after (name_of (field row 1)) _ t is in
-    let b = after (name_of (field row 2)) _ t a.2 in
-    let c = after (name_of (field row 3)) _ t b.2 in
-    let d = after (ranged (field row 4) 1 MOST_PER) _ t c.2 in
-    let same : record { plant = a.0; parent = b.0; component = c.0; per = d.0 } ≡ t = same_Ok _ t d.2 in
-    subst (BillSaid row) same (record {
-      plant = name_text (field row 1) a.0 a.1;
-      parent = name_text (field row 2) b.0 b.1;
-      component = name_text (field row 3) c.0 c.1;
-      per = ranged_text (field row 4) 1 MOST_PER d.0 d.1;
-    })
+    let read = bill_terms_read row t is in record {
+      plant = name_text (field row 1) t.plant read.plant;
+      parent = name_text (field row 2) t.parent read.parent;
+      component = name_text (field row 3) t.component read.component;
+      per = ranged_text (field row 4) 1 MOST_PER t.per read.per;
+    }
 
 pub bill_said : (N : Table) (row : List (List ℕ)) (b : BillRow) → IsOfKind row kind.Bill → bill_of N row ≡ Ok b → row ≡ bill_fields N b
 bill_said N row b k is =

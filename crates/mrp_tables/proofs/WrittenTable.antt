@@ -10,12 +10,12 @@ use Rattle.mrp_rows.specs.declared.rows.ReceiptRow.{ReceiptRow}
 use Rattle.mrp_rows.specs.declared.rows.ResetRow.{ResetRow}
 use Rattle.mrp_rows.specs.declared.rows.ShipRow.{ShipRow}
 use Rattle.mrp_rows.specs.Growing.{with_bill, with_cum, with_demand, with_plant, with_receipt, with_reset, with_ship}
-use Rattle.mrp_rows.specs.Table.{Table}
+use Rattle.mrp_rows.specs.Table.{Table, empty_table}
 use Rattle.mrp_tables.specs.declared.fault.TableFaultKind.{TableFaultKind}
 use Rattle.mrp_tables.specs.declared.kind.Kind.{Kind}
 use Rattle.mrp_tables.specs.declared.kind.Kind.TheVariants as kind
 use Rattle.mrp_tables.specs.Grammar.{◌>>=◌, bill_of, cum_of, demand_of, may_follow, pair_fits, pair_row, pair_terms, PairTerms, place_of, plant_of, receipt_of, reset_of, RunTerms, ship_of, with_pair_terms}
-use Rattle.mrp_tables.specs.Reading.{at_row, empty_table, first_lacking, first_terms, IsCalendarOf, IsReadSoFar, kind_of_row, read_from, Reads, row_after, row_of_kind, rows_after, started, Starts, StartsWith, waiting}
+use Rattle.mrp_tables.specs.Reading.{at_row, first_lacking, first_terms, IsCalendarOf, IsReadSoFar, kind_of_row, read_from, Reads, row_after, row_of_kind, rows_after, started, Starts, StartsWith, waiting}
 use Rattle.mrp_tables.specs.Written.{AreNumbered, bill_fields, cum_fields, demand_fields, later_rows, pair_rows, plant_fields, receipt_fields, reset_fields, rows_of, run_fields, ship_fields}
 use Rattle.mrp_tables.proofs.Accept.{waited, was_read, went_on}
 use Rattle.mrp_tables.proofs.Keeping.{follows, row_after_keeps}

@@ -6,12 +6,12 @@ use Rattle.mrp_tables.specs.declared.kind.Kind.TheVariants as kind
 use Rattle.mrp_cal.specs.Calendar.{CalendarTerms}
 use Rattle.mrp_rows.specs.declared.numbers.PlantNo.{PlantNo}
 use Rattle.mrp_rows.specs.declared.rows.TheConstants.{MOST_PAIRS}
-use Rattle.mrp_rows.specs.Table.{Table}
+use Rattle.mrp_rows.specs.Table.{Table, empty_table}
 use Rattle.mrp_spell.specs.Supplies.{SourceTerms}
 use Rattle.mrp_tables.specs.Grammar.{knows_sources, PairTerms, run_terms, seen, source_row, TellsFault}
 use Rattle.mrp_spell.specs.Supplies.{named_sources}
 use Rattle.mrp_rows.specs.Names.{pair_named, plant_no}
-use Rattle.mrp_tables.specs.Reading.{empty_table, row_after, Starts, StartsWith, UnlessMemory}
+use Rattle.mrp_tables.specs.Reading.{row_after, Starts, StartsWith, UnlessMemory}
 
 -- a pair row that fits the rows before it, at that plant
 pub record FitsPair (N : Table) (p : PlantNo) (t : PairTerms) : Type 0 where

@@ -11,7 +11,7 @@ use Rattle.mrp_tables.specs.declared.fault.TableFaultKind.TheVariants as fault
 use Rattle.mrp_tables.specs.declared.kind.Kind.{Kind}
 use Rattle.mrp_tables.specs.declared.kind.Kind.TheVariants as kind
 use Rattle.mrp_rows.specs.declared.rows.SourceRow.{SourceRow}
-use Rattle.mrp_rows.specs.Table.{IsOnce, IsRead, IsSourced, Table}
+use Rattle.mrp_rows.specs.Table.{IsOnce, IsRead, IsSourced, Table, empty_table}
 use Rattle.mrp_spell.specs.declared.supplies.TheConstants.{MOST_SOURCES_OF_PAIR}
 use Rattle.mrp_rows.specs.Growing.{lacks_pair}
 use Rattle.mrp_tables.specs.Grammar.{◌>>=◌, bill_row, check, cum_row, demand_row, may_follow, pair_row, place_of}
@@ -36,22 +36,6 @@ row_of_kind kind.Cum N row = cum_row N row
 row_of_kind kind.Reset N row = reset_row N row
 
 -- ---- the first row
-
--- the table before any row but the run
-abbrev pub empty_table : CalendarTerms → Table
-empty_table c = record {
-  calendar = c;
-  plants = [];
-  items = [];
-  pairs = [];
-  sources = [];
-  bills = [];
-  demands = [];
-  receipts = [];
-  ships = [];
-  cums = [];
-  resets = [];
-}
 
 abbrev pub is_run : Kind → Bool
 is_run kind.Run = true

@@ -11,21 +11,21 @@ use mrp_rows::{PairNo, PlantNo, RowLists};
 use std::alloc::Global;
 
 /// A source of a pair by its plant and the pair.
-#[derive(Clone, Copy, Debug, PartialEq, Eq, Hash)]
+#[derive(Clone, Copy, PartialEq, Eq, Hash)]
 pub(crate) struct LaneKey {
     pub(crate) from: PlantNo,
     pub(crate) pair: PairNo,
 }
 
 /// A bill row by its parent and its component.
-#[derive(Clone, Copy, Debug, PartialEq, Eq, Hash)]
+#[derive(Clone, Copy, PartialEq, Eq, Hash)]
 pub(crate) struct BillKey {
     pub(crate) parent: PairNo,
     pub(crate) component: PairNo,
 }
 
 /// What the rows so far say of one source of a pair.
-#[derive(Clone, Copy, Debug)]
+#[derive(Clone, Copy)]
 pub(crate) struct Lane {
     /// The period of arrival of its last shipment, 0 without one.
     pub(crate) last: usize,

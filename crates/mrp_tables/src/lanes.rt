@@ -10,7 +10,7 @@ use mrp_qty::Qty;
 use mrp_rows::{CumRow, MOST_OF_A_KIND, PairNo, PlantNo, ResetRow, ShipRow};
 
 /// What a row on a lane names, as far as it is there.
-#[derive(Clone, Copy, Debug)]
+#[derive(Clone, Copy)]
 pub(crate) struct NamedLane {
     pub(crate) from: Option<PlantNo>,
     pub(crate) to: Option<PlantNo>,
@@ -20,7 +20,7 @@ pub(crate) struct NamedLane {
 }
 
 /// A lane that is there: the plant that ships, the pair that receives and the place of the source.
-#[derive(Clone, Copy, Debug)]
+#[derive(Clone, Copy)]
 pub(crate) struct KnownLane {
     pub(crate) from: PlantNo,
     pub(crate) pair: PairNo,

@@ -97,7 +97,7 @@ pub(crate) fn row_kind(row: &StringRecord) -> Result<Kind, TableFaultKind>
 }
 
 /// What a run row spells.
-#[derive(Clone, Copy, Debug)]
+#[derive(Clone, Copy)]
 struct SpelledRun<'r> {
     first: &'r str,
     days: u64,
@@ -142,7 +142,7 @@ pub(crate) fn spelled_plant(row: &StringRecord) -> Result<&str, TableFaultKind>
 }
 
 /// A pair row.
-#[derive(Debug, Drop)]
+#[derive(Drop)]
 pub(crate) struct SpelledPair<'r> {
     pub(crate) plant: &'r str,
     pub(crate) item: &'r str,
@@ -181,7 +181,7 @@ pub(crate) fn spelled_pair(
 }
 
 /// A bill row.
-#[derive(Clone, Copy, Debug)]
+#[derive(Clone, Copy)]
 pub(crate) struct SpelledBill<'r> {
     pub(crate) plant: &'r str,
     pub(crate) parent: &'r str,
@@ -208,7 +208,7 @@ pub(crate) fn spelled_bill(row: &StringRecord) -> Result<SpelledBill<'_>, TableF
 }
 
 /// A demand or a receipt row.
-#[derive(Clone, Copy, Debug)]
+#[derive(Clone, Copy)]
 pub(crate) struct SpelledAmount<'r> {
     pub(crate) plant: &'r str,
     pub(crate) item: &'r str,
@@ -238,7 +238,7 @@ pub(crate) fn spelled_amount(
 }
 
 /// The names of a row on what one plant ships to another.
-#[derive(Clone, Copy, Debug)]
+#[derive(Clone, Copy)]
 pub(crate) struct SpelledLane<'r> {
     pub(crate) from: &'r str,
     pub(crate) to: &'r str,

@@ -1,4 +1,5 @@
 pub mod Loading
+pub mod PairRows
 pub mod Pushing
 pub mod Once
 pub mod Seeing

@@ -104,7 +104,7 @@ pub struct OutgoingItem {
 }
 
 /// An item of an outgoing lane, and where its shipments stand in the lane's list of them.
-#[derive(Clone, Copy, Debug)]
+#[derive(Clone, Copy)]
 pub(crate) struct OutgoingRow {
     item: OutgoingItem,
     begin: usize,
