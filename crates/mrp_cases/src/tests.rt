@@ -3,6 +3,7 @@
 mod commands;
 mod dates;
 mod lane_reports;
+mod limits;
 mod lots;
 mod quantities;
 mod reading;

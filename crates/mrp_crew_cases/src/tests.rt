@@ -147,5 +147,7 @@ fn plans<R: Threads + Wait + Sync, G: Gate>(
     gate: &G,
 ) -> Result<Calls, Fail> {
     let network = network(alloc, text)?;
-    network_plans(rt, alloc, &network, workers, gate)
+    let answer = network_plans(rt, alloc, &network, workers, gate);
+    drop(network);
+    answer
 }

@@ -23,12 +23,13 @@ fn ends(alloc: Global, fault: TextFault, status: u8, line: &str) -> bool {
 #[test]
 fn faults_are_reported(rt: HostRuntime) {
     let alloc = rt.alloc();
-    assert!(rt; ends(alloc, TextFault::NoPair, 1, "mrp: no pair\n"));
-    assert!(rt; ends(alloc, TextFault::NoPeriod, 1, "mrp: no period\n"));
-    assert!(rt; ends(alloc, TextFault::ThreadRefused, 3, "mrp: ThreadRefused\n"));
-    assert!(rt; ends(alloc, TextFault::Stopped, 3, "mrp: Stopped\n"));
-    assert!(rt; ends(alloc, TextFault::WriteFault, 3, "mrp: WriteFault\n"));
-    assert!(rt; ends(alloc, TextFault::Memory, 3, "mrp: Memory\n"));
+    let is_told = ends(alloc, TextFault::NoPair, 1, "mrp: no pair\n")
+        && ends(alloc, TextFault::NoPeriod, 1, "mrp: no period\n")
+        && ends(alloc, TextFault::ThreadRefused, 3, "mrp: ThreadRefused\n")
+        && ends(alloc, TextFault::Stopped, 3, "mrp: Stopped\n")
+        && ends(alloc, TextFault::WriteFault, 3, "mrp: WriteFault\n")
+        && ends(alloc, TextFault::Memory, 3, "mrp: Memory\n");
+    assert!(rt; is_told);
 }
 
 /// Whether a fault of the table's third row is reported so.
@@ -82,9 +83,16 @@ fn ends_unread(alloc: Global, kind: ErrorKind, status: u8, line: &str) -> bool {
 #[test]
 fn what_came_of_the_words_is_reported(rt: HostRuntime) {
     let alloc = rt.alloc();
-    assert!(rt; ends_after_help(alloc, Ok(()), 0, ""));
-    assert!(rt; ends_after_help(alloc, Err(ReportFault::WriteFault), 3, "mrp: WriteFault\n"));
+    let failed = Err(ReportFault::WriteFault);
+    let is_told = ends_after_help(alloc, Ok(()), 0, "")
+        && ends_after_help(alloc, failed, 3, "mrp: WriteFault\n");
+    assert!(rt; is_told);
+}
+
+#[test]
+fn words_that_can_not_be_read_are_reported(rt: HostRuntime) {
     let no_text = "mrp: a word of the command is not UTF-8\n";
-    assert!(rt; ends_unread(alloc, ErrorKind::InvalidData, 2, no_text));
-    assert!(rt; ends_unread(alloc, ErrorKind::OutOfMemory, 3, "mrp: Memory\n"));
+    let is_told = ends_unread(rt.alloc(), ErrorKind::InvalidData, 2, no_text)
+        && ends_unread(rt.alloc(), ErrorKind::OutOfMemory, 3, "mrp: Memory\n");
+    assert!(rt; is_told);
 }

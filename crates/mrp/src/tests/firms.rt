@@ -1,6 +1,6 @@
-//! Random firms: the program's reports beside those of a second planner.
+//! Firms of three plants: sources in both directions, and split sources.
 
-use super::{codes, pegs, plan};
+use super::{has_codes, has_pegs, has_plan};
 use std::test::Fail;
 
 /// A firm of three plants with sources in both directions: the table of `examples/three_plants.csv`.
@@ -50,16 +50,17 @@ late,SOUTH,TUBE,1,9,1\n";
 
 #[test]
 fn three_plants(rt: HostRuntime) -> Result<(), Fail> {
-    let alloc = rt.alloc();
-    assert_eq!(rt; plan(alloc, THREE_PLANTS)?.as_str(), THREE_PLANTS_PLAN);
-    assert_eq!(rt;
-        pegs(alloc, THREE_PLANTS, "NORTH", "WHEEL", 3)?.as_str(),
-        "peg,bill,NORTH,BIKE,12,2,24\npeg,plant,EAST,WHEEL,15,1,15\n"
-    );
+    has_plan(&rt, THREE_PLANTS, THREE_PLANTS_PLAN)?;
+    has_pegs(
+        &rt,
+        THREE_PLANTS,
+        ("NORTH", "WHEEL", 3),
+        "peg,bill,NORTH,BIKE,12,2,24\npeg,plant,EAST,WHEEL,15,1,15\n",
+    )?;
     let code_rows = "code,NORTH,BIKE,1\ncode,NORTH,FRAME,2\ncode,NORTH,WHEEL,2\n\
 code,NORTH,RIM,3\ncode,SOUTH,FRAME,3\ncode,SOUTH,TUBE,4\ncode,SOUTH,WHEEL,1\n\
 code,EAST,BIKE,0\ncode,EAST,WHEEL,0\n";
-    assert_eq!(rt; codes(alloc, THREE_PLANTS)?.as_str(), code_rows);
+    has_codes(&rt, THREE_PLANTS, code_rows)?;
     Ok(())
 }
 
@@ -70,31 +71,23 @@ demand,A,X,0,7,,,\n";
 
 #[test]
 fn a_release_is_shared_among_its_sources(rt: HostRuntime) -> Result<(), Fail> {
-    let alloc = rt.alloc();
     let rows = "plan,A,X,0,2026-01-05,7,0,7,7,0\nplan,B,X,0,2026-01-05,4,0,4,4,0\n\
 plan,C,X,0,2026-01-05,3,0,3,3,0\n";
-    assert_eq!(rt; plan(alloc, SHARED)?.as_str(), rows);
-    assert_eq!(rt;
-        pegs(alloc, SHARED, "C", "X", 0)?.as_str(),
-        "peg,plant,A,X,3,1,3\n"
-    );
+    has_plan(&rt, SHARED, rows)?;
+    has_pegs(&rt, SHARED, ("C", "X", 0), "peg,plant,A,X,3,1,3\n")?;
     Ok(())
 }
 
 #[test]
 fn shares_that_are_refused(rt: HostRuntime) -> Result<(), Fail> {
-    let alloc = rt.alloc();
     let short = "run,2026-01-05,7,1,,,,\nplant,A,,,,,,\nplant,B,,,,,,\nplant,C,,,,,,\n\
 pair,A,X,from:B:600:C:300,lot,0,0,0\n";
-    assert_eq!(rt; plan(alloc, short)?.as_str(), "1 mrp: row 5: BadSupply\n");
+    has_plan(&rt, short, "1 mrp: row 5: BadSupply\n")?;
     let own = "run,2026-01-05,7,1,,,,\nplant,A,,,,,,\nplant,B,,,,,,\nplant,C,,,,,,\n\
 pair,A,X,from:B:600:A:400,lot,0,0,0\n";
-    assert_eq!(rt; plan(alloc, own)?.as_str(), "1 mrp: row 5: SelfSource\n");
+    has_plan(&rt, own, "1 mrp: row 5: SelfSource\n")?;
     let missing = "run,2026-01-05,7,1,,,,\nplant,A,,,,,,\nplant,B,,,,,,\n\
 pair,A,X,from:B,lot,0,0,0\n";
-    assert_eq!(rt;
-        plan(alloc, missing)?.as_str(),
-        "1 mrp: row 4: UnknownPair\n"
-    );
+    has_plan(&rt, missing, "1 mrp: row 4: UnknownPair\n")?;
     Ok(())
 }

@@ -1,6 +1,6 @@
 //! Tables that are refused: the fault, its line and its status.
 
-use super::{codes, plan};
+use super::{has_codes, has_plan};
 use std::test::Fail;
 
 /// A make with a million pieces to one, at the bound.
@@ -26,15 +26,12 @@ pub(super) const OWN_LOOP: &str =
 fn loops_are_named(rt: HostRuntime) -> Result<(), Fail> {
     let between = "run,2026-01-05,7,1,,,,\nplant,A,,,,,,\nplant,B,,,,,,\n\
 pair,A,X,from:B,lot,0,0,0\npair,B,X,from:A,lot,0,0,0\n";
-    assert_eq!(rt;
-        plan(rt.alloc(), between)?.as_str(),
-        "1 mrp: loop A/X B/X\n"
-    );
-    assert_eq!(rt; plan(rt.alloc(), OWN_LOOP)?.as_str(), "1 mrp: loop A/X\n");
+    has_plan(&rt, between, "1 mrp: loop A/X B/X\n")?;
+    has_plan(&rt, OWN_LOOP, "1 mrp: loop A/X\n")?;
     let above = "run,2026-01-05,7,1,,,,\nplant,A,,,,,,\npair,A,W,buy,lot,0,0,0\n\
 pair,A,X,make,lot,0,0,0\npair,A,Y,make,lot,0,0,0\nbill,A,Y,X,1,,,\nbill,A,X,W,2,,,\n\
 bill,A,Y,W,1,,,\nbill,A,X,Y,1,,,\ndemand,A,Y,0,3,,,\n";
-    assert_eq!(rt; codes(rt.alloc(), above)?.as_str(), "1 mrp: loop A/X A/Y\n");
+    has_codes(&rt, above, "1 mrp: loop A/X A/Y\n")?;
     Ok(())
 }
 
@@ -42,15 +39,9 @@ bill,A,Y,W,1,,,\nbill,A,X,Y,1,,,\ndemand,A,Y,0,3,,,\n";
 fn quantities_end_at_the_bound(rt: HostRuntime) -> Result<(), Fail> {
     let rows = "plan,A,Y,0,2026-01-05,1000000000,0,1000000000,1000000000,0\n\
 plan,A,X,0,2026-01-05,1000000000000000,0,1000000000000000,1000000000000000,0\n";
-    assert_eq!(rt; plan(rt.alloc(), AT_THE_BOUND)?.as_str(), rows);
-    assert_eq!(rt;
-        plan(rt.alloc(), NEED_TOO_LARGE)?.as_str(),
-        "1 mrp: NeedTooLarge A/X\n"
-    );
-    assert_eq!(rt;
-        plan(rt.alloc(), SUPPLY_TOO_LARGE)?.as_str(),
-        "1 mrp: SupplyTooLarge A/Z\n"
-    );
+    has_plan(&rt, AT_THE_BOUND, rows)?;
+    has_plan(&rt, NEED_TOO_LARGE, "1 mrp: NeedTooLarge A/X\n")?;
+    has_plan(&rt, SUPPLY_TOO_LARGE, "1 mrp: SupplyTooLarge A/Z\n")?;
     Ok(())
 }
 
@@ -85,7 +76,7 @@ receipt,A,X,2,8,,,\ndemand,A,X,2,30,,,\n",
         ),
     ];
     for (table, line) in refused {
-        assert_eq!(rt; plan(rt.alloc(), table)?.as_str(), line);
+        has_plan(&rt, table, line)?;
     }
     Ok(())
 }

@@ -1,8 +1,9 @@
 //! Two plants with a shipment and a cumulative figure: rows twice, shares, resets, calendars, and a
 //! table cut anywhere.
 
-use super::{codes, pegs, plan};
+use super::{has_codes, has_pegs, has_plan};
 use std::alloc::{AllocError, Global};
+use std::process::Abort;
 use std::test::Fail;
 
 /// Two plants: A takes X from B.
@@ -20,10 +21,15 @@ plan,A,X,2,2026-01-19,30,8,22,0,0\nplan,A,X,3,2026-01-26,0,0,0,0,0\n\
 plan,B,X,0,2026-01-05,0,0,0,0,0\nplan,B,X,1,2026-01-12,22,0,22,22,0\n\
 plan,B,X,2,2026-01-19,0,0,0,0,0\nplan,B,X,3,2026-01-26,0,0,0,0,0\n";
 
-/// What is planned for the rows of a table after those of a head.
-fn plan_after(alloc: Global, head: &str, rows: &str) -> Result<String, AllocError> {
-    let table = format!(in alloc; "{head}{rows}")?;
-    plan(alloc, table.as_str())
+/// Asserts what is planned for the rows of a table after those of a head.
+fn has_plan_after<R: Abort + AllocGlobal>(
+    rt: &R,
+    head: &str,
+    rows: &str,
+    report: &str,
+) -> Result<(), AllocError> {
+    let table = format!(in rt.alloc(); "{head}{rows}")?;
+    has_plan(rt, table.as_str(), report)
 }
 
 #[test]
@@ -33,14 +39,14 @@ fn a_shipment_twice_comes_in_twice(rt: HostRuntime) -> Result<(), Fail> {
 plan,A,X,2,2026-01-19,30,16,14,0,0\nplan,A,X,3,2026-01-26,0,0,0,0,0\n\
 plan,B,X,0,2026-01-05,0,0,0,0,0\nplan,B,X,1,2026-01-12,14,0,14,14,0\n\
 plan,B,X,2,2026-01-19,0,0,0,0,0\nplan,B,X,3,2026-01-26,0,0,0,0,0\n";
-    assert_eq!(rt; plan_after(rt.alloc(), HEAD, rows)?.as_str(), wanted);
+    has_plan_after(&rt, HEAD, rows, wanted)?;
     Ok(())
 }
 
 #[test]
 fn a_reset_changes_no_plan(rt: HostRuntime) -> Result<(), Fail> {
     for reset in ["reset,B,A,X,1,,,\n", "reset,B,A,X,2,,,\n"] {
-        assert_eq!(rt; plan_after(rt.alloc(), FIRM, reset)?.as_str(), FIRM_PLAN);
+        has_plan_after(&rt, FIRM, reset, FIRM_PLAN)?;
     }
     Ok(())
 }
@@ -52,10 +58,10 @@ fn shipments_out_of_order(rt: HostRuntime) -> Result<(), Fail> {
 plan,A,X,2,2026-01-19,30,1,29,0,0\nplan,A,X,3,2026-01-26,0,8,0,0,8\n\
 plan,B,X,0,2026-01-05,0,0,0,0,0\nplan,B,X,1,2026-01-12,29,0,29,29,0\n\
 plan,B,X,2,2026-01-19,0,0,0,0,0\nplan,B,X,3,2026-01-26,0,0,0,0,0\n";
-    assert_eq!(rt; plan_after(rt.alloc(), HEAD, rows)?.as_str(), wanted);
+    has_plan_after(&rt, HEAD, rows, wanted)?;
     let table = format!(in rt.alloc(); "{HEAD}{rows}")?;
-    let reset = plan_after(rt.alloc(), table.as_str(), "reset,B,A,X,2,,,\n")?;
-    assert_eq!(rt; reset.as_str(), "1 mrp: row 10: ResetOrder\n");
+    let line = "1 mrp: row 10: ResetOrder\n";
+    has_plan_after(&rt, table.as_str(), "reset,B,A,X,2,,,\n", line)?;
     Ok(())
 }
 
@@ -68,11 +74,11 @@ fn small_releases_are_shared(rt: HostRuntime) -> Result<(), Fail> {
     let one = "plan,A,X,0,2026-01-05,1,0,1,1,0\nplan,B,X,0,2026-01-05,0,0,0,0,0\n\
 plan,C,X,0,2026-01-05,1,0,1,1,0\n";
     let demand = "demand,A,X,0,1,,,\n";
-    assert_eq!(rt; plan_after(rt.alloc(), SHARED, demand)?.as_str(), one);
+    has_plan_after(&rt, SHARED, demand, one)?;
     let two = "plan,A,X,0,2026-01-05,7,5,2,2,0\nplan,B,X,0,2026-01-05,1,0,1,1,0\n\
 plan,C,X,0,2026-01-05,1,0,1,1,0\n";
     let shipped = "demand,A,X,0,7,,,\nship,C,A,X,0,5,,\n";
-    assert_eq!(rt; plan_after(rt.alloc(), SHARED, shipped)?.as_str(), two);
+    has_plan_after(&rt, SHARED, shipped, two)?;
     Ok(())
 }
 
@@ -95,7 +101,7 @@ plan,A,X,2,2028-03-01,0,0,0,0,0\n",
         ),
     ];
     for (table, wanted) in runs {
-        assert_eq!(rt; plan(rt.alloc(), table)?.as_str(), wanted);
+        has_plan(&rt, table, wanted)?;
     }
     Ok(())
 }
@@ -103,11 +109,8 @@ plan,A,X,2,2028-03-01,0,0,0,0,0\n",
 #[test]
 fn a_run_alone_has_no_pairs(rt: HostRuntime) -> Result<(), Fail> {
     let run = "run,2026-01-05,7,1,,,,\n";
-    assert_eq!(rt; codes(rt.alloc(), run)?.as_str(), "");
-    assert_eq!(rt;
-        pegs(rt.alloc(), run, "A", "X", 0)?.as_str(),
-        "1 mrp: no pair\n"
-    );
+    has_codes(&rt, run, "")?;
+    has_pegs(&rt, run, ("A", "X", 0), "1 mrp: no pair\n")?;
     Ok(())
 }
 
@@ -117,10 +120,7 @@ fn a_loop_begins_with_its_first_pair(rt: HostRuntime) -> Result<(), Fail> {
 pair,A,X,make,lot,0,0,0\npair,A,Y,make,lot,0,0,0\npair,A,V,make,lot,0,0,0\n\
 pair,A,Z,make,lot,0,0,0\nbill,A,Z,W,1,,,\nbill,A,Z,Z,1,,,\nbill,A,X,Y,1,,,\nbill,A,Y,V,1,,,\n\
 bill,A,V,X,1,,,\nbill,A,V,W,1,,,\n";
-    assert_eq!(rt;
-        codes(rt.alloc(), table)?.as_str(),
-        "1 mrp: loop A/X A/Y A/V\n"
-    );
+    has_codes(&rt, table, "1 mrp: loop A/X A/Y A/V\n")?;
     Ok(())
 }
 
@@ -158,8 +158,7 @@ fn tables_cut_within_a_row(rt: HostRuntime) -> Result<(), Fail> {
         // A table cut before or after a line's end is one of whole rows.
         if bytes[count - 1] != b'\n' && bytes[count] != b'\n' {
             let front = std::str::from_utf8(&bytes[..count]).unwrap_or("");
-            let line = plan(rt.alloc(), front)?;
-            assert_eq!(rt; line.as_str(), cut_line(rt.alloc(), count)?.as_str());
+            has_plan(&rt, front, cut_line(rt.alloc(), count)?.as_str())?;
         }
     }
     Ok(())

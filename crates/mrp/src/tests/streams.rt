@@ -7,7 +7,7 @@ use mrp_text::{TextFault, check_text, cums_text, drive_text, peg_text, status};
 use std::alloc::Global;
 use std::io;
 use std::io::{ErrorKind, Read, Write};
-use std::test::Fail;
+use std::process::Abort;
 
 /// An order that is due within its lead time.
 const LATE: &str =
@@ -122,45 +122,71 @@ fn tells_the_read(answer: &Result<(), TextFault>, written: &[u8], fails: usize) 
     row_of(fault) == Some(row_awaited(fails)) && status(fault) == 3 && written.is_empty()
 }
 
+/// Asserts that it is so where the read or write of that number fails.
+fn is_so_at<R: Abort>(rt: &R, is_so: bool, call: usize) {
+    assert!(rt; is_so, "at call {call}");
+}
+
+/// Whether a plan tells the failed read.
+fn plan_tells(alloc: Global, fails: usize) -> bool {
+    let mut written = Vec::new(alloc);
+    let answer = drive_text(alloc, failing(fails), &mut written, 64);
+    tells_the_read(&answer, written.as_slice(), fails)
+}
+
 #[test]
 fn a_reader_that_fails(rt: HostRuntime) {
     for fails in 0..22usize {
-        let mut written = Vec::new(rt.alloc());
-        let answer = drive_text(rt.alloc(), failing(fails), &mut written, 64);
-        let told = tells_the_read(&answer, written.as_slice(), fails);
-        assert!(rt; told, "at read {fails}");
+        is_so_at(&rt, plan_tells(rt.alloc(), fails), fails);
     }
+}
+
+/// Whether the codes tell the failed read.
+fn codes_tell(alloc: Global, fails: usize) -> bool {
+    let mut written = Vec::new(alloc);
+    let answer = check_text(alloc, failing(fails), &mut written);
+    tells_the_read(&answer, written.as_slice(), fails)
+}
+
+/// Whether the terms of a requirement tell the failed read.
+fn pegs_tell(alloc: Global, fails: usize) -> bool {
+    let mut written = Vec::new(alloc);
+    let answer = peg_text(alloc, failing(fails), &mut written, "P1", "WHEEL", 2);
+    tells_the_read(&answer, written.as_slice(), fails)
 }
 
 #[test]
 fn a_reader_that_fails_before_codes_and_pegs(rt: HostRuntime) {
     for fails in 0..22usize {
-        let mut written = Vec::new(rt.alloc());
-        let answer = check_text(rt.alloc(), failing(fails), &mut written);
-        let told = tells_the_read(&answer, written.as_slice(), fails);
-        assert!(rt; told, "codes, at read {fails}");
-        let answer = peg_text(rt.alloc(), failing(fails), &mut written, "P1", "WHEEL", 2);
-        let told = tells_the_read(&answer, written.as_slice(), fails);
-        assert!(rt; told, "pegs, at read {fails}");
+        is_so_at(&rt, codes_tell(rt.alloc(), fails), fails);
+        is_so_at(&rt, pegs_tell(rt.alloc(), fails), fails);
     }
+}
+
+/// Whether the figures tell the failed read.
+fn figures_tell(alloc: Global, fails: usize) -> bool {
+    let mut written = Vec::new(alloc);
+    let answer = cums_text(alloc, failing(fails), &mut written);
+    tells_the_read(&answer, written.as_slice(), fails)
 }
 
 #[test]
 fn a_reader_that_fails_before_figures(rt: HostRuntime) {
     for fails in 0..22usize {
-        let mut written = Vec::new(rt.alloc());
-        let answer = cums_text(rt.alloc(), failing(fails), &mut written);
-        let told = tells_the_read(&answer, written.as_slice(), fails);
-        assert!(rt; told, "at read {fails}");
+        is_so_at(&rt, figures_tell(rt.alloc(), fails), fails);
     }
+}
+
+/// Whether the bicycle is planned where a read after the end of the text fails.
+fn plans_before_the_read(alloc: Global, fails: usize) -> bool {
+    let mut written = Vec::new(alloc);
+    let answer = drive_text(alloc, failing(fails), &mut written, 64);
+    answer.is_ok() && written.as_slice() == BICYCLE_PLAN.as_bytes()
 }
 
 #[test]
 fn a_reader_that_fails_after_the_end(rt: HostRuntime) {
-    let mut written = Vec::new(rt.alloc());
-    let answer = drive_text(rt.alloc(), failing(22), &mut written, 64);
-    assert!(rt; answer.is_ok());
-    assert_eq!(rt; written.as_slice(), BICYCLE_PLAN.as_bytes());
+    assert!(rt; plans_before_the_read(rt.alloc(), 22));
 }
 
 /// A writer that takes ten bytes a call; its call number `ends` fails, or takes nothing.
@@ -180,16 +206,18 @@ fn ended_in_front(answer: &Result<(), TextFault>, sink: &Sink, text: &[u8]) -> b
     matches!(answer, Err(TextFault::WriteFault)) && sink.taken.as_slice() == front
 }
 
+/// Whether the plan ends so.
+fn plan_ends(alloc: Global, ends: usize, takes_nothing: bool) -> bool {
+    let mut sink = ending(alloc, ends, takes_nothing);
+    let answer = drive_text(alloc, BICYCLE.as_bytes(), &mut sink, 64);
+    ended_in_front(&answer, &sink, BICYCLE_PLAN.as_bytes())
+}
+
 #[test]
 fn a_writer_that_ends(rt: HostRuntime) {
-    let alloc = rt.alloc();
-    for takes_nothing in [false, true] {
-        for ends in 0..30usize {
-            let mut sink = ending(alloc, ends, takes_nothing);
-            let answer = drive_text(alloc, BICYCLE.as_bytes(), &mut sink, 64);
-            let ended = ended_in_front(&answer, &sink, BICYCLE_PLAN.as_bytes());
-            assert!(rt; ended, "at write {ends}");
-        }
+    for ends in 0..30usize {
+        is_so_at(&rt, plan_ends(rt.alloc(), ends, false), ends);
+        is_so_at(&rt, plan_ends(rt.alloc(), ends, true), ends);
     }
 }
 
@@ -208,58 +236,59 @@ fn late_front(writes: usize) -> &'static [u8] {
     &text[..count.min(text.len())]
 }
 
+/// Whether the plan with a late order ends there.
+fn late_plan_ends(alloc: Global, ends: usize) -> bool {
+    let mut sink = ending(alloc, ends, false);
+    let answer = drive_text(alloc, LATE.as_bytes(), &mut sink, 64);
+    matches!(answer, Err(TextFault::WriteFault)) && sink.taken.as_slice() == late_front(ends)
+}
+
 #[test]
 fn a_writer_that_ends_in_the_late_rows(rt: HostRuntime) {
-    let alloc = rt.alloc();
     for ends in 0..9usize {
-        let mut sink = ending(alloc, ends, false);
-        let answer = drive_text(alloc, LATE.as_bytes(), &mut sink, 64);
-        assert!(rt;
-            matches!(answer, Err(TextFault::WriteFault)),
-            "at write {ends}"
-        );
-        let taken = sink.taken.as_slice();
-        assert_eq!(rt; taken, late_front(ends), "at write {ends}");
+        is_so_at(&rt, late_plan_ends(rt.alloc(), ends), ends);
     }
+}
+
+/// Whether the codes end there.
+fn codes_end(alloc: Global, ends: usize) -> bool {
+    let mut sink = ending(alloc, ends, false);
+    let answer = check_text(alloc, BICYCLE.as_bytes(), &mut sink);
+    ended_in_front(&answer, &sink, b"code,P1,BIKE,0\ncode,P1,WHEEL,1\n")
+}
+
+/// Whether the terms of a requirement end there.
+fn pegs_end(alloc: Global, ends: usize) -> bool {
+    let mut sink = ending(alloc, ends, false);
+    let answer = peg_text(alloc, BICYCLE.as_bytes(), &mut sink, "P1", "WHEEL", 2);
+    ended_in_front(&answer, &sink, b"peg,bill,P1,BIKE,10,2,20\n")
 }
 
 #[test]
 fn a_writer_that_ends_in_codes_and_pegs(rt: HostRuntime) {
-    let alloc = rt.alloc();
     for ends in 0..3usize {
-        let mut sink = ending(alloc, ends, false);
-        let answer = check_text(alloc, BICYCLE.as_bytes(), &mut sink);
-        let codes = b"code,P1,BIKE,0\ncode,P1,WHEEL,1\n";
-        assert!(rt;
-            ended_in_front(&answer, &sink, codes),
-            "codes, at write {ends}"
-        );
-        let mut sink = ending(alloc, ends, false);
-        let answer = peg_text(alloc, BICYCLE.as_bytes(), &mut sink, "P1", "WHEEL", 2);
-        let pegs = b"peg,bill,P1,BIKE,10,2,20\n";
-        assert!(rt;
-            ended_in_front(&answer, &sink, pegs),
-            "pegs, at write {ends}"
-        );
+        is_so_at(&rt, codes_end(rt.alloc(), ends), ends);
+        is_so_at(&rt, pegs_end(rt.alloc(), ends), ends);
     }
+}
+
+/// Whether the figures end so.
+fn figures_end(alloc: Global, ends: usize, takes_nothing: bool) -> bool {
+    let mut sink = ending(alloc, ends, takes_nothing);
+    let answer = cums_text(alloc, FIRM_OF_TWO.as_bytes(), &mut sink);
+    ended_in_front(&answer, &sink, FIRM_OF_TWO_CUMS.as_bytes())
 }
 
 #[test]
 fn a_writer_that_ends_in_figures(rt: HostRuntime) {
-    let alloc = rt.alloc();
-    for takes_nothing in [false, true] {
-        for ends in 0..7usize {
-            let mut sink = ending(alloc, ends, takes_nothing);
-            let answer = cums_text(alloc, FIRM_OF_TWO.as_bytes(), &mut sink);
-            let ended = ended_in_front(&answer, &sink, FIRM_OF_TWO_CUMS.as_bytes());
-            assert!(rt; ended, "at write {ends}");
-        }
+    for ends in 0..7usize {
+        is_so_at(&rt, figures_end(rt.alloc(), ends, false), ends);
+        is_so_at(&rt, figures_end(rt.alloc(), ends, true), ends);
     }
 }
 
-#[test]
-fn a_writer_of_single_bytes(rt: HostRuntime) {
-    let alloc = rt.alloc();
+/// Whether the bicycle is planned to a writer that takes one byte a call.
+fn plans_byte_by_byte(alloc: Global) -> bool {
     let mut sink = Sink {
         taken: Vec::new(alloc),
         step: 1,
@@ -268,6 +297,10 @@ fn a_writer_of_single_bytes(rt: HostRuntime) {
         takes_nothing: false,
     };
     let answer = drive_text(alloc, BICYCLE.as_bytes(), &mut sink, 1);
-    assert!(rt; answer.is_ok());
-    assert_eq!(rt; sink.taken.as_slice(), BICYCLE_PLAN.as_bytes());
+    answer.is_ok() && sink.taken.as_slice() == BICYCLE_PLAN.as_bytes()
+}
+
+#[test]
+fn a_writer_of_single_bytes(rt: HostRuntime) {
+    assert!(rt; plans_byte_by_byte(rt.alloc()));
 }

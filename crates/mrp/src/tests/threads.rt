@@ -2,8 +2,8 @@
 
 use super::figures::{ANEW, FIRM_OF_TWO, SPLIT};
 use super::firms::THREE_PLANTS;
-use super::plans::{RING, SUPPLIER};
-use super::{BICYCLE, plan, threaded};
+use super::plans::{FIRM_OF_TWO_PLAN, RING, SUPPLIER};
+use super::{BICYCLE, is_report, plan, threaded};
 use mrp_text::{Gate, NoGate, Settings};
 use std::alloc::Global;
 use std::sync::Wait;
@@ -84,23 +84,33 @@ impl Gate for Together {
     }
 }
 
-/// Whether threads write what one thread writes, for each of the tables.
-fn all_are_the_same<T: Threads + Wait + Sync>(
+/// Whether threads write what one thread writes of a table.
+pub(super) fn writes_the_same<T: Threads + Wait + Sync>(
     rt: &T,
     alloc: Global,
+    table: &str,
     workers: u64,
     capacity: u64,
 ) -> Result<bool, Fail> {
     let Some(settings) = Settings::new(workers, capacity) else {
         return Ok(false);
     };
+    let rows = threaded(rt, alloc, table, settings, &NoGate)?;
+    Ok(rows.as_str() == plan(alloc, table)?.as_str())
+}
+
+/// Whether that is so of each of the tables.
+fn all_are_the_same<T: Threads + Wait + Sync>(
+    rt: &T,
+    alloc: Global,
+    workers: u64,
+    capacity: u64,
+) -> Result<bool, Fail> {
+    let mut all = true;
     for table in TABLES {
-        let rows = threaded(rt, alloc, table, settings, &NoGate)?;
-        if rows.as_str() != plan(alloc, table)?.as_str() {
-            return Ok(false);
-        }
+        all = writes_the_same(rt, alloc, table, workers, capacity)? && all;
     }
-    Ok(true)
+    Ok(all)
 }
 
 /// What is written of two plants with one worker each, a record a mailbox and this gate.
@@ -139,9 +149,9 @@ fn all_workers(rt: HostRuntime) -> Result<(), Fail> {
 #[test]
 fn a_shut_gate_is_named(rt: HostRuntime) -> Result<(), Fail> {
     let first = gated(&rt, rt.alloc(), &ShutFor { plant: 0 })?;
-    assert_eq!(rt; first.as_str(), "3 mrp: GateShut A\n");
+    is_report(&rt, first, "3 mrp: GateShut A\n");
     let second = gated(&rt, rt.alloc(), &ShutFor { plant: 1 })?;
-    assert_eq!(rt; second.as_str(), "3 mrp: GateShut B\n");
+    is_report(&rt, second, "3 mrp: GateShut B\n");
     Ok(())
 }
 
@@ -157,7 +167,6 @@ fn plants_take_their_turns_together(rt: HostRuntime) -> Result<(), Fail> {
     let together = Together {
         asked: [AtomicBool::new(false), AtomicBool::new(false)],
     };
-    let rows = gated(&rt, rt.alloc(), &together)?;
-    assert_eq!(rt; rows.as_str(), plan(rt.alloc(), FIRM_OF_TWO)?.as_str());
+    is_report(&rt, gated(&rt, rt.alloc(), &together)?, FIRM_OF_TWO_PLAN);
     Ok(())
 }

@@ -108,10 +108,12 @@ fn takes_them(agent: &mut Agent) -> bool {
 /// Whether the first agent of a network takes them.
 fn first_takes_them(alloc: Global, net: &SizedNet) -> Result<bool, Fail> {
     let mut agents = agents_of(alloc, net)?;
-    if agents.is_empty() {
-        return Ok(false);
-    }
-    Ok(takes_them(&mut agents[0]))
+    let is_so = match agents.first_mut() {
+        Some(agent) => takes_them(agent),
+        None => false,
+    };
+    drop(agents);
+    Ok(is_so)
 }
 
 /// The same, once the network is checked.
@@ -121,9 +123,16 @@ fn network_takes_them(alloc: Global, network: &Network) -> Result<bool, Fail> {
     first_takes_them(alloc, &net)
 }
 
+/// The same of the firm of two plants.
+fn two_plants_take_them(rt: &HostRuntime) -> Result<bool, Fail> {
+    let network = network(rt, TWO_PLANTS)?;
+    let is_so = network_takes_them(rt.alloc(), &network);
+    drop(network);
+    is_so
+}
+
 #[test]
 fn a_million_lines_are_booked(rt: HostRuntime) -> Result<(), Fail> {
-    let network = network(&rt, TWO_PLANTS)?;
-    assert!(rt; network_takes_them(rt.alloc(), &network)?);
+    assert!(rt; two_plants_take_them(&rt)?);
     Ok(())
 }

@@ -198,7 +198,9 @@ pub(super) fn takes(network: &Network, agents: &mut [Agent], deeds: &[Deed]) -> 
 /// Whether the agents of a network take the deeds so.
 fn agents_take(alloc: Global, net: &SizedNet, deeds: &[Deed]) -> Result<bool, Fail> {
     let mut agents = agents_of(alloc, net)?;
-    Ok(takes(net.network(), agents.as_mut_slice(), deeds))
+    let is_so = takes(net.network(), agents.as_mut_slice(), deeds);
+    drop(agents);
+    Ok(is_so)
 }
 
 /// The same, once the network is checked.
@@ -211,5 +213,7 @@ fn network_takes(alloc: Global, network: &Network, deeds: &[Deed]) -> Result<boo
 /// The same of the network of a table's text.
 pub(super) fn go(rt: &HostRuntime, table: &str, deeds: &[Deed]) -> Result<bool, Fail> {
     let network = network(rt, table)?;
-    network_takes(rt.alloc(), &network, deeds)
+    let is_so = network_takes(rt.alloc(), &network, deeds);
+    drop(network);
+    is_so
 }

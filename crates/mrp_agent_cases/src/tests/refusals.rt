@@ -61,7 +61,9 @@ fn are_one(plans: &[PairPlan], orders: &[u64]) -> bool {
 fn made_agents_go_on(alloc: Global, net: &SizedNet) -> Result<bool, Fail> {
     let mut agents = agents_of(alloc, net)?;
     let went_on = go_on(net.network(), agents.as_mut_slice());
-    Ok(went_on && gives(&mut agents, &[0, 22, 0, 0]))
+    let is_so = went_on && gives(&mut agents, &[0, 22, 0, 0]);
+    drop(agents);
+    Ok(is_so)
 }
 
 /// The same, once the network is checked.
@@ -71,11 +73,18 @@ fn network_goes_on(alloc: Global, network: &Network) -> Result<bool, Fail> {
     made_agents_go_on(alloc, &net)
 }
 
+/// The same of a firm whose figures start anew later.
+fn a_firm_goes_on(rt: &HostRuntime) -> Result<bool, Fail> {
+    let network = network(rt, RESET_LATER)?;
+    let is_so = network_goes_on(rt.alloc(), &network);
+    drop(network);
+    is_so
+}
+
 /// With an allocation refused, or with all from one on, this test ends in an error for want of memory
 /// before the agents are made, or it passes; its assertion never fails.
 #[test]
 fn agents_that_are_made_need_no_memory(rt: HostRuntime) -> Result<(), Fail> {
-    let network = network(&rt, RESET_LATER)?;
-    assert!(rt; network_goes_on(rt.alloc(), &network)?);
+    assert!(rt; a_firm_goes_on(&rt)?);
     Ok(())
 }

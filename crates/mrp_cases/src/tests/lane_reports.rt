@@ -67,10 +67,12 @@ fn rows_of_x(alloc: Global, network: &Network, rows: &[LaneRow]) -> bool {
 
 /// Whether each row is the report of the figures of X on its lane of a table.
 fn are_reported(alloc: Global, table: &str, rows: &[LaneRow]) -> bool {
-    match network_of(alloc, table) {
-        Some(network) => rows_of_x(alloc, &network, rows),
-        None => false,
-    }
+    let Some(network) = network_of(alloc, table) else {
+        return false;
+    };
+    let is_so = rows_of_x(alloc, &network, rows);
+    drop(network);
+    is_so
 }
 
 #[test]

@@ -5,12 +5,15 @@ use mrp_qty::Qty;
 
 #[test]
 fn a_lot_covers_the_need(rt: HostRuntime) {
-    assert_eq!(rt; lot(&Rule::LotForLot, Qty::of(3), Qty::of(9)).get(), 3);
-    assert_eq!(rt;
-        lot(&Rule::MinMultiple(20, 6), Qty::of(3), Qty::ZERO).get(),
-        24
-    );
-    assert_eq!(rt; lot(&Rule::Fixed(50), Qty::of(100), Qty::ZERO).get(), 100);
-    assert_eq!(rt; lot(&Rule::Fixed(50), Qty::of(101), Qty::ZERO).get(), 150);
-    assert_eq!(rt; lot(&Rule::Periods(2), Qty::of(3), Qty::of(9)).get(), 9);
+    let orders = [
+        (Rule::LotForLot, 3, 9, 3),
+        (Rule::MinMultiple(20, 6), 3, 0, 24),
+        (Rule::Fixed(50), 100, 0, 100),
+        (Rule::Fixed(50), 101, 0, 150),
+        (Rule::Periods(2), 3, 9, 9),
+    ];
+    for (rule, need, greatest, order) in orders {
+        let ordered = lot(&rule, Qty::of(need), Qty::of(greatest)).get();
+        assert_eq!(rt; ordered, order);
+    }
 }

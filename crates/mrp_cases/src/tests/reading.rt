@@ -4,14 +4,29 @@ use mrp_cal::CalFault;
 use mrp_rows::{PairNo, PlantNo, Supply, Tables};
 use mrp_tables::{TableFaultKind, read_tables_uncounted};
 use mrp_worked::{BICYCLE, RESET_AT_RELEASE};
+use std::alloc::{AllocError, Global};
+use std::process::Abort;
 use std::test::Fail;
 
 /// The row and the fault that a text is refused for, or `None` where it is a table.
-fn fault_of(rt: &HostRuntime, text: &[u8]) -> Option<(u64, TableFaultKind)> {
-    match read_tables_uncounted(rt.alloc(), text) {
-        Ok(_) => None,
+pub(super) fn fault_of(alloc: Global, text: &[u8]) -> Option<(u64, TableFaultKind)> {
+    match read_tables_uncounted(alloc, text) {
+        Ok(table) => {
+            drop(table);
+            None
+        }
         Err(fault) => Some((fault.row, fault.kind)),
     }
+}
+
+/// Asserts that the text is refused at that row for that fault.
+pub(super) fn is_refused<R: Abort + AllocGlobal>(
+    rt: &R,
+    text: &[u8],
+    row: u64,
+    kind: TableFaultKind,
+) {
+    assert_eq!(rt; fault_of(rt.alloc(), text), Some((row, kind)));
 }
 
 /// Whether the table has the rows of the bicycle.
@@ -41,10 +56,46 @@ fn has_bicycle_names(table: &Tables) -> bool {
         && table.find_plant("P2").is_none()
 }
 
+/// Whether the table's four sources follow one another by quarters.
+fn has_four_shares(table: &Tables) -> bool {
+    table.sources().len() == 4
+        && table.sources()[0].high == 250
+        && table.sources()[1].low == 250
+        && table.sources()[2].high == 750
+        && table.sources()[3].low == 750
+        && table.sources()[3].high == 1000
+}
+
+/// What is asked of a table.
+#[derive(Clone, Copy)]
+enum Question {
+    Bicycle,
+    BetweenPlants,
+    TwoShares,
+    FourShares,
+}
+
+/// Whether it is so.
+fn is_so(table: &Tables, question: Question) -> bool {
+    match question {
+        Question::Bicycle => has_bicycle_rows(table) && has_bicycle_names(table),
+        Question::BetweenPlants => has_rows_between_plants(table),
+        Question::TwoShares => has_two_shares(table),
+        Question::FourShares => has_four_shares(table),
+    }
+}
+
+/// Whether it is so of what is read of a text.
+fn is_so_of(alloc: Global, text: &str, question: Question) -> Result<bool, Fail> {
+    let table = read_tables_uncounted(alloc, text.as_bytes())?;
+    let is_so = is_so(&table, question);
+    drop(table);
+    Ok(is_so)
+}
+
 #[test]
 fn a_bicycle_is_read(rt: HostRuntime) -> Result<(), Fail> {
-    let table = read_tables_uncounted(rt.alloc(), BICYCLE.as_bytes())?;
-    assert!(rt; has_bicycle_rows(&table) && has_bicycle_names(&table));
+    assert!(rt; is_so_of(rt.alloc(), BICYCLE, Question::Bicycle)?);
     Ok(())
 }
 
@@ -63,8 +114,7 @@ fn has_rows_between_plants(table: &Tables) -> bool {
 
 #[test]
 fn a_firm_is_read(rt: HostRuntime) -> Result<(), Fail> {
-    let table = read_tables_uncounted(rt.alloc(), RESET_AT_RELEASE.as_bytes())?;
-    assert!(rt; has_rows_between_plants(&table));
+    assert!(rt; is_so_of(rt.alloc(), RESET_AT_RELEASE, Question::BetweenPlants)?);
     Ok(())
 }
 
@@ -79,7 +129,7 @@ fn has_two_shares(table: &Tables) -> bool {
 
 #[test]
 fn a_pair_may_have_two_sources(rt: HostRuntime) -> Result<(), Fail> {
-    let text: &[u8] = b"run,2026-01-05,7,1,,,,
+    let text = "run,2026-01-05,7,1,,,,
 plant,A,,,,,,
 plant,B,,,,,,
 plant,C,,,,,,
@@ -87,15 +137,32 @@ pair,A,X,from:B:600:C:400,lot,0,0,0
 pair,B,X,buy,fixed:50,0,0,0
 pair,C,X,buy,min:20:5,0,0,0
 ";
-    let table = read_tables_uncounted(rt.alloc(), text)?;
-    assert!(rt; has_two_shares(&table));
+    assert!(rt; is_so_of(rt.alloc(), text, Question::TwoShares)?);
+    Ok(())
+}
+
+#[test]
+fn a_pair_may_have_four_sources(rt: HostRuntime) -> Result<(), Fail> {
+    let text = "run,2026-01-05,7,1,,,,
+plant,A,,,,,,
+plant,B,,,,,,
+plant,C,,,,,,
+plant,D,,,,,,
+plant,E,,,,,,
+pair,A,X,from:B:250:C:250:D:250:E:250,lot,0,0,0
+pair,B,X,buy,lot,0,0,0
+pair,C,X,buy,lot,0,0,0
+pair,D,X,buy,lot,0,0,0
+pair,E,X,buy,lot,0,0,0
+";
+    assert!(rt; is_so_of(rt.alloc(), text, Question::FourShares)?);
     Ok(())
 }
 
 #[test]
 fn the_form_of_a_row_is_tested_first(rt: HostRuntime) {
     let no_text: &[u8] = b"run,2026-01-05,7,4,,,,\nplant,\xff,,,,,,\n";
-    assert_eq!(rt; fault_of(&rt, no_text), Some((2, TableFaultKind::NotUtf8)));
+    is_refused(&rt, no_text, 2, TableFaultKind::NotUtf8);
     let refused = [
         ("", 0, TableFaultKind::Empty),
         (
@@ -127,12 +194,18 @@ fn the_form_of_a_row_is_tested_first(rt: HostRuntime) {
         ("run,2026-01-05,7,0,,,,\n", 1, TableFaultKind::BadNumber),
     ];
     for (text, row, kind) in refused {
-        assert_eq!(rt; fault_of(&rt, text.as_bytes()), Some((row, kind)));
+        is_refused(&rt, text.as_bytes(), row, kind);
     }
 }
 
-/// What one more row after those of a firm with a made and a taken pair is refused for.
-fn refusal(rt: &HostRuntime, row: &str) -> Result<Option<(u64, TableFaultKind)>, Fail> {
+/// Asserts that further rows after those of a firm with a made and a taken pair are refused at that row
+/// for that fault.
+fn are_refused<R: Abort + AllocGlobal>(
+    rt: &R,
+    rows: &str,
+    row: u64,
+    kind: TableFaultKind,
+) -> Result<(), AllocError> {
     let head = "run,2026-01-05,7,4,,,,
 plant,A,,,,,,
 plant,B,,,,,,
@@ -140,8 +213,9 @@ pair,A,X,make,lot,1,0,0
 pair,A,Y,from:B,lot,1,0,0
 pair,B,Y,buy,lot,0,0,0
 ";
-    let text = format!(in rt.alloc(); "{head}{row}")?;
-    Ok(fault_of(rt, text.as_bytes()))
+    let text = format!(in rt.alloc(); "{head}{rows}")?;
+    is_refused(rt, text.as_bytes(), row, kind);
+    Ok(())
 }
 
 #[test]
@@ -170,7 +244,7 @@ fn pair_rows_are_tested_against_the_rows_before_them(rt: HostRuntime) -> Result<
         ("pair,A,Z,from:B,lot,0,0,0", TableFaultKind::UnknownPair),
     ];
     for (row, kind) in refused {
-        assert_eq!(rt; refusal(&rt, row)?, Some((7, kind)));
+        are_refused(&rt, row, 7, kind)?;
     }
     Ok(())
 }
@@ -187,7 +261,7 @@ fn other_rows_are_tested_against_the_rows_before_them(rt: HostRuntime) -> Result
         ("cum,B,A", TableFaultKind::FieldCount),
     ];
     for (row, kind) in refused {
-        assert_eq!(rt; refusal(&rt, row)?, Some((7, kind)));
+        are_refused(&rt, row, 7, kind)?;
     }
     Ok(())
 }
@@ -208,10 +282,10 @@ fn each_kind_of_row_has_names_and_numbers(rt: HostRuntime) -> Result<(), Fail> {
         ("reset,B,A,Y,4,,,", TableFaultKind::BadNumber),
     ];
     for (row, kind) in refused {
-        assert_eq!(rt; refusal(&rt, row)?, Some((7, kind)));
+        are_refused(&rt, row, 7, kind)?;
     }
     let no_name: &[u8] = b"run,2026-01-05,7,4,,,,\nplant,A B,,,,,,\n";
-    assert_eq!(rt; fault_of(&rt, no_name), Some((2, TableFaultKind::BadName)));
+    is_refused(&rt, no_name, 2, TableFaultKind::BadName);
     Ok(())
 }
 
@@ -233,22 +307,19 @@ fn each_kind_of_row_names_what_is_there(rt: HostRuntime) -> Result<(), Fail> {
         ("reset,A,B,Y,1,,,", TableFaultKind::NotSourced),
     ];
     for (row, kind) in refused {
-        assert_eq!(rt; refusal(&rt, row)?, Some((7, kind)));
+        are_refused(&rt, row, 7, kind)?;
     }
     let twice = "bill,A,X,Y,1,,,\nbill,A,X,Y,2,,,";
-    assert_eq!(rt; refusal(&rt, twice)?, Some((8, TableFaultKind::Repeated)));
+    are_refused(&rt, twice, 8, TableFaultKind::Repeated)?;
     Ok(())
 }
 
 #[test]
 fn shipments_of_new_figures_stand_in_order(rt: HostRuntime) -> Result<(), Fail> {
     let out_of_order = "ship,B,A,Y,2,8,,\nship,B,A,Y,1,8,,\nreset,B,A,Y,1,,,\n";
-    assert_eq!(rt;
-        refusal(&rt, out_of_order)?,
-        Some((9, TableFaultKind::ResetOrder))
-    );
+    are_refused(&rt, out_of_order, 9, TableFaultKind::ResetOrder)?;
     let twice = "reset,B,A,Y,1,,,\nreset,B,A,Y,2,,,\n";
-    assert_eq!(rt; refusal(&rt, twice)?, Some((8, TableFaultKind::Repeated)));
+    are_refused(&rt, twice, 8, TableFaultKind::Repeated)?;
     Ok(())
 }
 
@@ -265,11 +336,8 @@ fn plants(rt: &HostRuntime, count: u64) -> Result<String, Fail> {
 #[test]
 fn a_table_has_64_plants_at_most(rt: HostRuntime) -> Result<(), Fail> {
     let most = plants(&rt, 64)?;
-    assert_eq!(rt; fault_of(&rt, most.as_bytes()), None);
+    assert!(rt; fault_of(rt.alloc(), most.as_bytes()).is_none());
     let more = plants(&rt, 65)?;
-    assert_eq!(rt;
-        fault_of(&rt, more.as_bytes()),
-        Some((66, TableFaultKind::TooMany))
-    );
+    is_refused(&rt, more.as_bytes(), 66, TableFaultKind::TooMany);
     Ok(())
 }

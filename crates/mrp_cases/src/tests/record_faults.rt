@@ -32,6 +32,7 @@ fn are_refused(alloc: Global, rows: &[(&str, u64, RecordFaultKind)]) -> bool {
     for (text, row, kind) in rows {
         all = is_refused(alloc, &network, text.as_bytes(), *row, *kind) && all;
     }
+    drop(network);
     all
 }
 
@@ -67,7 +68,9 @@ fn no_text_is_refused(alloc: Global) -> bool {
         return false;
     };
     let row: &[u8] = b"line,1,\xff,2,8,108\n";
-    is_refused(alloc, &network, row, 1, RecordFaultKind::NotUtf8)
+    let is_so = is_refused(alloc, &network, row, 1, RecordFaultKind::NotUtf8);
+    drop(network);
+    is_so
 }
 
 #[test]
@@ -115,6 +118,7 @@ fn all_fail_in(alloc: Global, rows: &[(usize, u64)]) -> bool {
     for (fails, row) in rows {
         all = fails_in(alloc, &network, *fails, *row) && all;
     }
+    drop(network);
     all
 }
 
@@ -167,12 +171,13 @@ fn all_are_read(alloc: Global, network: &Network, rows: usize) -> bool {
 
 /// Whether the firm's network reads four million records and refuses one more.
 fn limit_is_kept(alloc: Global) -> bool {
-    match network_of(alloc, TWO_PLANTS) {
-        Some(network) => {
-            all_are_read(alloc, &network, 4_000_000) && last_is_refused(alloc, &network, 4_000_001)
-        }
-        None => false,
-    }
+    let Some(network) = network_of(alloc, TWO_PLANTS) else {
+        return false;
+    };
+    let is_so = all_are_read(alloc, &network, 4_000_000)
+        && last_is_refused(alloc, &network, 4_000_001);
+    drop(network);
+    is_so
 }
 
 #[test]

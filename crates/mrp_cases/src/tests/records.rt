@@ -109,10 +109,12 @@ fn despatches_are_answered(
     reset: Option<u64>,
     rows: &[(&str, Option<BookFault>)],
 ) -> bool {
-    match network_of(alloc, TWO_PLANTS) {
-        Some(network) => new_book_answers(alloc, &network, opening, reset, rows),
-        None => false,
-    }
+    let Some(network) = network_of(alloc, TWO_PLANTS) else {
+        return false;
+    };
+    let is_so = new_book_answers(alloc, &network, opening, reset, rows);
+    drop(network);
+    is_so
 }
 
 #[test]
@@ -200,10 +202,12 @@ fn new_book_has_figures(alloc: Global, network: &Network, rows: &[(&str, u64, u6
 
 /// The same of B's despatches.
 fn despatches_have_figures(alloc: Global, rows: &[(&str, u64, u64)]) -> bool {
-    match network_of(alloc, TWO_PLANTS) {
-        Some(network) => new_book_has_figures(alloc, &network, rows),
-        None => false,
-    }
+    let Some(network) = network_of(alloc, TWO_PLANTS) else {
+        return false;
+    };
+    let is_so = new_book_has_figures(alloc, &network, rows);
+    drop(network);
+    is_so
 }
 
 #[test]
@@ -290,6 +294,7 @@ fn lanes_are_taken(alloc: Global, table: &str, lanes: &[LaneText]) -> bool {
     for lane in lanes {
         all = is_lane_taken(alloc, &network, lane) && all;
     }
+    drop(network);
     all
 }
 
@@ -411,6 +416,7 @@ fn texts_of_one_are_taken(alloc: Global, texts: &[(LaneKind, &str)]) -> bool {
     for (kind, text) in texts {
         all = text_of_one_is_taken(alloc, &network, *kind, text) && all;
     }
+    drop(network);
     all
 }
 
@@ -423,6 +429,7 @@ fn texts_of_two_are_taken(alloc: Global, texts: &[(LaneKind, &str)]) -> bool {
     for (kind, text) in texts {
         all = text_of_two_is_taken(alloc, &network, *kind, text) && all;
     }
+    drop(network);
     all
 }
 
@@ -479,6 +486,7 @@ fn are_newly_answered(alloc: Global, rows: &[(&str, &[Option<BookFault>])]) -> b
     for (text, wanted) in rows {
         all = is_newly_answered(alloc, &network, text, wanted) && all;
     }
+    drop(network);
     all
 }
 

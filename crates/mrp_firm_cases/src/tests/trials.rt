@@ -68,5 +68,7 @@ fn network_of(alloc: Global, text: &str) -> Result<Network, Fail> {
 /// The same of the network of a table's text.
 pub(super) fn holds_of(alloc: Global, table: &str, trial: Trial<'_>) -> Result<bool, Fail> {
     let network = network_of(alloc, table)?;
-    holds_in_network(alloc, &network, trial)
+    let is_so = holds_in_network(alloc, &network, trial);
+    drop(network);
+    is_so
 }

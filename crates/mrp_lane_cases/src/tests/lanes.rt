@@ -633,7 +633,9 @@ fn holds_of<R: Threads + Wait + Sync>(
     trial: Trial,
 ) -> Result<bool, Fail> {
     let network = network_of(alloc, text)?;
-    holds_in_network(rt, alloc, &network, trial)
+    let is_so = holds_in_network(rt, alloc, &network, trial);
+    drop(network);
+    is_so
 }
 
 /// Whether the shipments of the busy firm come over a mailbox of that room.

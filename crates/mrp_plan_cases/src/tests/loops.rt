@@ -18,7 +18,9 @@ fn are_codes(alloc: Global, network: &Network, codes: &[u64]) -> Result<bool, Fa
 /// Whether the pairs of a table without loops have these low-level codes, in table order.
 fn has_codes(alloc: Global, text: &str, codes: &[u64]) -> Result<bool, Fail> {
     let network = network(alloc, text)?;
-    are_codes(alloc, &network, codes)
+    let are_so = are_codes(alloc, &network, codes);
+    drop(network);
+    are_so
 }
 
 /// Whether the pairs are those at the places.
@@ -37,7 +39,9 @@ fn is_refused_for(alloc: Global, network: &Network, places: &[usize]) -> bool {
 /// Whether the check of a table's network answers the loop of these places in the table.
 fn has_loop(alloc: Global, text: &str, places: &[usize]) -> Result<bool, Fail> {
     let network = network(alloc, text)?;
-    Ok(is_refused_for(alloc, &network, places))
+    let is_so = is_refused_for(alloc, &network, places);
+    drop(network);
+    Ok(is_so)
 }
 
 #[test]
@@ -106,7 +110,9 @@ fn need_above_the_bound(alloc: Global, network: &Network) -> Result<Option<usize
 /// The same of the network of a table's text.
 fn pair_above_the_bound(alloc: Global, text: &str) -> Result<Option<usize>, Fail> {
     let network = network(alloc, text)?;
-    need_above_the_bound(alloc, &network)
+    let above = need_above_the_bound(alloc, &network);
+    drop(network);
+    above
 }
 
 #[test]

@@ -96,7 +96,9 @@ fn a_minimum_and_a_multiple(rt: HostRuntime) -> Result<(), Fail> {
         safety: Qty::of(5),
     };
     let plan = planned(rt.alloc(), &params, &[0, 0, 0], &[10, 10, 10])?;
-    assert!(rt; keeps_a_minimum_and_a_multiple(&plan));
+    let is_so = keeps_a_minimum_and_a_multiple(&plan);
+    drop(plan);
+    assert!(rt; is_so);
     Ok(())
 }
 
@@ -120,7 +122,9 @@ fn is_late(plan: &PairPlan) -> bool {
 /// Whether a copy of a plan says so, too.
 fn is_late_in_copy(alloc: Global, plan: &PairPlan) -> Result<bool, Fail> {
     let copy = plan.copy(alloc)?;
-    Ok(is_late(&copy))
+    let is_so = is_late(&copy);
+    drop(copy);
+    Ok(is_so)
 }
 
 #[test]
@@ -130,21 +134,28 @@ fn an_order_is_late(rt: HostRuntime) -> Result<(), Fail> {
         ..pair(Rule::LotForLot)
     };
     let plan = planned(rt.alloc(), &params, &[0, 0], &[0, 7])?;
-    assert!(rt; is_late(&plan));
-    assert!(rt; is_late_in_copy(rt.alloc(), &plan)?);
+    let is_so = is_late(&plan);
+    let is_so_in_copy = is_late_in_copy(rt.alloc(), &plan);
+    drop(plan);
+    let is_so_in_copy = is_so_in_copy?;
+    assert!(rt; is_so && is_so_in_copy);
     Ok(())
 }
 
 /// Whether 5, 7 and 9 pieces are ordered by 12 and 9.
 fn are_ordered_by_two_orders(alloc: Global) -> Result<bool, Fail> {
     let plan = planned(alloc, &pair(Rule::Periods(2)), &[0, 0, 0], &[5, 7, 9])?;
-    Ok(shows(plan.order(), &[12, 0, 9]) && shows(plan.available(), &[7, 0, 0]))
+    let are_so = shows(plan.order(), &[12, 0, 9]) && shows(plan.available(), &[7, 0, 0]);
+    drop(plan);
+    Ok(are_so)
 }
 
 /// Whether 5 and 3 pieces are ordered by 5 where 9 come in for the 3.
 fn are_ordered_by_one_order(alloc: Global) -> Result<bool, Fail> {
     let plan = planned(alloc, &pair(Rule::Periods(2)), &[0, 9], &[5, 3])?;
-    Ok(shows(plan.order(), &[5, 0]) && shows(plan.available(), &[0, 6]))
+    let are_so = shows(plan.order(), &[5, 0]) && shows(plan.available(), &[0, 6]);
+    drop(plan);
+    Ok(are_so)
 }
 
 #[test]
@@ -170,7 +181,9 @@ fn a_plan_is_used_again(rt: HostRuntime) -> Result<(), Fail> {
         ..pair(Rule::LotForLot)
     };
     let mut plan = planned(rt.alloc(), &late, &[0, 0], &[4, 7])?;
-    assert!(rt; is_used_again(rt.alloc(), &mut plan)?);
+    let is_so = is_used_again(rt.alloc(), &mut plan);
+    drop(plan);
+    assert!(rt; is_so?);
     Ok(())
 }
 
@@ -190,7 +203,9 @@ fn a_textbook_record_with_a_fixed_quantity(rt: HostRuntime) -> Result<(), Fail> 
         safety: Qty::ZERO,
     };
     let plan = planned(rt.alloc(), &params, &[50, 0, 0, 0, 0], &[0, 10, 0, 40, 10])?;
-    assert!(rt; is_the_textbook_record(&plan));
+    let is_so = is_the_textbook_record(&plan);
+    drop(plan);
+    assert!(rt; is_so);
     Ok(())
 }
 
@@ -198,7 +213,9 @@ fn a_textbook_record_with_a_fixed_quantity(rt: HostRuntime) -> Result<(), Fail> 
 fn fixed_quantities_over_ten_periods(rt: HostRuntime) -> Result<(), Fail> {
     let gross = [20, 50, 10, 50, 50, 10, 20, 40, 20, 30];
     let plan = planned(rt.alloc(), &pair(Rule::Fixed(100)), &[0; 10], &gross)?;
-    assert!(rt; shows(plan.order(), &[100, 0, 0, 100, 0, 0, 100, 0, 0, 0]));
+    let are_so = shows(plan.order(), &[100, 0, 0, 100, 0, 0, 100, 0, 0, 0]);
+    drop(plan);
+    assert!(rt; are_so);
     Ok(())
 }
 
@@ -206,11 +223,9 @@ fn fixed_quantities_over_ten_periods(rt: HostRuntime) -> Result<(), Fail> {
 fn two_periods_at_a_time_over_a_year(rt: HostRuntime) -> Result<(), Fail> {
     let gross = [10, 62, 12, 130, 154, 129, 88, 52, 124, 160, 238, 41];
     let plan = planned(rt.alloc(), &pair(Rule::Periods(2)), &[0; 12], &gross)?;
-    assert!(rt;
-        shows(
-            plan.order(),
-            &[72, 0, 142, 0, 283, 0, 140, 0, 284, 0, 279, 0]
-        )
-    );
+    let orders = [72, 0, 142, 0, 283, 0, 140, 0, 284, 0, 279, 0];
+    let are_so = shows(plan.order(), &orders);
+    drop(plan);
+    assert!(rt; are_so);
     Ok(())
 }

@@ -5,6 +5,7 @@ ghost use Rattle.mrp_rows.specs.Table.{IsPair};
 
 use crate::tests::{first_item, network};
 use mrp_net::{Edge, ItemNo, LaneKind, LaneNo, Network, PairNo, PlantNo, Shipment, Supply};
+use std::alloc::Global;
 use std::test::Fail;
 
 /// A firm of three plants: A makes bicycles of wheels and takes the wheels from B and C.
@@ -78,10 +79,34 @@ fn has_the_wheel(net: &Network) -> bool {
         && row.safety.get() == 2
 }
 
+/// What is asked of the firm's network.
+#[derive(Clone, Copy)]
+enum Question {
+    NamesAndRows,
+    SumsAndEdges,
+    Lanes,
+}
+
+/// Whether it is so.
+fn is_so(net: &Network, question: Question) -> bool {
+    match question {
+        Question::NamesAndRows => has_the_firm(net) && finds_names(net) && has_the_wheel(net),
+        Question::SumsAndEdges => adds_up(net) && has_the_edges(net),
+        Question::Lanes => has_the_lanes(net) && despatches_from_b(net) && other_lanes_begin(net),
+    }
+}
+
+/// Whether it is so of the firm.
+fn is_so_of_the_firm(alloc: Global, question: Question) -> Result<bool, Fail> {
+    let net = network(alloc, FIRM)?;
+    let is_so = is_so(&net, question);
+    drop(net);
+    Ok(is_so)
+}
+
 #[test]
 fn names_and_rows(rt: HostRuntime) -> Result<(), Fail> {
-    let net = network(rt.alloc(), FIRM)?;
-    assert!(rt; has_the_firm(&net) && finds_names(&net) && has_the_wheel(&net));
+    assert!(rt; is_so_of_the_firm(rt.alloc(), Question::NamesAndRows)?);
     Ok(())
 }
 
@@ -118,8 +143,7 @@ fn has_the_edges(net: &Network) -> bool {
 
 #[test]
 fn sums_and_edges(rt: HostRuntime) -> Result<(), Fail> {
-    let net = network(rt.alloc(), FIRM)?;
-    assert!(rt; adds_up(&net) && has_the_edges(&net));
+    assert!(rt; is_so_of_the_firm(rt.alloc(), Question::SumsAndEdges)?);
     Ok(())
 }
 
@@ -171,7 +195,6 @@ fn other_lanes_begin(net: &Network) -> bool {
 
 #[test]
 fn lanes_between_plants(rt: HostRuntime) -> Result<(), Fail> {
-    let net = network(rt.alloc(), FIRM)?;
-    assert!(rt; has_the_lanes(&net) && despatches_from_b(&net) && other_lanes_begin(&net));
+    assert!(rt; is_so_of_the_firm(rt.alloc(), Question::Lanes)?);
     Ok(())
 }

@@ -92,10 +92,17 @@ fn has_one_plan(alloc: Global, network: &Network) -> Result<bool, Fail> {
     is_the_only_plan(alloc, &net)
 }
 
+/// Whether the bicycle has one plan only.
+fn a_bicycle_has_one_plan(alloc: Global) -> Result<bool, Fail> {
+    let network = network(alloc, BICYCLE)?;
+    let is_so = has_one_plan(alloc, &network);
+    drop(network);
+    is_so
+}
+
 #[test]
 fn a_plan_with_another_release_does_not_fit(rt: HostRuntime) -> Result<(), Fail> {
-    let network = network(rt.alloc(), BICYCLE)?;
-    assert!(rt; has_one_plan(rt.alloc(), &network)?);
+    assert!(rt; a_bicycle_has_one_plan(rt.alloc())?);
     Ok(())
 }
 
@@ -107,9 +114,16 @@ fn are_asked_for_by_the_bicycle(alloc: Global, network: &Network) -> Result<bool
     Ok(is_asked_by_the_bicycle(terms.as_slice()))
 }
 
+/// Whether the bicycle asks for its wheels.
+fn a_bicycle_asks_for_wheels(alloc: Global) -> Result<bool, Fail> {
+    let network = network(alloc, BICYCLE)?;
+    let is_so = are_asked_for_by_the_bicycle(alloc, &network);
+    drop(network);
+    is_so
+}
+
 #[test]
 fn wheels_are_asked_for_by_the_bicycle(rt: HostRuntime) -> Result<(), Fail> {
-    let network = network(rt.alloc(), BICYCLE)?;
-    assert!(rt; are_asked_for_by_the_bicycle(rt.alloc(), &network)?);
+    assert!(rt; a_bicycle_asks_for_wheels(rt.alloc())?);
     Ok(())
 }

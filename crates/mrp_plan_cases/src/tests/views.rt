@@ -27,7 +27,9 @@ reset,B,A,X,2,,,
 /// What a plant of the firm sees.
 fn view_of(alloc: Global, plant: PlantNo) -> Result<PlantView, Fail> {
     let net = network(alloc, FIRM)?;
-    Ok(PlantView::of(alloc, &net, plant)?)
+    let view = PlantView::of(alloc, &net, plant);
+    drop(net);
+    Ok(view?)
 }
 
 /// Whether both lanes have their items in the order of the customer's pairs.
@@ -56,10 +58,17 @@ fn starts_anew(net: &Network) -> bool {
         && net.longest_text(LaneNo(1)) == 10
 }
 
+/// Whether both is so of the firm.
+fn has_items_on_lanes(alloc: Global) -> Result<bool, Fail> {
+    let net = network(alloc, FIRM)?;
+    let is_so = has_the_customers_order(&net) && starts_anew(&net);
+    drop(net);
+    Ok(is_so)
+}
+
 #[test]
 fn items_on_lanes(rt: HostRuntime) -> Result<(), Fail> {
-    let net = network(rt.alloc(), FIRM)?;
-    assert!(rt; has_the_customers_order(&net) && starts_anew(&net));
+    assert!(rt; has_items_on_lanes(rt.alloc())?);
     Ok(())
 }
 
@@ -92,10 +101,17 @@ fn receives_despatches(view: &PlantView) -> bool {
             == Some((ItemNo(0), PairNo(3), 0, None))
 }
 
+/// Whether the customer sees both.
+fn a_customer_sees(alloc: Global) -> Result<bool, Fail> {
+    let view = view_of(alloc, PlantNo(0))?;
+    let is_so = sees_its_rows(&view) && receives_despatches(&view);
+    drop(view);
+    Ok(is_so)
+}
+
 #[test]
 fn what_a_customer_sees(rt: HostRuntime) -> Result<(), Fail> {
-    let view = view_of(rt.alloc(), PlantNo(0))?;
-    assert!(rt; sees_its_rows(&view) && receives_despatches(&view));
+    assert!(rt; a_customer_sees(rt.alloc())?);
     Ok(())
 }
 
@@ -135,9 +151,16 @@ fn sees_the_schedule(view: &PlantView) -> bool {
         && called.map(|i| (i.item, i.pair, i.opening)) == Some((ItemNo(1), PairNo(1), 117))
 }
 
+/// Whether the supplier sees both.
+fn a_supplier_sees(alloc: Global) -> Result<bool, Fail> {
+    let view = view_of(alloc, PlantNo(1))?;
+    let is_so = sends_one_lane(&view) && sees_the_schedule(&view);
+    drop(view);
+    Ok(is_so)
+}
+
 #[test]
 fn what_a_supplier_sees(rt: HostRuntime) -> Result<(), Fail> {
-    let view = view_of(rt.alloc(), PlantNo(1))?;
-    assert!(rt; sends_one_lane(&view) && sees_the_schedule(&view));
+    assert!(rt; a_supplier_sees(rt.alloc())?);
     Ok(())
 }

@@ -96,5 +96,7 @@ pub(super) fn holds_of<R: Threads + Wait + Sync, G: Gate>(
     gate: &G,
 ) -> Result<bool, Fail> {
     let network = network_of(alloc, table)?;
-    holds_in_network(rt, alloc, &network, trial, gate)
+    let is_so = holds_in_network(rt, alloc, &network, trial, gate);
+    drop(network);
+    is_so
 }
