@@ -3,7 +3,7 @@
 //! The program is thin: words in, one call of the library `mrp_text`, a status out.
 #![tactic(auto)]
 
-ghost use Rattle.std.specs.Prelude.{◌≡◌, ◌∷◌, codes, drop, map, IfOk, Some};
+ghost use Rattle.std.specs.Prelude.{◌≡◌, ◌∷◌, codes, map, IfOk, Some};
 ghost use Rattle.std.specs.IoError.{error_kind};
 ghost use Rattle.std.specs.Process.{exit_status};
 ghost use Rattle.std.specs.String.{string_bytes};
@@ -20,6 +20,7 @@ use mrp_report::{ReportFault, send};
 use mrp_text::{TextFault, answer, exit_status, write_fault};
 use mrp_words::{ChooseFault, choose};
 use std::alloc::AllocError;
+use std::env::FillError;
 use std::io::{IsTerminal, Stderr, Write};
 use std::process::ExitCode;
 use std::rt::Env;
@@ -55,9 +56,33 @@ fn left(ending: Ending) -> ExitCode
     ExitCode::from(ending.status)
 }
 
-/// The arguments of the process.
+/// The environment of a process without the name that the program was started by, which need not be text.
+#[derive(Drop)]
+struct Unnamed<'r, R> {
+    rt: &'r R,
+}
+
+impl<R: Env> Env for Unnamed<'_, R> {
+    fn arg(&self, i: usize, buf: &mut [u8]) -> Result<usize, FillError> {
+        match i.checked_add(1) {
+            Some(next) => self.rt.arg(next, buf),
+            None => Err(FillError::NotPresent),
+        }
+    }
+
+    fn var(&self, name: &str, buf: &mut [u8]) -> Result<usize, FillError> {
+        self.rt.var(name, buf)
+    }
+
+    fn var_at(&self, i: usize, buf: &mut [u8]) -> Result<usize, FillError> {
+        self.rt.var_at(i, buf)
+    }
+}
+
+/// The arguments of the process, behind the program's name.
 fn arguments<R: Env + AllocGlobal>(rt: &R) -> io::Result<Vec<String>> {
-    Ok(env::args(rt)?.collect(rt.alloc())?)
+    let unnamed = (Unnamed { rt }, rt.alloc());
+    Ok(env::args(&unnamed)?.collect(rt.alloc())?)
 }
 
 /// The words of the command line: the program's own name is `mrp`, wherever it lies.
@@ -65,26 +90,14 @@ fn named_words<'a, R: AllocGlobal>(
     rt: &R,
     arguments: &'a [String],
 ) -> Result<Vec<&'a str>, AllocError>
-    ensures { IfOk result (λ words. map (λ word. word.now) words.items ≡ codes "mrp" ∷ map string_bytes (drop 1 arguments.now)) }
+    ensures { IfOk result (λ words. map (λ word. word.now) words.items ≡ codes "mrp" ∷ map string_bytes arguments.now) }
 {
     let mut words = Vec::with_capacity(rt.alloc(), arguments.len())?;
     words.push("mrp")?;
-    let given = after_the_first(arguments);
-    'given: for argument in given {
+    'given: for argument in arguments {
         words.push(argument.as_str())?;
     }
     Ok(words)
-}
-
-/// The arguments without the first, which is the program's name.
-fn after_the_first(arguments: &[String]) -> &[String]
-    ensures { result.now ≡ drop 1 arguments.now }
-{
-    if arguments.is_empty() {
-        arguments
-    } else {
-        &arguments[1..]
-    }
 }
 
 /// Says that a table is awaited where standard input is a terminal. No clause says when: the kit's

@@ -4,4 +4,4 @@ use Rattle.mrp.proofs.named_words.Given as goal
 
 -- the words are the program's name and the arguments before this one
 abbrev pub invariant-given : goal.invariant-given
-invariant-given g l = map (λ word. word.now) l.words.items ≡ codes "mrp" ∷ map string_bytes (take l.argument-index l.given)
+invariant-given g l = map (λ word. word.now) l.words.items ≡ codes "mrp" ∷ map string_bytes (take l.argument-index l.arguments)
