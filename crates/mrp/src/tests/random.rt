@@ -10,7 +10,8 @@ use std::sync::Wait;
 use std::test::Fail;
 use std::thread::Threads;
 
-const FIRMS: u64 = 2_000;
+/// So many that they take some seconds: a machine of two processors that has much else to do has a minute for them.
+const FIRMS: u64 = 250;
 
 const PLANTS: u64 = 5;
 
