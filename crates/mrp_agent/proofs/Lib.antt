@@ -31,3 +31,5 @@ pub mod Queued
 pub mod Replanned
 pub mod Staying
 pub mod Planned
+pub mod Placed
+pub mod Formed

@@ -1,6 +1,6 @@
 -- Nothing is missing for a pair that can be planned, and its draft is the plan by what has come.
 use Rattle.std.proofs.Common.{◌≡◌, ℕ, ◌+◌, ◌<◌, ◌≤◌, ◌==◌, if◌then◌else◌, Bool, true, false, List, length, get_or, map, refl, sym, ap, ◌∙◌, subst, arith}
-use Rattle.std.specs.List.{All, Contains}
+use Rattle.std.specs.List.{All, Contains, count_by}
 use Rattle.std.proofs.lemmas.Bool.{eq-eqb, eqb-true}
 use Rattle.std.proofs.lemmas.List.{get_or_default}
 use Rattle.std.proofs.lemmas.List.Elements.{Contains-get_or}
@@ -38,23 +38,20 @@ use Rattle.mrp_agent.proofs.Ready.{ready_place}
 
 -- ---- the pairs of a plant, each once
 
-pub same_number : (V : PlantRows) → IsView V → (p q : PlantPair) → Contains V.pairs p → Contains V.pairs q → p.number.0 ≡ q.number.0 → p ≡ q
-same_number V view p q (i, in_i, is_p) (j, in_j, is_q) same =
-    let test : PlantPair → Bool = λ (r : PlantPair). r.number.0 == q.number.0 in
+-- a pair is the only one with its key
+same_by : (key : PlantPair → ℕ) (pairs : List PlantPair) (p q : PlantPair) → count_by (λ r. key r == key q) pairs ≤ 1 → Contains pairs p → Contains pairs q → key p ≡ key q → p ≡ q
+same_by key pairs p q once (i, in_i, is_p) (j, in_j, is_q) same =
     let at : i ≡ j =
-    only_place test V.pairs i j p (view.numbers_once q.number.0) in_i in_j
-    (eq-eqb (get_or V.pairs i p).number.0 q.number.0 (ap (λ (r : PlantPair). r.number.0) is_p ∙ same))
-    (eq-eqb (get_or V.pairs j p).number.0 q.number.0 (ap (λ (r : PlantPair). r.number.0) (get_or_default V.pairs j p q in_j ∙ is_q))) in
-    sym is_p ∙ ap (λ (k : ℕ). get_or V.pairs k p) at ∙ get_or_default V.pairs j p q in_j ∙ is_q
+    only_place (λ (r : PlantPair). key r == key q) pairs i j p once in_i in_j
+    (eq-eqb (key (get_or pairs i p)) (key q) (ap key is_p ∙ same))
+    (eq-eqb (key (get_or pairs j p)) (key q) (ap key (get_or_default pairs j p q in_j ∙ is_q))) in
+    sym is_p ∙ ap (λ (k : ℕ). get_or pairs k p) at ∙ get_or_default pairs j p q in_j ∙ is_q
+
+pub same_number : (V : PlantRows) → IsView V → (p q : PlantPair) → Contains V.pairs p → Contains V.pairs q → p.number.0 ≡ q.number.0 → p ≡ q
+same_number V view p q = same_by (λ (r : PlantPair). r.number.0) V.pairs p q (view.numbers_once q.number.0)
 
 pub same_item : (V : PlantRows) → IsView V → (p q : PlantPair) → Contains V.pairs p → Contains V.pairs q → p.item.0 ≡ q.item.0 → p ≡ q
-same_item V view p q (i, in_i, is_p) (j, in_j, is_q) same =
-    let test : PlantPair → Bool = λ (r : PlantPair). r.item.0 == q.item.0 in
-    let at : i ≡ j =
-    only_place test V.pairs i j p (view.items_once q.item.0) in_i in_j
-    (eq-eqb (get_or V.pairs i p).item.0 q.item.0 (ap (λ (r : PlantPair). r.item.0) is_p ∙ same))
-    (eq-eqb (get_or V.pairs j p).item.0 q.item.0 (ap (λ (r : PlantPair). r.item.0) (get_or_default V.pairs j p q in_j ∙ is_q))) in
-    sym is_p ∙ ap (λ (k : ℕ). get_or V.pairs k p) at ∙ get_or_default V.pairs j p q in_j ∙ is_q
+same_item V view p q = same_by (λ (r : PlantPair). r.item.0) V.pairs p q (view.items_once q.item.0)
 
 -- the pair of a number is the one that has it
 pub pair_is : (V : PlantRows) → IsView V → (p : PlantPair) → Contains V.pairs p → pair_of V p.number ≡ p

@@ -1,15 +1,19 @@
 //! The gate that is asked before each turn of a plant and each work of a worker.
 
-ghost use Rattle.std.specs.Prelude.{◌≡◌, ◌≤◌, ℕ, false};
+ghost use Rattle.std.specs.Prelude.{◌≡◌, ◌≤◌, ℕ, false, true};
 
 /// Who is asked before a plant's thread begins a turn, and before a worker of a plant begins its work.
 ///
 /// Whoever writes a gate is promised that turns and workers count from 1: each call proves it. And they may
-/// say what holds where the gate answers false: the fault of a shut gate comes only where that holds of some
-/// turn or some worker of the plant.
+/// say what holds where the gate answers: the fault of a shut gate comes only where what holds of a gate that
+/// is shut holds of some turn or some worker of the plant, and a plant has used its turns only where what
+/// holds of an open gate holds of the last of them.
 pub trait Gate: Sync {
     /// What holds where the gate is shut to a turn of a plant.
     ghost turn_shut: { ℕ → ℕ → Type 0 } = { λ _ _. Unit {0} };
+
+    /// What holds where the gate is open to a turn of a plant.
+    ghost turn_open: { ℕ → ℕ → Type 0 } = { λ _ _. Unit {0} };
 
     /// What holds where the gate is shut to a worker of a plant.
     ghost worker_shut: { ℕ → ℕ → Type 0 } = { λ _ _. Unit {0} };
@@ -17,7 +21,8 @@ pub trait Gate: Sync {
     /// Whether a plant may begin a turn. Turns count from 1.
     fn turn(&self, plant: usize, turn: u64) -> bool
         requires counted { 1 ≤ turn }
-        ensures shut { result ≡ false → turn_shut plant turn };
+        ensures shut { result ≡ false → turn_shut plant turn }
+        ensures opened { result ≡ true → turn_open plant turn };
 
     /// Whether a worker of a plant may begin. Workers count from 1.
     fn worker(&self, plant: usize, worker: u64) -> bool

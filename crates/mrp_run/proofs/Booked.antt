@@ -3,57 +3,25 @@ use Rattle.std.proofs.Common.{◌≡◌, ℕ, ◌<◌, Bool, List, [], ◌∷◌
 use Rattle.std.proofs.lemmas.Bool.{cases_eq}
 use Rattle.std.proofs.lemmas.List.{get_or_read}
 use Rattle.std.proofs.Math.Seq.{map-set_same}
-use Rattle.mrp_rows.specs.Table.{Table, horizon}
-use Rattle.mrp_net.specs.declared.lane.LaneKind.{LaneKind}
-use Rattle.mrp_net.specs.declared.lane.LaneKind.TheVariants.{Despatch, Schedule}
-use Rattle.mrp_net.specs.Lanes.{lanes, lane_at}
-use Rattle.mrp_net.proofs.Routing.{map-map}
-use Rattle.mrp_view.specs.declared.view.IncomingLane.{IncomingLane}
-use Rattle.mrp_view.specs.View.{PlantRows, comes_to, incoming_lane, lane_numbers, plant_rows}
-use Rattle.mrp_loops.specs.Sized.{IsSized}
+use Rattle.mrp_rows.specs.Table.{Table}
+use Rattle.mrp_net.specs.Lanes.{lane_at}
+use Rattle.mrp_view.specs.View.{comes_to}
 use Rattle.mrp_record.specs.declared.record.Record.{Record}
-use Rattle.mrp_record.specs.Form.{FormItem, LaneForm, IsInForm}
+use Rattle.mrp_record.specs.Form.{IsInForm}
 use Rattle.mrp_record.specs.Text.{IsBeginning}
-use Rattle.mrp_book.specs.Figures.{form_item, rises_on}
-use Rattle.mrp_events.specs.LoadLaws.{lane_form}
-use Rattle.mrp_events.specs.Loads.{loads, is_rising}
+use Rattle.mrp_events.specs.Loads.{loads}
 use Rattle.mrp_events.specs.Local.{AreLegal}
-use Rattle.mrp_events.specs.Seen.{form_item_of, seen_form}
 use Rattle.mrp_events.specs.State.{changed}
 use Rattle.mrp_events.proofs.Keeping.{changed_by}
-use Rattle.mrp_events.proofs.Sending.{forms_are_seen}
-use Rattle.mrp_events.proofs.Small.{legal_is_in_form}
 use Rattle.mrp_lane.specs.Ends.{End, Name, HasLegalList}
-use Rattle.mrp_agent.specs.Shows.{Shows, BooksShow, book_item, form_of}
+use Rattle.mrp_agent.specs.Shows.{Shows, BooksShow, form_of}
 use Rattle.mrp_agent.specs.State.{AgentState, incoming_at, incoming_place}
+use Rattle.mrp_agent.proofs.Formed.{legal_in_form}
+use Rattle.mrp_agent.proofs.Placed.{in_placed}
 use Rattle.mrp_run.specs.Plant.{AtWork, IsAtWork, Kept, lanes_to, names}
 use Rattle.mrp_run.proofs.Held.{lane_there, lanes_rise, list_is, one_more, put_back}
 use Rattle.mrp_run.proofs.Keeping.{nothing_done}
-use Rattle.mrp_run.proofs.Placed.{in_placed}
-
--- ---- legal lists are in form
-
-rising_is : (kind : LaneKind) → is_rising kind ≡ rises_on kind
-rising_is Despatch = refl
-rising_is Schedule = refl
-
-abbrev form_with : ℕ → Bool → List FormItem → LaneForm
-form_with periods rising items = record { rising = rising; horizon = periods; items = items }
-
--- the form of a lane by what its receiver sees
-form_is : (V : PlantRows) (lane : IncomingLane) → seen_form V.horizon lane ≡ form_of V lane
-form_is V lane =
-    ap (λ (b : Bool). form_with V.horizon b (map form_item_of lane.items)) (rising_is lane.kind)
-    ∙ ap (form_with V.horizon (rises_on lane.kind)) (sym (map-map form_item book_item lane.items))
-
-legal_in_form : (N : Table) → IsSized N → (p : ℕ) (V : PlantRows) → V ≡ plant_rows N p → (l : ℕ) → Contains (lanes_to N p) l → (records : List Record) → IsBeginning (loads N (lane_at N l)) records
-    → IsInForm (form_of V (incoming_at V (incoming_place V l))) records
-legal_in_form N sized p V view l own records legal =
-    let place = in_placed V N p l view own in
-    let periods : horizon N ≡ V.horizon = sym (ap (λ (z : PlantRows). z.horizon) view) in
-    let same : lane_form N (lane_at N l) ≡ form_of V (incoming_at V (incoming_place V l)) =
-    forms_are_seen N l ∙ ap (λ (h : ℕ). seen_form h (incoming_lane N l)) periods ∙ form_is V (incoming_lane N l) ∙ ap (form_of V) (sym place.is) in
-    subst (λ (form : LaneForm). IsInForm form records) same (legal_is_in_form N sized (lane_at N l) records legal)
+use Rattle.mrp_run.proofs.Placed.{in_there}
 
 -- ---- the record that was taken
 
@@ -62,7 +30,7 @@ pub comes_in : (A : AgentState) (s t : List End) → IsAtWork A s t → (k l : �
 comes_in A s t (N, p, w) k l x within at lane =
     let is : (get_or t k x).name.lane ≡ l = ap (λ (z : End). z.name.lane) (sym at) ∙ sym lane in
     subst (λ (n : ℕ). incoming_place A.view n < length A.view.incoming) is
-    (in_placed A.view N p (get_or t k x).name.lane w.works.view (lane_there N (lanes_to N p) w.taken t w.takes_are k x within)).within
+    (in_placed A.view N p (get_or t k x).name.lane w.works.view (in_there N p (get_or t k x).name.lane (lane_there N (lanes_to N p) w.taken t w.takes_are k x within))).within
 
 -- the end x is looked at for its lane, the end y is taken from, and it is e then
 module _ (A : AgentState) (s t : List End) (k l : ℕ) (x y e : End) (r : Record) (within : k < length t) (at_x : x ≡ get_or t k x) (at_y : y ≡ get_or t k y) (lane : l ≡ x.name.lane)
@@ -95,7 +63,7 @@ module _ (A : AgentState) (s t : List End) (k l : ℕ) (x y e : End) (r : Record
   pub not_refused : IsAtWork A s t → ((taken : ℕ → List Record) → BooksShow A taken → IsInForm (form_of A.view (incoming_at A.view (incoming_place A.view l))) (taken l ++ r ∷ []) → ⊥) → ⊥
   not_refused (N, p, w) refused =
       let there : IsInForm (form_of A.view (incoming_at A.view (incoming_place A.view e.name.lane))) (w.taken e.name.lane ++ r ∷ []) =
-      legal_in_form N w.sized p A.view w.works.view e.name.lane (own N p w) (w.taken e.name.lane ++ r ∷ []) (legal_there N p w) in
+      legal_in_form N w.sized p A.view w.works.view e.name.lane (in_there N p e.name.lane (own N p w)) (w.taken e.name.lane ++ r ∷ []) (legal_there N p w) in
       refused w.taken w.works.shows.books
       (subst (λ (n : ℕ). IsInForm (form_of A.view (incoming_at A.view (incoming_place A.view n))) (w.taken n ++ r ∷ [])) of_lane there)
 

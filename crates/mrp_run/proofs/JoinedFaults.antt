@@ -5,7 +5,7 @@ use Rattle.std.specs.Option.{option_to_list}
 use Rattle.std.proofs.lemmas.List.Elements.{All-push, All-weaker, Contains-append_left, Contains-push, filter_map-append}
 use Rattle.mrp_run.specs.declared.fault.RunFault.{RunFault}
 use Rattle.mrp_run.specs.declared.plant.Plant.{Plant}
-use Rattle.mrp_run.specs.Joined.{Back, fault_in, faults_in, reason}
+use Rattle.mrp_run.specs.Joined.{Back, fault_in, faults_in}
 use Rattle.mrp_run.specs.Worst.{IsBefore, IsWorst, IsWorstOf}
 
 -- ---- the worst
@@ -37,7 +37,7 @@ worst_first (Some fault) = record {
 
 abbrev pub plant_in : Back → Option Plant
 plant_in (Ok plant) = Some plant
-plant_in (Err why) = None
+plant_in (Err fault) = None
 
 abbrev pub plants_in : List Back → List Plant
 plants_in backs = filter_map plant_in backs
@@ -45,11 +45,11 @@ plants_in backs = filter_map plant_in backs
 pub plants_more : (backs : List Back) (plant : Plant) → plants_in (backs ++ Ok plant ∷ []) ≡ plants_in backs ++ plant ∷ []
 plants_more backs plant = filter_map-append plant_in backs (Ok plant ∷ [])
 
-pub plants_same : (backs : List Back) (why : Option RunFault) → plants_in (backs ++ Err why ∷ []) ≡ plants_in backs
-plants_same backs why = filter_map-append plant_in backs (Err why ∷ []) ∙ append-nil (plants_in backs)
+pub plants_same : (backs : List Back) (fault : RunFault) → plants_in (backs ++ Err fault ∷ []) ≡ plants_in backs
+plants_same backs fault = filter_map-append plant_in backs (Err fault ∷ []) ∙ append-nil (plants_in backs)
 
-pub faults_more : (backs : List Back) (why : Option RunFault) → faults_in (backs ++ Err why ∷ []) ≡ faults_in backs ++ reason why ∷ []
-faults_more backs why = filter_map-append fault_in backs (Err why ∷ [])
+pub faults_more : (backs : List Back) (fault : RunFault) → faults_in (backs ++ Err fault ∷ []) ≡ faults_in backs ++ fault ∷ []
+faults_more backs fault = filter_map-append fault_in backs (Err fault ∷ [])
 
 pub faults_same : (backs : List Back) (plant : Plant) → faults_in (backs ++ Ok plant ∷ []) ≡ faults_in backs
 faults_same backs plant = filter_map-append fault_in backs (Ok plant ∷ []) ∙ append-nil (faults_in backs)
@@ -70,10 +70,10 @@ pub with_plant : (before worst : Option RunFault) (backs : List Back) (plant : P
     → IsWorstOf worst (option_to_list before ++ faults_in backs) → IsWorstOf worst (option_to_list before ++ faults_in (backs ++ Ok plant ∷ []))
 with_plant before worst backs plant is = subst (λ (z : List RunFault). IsWorstOf worst (option_to_list before ++ z)) (sym (faults_same backs plant)) is
 
-pub with_why : (before worst : Option RunFault) (backs : List Back) (why : Option RunFault) (now : RunFault)
-    → ((faults : List RunFault) → IsWorstOf worst faults → IsWorst now (faults ++ reason why ∷ []))
-    → IsWorstOf worst (option_to_list before ++ faults_in backs) → IsWorstOf (Some now) (option_to_list before ++ faults_in (backs ++ Err why ∷ []))
-with_why before worst backs why now more is =
+pub with_another : (before worst : Option RunFault) (backs : List Back) (fault : RunFault) (now : RunFault)
+    → ((faults : List RunFault) → IsWorstOf worst faults → IsWorst now (faults ++ fault ∷ []))
+    → IsWorstOf worst (option_to_list before ++ faults_in backs) → IsWorstOf (Some now) (option_to_list before ++ faults_in (backs ++ Err fault ∷ []))
+with_another before worst backs fault now more is =
     subst (λ (z : List RunFault). IsWorst now z)
-    (append_assoc (option_to_list before) (faults_in backs) (reason why ∷ []) ∙ ap (λ (z : List RunFault). option_to_list before ++ z) (sym (faults_more backs why)))
+    (append_assoc (option_to_list before) (faults_in backs) (fault ∷ []) ∙ ap (λ (z : List RunFault). option_to_list before ++ z) (sym (faults_more backs fault)))
     (more (option_to_list before ++ faults_in backs) is)

@@ -6,22 +6,20 @@ use Rattle.std.specs.Result.{IfErr, IfOk, OnOk, result_err}
 use Rattle.std.specs.declared.thread.PromisedHandle.{PromisedHandle}
 use Rattle.std.proofs.lemmas.List.{map-append}
 use Rattle.std.proofs.lemmas.List.Elements.{All-append, All-cons, All-contains, All-head, All-pop, All-push, All-tail, Contains-append_right}
-use Rattle.mrp_rows.specs.declared.numbers.PlantNo.{PlantNo}
 use Rattle.mrp_run.specs.declared.fault.RunFault.{RunFault}
-use Rattle.mrp_run.specs.declared.fault.RunFault.TheVariants.{Memory, ThreadRefused, GateShut, Stopped}
+use Rattle.mrp_run.specs.declared.fault.RunFault.TheVariants.{ThreadRefused}
 use Rattle.mrp_run.specs.declared.plant.Plant.{Plant}
 use Rattle.mrp_run.specs.declared.results.Duty.{Duty}
 use Rattle.mrp_run.specs.Ends.{EachAt}
-use Rattle.mrp_run.specs.Faults.{IsOf}
-use Rattle.mrp_run.specs.Joined.{AreOfFirst, AreShutOfFirst, Back, Finished, faults_in, started}
+use Rattle.mrp_run.specs.Joined.{AreByRule, Back, Finished, faults_in, started}
 use Rattle.mrp_run.specs.Steps.{Finishes}
-use Rattle.mrp_run.specs.Worst.{IsOfFirst, IsWorst}
+use Rattle.mrp_run.specs.Worst.{IsWorst}
 
 abbrev Running : Type 0 → Type 0
-Running G = PromisedHandle Back (Duty G)
+Running S = PromisedHandle Back (Duty S)
 
-abbrev IsShutOfFirst : (ℕ → Type 0) → ℕ → Back → Type 0
-IsShutOfFirst Shut plants back = IfErr back (λ why. IfSome why (IsOfFirst Shut plants))
+abbrev IsByRule : (RunFault → Type 0) → Back → Type 0
+IsByRule Rule back = IfErr back Rule
 
 pub pairs_more : {X Y : Type 0} (R : X → Y → Type 0) (xs : List X) (ys : List Y) (x : X) (y : Y) → AllZip R xs ys → R x y → AllZip R (xs ++ x ∷ []) (ys ++ y ∷ [])
 pairs_more R [] [] x y all one = (one, tt)
@@ -69,49 +67,28 @@ none_left before rest all whole none = sym (append-nil before) ∙ ap (λ z. bef
 
 -- ---- one thread more
 
-pub started_more : {G : Type 0} (threads : List (Running G)) (thread : Running G) → started (threads ++ thread ∷ []) ≡ started threads ++ thread.promise.plant.value ∷ []
-started_more {G} threads thread = map-append (λ (t : Running G). t.promise.plant.value) threads (thread ∷ [])
-
-of_first : (Shut : ℕ → Type 0) (plants : ℕ) (number : PlantNo) (fault : RunFault) → number.0 < plants → IsOf Shut number fault → IsOfFirst Shut plants fault
-of_first Shut plants number Memory within is = tt
-of_first Shut plants number ThreadRefused within is = tt
-of_first Shut plants number (GateShut shut) within is = (subst (λ (p : PlantNo). p.0 < plants) (sym is.0) within, is.1)
-of_first Shut plants number Stopped within is = tt
-
-shut_of_first : (Shut : ℕ → Type 0) (plants : ℕ) (number : PlantNo) (back : Back) → number.0 < plants → IfErr back (λ why. IfSome why (IsOf Shut number)) → IsShutOfFirst Shut plants back
-shut_of_first Shut plants number (Ok plant) within is = tt
-shut_of_first Shut plants number (Err None) within is = tt
-shut_of_first Shut plants number (Err (Some fault)) within is = of_first Shut plants number fault within is
-
-pub shut_more : {G : Type 0} (Shut : ℕ → Type 0) (plants : ℕ) (threads : List (Running G)) (thread : Running G) (backs : List Back) (back : Back)
-    → IfErr back (λ why. IfSome why (IsOf Shut thread.promise.number)) → AreOfFirst plants (threads ++ thread ∷ [])
-    → ((n : ℕ) → AreOfFirst n threads → AreShutOfFirst Shut n backs) → AreShutOfFirst Shut plants (backs ++ back ∷ [])
-shut_more {G} Shut plants threads thread backs back fault each before =
-    let parts = All-pop (λ (t : Running G). t.promise.number.0 < plants) (threads ++ thread ∷ []) threads (Some thread) refl each in
-    All-push (IsShutOfFirst Shut plants) backs back (before plants parts.0) (shut_of_first Shut plants thread.promise.number back parts.1 fault)
+pub started_more : {S : Type 0} (threads : List (Running S)) (thread : Running S) → started (threads ++ thread ∷ []) ≡ started threads ++ thread.promise.plant.value ∷ []
+started_more {S} threads thread = map-append (λ (t : Running S). t.promise.plant.value) threads (thread ∷ [])
 
 -- ---- all of them
 
--- the faults that were brought back are of the first plants, where shut gates are
-faults_of_first : (Shut : ℕ → Type 0) (plants : ℕ) (backs : List Back) → AreShutOfFirst Shut plants backs → All (IsOfFirst Shut plants) (faults_in backs)
-faults_of_first Shut plants [] each = λ k d h. absurd (omega (arith, h))
-faults_of_first Shut plants (Ok plant ∷ backs) each = faults_of_first Shut plants backs (All-tail (IsShutOfFirst Shut plants) (Ok plant) backs each)
-faults_of_first Shut plants (Err None ∷ backs) each =
-    All-cons (IsOfFirst Shut plants) Stopped (faults_in backs) tt (faults_of_first Shut plants backs (All-tail (IsShutOfFirst Shut plants) (Err None) backs each))
-faults_of_first Shut plants (Err (Some fault) ∷ backs) each =
-    All-cons (IsOfFirst Shut plants) fault (faults_in backs) (All-head (IsShutOfFirst Shut plants) (Err (Some fault)) backs each)
-    (faults_of_first Shut plants backs (All-tail (IsShutOfFirst Shut plants) (Err (Some fault)) backs each))
+-- the faults that were brought back are by the rule
+faults_by_rule : (Rule : RunFault → Type 0) (backs : List Back) → AreByRule Rule backs → All Rule (faults_in backs)
+faults_by_rule Rule [] each = λ k d h. absurd (omega (arith, h))
+faults_by_rule Rule (Ok plant ∷ backs) each = faults_by_rule Rule backs (All-tail (IsByRule Rule) (Ok plant) backs each)
+faults_by_rule Rule (Err fault ∷ backs) each =
+    All-cons Rule fault (faults_in backs) (All-head (IsByRule Rule) (Err fault) backs each) (faults_by_rule Rule backs (All-tail (IsByRule Rule) (Err fault) backs each))
 
-refused_of_first : (Shut : ℕ → Type 0) (plants : ℕ) (before : Option RunFault) → IfSome before (λ fault. fault ≡ ThreadRefused) → All (IsOfFirst Shut plants) (option_to_list before)
-refused_of_first Shut plants None is = λ k d h. absurd (omega (arith, h))
-refused_of_first Shut plants (Some fault) is = All-cons (IsOfFirst Shut plants) fault [] (subst (IsOfFirst Shut plants) (sym is) tt) (λ k d h. absurd (omega (arith, h)))
+before_by_rule : (Rule : RunFault → Type 0) (before : Option RunFault) → IfSome before Rule → All Rule (option_to_list before)
+before_by_rule Rule None is = λ k d h. absurd (omega (arith, h))
+before_by_rule Rule (Some fault) is = All-cons Rule fault [] is (λ k d h. absurd (omega (arith, h)))
 
 -- so the worst of them is
-pub worst_of_first : (Shut : ℕ → Type 0) (plants : ℕ) (before : Option RunFault) (backs : List Back) (fault : RunFault) → IfSome before (λ f. f ≡ ThreadRefused)
-    → AreShutOfFirst Shut plants backs → IsWorst fault (option_to_list before ++ faults_in backs) → IsOfFirst Shut plants fault
-worst_of_first Shut plants before backs fault refused each worst =
-    All-contains (IsOfFirst Shut plants) (option_to_list before ++ faults_in backs) fault
-    (All-append (IsOfFirst Shut plants) (option_to_list before) (faults_in backs) (refused_of_first Shut plants before refused) (faults_of_first Shut plants backs each)) worst.met
+pub worst_by_rule : (Rule : RunFault → Type 0) (before : Option RunFault) (backs : List Back) (fault : RunFault) → IfSome before Rule
+    → AreByRule Rule backs → IsWorst fault (option_to_list before ++ faults_in backs) → Rule fault
+worst_by_rule Rule before backs fault first each worst =
+    All-contains Rule (option_to_list before ++ faults_in backs) fault
+    (All-append Rule (option_to_list before) (faults_in backs) (before_by_rule Rule before first) (faults_by_rule Rule backs each)) worst.met
 
 -- ---- what the threads of all plants come to
 
@@ -139,10 +116,14 @@ all_back plants front refused backs (Ok after) at zip none all =
     let whole : plants ≡ front = at.parts ∙ ap (λ (z : List Plant). front ++ z) (at.all none) ∙ append-nil front in
     subst (λ (z : List Plant). AllZip Finishes z after.items) (sym whole) (all_finished front after.items backs all zip)
 
-pub worst_back : (Shut : ℕ → Type 0) (plants : ℕ) (refused : Option RunFault) (backs : List Back) (out : Result (Vec Plant Global) RunFault) → IfSome refused (λ fault. fault ≡ ThreadRefused)
-    → AreShutOfFirst Shut plants backs → IfErr out (λ fault. IsWorst fault (option_to_list refused ++ faults_in backs)) → IfErr out (IsOfFirst Shut plants)
-worst_back Shut plants refused backs (Ok after) fault each worst = tt
-worst_back Shut plants refused backs (Err f) fault each worst = worst_of_first Shut plants refused backs f fault each worst
+refused_by_rule : (Rule : RunFault → Type 0) (refused : Option RunFault) → Rule ThreadRefused → IfSome refused (λ fault. fault ≡ ThreadRefused) → IfSome refused Rule
+refused_by_rule Rule None rule is = tt
+refused_by_rule Rule (Some fault) rule is = rw is rule
+
+pub worst_back : (Rule : RunFault → Type 0) (refused : Option RunFault) (backs : List Back) (out : Result (Vec Plant Global) RunFault) → Rule ThreadRefused
+    → IfSome refused (λ fault. fault ≡ ThreadRefused) → AreByRule Rule backs → IfErr out (λ fault. IsWorst fault (option_to_list refused ++ faults_in backs)) → IfErr out Rule
+worst_back Rule refused backs (Ok after) rule fault each worst = tt
+worst_back Rule refused backs (Err f) rule fault each worst = worst_by_rule Rule refused backs f (refused_by_rule Rule refused rule fault) each worst
 
 pub back_length : (plants : List Plant) (out : Result (Vec Plant Global) RunFault) → IfOk out (λ after. AllZip Finishes plants after.items) → IfOk out (λ after. length after.items ≡ length plants)
 back_length plants (Err fault) all = tt

@@ -14,3 +14,4 @@ pub mod JoinedThreads
 pub mod JoinedNetwork
 pub mod GatheredPlans
 pub mod CrewFaults
+pub mod StopRules

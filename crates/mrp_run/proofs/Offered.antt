@@ -15,15 +15,16 @@ use Rattle.mrp_agent.specs.Sent.{GivenIsLegal, IsAppended}
 use Rattle.mrp_agent.specs.Shows.{Shows}
 use Rattle.mrp_agent.specs.State.{AgentState, outgoing_at, outgoing_place}
 use Rattle.mrp_agent.proofs.Network.{sent_is_legal, sent_is_within_64}
+use Rattle.mrp_agent.proofs.Placed.{IsPlaced, out_placed}
 use Rattle.mrp_run.specs.Plant.{AtWork, IsAtWork, Kept, lanes_from}
 use Rattle.mrp_run.proofs.Held.{lane_there, lanes_rise, one_more, put_back}
 use Rattle.mrp_run.proofs.Keeping.{nothing_done}
-use Rattle.mrp_run.proofs.Placed.{IsPlaced, out_placed}
+use Rattle.mrp_run.proofs.Placed.{out_there}
 
 -- its lane has a place among those that go out
 placed : (A : AgentState) (s t : List End) (N : Table) (p : ℕ) (w : AtWork N p A s t) (k : ℕ) (d : End) → k < length s → IsPlaced A.view (get_or s k d).name.lane
 placed A s t N p w k d within =
-    out_placed A.view N p (get_or s k d).name.lane w.works.view (lane_there N (lanes_from N p) w.sent s w.sends_are k d within)
+    out_placed A.view N p (get_or s k d).name.lane w.works.view (out_there N p (get_or s k d).name.lane (lane_there N (lanes_from N p) w.sent s w.sends_are k d within))
 
 pub goes_out : (A : AgentState) (s t : List End) → IsAtWork A s t → (k l : ℕ) (x : End) → k < length s → x ≡ get_or s k x → l ≡ x.name.lane → outgoing_place A.view l < length A.view.outgoing
 goes_out A s t (N, p, w) k l x within at lane =

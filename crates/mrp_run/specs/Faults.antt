@@ -1,4 +1,4 @@
--- Whose gate was shut, and what a crew's fault is to the run.
+-- Whose fault it is that a run ends early, and what a crew's fault is to the run.
 use Rattle.std.specs.Prelude.{◌≡◌, ◌⊎◌, ℕ}
 use Rattle.mrp_rows.specs.declared.numbers.PlantNo.{PlantNo}
 use Rattle.mrp_crew.specs.declared.fault.CrewFault.{CrewFault}
@@ -10,12 +10,32 @@ use Rattle.mrp_run.specs.declared.fault.RunFault.TheVariants.{Memory, ThreadRefu
 abbrev pub WasShut : (ℕ → ℕ → Type 0) → (ℕ → ℕ → Type 0) → ℕ → Type 0
 WasShut turn worker plant = ((n : ℕ) × turn plant n) ⊎ ((n : ℕ) × worker plant n)
 
--- a shut gate is this plant's, and it was shut
-abbrev pub IsOf : (ℕ → Type 0) → PlantNo → RunFault → Type 0
-IsOf Shut plant Memory = Unit {0}
-IsOf Shut plant ThreadRefused = Unit {0}
-IsOf Shut plant (GateShut shut) = (shut ≡ plant) × Shut shut.0
-IsOf Shut plant Stopped = Unit {0}
+-- a plant has used so many turns: it was given none, or the gate was open to the last of them
+abbrev pub WasSpent : (ℕ → ℕ → Type 0) → ℕ → ℕ → Type 0
+WasSpent Open turns plant = (turns ≡ 0) ⊎ Open plant turns
+
+-- no plant has used its turns
+abbrev pub never_spent : ℕ → Type 0
+never_spent plant = ⊥
+
+-- a fault that a plant met: a shut gate is this plant's, and it was shut; one that was stopped has used its turns
+abbrev pub IsOf : (ℕ → Type 0) → (ℕ → Type 0) → PlantNo → RunFault → Type 0
+IsOf Shut Spent plant Memory = Unit {0}
+IsOf Shut Spent plant ThreadRefused = Unit {0}
+IsOf Shut Spent plant (GateShut shut) = (shut ≡ plant) × Shut shut.0
+IsOf Shut Spent plant Stopped = Spent plant.0
+
+-- ---- the rule of a run's stop
+
+-- the rule holds of each fault that a plant may meet
+abbrev pub AllowsOf : (RunFault → Type 0) → (ℕ → Type 0) → (ℕ → Type 0) → PlantNo → Type 0
+AllowsOf Rule Shut Spent plant = (fault : RunFault) → IsOf Shut Spent plant fault → Rule fault
+
+-- a fault that another plant told, or that this plant met
+abbrev pub IsToldOrOf : (RunFault → Type 0) → (ℕ → Type 0) → (ℕ → Type 0) → PlantNo → RunFault → Type 0
+IsToldOrOf Rule Shut Spent plant fault = Rule fault ⊎ IsOf Shut Spent plant fault
+
+-- ---- crews
 
 -- the fault of a plant's crew, as the run answers it
 abbrev pub of_crew : PlantNo → CrewFault → RunFault

@@ -1,51 +1,41 @@
 -- The threads of the plants, and what they bring back.
-use Rattle.std.specs.Prelude.{◌≡◌, ℕ, ◌<◌, ◌≤◌, List, [], map, Option, Some, None, Result, Ok, Err, All, IfOk, IfErr, IfSome, filter_map, unwrap_or}
+use Rattle.std.specs.Prelude.{◌≡◌, ℕ, ◌≤◌, List, [], map, Option, Some, None, Result, Ok, Err, All, IfOk, IfErr, filter_map}
 use Rattle.std.specs.Vec.{vec_capacity}
 use Rattle.std.specs.declared.thread.PromisedHandle.{PromisedHandle}
 use Rattle.mrp_run.specs.declared.fault.RunFault.{RunFault}
-use Rattle.mrp_run.specs.declared.fault.RunFault.TheVariants.{Stopped}
 use Rattle.mrp_run.specs.declared.plant.Plant.{Plant}
 use Rattle.mrp_run.specs.declared.results.Duty.{Duty}
 use Rattle.mrp_run.specs.declared.threads.Rooms.{Rooms}
-use Rattle.mrp_run.specs.Faults.{IsOf}
 use Rattle.mrp_run.specs.Steps.{Finishes}
-use Rattle.mrp_run.specs.Worst.{IsOfFirst}
 
 -- ---- threads
 
--- what a thread brings back: its plant, or why it has none
+-- what a thread brings back: its plant, or the fault that it met or was told
 abbrev pub Back : Type 0
-Back = Result Plant (Option RunFault)
+Back = Result Plant RunFault
 
 -- a plant that is brought back is finished
 abbrev pub Finished : Plant → Back → Type 0
 Finished before back = IfOk back (Finishes before)
 
--- what the thread of a duty brings back: its plant, finished, or a fault, and a shut gate is this plant's
-pub record Fulfils {G : Type 0} (Shut : ℕ → Type 0) (duty : Duty G) (back : Back) : Type 0 where
+-- what the thread of a duty brings back: its plant, finished, or a fault by the rule of the run's stop
+pub record Fulfils {S : Type 0} (Rule : RunFault → Type 0) (duty : Duty S) (back : Back) : Type 0 where
   pub finished : Finished duty.plant.value back
-  pub fault : IfErr back (λ why. IfSome why (IsOf Shut duty.number))
+  pub fault : IfErr back Rule
 
 -- the plants that threads were started for
-abbrev pub started : {G : Type 0} → List (PromisedHandle Back (Duty G)) → List Plant
+abbrev pub started : {S : Type 0} → List (PromisedHandle Back (Duty S)) → List Plant
 started threads = map (λ thread. thread.promise.plant.value) threads
-
--- each thread is of one of the first so many plants, and so are shut gates that were brought back
-abbrev pub AreOfFirst : {G : Type 0} → ℕ → List (PromisedHandle Back (Duty G)) → Type 0
-AreOfFirst plants threads = All (λ thread. thread.promise.number.0 < plants) threads
-
-abbrev pub AreShutOfFirst : (ℕ → Type 0) → ℕ → List Back → Type 0
-AreShutOfFirst Shut plants backs = All (λ back. IfErr back (λ why. IfSome why (IsOfFirst Shut plants))) backs
 
 -- ---- faults
 
--- why a plant gave up; one that another stopped counts as one that used all its turns
-abbrev pub reason : Option RunFault → RunFault
-reason why = unwrap_or why Stopped
+-- each fault that was brought back is by the rule of the run's stop
+abbrev pub AreByRule : (RunFault → Type 0) → List Back → Type 0
+AreByRule Rule backs = All (λ back. IfErr back Rule) backs
 
 abbrev pub fault_in : Back → Option RunFault
 fault_in (Ok plant) = None
-fault_in (Err why) = Some (reason why)
+fault_in (Err fault) = Some fault
 
 -- all faults that were brought back
 abbrev pub faults_in : List Back → List RunFault

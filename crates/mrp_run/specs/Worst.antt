@@ -33,13 +33,18 @@ IsWorstOf worst faults = MatchOption worst (faults ≡ []) (λ fault. IsWorst fa
 
 -- ---- whose it is
 
--- a shut gate is that of one of the first so many plants, and it was shut
-abbrev pub IsOfFirst : (ℕ → Type 0) → ℕ → RunFault → Type 0
-IsOfFirst Shut plants Memory = Unit {0}
-IsOfFirst Shut plants ThreadRefused = Unit {0}
-IsOfFirst Shut plants (GateShut plant) = (plant.0 < plants) × Shut plant.0
-IsOfFirst Shut plants Stopped = Unit {0}
+-- a shut gate is that of one of the first so many plants, and it was shut; where the run was stopped, one of them
+-- has used its turns
+abbrev pub IsOfFirst : (ℕ → Type 0) → (ℕ → Type 0) → ℕ → RunFault → Type 0
+IsOfFirst Shut Spent plants Memory = Unit {0}
+IsOfFirst Shut Spent plants ThreadRefused = Unit {0}
+IsOfFirst Shut Spent plants (GateShut plant) = (plant.0 < plants) × Shut plant.0
+IsOfFirst Shut Spent plants Stopped = (plant : ℕ) × (plant < plants) × Spent plant
 
 -- or of a plant of the network
-abbrev pub IsFaultIn : (ℕ → Type 0) → Table → RunFault → Type 0
-IsFaultIn Shut N fault = IsOfFirst Shut (length N.plants) fault
+abbrev pub IsFaultIn : (ℕ → Type 0) → (ℕ → Type 0) → Table → RunFault → Type 0
+IsFaultIn Shut Spent N fault = IsOfFirst Shut Spent (length N.plants) fault
+
+-- the rule of a run's stop holds of each fault that one of the first so many plants may meet
+abbrev pub AllowsOfFirst : (RunFault → Type 0) → (ℕ → Type 0) → (ℕ → Type 0) → ℕ → Type 0
+AllowsOfFirst Rule Shut Spent plants = (fault : RunFault) → IsOfFirst Shut Spent plants fault → Rule fault

@@ -18,6 +18,7 @@ mod plant;
 mod results;
 mod running;
 mod settings;
+mod stop;
 mod threads;
 
 pub use fault::RunFault;
@@ -29,3 +30,4 @@ pub use mrp_netting::PairPlan;
 pub use network::{MOST_TURNS, Outcome, run_network, run_network_within};
 pub use running::run_plant;
 pub use settings::Settings;
+pub use stop::{Stop, StopRule};

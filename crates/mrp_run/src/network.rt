@@ -2,7 +2,8 @@
 ghost use Rattle.std.specs.Prelude.{IfErr, IfOk};
 ghost use Rattle.mrp_loops.specs.Sized.{IsSized};
 ghost use Rattle.mrp_run.specs.Ends.{AreThrough};
-ghost use Rattle.mrp_run.specs.Faults.{WasShut};
+ghost use Rattle.mrp_run.specs.declared.network.TheConstants.{MOST_TURNS};
+ghost use Rattle.mrp_run.specs.Faults.{WasShut, WasSpent};
 ghost use Rattle.mrp_run.specs.Outcome.{IsOutcome};
 ghost use Rattle.mrp_run.specs.Worst.{IsFaultIn};
 
@@ -20,6 +21,7 @@ use mrp_net::Network;
 use mrp_netting::PairPlan;
 use mrp_qty::Memory;
 use std::alloc::Global;
+use std::marker::Brand;
 use std::sync::Wait;
 use std::thread::Threads;
 
@@ -44,7 +46,8 @@ pub struct Outcome {
 ///
 /// The lowest fault met, and of shut gates that of the lowest plant: [`RunFault::Memory`] where a growth is
 /// refused, [`RunFault::ThreadRefused`] where no thread could be made, [`RunFault::GateShut`] with the plant
-/// of the network for which, or for a worker of which, the gate was shut.
+/// of the network for which, or for a worker of which, the gate was shut, [`RunFault::Stopped`] where a plant
+/// isn't done after [`MOST_TURNS`].
 pub fn run_network<R: Threads + Wait + Sync, G: Gate>(
     rt: &R,
     alloc: Global,
@@ -53,7 +56,7 @@ pub fn run_network<R: Threads + Wait + Sync, G: Gate>(
     gate: &G,
 ) -> Result<Outcome, RunFault>
     ensures outcome { IfOk result (λ o. IsOutcome net.now.network o) }
-    ensures gate { IfErr result (IsFaultIn (WasShut G.turn_shut G.worker_shut) net.now.network) }
+    ensures fault { IfErr result (IsFaultIn (WasShut G.turn_shut G.worker_shut) (WasSpent G.turn_open MOST_TURNS) net.now.network) }
 {
     run_network_within(rt, alloc, net, settings, gate, MOST_TURNS)
 }
@@ -72,10 +75,10 @@ pub fn run_network_within<R: Threads + Wait + Sync, G: Gate>(
     turns: u64,
 ) -> Result<Outcome, RunFault>
     ensures outcome { IfOk result (λ o. IsOutcome net.now.network o) }
-    ensures gate { IfErr result (IsFaultIn (WasShut G.turn_shut G.worker_shut) net.now.network) }
+    ensures fault { IfErr result (IsFaultIn (WasShut G.turn_shut G.worker_shut) (WasSpent G.turn_open turns) net.now.network) }
 {
     let ready = ready_plants(alloc, net, settings.capacity())?;
-    let through = run_plants(rt, alloc, ready, settings.workers(), gate, turns)?;
+    let through = run_plants::<R, G, Brand>(rt, alloc, ready, settings.workers(), gate, turns)?;
     Ok(outcome_of(rt, alloc, net.network(), through)?)
 }
 

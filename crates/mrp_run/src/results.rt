@@ -2,42 +2,37 @@
 ghost use Rattle.std.specs.Prelude.{◌≡◌, ◌≤◌, ◌⊎◌, ◌++◌, ◌∷◌, [], List, Ok, None, IfOk, IfErr, length, map, option_to_list, vec_capacity};
 ghost use Rattle.mrp_run.specs.declared.fault.RunFault.{RunFault};
 ghost use Rattle.mrp_run.specs.Worst.{IsBefore, IsWorst, IsWorstOf};
-ghost use Rattle.mrp_run.specs.Joined.{faults_in, reason};
+ghost use Rattle.mrp_run.specs.Joined.{faults_in};
 
 use crate::fault::RunFault;
 use crate::plant::Plant;
-use mrp_agent::Gate;
-use mrp_net::PlantNo;
+use crate::stop::StopRule;
 use std::marker::PhantomData;
 use std::snapshot::Snapshot;
 use std::thread::Promise;
 
-/// What a plant's thread brings back: the plant; or the fault that it met, `None` where another plant had
-/// raised `stop`.
-pub(crate) type Back = Result<Plant, Option<RunFault>>;
+/// What a plant's thread brings back: the plant; or the fault that it met, or was told by another.
+pub(crate) type Back = Result<Plant, RunFault>;
 
-/// What a thread is started for: to finish a plant, as it stands then, at a gate of the kind `G`.
-pub(crate) struct Duty<G> {
-    pub(crate) number: PlantNo,
+/// What a thread is started for: to finish a plant, as it stands then, or to bring back a fault by the rule.
+pub(crate) struct Duty<S> {
     pub(crate) plant: Snapshot<Plant>,
-    pub(crate) gate: PhantomData<G>,
+    pub(crate) rule: PhantomData<S>,
 }
 
-impl<G> Drop for Duty<G> {
+impl<S> Drop for Duty<S> {
     fn drop(self) {
         let Duty {
-            number: _,
             plant: _plant,
-            gate: _,
+            rule: _,
         } = self;
     }
 }
 
-impl<G: Gate> Promise<Back> for Duty<G> {
-    ghost use Rattle.mrp_run.specs.Faults.{WasShut};
+impl<S: StopRule> Promise<Back> for Duty<S> {
     ghost use Rattle.mrp_run.specs.Joined.{Fulfils};
 
-    ghost kept_by = { λ duty back. Fulfils (WasShut G.turn_shut G.worker_shut) duty back };
+    ghost kept_by = { λ duty back. Fulfils S.holds duty back };
 }
 
 /// The plants of all threads, where each brought one back and no fault was met before.
@@ -61,7 +56,7 @@ pub(crate) fn all_of(
     for back in backs {
         match back {
             Ok(plant) => plants.push(plant).unwrap(),
-            Err(why) => worst = Some(with_fault(worst, why)),
+            Err(fault) => worst = Some(with_fault(worst, fault)),
         }
     }
     match worst {
@@ -71,10 +66,9 @@ pub(crate) fn all_of(
 }
 
 /// The worst fault so far, with one more that was brought back.
-fn with_fault(worst: Option<RunFault>, why: Option<RunFault>) -> RunFault
-    ensures { (faults : List RunFault) → IsWorstOf worst faults → IsWorst result (faults ++ reason why ∷ []) }
+fn with_fault(worst: Option<RunFault>, fault: RunFault) -> RunFault
+    ensures { (faults : List RunFault) → IsWorstOf worst faults → IsWorst result (faults ++ fault ∷ []) }
 {
-    let fault = why.unwrap_or(RunFault::Stopped);
     match worst {
         None => fault,
         Some(worst) => worse(worst, fault),

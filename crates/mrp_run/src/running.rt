@@ -1,8 +1,8 @@
 //! The thread of one plant.
-ghost use Rattle.std.specs.Prelude.{◌≡◌, ◌≤◌, IfErr, IfOk, IfSome, OnOk};
+ghost use Rattle.std.specs.Prelude.{◌≡◌, ◌≤◌, IfErr, IfOk, OnOk};
 ghost use Rattle.mrp_crew.specs.declared.fault.CrewFault.{CrewFault};
 ghost use Rattle.mrp_run.specs.Faults as faults;
-ghost use Rattle.mrp_run.specs.Faults.{IsOf, WasShut};
+ghost use Rattle.mrp_run.specs.Faults.{AllowsOf, IsOf, IsToldOrOf, WasShut, WasSpent, never_spent};
 ghost use Rattle.mrp_run.specs.Plant as at;
 ghost use Rattle.mrp_run.specs.Steps.{IsAtWork, Keeps, Finishes};
 
@@ -10,13 +10,13 @@ use crate::booking::book_all;
 use crate::fault::RunFault;
 use crate::offering::offer_all;
 use crate::plant::Plant;
+use crate::stop::{Stop, StopRule};
 use mrp_agent::{Agent, Gate};
 use mrp_crew::{Crew, CrewFault};
 use mrp_lane::{SendEnd, TakeEnd};
 use mrp_net::PlantNo;
 use std::alloc::Global;
 use std::sync::Wait;
-use std::sync::atomic::{AtomicBool, Ordering};
 use std::thread;
 use std::thread::Threads;
 
@@ -28,17 +28,17 @@ use std::thread::Threads;
 ///
 /// A turn asks the gate, books what lies in the lanes that come in, plans what is ready and offers what the
 /// plant has to send, as far as there is room. Turns count from 1. Before each turn the plant looks whether
-/// `stop` is raised; at a fault it raises it.
+/// another told a fault to `stop`; a fault that it meets it tells there.
 ///
 /// # Errors
 ///
-/// The fault, or `None` where another raised `stop`. The agent and the ends are gone then.
+/// The fault that the plant met, or the one that another told. The agent and the ends are gone then.
 ///
 /// - [`RunFault::Memory`] where a growth is refused;
 /// - [`RunFault::ThreadRefused`] where no thread could be made for a worker;
 /// - [`RunFault::GateShut`] where the gate was shut for this plant or for one of its workers;
 /// - [`RunFault::Stopped`] where the plant isn't done after so many turns.
-pub fn run_plant<R: Threads + Wait + Sync, G: Gate>(
+pub fn run_plant<R: Threads + Wait + Sync, G: Gate, S: StopRule>(
     rt: &R,
     alloc: Global,
     plant: PlantNo,
@@ -47,15 +47,16 @@ pub fn run_plant<R: Threads + Wait + Sync, G: Gate>(
     takes: Vec<TakeEnd>,
     crew: &mut Crew,
     gate: &G,
-    stop: &AtomicBool,
+    stop: &Stop<S>,
     turns: u64,
-) -> Result<(Agent, Vec<SendEnd>, Vec<TakeEnd>), Option<RunFault>>
+) -> Result<(Agent, Vec<SendEnd>, Vec<TakeEnd>), RunFault>
     requires work { at.IsAtWork agent sends.items takes.items }
     requires horizon { crew.old.horizon ≡ agent.view.horizon }
+    requires rule { AllowsOf S.holds (WasShut G.turn_shut G.worker_shut) (WasSpent G.turn_open turns) plant }
     ensures crew { crew.new ≡ crew.old }
     ensures kept { IfOk result (λ r. at.Kept agent sends.items takes.items r.0 r.1.items r.2.items) }
     ensures finished { IfOk result (λ r. at.HasFinished agent sends.items takes.items r.0 r.1.items r.2.items) }
-    ensures fault { IfErr result (λ why. IfSome why (IsOf (WasShut G.turn_shut G.worker_shut) plant)) }
+    ensures fault { IfErr result S.holds }
 {
     let owned = Plant {
         agent,
@@ -71,48 +72,49 @@ pub fn run_plant<R: Threads + Wait + Sync, G: Gate>(
 }
 
 /// The same for a plant in one piece.
-pub(crate) fn run_owned<R: Threads + Wait + Sync, G: Gate>(
+pub(crate) fn run_owned<R: Threads + Wait + Sync, G: Gate, S: StopRule>(
     rt: &R,
     alloc: Global,
     number: PlantNo,
     mut plant: Plant,
     crew: &mut Crew,
     gate: &G,
-    stop: &AtomicBool,
+    stop: &Stop<S>,
     turns: u64,
-) -> Result<Plant, Option<RunFault>>
+) -> Result<Plant, RunFault>
     requires work { IsAtWork plant }
     requires horizon { crew.old.horizon ≡ plant.agent.view.horizon }
+    requires rule { AllowsOf S.holds (WasShut G.turn_shut G.worker_shut) (WasSpent G.turn_open turns) number }
     ensures crew { crew.new ≡ crew.old }
     ensures finishes { IfOk result (λ after. Finishes plant after) }
-    ensures fault { IfErr result (λ why. IfSome why (IsOf (WasShut G.turn_shut G.worker_shut) number)) }
+    ensures fault { IfErr result S.holds }
 {
     match work(rt, alloc, number, &mut plant, crew, gate, stop, turns) {
         Ok(()) => Ok(plant),
-        Err(why) => {
-            stop.store(true, Ordering::SeqCst);
+        Err(fault) => {
+            stop.tell(fault);
             drop(plant);
-            Err(why)
+            Err(fault)
         }
     }
 }
 
 /// Turn by turn, until the plant is done.
-fn work<R: Threads + Wait + Sync, G: Gate>(
+fn work<R: Threads + Wait + Sync, G: Gate, S: StopRule>(
     rt: &R,
     alloc: Global,
     number: PlantNo,
     plant: &mut Plant,
     crew: &mut Crew,
     gate: &G,
-    stop: &AtomicBool,
+    stop: &Stop<S>,
     turns: u64,
-) -> Result<(), Option<RunFault>>
+) -> Result<(), RunFault>
     requires work { IsAtWork plant.old }
     requires horizon { crew.old.horizon ≡ plant.old.agent.view.horizon }
     ensures crew { crew.new ≡ crew.old }
     ensures finishes { OnOk result (Finishes plant.old plant.new) }
-    ensures fault { IfErr result (λ why. IfSome why (IsOf (WasShut G.turn_shut G.worker_shut) number)) }
+    ensures fault { IfErr result (IsToldOrOf S.holds (WasShut G.turn_shut G.worker_shut) (WasSpent G.turn_open turns) number) }
 {
     for turn in 0..turns {
         begin(number, turn + 1, gate, stop)?;
@@ -124,25 +126,26 @@ fn work<R: Threads + Wait + Sync, G: Gate>(
             thread::yield_now();
         }
     }
-    Err(Some(RunFault::Stopped))
+    Err(RunFault::Stopped)
 }
 
-/// Whether a turn may begin: nobody has raised `stop`, and the gate is open.
-fn begin<G: Gate>(
+/// Whether a turn may begin: nobody has told a fault, and the gate is open.
+fn begin<G: Gate, S: StopRule>(
     number: PlantNo,
     turn: u64,
     gate: &G,
-    stop: &AtomicBool,
-) -> Result<(), Option<RunFault>>
+    stop: &Stop<S>,
+) -> Result<(), RunFault>
     requires turn { 1 ≤ turn }
-    ensures fault { IfErr result (λ why. IfSome why (IsOf (WasShut G.turn_shut G.worker_shut) number)) }
+    ensures opened { OnOk result (G.turn_open number.0 turn) }
+    ensures fault { IfErr result (IsToldOrOf S.holds (WasShut G.turn_shut G.worker_shut) never_spent number) }
 {
-    if stop.load(Ordering::SeqCst) {
-        Err(None)
+    if let Some(fault) = stop.fault() {
+        Err(fault)
     } else if gate.turn(number.0, turn) {
         Ok(())
     } else {
-        Err(Some(RunFault::GateShut(number)))
+        Err(RunFault::GateShut(number))
     }
 }
 
@@ -159,7 +162,7 @@ fn take_turn<R: Threads + Wait + Sync, G: Gate>(
     requires horizon { crew.old.horizon ≡ plant.old.agent.view.horizon }
     ensures crew { crew.new ≡ crew.old }
     ensures kept { Keeps plant.old plant.new }
-    ensures fault { IfErr result (IsOf (WasShut G.turn_shut G.worker_shut) number) }
+    ensures fault { IfErr result (IsOf (WasShut G.turn_shut G.worker_shut) never_spent number) }
 {
     let came = book_all(rt, plant);
     let planned = plan_all(rt, alloc, number, plant, crew, gate)?;
@@ -180,7 +183,7 @@ fn plan_all<R: Threads + Wait + Sync, G: Gate>(
     requires horizon { crew.old.horizon ≡ plant.old.agent.view.horizon }
     ensures crew { crew.new ≡ crew.old }
     ensures kept { Keeps plant.old plant.new }
-    ensures fault { IfErr result (IsOf (WasShut G.turn_shut G.worker_shut) number) }
+    ensures fault { IfErr result (IsOf (WasShut G.turn_shut G.worker_shut) never_spent number) }
     ensures by_crew { IfErr result (λ fault. (why : CrewFault) × (fault ≡ faults.of_crew number why)) }
 {
     match crew.plan_ready(rt, alloc, &mut plant.agent, number.0, gate) {

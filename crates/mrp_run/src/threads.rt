@@ -1,18 +1,20 @@
 //! How the threads of the plants are started and joined.
-ghost use Rattle.std.specs.Prelude.{◌≡◌, ◌≤◌, ◌++◌, [], List, All, IfErr, IfOk, IfSome, OnOk, Some, ℕ, length, slice_index_or, vec_capacity};
+ghost use Rattle.std.specs.Prelude.{◌≡◌, ◌≤◌, ◌++◌, [], List, All, IfErr, IfOk, IfSome, OnOk, length, slice_index_or, vec_capacity};
 ghost use Rattle.std.specs.List.{AllZip};
 ghost use Rattle.mrp_crew.specs.declared.crew.TheConstants.{MOST_WORKERS};
+ghost use Rattle.mrp_run.specs.declared.fault.RunFault.{RunFault};
 ghost use Rattle.mrp_run.specs.declared.plant.Plant.{Plant};
 ghost use Rattle.mrp_run.specs.Ends.{EachAt};
-ghost use Rattle.mrp_run.specs.Faults.{IsOf, WasShut};
-ghost use Rattle.mrp_run.specs.Joined.{AreOfFirst, AreRooms, AreShutOfFirst, Finished, started};
+ghost use Rattle.mrp_run.specs.Faults.{AllowsOf, WasShut, WasSpent};
+ghost use Rattle.mrp_run.specs.Joined.{AreByRule, AreRooms, Finished, started};
 ghost use Rattle.mrp_run.specs.Steps.{Finishes, IsAtWork};
-ghost use Rattle.mrp_run.specs.Worst.{IsOfFirst};
+ghost use Rattle.mrp_run.specs.Worst.{AllowsOfFirst};
 
 use crate::fault::RunFault;
 use crate::plant::Plant;
 use crate::results::{Back, Duty, all_of};
 use crate::running::run_owned;
+use crate::stop::{Stop, StopRule};
 use mrp_agent::Gate;
 use mrp_crew::Crew;
 use mrp_net::PlantNo;
@@ -21,12 +23,11 @@ use std::alloc::Global;
 use std::marker::PhantomData;
 use std::snapshot::Snapshot;
 use std::sync::Wait;
-use std::sync::atomic::{AtomicBool, Ordering};
 use std::thread;
 use std::thread::{PromisedHandle, Scope, Threads};
 
 /// The thread of a plant.
-pub(crate) type Running<G> = PromisedHandle<Back, Duty<G>>;
+pub(crate) type Running<S> = PromisedHandle<Back, Duty<S>>;
 
 /// Room for what the threads of all plants bring back, and for the plants again.
 #[derive(Drop)]
@@ -41,7 +42,7 @@ pub(crate) struct Rooms {
 ///
 /// The lowest fault met, and of shut gates that of the lowest plant. All threads that were started are
 /// joined before.
-pub(crate) fn run_plants<R: Threads + Wait + Sync, G: Gate>(
+pub(crate) fn run_plants<R: Threads + Wait + Sync, G: Gate, S: StopRule + Send + Sync>(
     rt: &R,
     alloc: Global,
     plants: Vec<Plant>,
@@ -51,14 +52,33 @@ pub(crate) fn run_plants<R: Threads + Wait + Sync, G: Gate>(
 ) -> Result<Vec<Plant>, RunFault>
     requires work { All IsAtWork plants.items }
     requires workers { (1 ≤ workers) × (workers ≤ MOST_WORKERS) }
+    requires rule { AllowsOfFirst S.holds (WasShut G.turn_shut G.worker_shut) (WasSpent G.turn_open turns) (length plants.items) }
     ensures all { IfOk result (λ after. length after.items ≡ length plants.items) }
     ensures each { IfOk result (λ after. EachAt (λ p P. Finishes (slice_index_or plants.items p P) P) after.items) }
-    ensures gate { IfErr result (IsOfFirst (WasShut G.turn_shut G.worker_shut) (length plants.items)) }
+    ensures fault { IfErr result S.holds }
+{
+    let stop = Stop::<S>::new();
+    run_until(rt, alloc, plants, workers, gate, &stop, turns)
+}
+
+/// The same, where the plants share `stop`.
+fn run_until<R: Threads + Wait + Sync, G: Gate, S: StopRule + Send + Sync>(
+    rt: &R,
+    alloc: Global,
+    plants: Vec<Plant>,
+    workers: u64,
+    gate: &G,
+    stop: &Stop<S>,
+    turns: u64,
+) -> Result<Vec<Plant>, RunFault>
+    requires work { All IsAtWork plants.items }
+    requires workers { (1 ≤ workers) × (workers ≤ MOST_WORKERS) }
+    requires rule { AllowsOfFirst S.holds (WasShut G.turn_shut G.worker_shut) (WasSpent G.turn_open turns) (length plants.items) }
+    ensures each { IfOk result (λ after. AllZip Finishes plants.items after.items) }
+    ensures fault { IfErr result S.holds }
 {
     let threads = new_threads(alloc, plants.len())?;
     let rooms = new_rooms(alloc, plants.len())?;
-    let stop = AtomicBool::new(false);
-    let stop = &stop;
     thread::scope(
         thread::scope_env(),
         rt,
@@ -67,8 +87,9 @@ pub(crate) fn run_plants<R: Threads + Wait + Sync, G: Gate>(
             requires workers { (1 ≤ workers) × (workers ≤ MOST_WORKERS) }
             requires threads { (threads.items ≡ []) × (length plants.items ≤ vec_capacity threads) }
             requires rooms { AreRooms (length plants.items) rooms }
+            requires rule { AllowsOfFirst S.holds (WasShut G.turn_shut G.worker_shut) (WasSpent G.turn_open turns) (length plants.items) }
             ensures each { IfOk result (λ after. AllZip Finishes plants.items after.items) }
-            ensures gate { IfErr result (IsOfFirst (WasShut G.turn_shut G.worker_shut) (length plants.items)) }
+            ensures fault { IfErr result S.holds }
         {
             run_beside(
                 scope, rt, alloc, plants, workers, gate, stop, turns, threads, rooms,
@@ -78,7 +99,7 @@ pub(crate) fn run_plants<R: Threads + Wait + Sync, G: Gate>(
 }
 
 /// Room for the threads of so many plants.
-fn new_threads<G: Gate>(alloc: Global, plants: usize) -> Result<Vec<Running<G>>, Memory>
+fn new_threads<S: StopRule>(alloc: Global, plants: usize) -> Result<Vec<Running<S>>, Memory>
     ensures { IfOk result (λ threads. (threads.items ≡ []) × (plants ≤ vec_capacity threads)) }
 {
     Ok(Vec::with_capacity(alloc, plants)?)
@@ -95,24 +116,25 @@ fn new_rooms(alloc: Global, plants: usize) -> Result<Rooms, Memory>
 }
 
 /// The same, with the scope in which the threads run.
-fn run_beside<'s, E, R: Threads + Wait + Sync, G: Gate>(
+fn run_beside<'s, E, R: Threads + Wait + Sync, G: Gate, S: StopRule + Send + Sync>(
     scope: &Scope<'s, E>,
     rt: &'s R,
     alloc: Global,
     plants: Vec<Plant>,
     workers: u64,
     gate: &'s G,
-    stop: &'s AtomicBool,
+    stop: &'s Stop<S>,
     turns: u64,
-    mut threads: Vec<Running<G>>,
+    mut threads: Vec<Running<S>>,
     rooms: Rooms,
 ) -> Result<Vec<Plant>, RunFault>
     requires work { All IsAtWork plants.items }
     requires workers { (1 ≤ workers) × (workers ≤ MOST_WORKERS) }
+    requires rule { AllowsOfFirst S.holds (WasShut G.turn_shut G.worker_shut) (WasSpent G.turn_open turns) (length plants.items) }
     requires threads { (threads.items ≡ []) × (length plants.items ≤ vec_capacity threads) }
     requires rooms { AreRooms (length plants.items) rooms }
     ensures each { IfOk result (λ after. AllZip Finishes plants.items after.items) }
-    ensures gate { IfErr result (IsOfFirst (WasShut G.turn_shut G.worker_shut) (length plants.items)) }
+    ensures fault { IfErr result S.holds }
 {
     let Rooms {
         mut backs,
@@ -137,30 +159,30 @@ fn run_beside<'s, E, R: Threads + Wait + Sync, G: Gate>(
 ///
 /// # Errors
 ///
-/// [`RunFault::ThreadRefused`] where one could not be started; no further ones are started then, and `stop`
-/// is raised.
-fn start_all<'s, E, R: Threads + Wait + Sync, G: Gate>(
+/// [`RunFault::ThreadRefused`] where one could not be started; no further ones are started then, and it is
+/// told to the others.
+fn start_all<'s, E, R: Threads + Wait + Sync, G: Gate, S: StopRule + Send + Sync>(
     scope: &Scope<'s, E>,
     rt: &'s R,
     alloc: Global,
     plants: Vec<Plant>,
     workers: u64,
     gate: &'s G,
-    stop: &'s AtomicBool,
+    stop: &'s Stop<S>,
     turns: u64,
-    threads: &mut Vec<Running<G>>,
+    threads: &mut Vec<Running<S>>,
 ) -> Result<(), RunFault>
     requires work { All IsAtWork plants.items }
     requires workers { (1 ≤ workers) × (workers ≤ MOST_WORKERS) }
+    requires rule { AllowsOfFirst S.holds (WasShut G.turn_shut G.worker_shut) (WasSpent G.turn_open turns) (length plants.items) }
     requires room { (threads.old.items ≡ []) × (length plants.items ≤ vec_capacity threads.old) }
     ensures started { (rest : List Plant) × (plants.items ≡ started threads.new.items ++ rest) × OnOk result (rest ≡ []) }
-    ensures first { AreOfFirst (length plants.items) threads.new.items }
     ensures refused { IfErr result (λ fault. fault ≡ RunFault.ThreadRefused) }
 {
     for plant in plants {
         let number = PlantNo(threads.len());
         let Some(thread) = start(scope, rt, alloc, number, plant, workers, gate, stop, turns) else {
-            stop.store(true, Ordering::SeqCst);
+            stop.tell(RunFault::ThreadRefused);
             return Err(RunFault::ThreadRefused);
         };
         threads.push(thread).unwrap();
@@ -169,7 +191,7 @@ fn start_all<'s, E, R: Threads + Wait + Sync, G: Gate>(
 }
 
 /// Starts a thread for a plant; `None` where it could not be started, and the plant is gone then.
-fn start<'s, E, R: Threads + Wait + Sync, G: Gate>(
+fn start<'s, E, R: Threads + Wait + Sync, G: Gate, S: StopRule + Send + Sync>(
     scope: &Scope<'s, E>,
     rt: &'s R,
     alloc: Global,
@@ -177,78 +199,80 @@ fn start<'s, E, R: Threads + Wait + Sync, G: Gate>(
     plant: Plant,
     workers: u64,
     gate: &'s G,
-    stop: &'s AtomicBool,
+    stop: &'s Stop<S>,
     turns: u64,
-) -> Option<Running<G>>
+) -> Option<Running<S>>
     requires work { IsAtWork plant }
     requires workers { (1 ≤ workers) × (workers ≤ MOST_WORKERS) }
+    requires rule { AllowsOf S.holds (WasShut G.turn_shut G.worker_shut) (WasSpent G.turn_open turns) number }
     ensures plant { IfSome result (λ thread. thread.promise.plant.value ≡ plant) }
-    ensures number { IfSome result (λ thread. thread.promise.number ≡ number) }
 {
     let duty = Duty {
-        number,
         plant: Snapshot::of(&plant),
-        gate: PhantomData,
+        rule: PhantomData,
     };
     let started = scope.spawn_with(
         duty,
         move || -> Back
             requires work { IsAtWork plant }
             requires workers { (1 ≤ workers) × (workers ≤ MOST_WORKERS) }
+            requires rule { AllowsOf S.holds (WasShut G.turn_shut G.worker_shut) (WasSpent G.turn_open turns) number }
         { run_alone(rt, alloc, number, plant, workers, gate, stop, turns) },
     );
     started.ok()
 }
 
 /// Runs a plant with a crew of its own.
-fn run_alone<R: Threads + Wait + Sync, G: Gate>(
+fn run_alone<R: Threads + Wait + Sync, G: Gate, S: StopRule>(
     rt: &R,
     alloc: Global,
     number: PlantNo,
     plant: Plant,
     workers: u64,
     gate: &G,
-    stop: &AtomicBool,
+    stop: &Stop<S>,
     turns: u64,
 ) -> Back
     requires work { IsAtWork plant }
     requires workers { (1 ≤ workers) × (workers ≤ MOST_WORKERS) }
+    requires rule { AllowsOf S.holds (WasShut G.turn_shut G.worker_shut) (WasSpent G.turn_open turns) number }
     ensures plant { Finished plant result }
-    ensures fault { IfErr result (λ why. IfSome why (IsOf (WasShut G.turn_shut G.worker_shut) number)) }
+    ensures fault { IfErr result S.holds }
 {
     let horizon = plant.agent.view().horizon();
     match crew_for(alloc, workers, horizon, stop) {
         Ok(mut crew) => run_owned(rt, alloc, number, plant, &mut crew, gate, stop, turns),
-        Err(why) => {
+        Err(fault) => {
             drop(plant);
-            Err(why)
+            Err(fault)
         }
     }
 }
 
-/// A crew of so many workers; where there is no memory for one, `stop` is raised.
-fn crew_for(
+/// A crew of so many workers; where there is no memory for one, that is told to the others.
+fn crew_for<S: StopRule>(
     alloc: Global,
     workers: u64,
     horizon: Horizon,
-    stop: &AtomicBool,
-) -> Result<Crew, Option<RunFault>>
+    stop: &Stop<S>,
+) -> Result<Crew, RunFault>
     requires workers { (1 ≤ workers) × (workers ≤ MOST_WORKERS) }
+    requires rule { S.holds RunFault.Memory }
     ensures horizon { IfOk result (λ crew. crew.horizon ≡ horizon) }
-    ensures fault { IfErr result (λ why. why ≡ Some RunFault.Memory) }
+    ensures fault { IfErr result (λ fault. fault ≡ RunFault.Memory) }
 {
     let Ok(crew) = Crew::new(alloc, workers, horizon) else {
-        stop.store(true, Ordering::SeqCst);
-        return Err(Some(RunFault::Memory));
+        stop.tell(RunFault::Memory);
+        return Err(RunFault::Memory);
     };
     Ok(crew)
 }
 
 /// Joins all threads, in the order in which they were started.
-fn join_all<R: Threads, G: Gate>(rt: &R, threads: Vec<Running<G>>, backs: &mut Vec<Back>)
+fn join_all<R: Threads, S: StopRule>(rt: &R, threads: Vec<Running<S>>, backs: &mut Vec<Back>)
     requires room { (backs.old.items ≡ []) × (length threads.items ≤ vec_capacity backs.old) }
     ensures finished { AllZip Finished (started threads.items) backs.new.items }
-    ensures first { (plants : ℕ) → AreOfFirst plants threads.items → AreShutOfFirst (WasShut G.turn_shut G.worker_shut) plants backs.new.items }
+    ensures rule { AreByRule S.holds backs.new.items }
 {
     for thread in threads {
         backs.push(thread.join(rt)).unwrap();

@@ -13,46 +13,49 @@ use Rattle.mrp_text.specs.Answer.{IsAnswerRefusal, IsNoShutGate}
 use Rattle.mrp_text.specs.Runs.{IsInNetwork, IsOfRun, IsShutFor}
 use Rattle.mrp_text.specs.Text.{IsRunFault, IsRunRefusal, IsTextRefusal}
 
-pub in_network : (Shut : ℕ → Type 0) (N : Table) (f : RunFault) → IsFaultIn Shut N f → IsInNetwork N f
-in_network Shut N run.Memory is = tt
-in_network Shut N run.ThreadRefused is = tt
-in_network Shut N (run.GateShut plant) is = is.0
-in_network Shut N run.Stopped is = tt
+pub in_network : (Shut Spent : ℕ → Type 0) (N : Table) (f : RunFault) → IsFaultIn Shut Spent N f → IsInNetwork N f
+in_network Shut Spent N run.Memory is = tt
+in_network Shut Spent N run.ThreadRefused is = tt
+in_network Shut Spent N (run.GateShut plant) is = is.0
+in_network Shut Spent N run.Stopped is = tt
 
 -- the fault that a run's fault is
-pub run_fault : (Shut : ℕ → Type 0) (N : Table) (f : RunFault) (said : TextFault) → IsFaultIn Shut N f → IsOfRun N f said → IsRunFault Shut N said
-run_fault Shut N run.Memory said is of = subst (IsRunFault Shut N) (sym of) tt
-run_fault Shut N run.ThreadRefused said is of = subst (IsRunFault Shut N) (sym of) tt
-run_fault Shut N (run.GateShut plant) (fault.GateShut name) is of = (plant.0, of, is.1)
-run_fault Shut N (run.GateShut plant) _ is of = absurd of
-run_fault Shut N run.Stopped said is of = subst (IsRunFault Shut N) (sym of) tt
+pub run_fault : (Shut Spent : ℕ → Type 0) (N : Table) (f : RunFault) (said : TextFault) → IsFaultIn Shut Spent N f → IsOfRun N f said → IsRunFault Shut Spent N said
+run_fault Shut Spent N run.Memory said is of = subst (IsRunFault Shut Spent N) (sym of) tt
+run_fault Shut Spent N run.ThreadRefused said is of = subst (IsRunFault Shut Spent N) (sym of) tt
+run_fault Shut Spent N (run.GateShut plant) (fault.GateShut name) is of = (plant.0, of, is.1)
+run_fault Shut Spent N (run.GateShut plant) _ is of = absurd of
+run_fault Shut Spent N run.Stopped said is of = subst (IsRunFault Shut Spent N) (sym of) is
 
 -- ---- a gate that is always open
 
 never_shut : (p : ℕ) → WasShut (λ _ _. ⊥) (λ _ _. ⊥) p → ⊥
 never_shut p shut = ⊎_elim (λ turn. turn.1) (λ worker. worker.1) shut
 
-open_refusal : (N : Table) (f : TextFault) → IsRunRefusal (WasShut (λ _ _. ⊥) (λ _ _. ⊥)) N f → IsRunRefusal (λ _. ⊥) N f
-open_refusal N fault.ThreadRefused said = said
-open_refusal N (fault.GateShut name) said = absurd (never_shut said.1.0 said.1.2)
-open_refusal N fault.Stopped said = said
-open_refusal N _ said = said
+abbrev IsOpenRefusal : (ℕ → Type 0) → Table → TextFault → Type 0
+IsOpenRefusal Spent = IsRunRefusal (WasShut (λ _ _. ⊥) (λ _ _. ⊥)) Spent
 
-open_text : (known : Option (List ℕ)) (f : TextFault) → IsTextRefusal known (IsRunRefusal (WasShut (λ _ _. ⊥) (λ _ _. ⊥))) f → IsTextRefusal known (IsRunRefusal (λ _. ⊥)) f
-open_text known (fault.Table e) said = said
-open_text known fault.Memory said = said
-open_text known f said = (said.0, said.1, said.2, open_refusal said.0 f said.3)
+open_refusal : (Spent : ℕ → Type 0) (N : Table) (f : TextFault) → IsOpenRefusal Spent N f → IsRunRefusal (λ _. ⊥) (λ _. Unit {0}) N f
+open_refusal Spent N fault.ThreadRefused said = said
+open_refusal Spent N (fault.GateShut name) said = absurd (never_shut said.1.0 said.1.2)
+open_refusal Spent N fault.Stopped said = (said.0, (said.1.0, said.1.1, tt))
+open_refusal Spent N _ said = said
 
-pub open_refuses : {U : Type 0} (known : Option (List ℕ)) (r : Result U TextFault) → IfErr r (IsTextRefusal known (IsRunRefusal (WasShut (λ _ _. ⊥) (λ _ _. ⊥))))
-    → IfErr r (IsTextRefusal known (IsRunRefusal (λ _. ⊥)))
-open_refuses known (Ok u) said = tt
-open_refuses known (Err f) said = open_text known f said
+open_text : (Spent : ℕ → Type 0) (known : Option (List ℕ)) (f : TextFault) → IsTextRefusal known (IsOpenRefusal Spent) f → IsTextRefusal known (IsRunRefusal (λ _. ⊥) (λ _. Unit {0})) f
+open_text Spent known (fault.Table e) said = said
+open_text Spent known fault.Memory said = said
+open_text Spent known f said = (said.0, said.1, said.2, open_refusal Spent said.0 f said.3)
+
+pub open_refuses : {U : Type 0} (Spent : ℕ → Type 0) (known : Option (List ℕ)) (r : Result U TextFault) → IfErr r (IsTextRefusal known (IsOpenRefusal Spent))
+    → IfErr r (IsTextRefusal known (IsRunRefusal (λ _. ⊥) (λ _. Unit {0})))
+open_refuses Spent known (Ok u) said = tt
+open_refuses Spent known (Err f) said = open_text Spent known f said
 
 -- so of a plan that isn't asked for on one thread
-pub open_answer : {U : Type 0} (known : Option (List ℕ)) (r : Result U TextFault) (workers capacity : ℕ) (single : Bool) → single ≡ false
-    → IfErr r (IsTextRefusal known (IsRunRefusal (WasShut (λ _ _. ⊥) (λ _ _. ⊥)))) → IfErr r (IsTextRefusal known (IsAnswerRefusal (Plan workers capacity single)))
-open_answer known r workers capacity true e said = absurd (false≢true (sym e))
-open_answer known r workers capacity false e said = open_refuses known r said
+pub open_answer : {U : Type 0} (Spent : ℕ → Type 0) (known : Option (List ℕ)) (r : Result U TextFault) (workers capacity : ℕ) (single : Bool) → single ≡ false
+    → IfErr r (IsTextRefusal known (IsOpenRefusal Spent)) → IfErr r (IsTextRefusal known (IsAnswerRefusal (Plan workers capacity single)))
+open_answer Spent known r workers capacity true e said = absurd (false≢true (sym e))
+open_answer Spent known r workers capacity false e said = open_refuses Spent known r said
 
 -- ---- a refusal that is no shut gate
 

@@ -15,10 +15,10 @@ IsAnswer Check = IsCodeReport
 IsAnswer (Peg plant item period) = IsPegReport plant.now item.now period
 IsAnswer Cums = IsCumReport
 
--- what a refusal of the network says to a choice; no gate is ever shut there
+-- what a refusal of the network says to a choice; no gate is ever shut there, and of turns that are used nothing is said
 abbrev pub IsAnswerRefusal : Choice → Table → TextFault → Type 0
 IsAnswerRefusal (Plan workers capacity true) = IsRefusal
-IsAnswerRefusal (Plan workers capacity false) = IsRunRefusal (λ _. ⊥)
+IsAnswerRefusal (Plan workers capacity false) = IsRunRefusal (λ _. ⊥) (λ _. Unit {0})
 IsAnswerRefusal Check = IsRefusal
 IsAnswerRefusal (Peg plant item period) = IsPegRefusal plant.now item.now period
 IsAnswerRefusal Cums = IsRefusal

@@ -1,5 +1,5 @@
 -- What the text functions write, and what their refusals say.
-use Rattle.std.specs.Prelude.{◌≡◌, ℕ, ◌<◌, ◌≤◌, ◌⊎◌, List, [], ◌∷◌, ◌++◌, Option, Some, option_map, slice_get, Result, Ok, Err, string_bytes}
+use Rattle.std.specs.Prelude.{◌≡◌, ℕ, ◌<◌, ◌≤◌, ◌⊎◌, List, [], ◌∷◌, ◌++◌, Option, Some, option_map, slice_get, length, Result, Ok, Err, string_bytes}
 use Rattle.std.specs.Io.KnownBytes.{Appends, Keeps}
 use Rattle.csv.specs.Reading.{strip_bom}
 use Rattle.mrp_lot.specs.One.{PlanRows}
@@ -118,21 +118,25 @@ IsRefusal N _ = ⊥
 abbrev pub IsPlantNamed : (ℕ → Type 0) → Table → List ℕ → Type 0
 IsPlantNamed Shut N name = (p : ℕ) × (slice_get N.plants p ≡ Some name) × Shut p
 
+-- some plant of the network has used its turns
+abbrev pub IsTurnsSpent : (ℕ → Type 0) → Table → Type 0
+IsTurnsSpent Spent N = (p : ℕ) × (p < length N.plants) × Spent p
+
 -- what a run of a network by threads meets, which may end without a plan: a thread was refused, a gate was
 -- shut for a plant of the network, a plant used its turns, or memory was refused
-abbrev pub IsRunFault : (ℕ → Type 0) → Table → TextFault → Type 0
-IsRunFault Shut N fault.ThreadRefused = Unit {0}
-IsRunFault Shut N (fault.GateShut name) = IsPlantNamed Shut N (string_bytes name)
-IsRunFault Shut N fault.Stopped = Unit {0}
-IsRunFault Shut N fault.Memory = Unit {0}
-IsRunFault Shut N _ = ⊥
+abbrev pub IsRunFault : (ℕ → Type 0) → (ℕ → Type 0) → Table → TextFault → Type 0
+IsRunFault Shut Spent N fault.ThreadRefused = Unit {0}
+IsRunFault Shut Spent N (fault.GateShut name) = IsPlantNamed Shut N (string_bytes name)
+IsRunFault Shut Spent N fault.Stopped = IsTurnsSpent Spent N
+IsRunFault Shut Spent N fault.Memory = Unit {0}
+IsRunFault Shut Spent N _ = ⊥
 
 -- what a refusal of a network says that is run by threads where it can be planned
-abbrev pub IsRunRefusal : (ℕ → Type 0) → Table → TextFault → Type 0
-IsRunRefusal Shut N fault.ThreadRefused = IsPlannable N
-IsRunRefusal Shut N (fault.GateShut name) = IsPlannable N × IsPlantNamed Shut N (string_bytes name)
-IsRunRefusal Shut N fault.Stopped = IsPlannable N
-IsRunRefusal Shut N other = IsRefusal N other
+abbrev pub IsRunRefusal : (ℕ → Type 0) → (ℕ → Type 0) → Table → TextFault → Type 0
+IsRunRefusal Shut Spent N fault.ThreadRefused = IsPlannable N
+IsRunRefusal Shut Spent N (fault.GateShut name) = IsPlannable N × IsPlantNamed Shut N (string_bytes name)
+IsRunRefusal Shut Spent N fault.Stopped = IsPlannable N × IsTurnsSpent Spent N
+IsRunRefusal Shut Spent N other = IsRefusal N other
 
 -- the same of a question about a pair in a period, which is asked of a network that can be planned:
 -- no such pair; or the pair, and no such period

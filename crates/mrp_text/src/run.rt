@@ -2,7 +2,8 @@
 
 ghost use Rattle.std.specs.Prelude.{◌<◌, IfOk, IfErr, length};
 ghost use Rattle.mrp_net.specs.Plan.{Fits};
-ghost use Rattle.mrp_run.specs.Faults.{WasShut};
+ghost use Rattle.mrp_run.specs.Faults.{WasShut, WasSpent};
+ghost use Rattle.mrp_run.specs.declared.network.TheConstants.{MOST_TURNS};
 ghost use Rattle.mrp_text.specs.Runs.{IsInNetwork, IsOfRun, IsShutFor};
 ghost use Rattle.mrp_text.specs.Text.{IsPlannable, IsRunFault};
 
@@ -26,7 +27,7 @@ pub(crate) fn run_plan<T: Threads + Wait + Sync, G: Gate>(
 ) -> Result<Plan, TextFault>
     requires plannable { IsPlannable net.now.network }
     ensures fits { IfOk result (Fits net.now.network) }
-    ensures fault { IfErr result (IsRunFault (WasShut G.turn_shut G.worker_shut) net.now.network) }
+    ensures fault { IfErr result (IsRunFault (WasShut G.turn_shut G.worker_shut) (WasSpent G.turn_open MOST_TURNS) net.now.network) }
 {
     match run_network(rt, alloc, net, settings, gate) {
         Ok(outcome) => Ok(Plan::gather(net, outcome.plans)),

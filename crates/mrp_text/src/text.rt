@@ -7,7 +7,8 @@
 //! proved once, and not in each of these functions.
 
 ghost use Rattle.std.specs.Prelude.{◌≡◌, ◌≢◌, ◌≤◌, IfErr};
-ghost use Rattle.mrp_run.specs.Faults.{WasShut};
+ghost use Rattle.mrp_run.specs.Faults.{WasShut, WasSpent};
+ghost use Rattle.mrp_run.specs.declared.network.TheConstants.{MOST_TURNS};
 ghost use Rattle.mrp_text.specs.Fault.{IsBeforeWriting};
 ghost use Rattle.mrp_text.specs.Text.{Writes, OfTable, IsPlanReport, IsCodeReport};
 ghost use Rattle.mrp_text.specs.Text.{IsPegReport, IsCumReport};
@@ -46,7 +47,7 @@ pub fn plan_text<T: Threads + Wait + Sync, R: Read + Drop, W: Write, G: Gate>(
     gate: &G,
 ) -> Result<(), TextFault>
     ensures text { Writes (W.contents writer.old) (W.contents writer.new) result (λ text. OfTable (R.remaining reader) (λ N. IsPlanReport N text)) }
-    ensures refusal { IfErr result (IsTextRefusal (R.remaining reader) (IsRunRefusal (WasShut G.turn_shut G.worker_shut))) }
+    ensures refusal { IfErr result (IsTextRefusal (R.remaining reader) (IsRunRefusal (WasShut G.turn_shut G.worker_shut) (WasSpent G.turn_open MOST_TURNS))) }
     ensures untouched { IfErr result (λ fault. IsBeforeWriting fault → writer.new ≡ writer.old) }
 {
     let network = network_of(alloc, reader)?;

@@ -4,7 +4,8 @@ ghost use Rattle.std.specs.Prelude.{◌≡◌, ◌≢◌, ◌≤◌, ◌<◌, If
 ghost use Rattle.mrp_rows.specs.Table.{IsPair, horizon};
 ghost use Rattle.mrp_net.specs.Plan.{Fits};
 ghost use Rattle.mrp_loops.specs.Loop.{AreCodes};
-ghost use Rattle.mrp_run.specs.Faults.{WasShut};
+ghost use Rattle.mrp_run.specs.Faults.{WasShut, WasSpent};
+ghost use Rattle.mrp_run.specs.declared.network.TheConstants.{MOST_TURNS};
 ghost use Rattle.mrp_text.specs.Fault.{IsBeforeWriting, IsLate};
 ghost use Rattle.mrp_text.specs.Text.{Writes, IsPlannable, IsPlanReport, IsCodeReport};
 ghost use Rattle.mrp_text.specs.Text.{IsPegReport, IsCumReport, IsPegs};
@@ -55,7 +56,7 @@ pub(crate) fn write_run<T: Threads + Wait + Sync, W: Write, G: Gate>(
     gate: &G,
 ) -> Result<(), TextFault>
     ensures text { Writes (W.contents writer.old) (W.contents writer.new) result (IsPlanReport network.now) }
-    ensures refusal { IfErr result (IsRunRefusal (WasShut G.turn_shut G.worker_shut) network.now) }
+    ensures refusal { IfErr result (IsRunRefusal (WasShut G.turn_shut G.worker_shut) (WasSpent G.turn_open MOST_TURNS) network.now) }
     ensures untouched { IfErr result (λ fault. IsBeforeWriting fault → writer.new ≡ writer.old) }
 {
     let levels = levels_of(alloc, network)?;

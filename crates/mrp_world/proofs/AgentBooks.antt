@@ -1,63 +1,37 @@
 -- An agent books the first record of a mailbox.
 use Rattle.std.proofs.Common.{◌≡◌, ℕ, ◌<◌, Bool, Result, Ok, Err, List, [], ◌∷◌, ◌++◌, length, map, refl, sym, ap, ◌∙◌, subst, append_assoc}
 use Rattle.std.specs.Prelude.{IfErr, OnOk, OnErr}
-use Rattle.mrp_rows.specs.Table.{Table, horizon}
+use Rattle.mrp_rows.specs.Table.{Table}
 use Rattle.mrp_net.specs.declared.lane.Lane.{Lane}
-use Rattle.mrp_net.specs.declared.lane.LaneKind.{LaneKind}
-use Rattle.mrp_net.specs.declared.lane.LaneKind.TheVariants.{Despatch, Schedule}
 use Rattle.mrp_net.specs.Lanes.{lane_at}
-use Rattle.mrp_net.proofs.Routing.{map-map}
-use Rattle.mrp_view.specs.declared.view.IncomingLane.{IncomingLane}
 use Rattle.mrp_view.specs.Seen.{IsView}
-use Rattle.mrp_view.specs.View.{PlantRows, incoming_lane}
 use Rattle.mrp_record.specs.declared.record.Record.{Record}
-use Rattle.mrp_record.specs.Form.{FormItem, LaneForm, IsInForm}
+use Rattle.mrp_record.specs.Form.{IsInForm}
 use Rattle.mrp_record.specs.Text.{IsBeginning}
 use Rattle.mrp_record.proofs.Beginnings.{fronts_are_beginnings}
 use Rattle.mrp_book.specs.declared.fault.BookFault.{BookFault}
-use Rattle.mrp_book.specs.Figures.{form_item, rises_on}
-use Rattle.mrp_events.specs.LoadLaws.{lane_form}
-use Rattle.mrp_events.specs.Loads.{loads, is_rising}
-use Rattle.mrp_events.specs.Seen.{form_item_of, seen_form}
+use Rattle.mrp_events.specs.Loads.{loads}
 use Rattle.mrp_events.specs.State.{CanTake, after_take, changed}
 use Rattle.mrp_events.proofs.Ordering.{lanes_keep_order}
-use Rattle.mrp_events.proofs.Sending.{forms_are_seen}
-use Rattle.mrp_events.proofs.Small.{legal_is_in_form}
-use Rattle.mrp_agent.specs.Shows.{Shows, BooksShow, book_item, form_of}
+use Rattle.mrp_agent.specs.Shows.{Shows, BooksShow, form_of}
 use Rattle.mrp_agent.specs.State.{AgentState, incoming_at, incoming_place}
+use Rattle.mrp_agent.proofs.Formed.{legal_in_form}
+use Rattle.mrp_agent.proofs.Placed.{in_placed}
 use Rattle.mrp_world.specs.Agents.{ShowsAgent}
 use Rattle.mrp_world.specs.Moments.{Moment, IsAt, IsIn, Receives}
-use Rattle.mrp_world.proofs.AgentPlaces.{in_placed}
+use Rattle.mrp_world.proofs.AgentPlaces.{in_there}
 
 -- ---- what can be taken is in form
-
-rising_is : (kind : LaneKind) → is_rising kind ≡ rises_on kind
-rising_is Despatch = refl
-rising_is Schedule = refl
-
-abbrev form_with : ℕ → Bool → List FormItem → LaneForm
-form_with periods rising items = record { rising = rising; horizon = periods; items = items }
-
--- the form of a lane by what its receiver sees
-form_is : (V : PlantRows) (lane : IncomingLane) → seen_form V.horizon lane ≡ form_of V lane
-form_is V lane =
-    ap (λ (b : Bool). form_with V.horizon b (map form_item_of lane.items)) (rising_is lane.kind)
-    ∙ ap (form_with V.horizon (rises_on lane.kind)) (sym (map-map form_item book_item lane.items))
 
 next_in_form : (A : AgentState) (l : ℕ) (r : Record) (m : Moment) (p : ℕ) → IsAt ShowsAgent m p A → IsIn m.network p l → CanTake m.network m.state l r
     → IsInForm (form_of A.view (incoming_at A.view (incoming_place A.view l))) (m.state.taken l ++ r ∷ [])
 next_in_form A l r m p at comes can =
     let N : Table = m.network in
-    let V : PlantRows = A.view in
     let lane : Lane = lane_at N l in
-    let place = in_placed V N p l at.shown.view comes in
     let all : IsBeginning (loads N lane) ((m.state.taken l ++ r ∷ []) ++ can.rest) =
     subst (IsBeginning (loads N lane)) (can.next ∙ sym (append_assoc (m.state.taken l) (r ∷ []) can.rest)) (lanes_keep_order N m.capacity m.state at.reached l comes.lane).sent in
     let front = fronts_are_beginnings (loads N lane) (m.state.taken l ++ r ∷ []) can.rest all in
-    let periods : horizon N ≡ V.horizon = sym (ap (λ (z : PlantRows). z.horizon) at.shown.view) in
-    let same : lane_form N lane ≡ form_of V (incoming_at V (incoming_place V l)) =
-    forms_are_seen N l ∙ ap (λ (h : ℕ). seen_form h (incoming_lane N l)) periods ∙ form_is V (incoming_lane N l) ∙ ap (form_of V) (sym place.is) in
-    subst (λ (form : LaneForm). IsInForm form (m.state.taken l ++ r ∷ [])) same (legal_is_in_form N at.sized lane (m.state.taken l ++ r ∷ []) front)
+    legal_in_form N at.sized p A.view at.shown.view l (in_there N p l comes) (m.state.taken l ++ r ∷ []) front
 
 -- ---- what its calls answer
 
@@ -81,4 +55,4 @@ refused_is_not_first A l r X (Err fault) refused = λ m p at comes can.
     (refused m.state.taken at.shown.history.books).1 (next_in_form A l r m p at comes can)
 
 pub in_within : (A : AgentState) (l : ℕ) → Receives ShowsAgent A l → incoming_place A.view l < length A.view.incoming
-in_within A l (m, p, at, comes) = (in_placed A.view m.network p l at.shown.view comes).within
+in_within A l (m, p, at, comes) = (in_placed A.view m.network p l at.shown.view (in_there m.network p l comes)).within

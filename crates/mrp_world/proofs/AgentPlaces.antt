@@ -1,33 +1,24 @@
 -- The lanes and pairs of a plant stand in what it sees, and no others do.
-use Rattle.std.proofs.Common.{◌≡◌, ℕ, ◌<◌, ◌==◌, List, length, refl, sym, ap, ◌∙◌, subst, arith, All, Contains}
+use Rattle.std.proofs.Common.{◌≡◌, ℕ, List, length, sym, subst, arith, All, Contains}
 use Rattle.std.specs.List.{filter}
-use Rattle.std.proofs.lemmas.Bool.{eqb-true, eq-eqb}
-use Rattle.std.proofs.lemmas.List.Elements.{All-map, All-contains}
-use Rattle.std.proofs.lemmas.List.Sums.{passes_at_first}
+use Rattle.std.proofs.lemmas.Bool.{eq-eqb}
+use Rattle.std.proofs.lemmas.List.Elements.{All-contains}
 use Rattle.mrp_rows.specs.Table.{Table}
 use Rattle.mrp_rows.specs.declared.numbers.PairNo.{PairNo}
 use Rattle.mrp_net.specs.Lanes.{lanes, lane_at}
 use Rattle.mrp_net.proofs.Members.{Contains-from_in, In-filter, In-map, In-range}
-use Rattle.mrp_view.specs.declared.view.IncomingLane.{IncomingLane}
-use Rattle.mrp_view.specs.declared.view.OutgoingLane.{OutgoingLane}
 use Rattle.mrp_view.specs.declared.view.PlantPair.{PlantPair}
 use Rattle.mrp_view.specs.Seen as seen
 use Rattle.mrp_view.specs.View.{PlantRows, plant_pair, plant_pairs, comes_to, goes_from, lane_numbers, incoming_lane, incoming_lanes, outgoing_lane, outgoing_lanes, plant_rows}
 use Rattle.mrp_view.proofs.Seeing.{is_own}
 use Rattle.mrp_local.specs.Laws.{IsPairAt}
 use Rattle.mrp_local.proofs.Seeing.{sees_pair}
-use Rattle.mrp_agent.specs.State.{incoming_at, incoming_place, outgoing_at, outgoing_place, no_incoming, no_outgoing}
-use Rattle.mrp_agent.proofs.Looking.{place_found}
 use Rattle.mrp_world.specs.Moments.{IsIn, IsOut, IsOwn}
 use Rattle.mrp_world.specs.Owned.{pairs_are_own}
 
--- ---- its lanes have a place
+-- ---- its lanes are seen
 
-incoming_are_seen : (N : Table) (p : ℕ) → All (λ lane. lane ≡ incoming_lane N lane.number.0) (incoming_lanes N p)
-incoming_are_seen N p =
-    All-map (λ (lane : IncomingLane). lane ≡ incoming_lane N lane.number.0) (incoming_lane N) (filter (comes_to N p) (lane_numbers N)) (λ k d within. refl)
-
-out_there : (N : Table) (p l : ℕ) → IsOut N p l → Contains (outgoing_lanes N p) (outgoing_lane N l)
+pub out_there : (N : Table) (p l : ℕ) → IsOut N p l → Contains (outgoing_lanes N p) (outgoing_lane N l)
 out_there N p l out =
     let all : List ℕ = lane_numbers N in
     Contains-from_in (outgoing_lanes N p) (outgoing_lane N l)
@@ -40,35 +31,6 @@ in_there N p l in_ =
     Contains-from_in (incoming_lanes N p) (incoming_lane N l)
     (In-map (incoming_lane N) (filter (comes_to N p) all) l
     (In-filter (comes_to N p) all l (In-range 0 (length (lanes N)) l (omega arith) (omega (arith, in_.lane))) (eq-eqb (lane_at N l).receiver.0 p in_.plant)))
-
--- the place of a lane that goes out
-pub record IsPlaced (V : PlantRows) (l : ℕ) : Type 0 where
-  pub within : outgoing_place V l < length V.outgoing
-  pub number : (outgoing_at V (outgoing_place V l)).number.0 ≡ l
-
-pub out_placed : (V : PlantRows) (N : Table) (p l : ℕ) → V ≡ plant_rows N p → IsOut N p l → IsPlaced V l
-out_placed V N p l view out =
-    let there : Contains V.outgoing (outgoing_lane N l) = subst (λ (z : PlantRows). Contains z.outgoing (outgoing_lane N l)) (sym view) (out_there N p l out) in
-    let within = place_found (λ (lane : OutgoingLane). lane.number.0 == l) V.outgoing (outgoing_lane N l) there (eq-eqb l l refl) in
-    record {
-      within = within;
-      number = eqb-true (outgoing_at V (outgoing_place V l)).number.0 l (passes_at_first (λ (lane : OutgoingLane). lane.number.0 == l) V.outgoing no_outgoing within);
-    }
-
--- and of one that comes in, which is seen as it is
-pub record IsTakenAt (V : PlantRows) (N : Table) (l : ℕ) : Type 0 where
-  pub within : incoming_place V l < length V.incoming
-  pub is : incoming_at V (incoming_place V l) ≡ incoming_lane N l
-
-pub in_placed : (V : PlantRows) (N : Table) (p l : ℕ) → V ≡ plant_rows N p → IsIn N p l → IsTakenAt V N l
-in_placed V N p l view in_ =
-    let there : Contains V.incoming (incoming_lane N l) = subst (λ (z : PlantRows). Contains z.incoming (incoming_lane N l)) (sym view) (in_there N p l in_) in
-    let within : incoming_place V l < length V.incoming = place_found (λ (lane : IncomingLane). lane.number.0 == l) V.incoming (incoming_lane N l) there (eq-eqb l l refl) in
-    let number : (incoming_at V (incoming_place V l)).number.0 ≡ l =
-    eqb-true (incoming_at V (incoming_place V l)).number.0 l (passes_at_first (λ (lane : IncomingLane). lane.number.0 == l) V.incoming no_incoming within) in
-    let seen_all : All (λ lane. lane ≡ incoming_lane N lane.number.0) V.incoming =
-    subst (λ (z : PlantRows). All (λ lane. lane ≡ incoming_lane N lane.number.0) z.incoming) (sym view) (incoming_are_seen N p) in
-    record { within = within; is = seen_all (incoming_place V l) no_incoming within ∙ ap (incoming_lane N) number }
 
 -- ---- its pairs are seen
 

@@ -29,9 +29,10 @@ use Rattle.mrp_agent.specs.Shows.{Shows}
 use Rattle.mrp_agent.specs.State.{AgentState, outgoing_at, outgoing_place, out_at, plans_of, no_outgoing}
 use Rattle.mrp_agent.proofs.Left.{lanes_are_seen}
 use Rattle.mrp_agent.proofs.Network.{agrees_at, sent_is_within_64, nothing_legal_is_left}
+use Rattle.mrp_agent.proofs.Placed.{out_placed}
 use Rattle.mrp_world.specs.Agents.{ShowsAgent}
 use Rattle.mrp_world.specs.Moments.{Moment, IsAt, IsOut, IsNext, Sends}
-use Rattle.mrp_world.proofs.AgentPlaces.{out_placed}
+use Rattle.mrp_world.proofs.AgentPlaces.{out_there}
 use Rattle.mrp_world.proofs.AgentWorks.{works_in}
 
 -- ---- what may be sent is decided
@@ -83,7 +84,7 @@ given_is_next A l r given m p at out =
     let N : Table = m.network in
     let k : ℕ = outgoing_place A.view l in
     let w = works_in A m p at in
-    let place = out_placed A.view N p l at.shown.view out in
+    let place = out_placed A.view N p l at.shown.view (out_there N p l out) in
     let n : ℕ = (outgoing_at A.view k).number.0 in
     let bounded = sent_is_within_64 N at.sized p A m.state.sent m.state.taken m.state.planned w k place.within in
     let continues : Continues A m.state.sent m.state.taken k r = given m.state.sent m.state.taken m.state.planned at.shown.history bounded in
@@ -99,7 +100,7 @@ none_is_next A l none m p at out r = λ next.
     let N : Table = m.network in
     let k : ℕ = outgoing_place A.view l in
     let w = works_in A m p at in
-    let place = out_placed A.view N p l at.shown.view out in
+    let place = out_placed A.view N p l at.shown.view (out_there N p l out) in
     let decided = subst (λ (z : ℕ). IsDecided N m.state.planned (lane_at N z) (content r)) (sym place.number) next.decided in
     let legal = subst (λ (z : ℕ). IsBeginning (loads N (lane_at N z)) (m.state.sent z ++ r ∷ [])) (sym place.number) next.legal in
     nothing_legal_is_left N at.sized p A m.state.sent m.state.taken m.state.planned w k place.within (none m.state.sent m.state.taken m.state.planned at.shown.history) r decided legal
@@ -109,7 +110,7 @@ pub sent_shows : (A B : AgentState) (l : ℕ) (r : Record) → B.view ≡ A.view
 sent_shows A B l r same appended m p at out =
     let k : ℕ = outgoing_place A.view l in
     let w = works_in A m p at in
-    let place = out_placed A.view m.network p l at.shown.view out in
+    let place = out_placed A.view m.network p l at.shown.view (out_there m.network p l out) in
     let bounded = sent_is_within_64 m.network at.sized p A m.state.sent m.state.taken m.state.planned w k place.within in
     record {
       view = same ∙ at.shown.view;
@@ -119,7 +120,7 @@ sent_shows A B l r same appended m p at out =
     }
 
 pub out_within : (A : AgentState) (l : ℕ) → Sends ShowsAgent A l → outgoing_place A.view l < length A.view.outgoing
-out_within A l (m, p, at, out) = (out_placed A.view m.network p l at.shown.view out).within
+out_within A l (m, p, at, out) = (out_placed A.view m.network p l at.shown.view (out_there m.network p l out)).within
 
 -- ---- what its calls answer
 

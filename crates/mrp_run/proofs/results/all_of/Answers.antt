@@ -5,7 +5,7 @@ use Rattle.std.specs.Vec.Iter.{into_iter_items}
 use Rattle.mrp_run.specs.declared.plant.Plant.{Plant}
 use Rattle.mrp_run.specs.Joined.{Back, faults_in}
 use Rattle.mrp_run.specs.Worst.{IsWorstOf}
-use Rattle.mrp_run.proofs.JoinedFaults.{plants_in, plants_more, plants_same, with_plant, with_why, no_fault, none_before}
+use Rattle.mrp_run.proofs.JoinedFaults.{plants_in, plants_more, plants_same, with_plant, with_another, no_fault, none_before}
 use Rattle.mrp_run.proofs.JoinedThreads.{whole_next, one_left, none_left}
 use Rattle.mrp_run.proofs.results.all_of.Goals as goal
 
@@ -28,11 +28,11 @@ pub loop-back-preserved : goal.loop-back-preserved
 loop-back-preserved c =
     let at = c.loop-back in record {
       whole = whole_next at.yielded (into_iter_items at.back-iterator) _ c.args.backs.items c.in-Some.back at.invariant.whole c.in-Some.ensures.steps.0;
-      plants = at.invariant.plants ∙ sym (plants_same at.yielded c.in-Err.why) ∙ ap (λ (z : Back). plants_in (at.yielded ++ z ∷ [])) (sym c.in-Err.is);
+      plants = at.invariant.plants ∙ sym (plants_same at.yielded c.in-Err.fault) ∙ ap (λ (z : Back). plants_in (at.yielded ++ z ∷ [])) (sym c.in-Err.is);
       count = omega (arith, at.invariant.count, length-append at.yielded (c.in-Some.back ∷ []));
       room = at.invariant.room;
       worst = subst (λ (z : Back). IsWorstOf (Some c.with_fault.result) (option_to_list c.args.before ++ faults_in (at.yielded ++ z ∷ []))) (sym c.in-Err.is)
-          (with_why c.args.before at.worst at.yielded c.in-Err.why c.with_fault.result c.with_fault.ensures at.invariant.worst);
+          (with_another c.args.before at.worst at.yielded c.in-Err.fault c.with_fault.result c.with_fault.ensures at.invariant.worst);
     }
 
 pub returns-in-None-worst-clause-plants : goal.returns-in-None-worst-clause-plants

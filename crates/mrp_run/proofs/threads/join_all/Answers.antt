@@ -1,10 +1,10 @@
-use Rattle.std.proofs.Common.{◌≡◌, ◌+◌, ◌++◌, ◌∷◌, ◌∙◌, [], List, is_ok, length-append, vec_len, ap, sym, subst, arith}
+use Rattle.std.proofs.Common.{◌≡◌, ◌+◌, ◌++◌, ◌∷◌, ◌∙◌, [], List, IfErr, is_ok, length-append, vec_len, ap, sym, subst, arith}
 use Rattle.std.proofs.lemmas.Bool.{cond-true}
+use Rattle.std.proofs.lemmas.List.Elements.{All-push}
 use Rattle.std.specs.List.{AllZip}
 use Rattle.std.specs.Vec.Iter.{into_iter_items}
-use Rattle.mrp_run.specs.Faults.{WasShut}
-use Rattle.mrp_run.specs.Joined.{Back, Finished, AreShutOfFirst, started}
-use Rattle.mrp_run.proofs.JoinedThreads.{pairs_more, shut_more, started_more, whole_next}
+use Rattle.mrp_run.specs.Joined.{AreByRule, Back, Finished, started}
+use Rattle.mrp_run.proofs.JoinedThreads.{pairs_more, started_more, whole_next}
 use Rattle.mrp_run.proofs.threads.join_all.Goals as goal
 
 pub loop-thread-preserved : goal.loop-thread-preserved
@@ -20,6 +20,5 @@ loop-thread-preserved g c =
       finished = subst (λ (z : List Back). AllZip Finished (started (at.yielded ++ thread ∷ [])) z) (sym pushed)
           (subst (λ z. AllZip Finished z (at.backs.items ++ c.join.result ∷ [])) (sym (started_more at.yielded thread))
           (pairs_more Finished (started at.yielded) at.backs.items thread.promise.plant.value c.join.result at.invariant.finished c.join.ensures.finished));
-      first = λ plants each. subst (AreShutOfFirst (WasShut g.G.Gate.turn_shut g.G.Gate.worker_shut) plants) (sym pushed)
-          (shut_more (WasShut g.G.Gate.turn_shut g.G.Gate.worker_shut) plants at.yielded thread at.backs.items c.join.result c.join.ensures.fault each at.invariant.first);
+      rule = subst (AreByRule g.S.StopRule.holds) (sym pushed) (All-push (λ (back : Back). IfErr back g.S.StopRule.holds) at.backs.items c.join.result at.invariant.rule c.join.ensures.fault);
     }

@@ -1,8 +1,7 @@
-use Rattle.std.proofs.Common.{◌≡◌, ◌++◌, ℕ, ◌≤◌, length, vec_len, vec_capacity}
+use Rattle.std.proofs.Common.{◌≡◌, ◌++◌, ◌≤◌, length, vec_len, vec_capacity}
 use Rattle.std.specs.List.{AllZip}
 use Rattle.std.specs.Vec.Iter.{into_iter_items}
-use Rattle.mrp_run.specs.Faults.{WasShut}
-use Rattle.mrp_run.specs.Joined.{AreOfFirst, AreShutOfFirst, Finished, started}
+use Rattle.mrp_run.specs.Joined.{AreByRule, Finished, started}
 use Rattle.mrp_run.proofs.threads.join_all.Given as goal
 
 -- the threads so far have brought back what they were started for
@@ -12,5 +11,5 @@ invariant-loop-thread g l = record {
   count : vec_len l.backs ≡ length l.yielded;
   room : vec_capacity l.fn.backs ≤ vec_capacity l.backs;
   finished : AllZip Finished (started l.yielded) l.backs.items;
-  first : (plants : ℕ) → AreOfFirst plants l.yielded → AreShutOfFirst (WasShut g.G.Gate.turn_shut g.G.Gate.worker_shut) plants l.backs.items;
+  rule : AreByRule g.S.StopRule.holds l.backs.items;
 }

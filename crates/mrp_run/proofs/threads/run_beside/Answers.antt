@@ -1,5 +1,5 @@
 use Rattle.std.proofs.Common.{length, length-append, ap, arith}
-use Rattle.mrp_run.specs.Faults.{WasShut}
+use Rattle.mrp_run.specs.declared.fault.RunFault.TheVariants.{ThreadRefused}
 use Rattle.mrp_run.specs.Joined.{Finished, started}
 use Rattle.mrp_run.proofs.JoinedThreads.{all_back, are_started, pairs_length, worst_back}
 use Rattle.mrp_run.proofs.threads.run_beside.Goals as goal
@@ -25,8 +25,8 @@ returns-clause-each g c =
     (are_started c.args.plants.items (started start.new.threads.items) start.ensures.started.0 start.result c.err.result start.ensures.started.1 start.ensures.started.2 start.ensures.refused c.err.ensures.value)
     c.join_all.ensures.finished c.all_of.ensures.none c.all_of.ensures.plants
 
-pub returns-clause-gate : goal.returns-clause-gate
-returns-clause-gate g c =
+pub returns-clause-fault : goal.returns-clause-fault
+returns-clause-fault g c =
     let start = c.start_all-refused in
     let at = are_started c.args.plants.items (started start.new.threads.items) start.ensures.started.0 start.result c.err.result start.ensures.started.1 start.ensures.started.2 start.ensures.refused c.err.ensures.value in
-    worst_back (WasShut g.G.Gate.turn_shut g.G.Gate.worker_shut) (length c.args.plants.items) c.err.result c.join_all.new.backs.items c.all_of.result at.fault (c.join_all.ensures.first (length c.args.plants.items) start.ensures.first) c.all_of.ensures.fault
+    worst_back g.S.StopRule.holds c.err.result c.join_all.new.backs.items c.all_of.result (c.requires.rule ThreadRefused tt) at.fault c.join_all.ensures.rule c.all_of.ensures.fault

@@ -1,17 +1,26 @@
 use Rattle.std.proofs.Common.{◌≡◌, ◌<◌, ◌++◌, ◌∷◌, [], List, is_ok, length, vec_len, vec_capacity, sym, ap, subst, ◌∙◌, arith}
 use Rattle.std.proofs.lemmas.Bool.{cond-true}
 use Rattle.std.proofs.lemmas.List.{length-map}
-use Rattle.std.proofs.lemmas.List.Elements.{All-push}
 use Rattle.std.specs.Vec.Iter.{into_iter_items}
 use Rattle.mrp_run.specs.declared.plant.Plant.{Plant}
-use Rattle.mrp_run.specs.Joined.{AreOfFirst, started}
+use Rattle.mrp_run.specs.Joined.{started}
+use Rattle.mrp_run.specs.Faults.{WasShut, WasSpent}
 use Rattle.mrp_run.specs.Steps.{IsAtWork}
 use Rattle.mrp_run.proofs.JoinedThreads.{holds_next, started_more, whole_next, one_left}
+use Rattle.mrp_run.proofs.StopRules.{allows_each}
 use Rattle.mrp_run.proofs.threads.start_all.Goals as goal
 
 pub start-requires-clause-work : goal.start-requires-clause-work
 start-requires-clause-work g c = λ κs met.
     holds_next IsAtWork c.loop-plant.yielded (into_iter_items c.loop-plant.plant-iterator) _ c.args.plants.items c.in-Some.plant c.loop-plant.invariant.whole c.in-Some.ensures.steps.0 c.requires.work
+
+-- the next thread is that of one of the plants
+pub start-requires-clause-rule : goal.start-requires-clause-rule
+start-requires-clause-rule g c = λ κs met.
+    let at = c.loop-plant in
+    let left = one_left at.yielded (into_iter_items at.plant-iterator) _ c.args.plants.items c.in-Some.plant at.invariant.whole c.in-Some.ensures.steps.0 in
+    let size : length at.yielded ≡ length at.threads.items = sym (ap length at.invariant.started_so_far) ∙ length-map at.threads.items (λ t. t.promise.plant.value) in
+    allows_each g.S.StopRule.holds (WasShut g.G.Gate.turn_shut g.G.Gate.worker_shut) (WasSpent g.G.Gate.turn_open c.args.turns) (length c.args.plants.items) _ (omega (arith, left, size, c.len.ensures, at.threads.ok.0)) c.requires.rule
 
 pub unwrap-requires : goal.unwrap-requires
 unwrap-requires g c =
@@ -27,14 +36,9 @@ loop-plant-preserved g c =
     let plant = c.in-Some.plant in
     let thread = c.in-Some-start.thread in
     let pushed : c.push.new.self.items ≡ at.threads.items ++ thread ∷ [] =
-    c.push.ensures.items ∙ cond-true _ (at.threads.items ++ thread ∷ []) at.threads.items (ap is_ok c.unwrap.ensures) in
-    let left = one_left at.yielded (into_iter_items at.plant-iterator) _ c.args.plants.items plant at.invariant.whole c.in-Some.ensures.steps.0 in
-    let size : length at.yielded ≡ length at.threads.items = sym (ap length at.invariant.started_so_far) ∙ length-map at.threads.items (λ t. t.promise.plant.value) in record {
+    c.push.ensures.items ∙ cond-true _ (at.threads.items ++ thread ∷ []) at.threads.items (ap is_ok c.unwrap.ensures) in record {
       whole = whole_next at.yielded (into_iter_items at.plant-iterator) _ c.args.plants.items plant at.invariant.whole c.in-Some.ensures.steps.0;
       started_so_far = ap started pushed ∙ started_more at.threads.items thread ∙ ap (λ (z : List Plant). z ++ thread.promise.plant.value ∷ []) at.invariant.started_so_far
           ∙ ap (λ (z : Plant). at.yielded ++ z ∷ []) c.in-Some-start.ensures.plant;
       room = omega (arith, at.invariant.room, c.push.ensures.capacity);
-      first = subst (AreOfFirst (length c.args.plants.items)) (sym pushed)
-          (All-push (λ t. t.promise.number.0 < length c.args.plants.items) at.threads.items thread at.invariant.first
-          (omega (arith, left, size, c.len.ensures, ap (λ n. n.0) c.in-Some-start.ensures.number, at.threads.ok.0)));
     }

@@ -1,0 +1,44 @@
+-- What is legal on a lane that comes in is in the form by which its receiver books it.
+use Rattle.std.proofs.Common.{◌≡◌, ℕ, Bool, List, map, refl, sym, ap, ◌∙◌, subst, Contains}
+use Rattle.mrp_rows.specs.Table.{Table, horizon}
+use Rattle.mrp_net.specs.declared.lane.LaneKind.{LaneKind}
+use Rattle.mrp_net.specs.declared.lane.LaneKind.TheVariants.{Despatch, Schedule}
+use Rattle.mrp_net.specs.Lanes.{lane_at}
+use Rattle.mrp_net.proofs.Routing.{map-map}
+use Rattle.mrp_view.specs.declared.view.IncomingLane.{IncomingLane}
+use Rattle.mrp_view.specs.View.{PlantRows, incoming_lane, incoming_lanes, plant_rows}
+use Rattle.mrp_loops.specs.Sized.{IsSized}
+use Rattle.mrp_record.specs.declared.record.Record.{Record}
+use Rattle.mrp_record.specs.Form.{FormItem, LaneForm, IsInForm}
+use Rattle.mrp_record.specs.Text.{IsBeginning}
+use Rattle.mrp_book.specs.Figures.{form_item, rises_on}
+use Rattle.mrp_events.specs.LoadLaws.{lane_form}
+use Rattle.mrp_events.specs.Loads.{loads, is_rising}
+use Rattle.mrp_events.specs.Seen.{form_item_of, seen_form}
+use Rattle.mrp_events.proofs.Sending.{forms_are_seen}
+use Rattle.mrp_events.proofs.Small.{legal_is_in_form}
+use Rattle.mrp_agent.specs.Shows.{book_item, form_of}
+use Rattle.mrp_agent.specs.State.{incoming_at, incoming_place}
+use Rattle.mrp_agent.proofs.Placed.{in_placed}
+
+rising_is : (kind : LaneKind) → is_rising kind ≡ rises_on kind
+rising_is Despatch = refl
+rising_is Schedule = refl
+
+abbrev form_with : ℕ → Bool → List FormItem → LaneForm
+form_with periods rising items = record { rising = rising; horizon = periods; items = items }
+
+-- the form of a lane by what its receiver sees
+form_is : (V : PlantRows) (lane : IncomingLane) → seen_form V.horizon lane ≡ form_of V lane
+form_is V lane =
+    ap (λ (b : Bool). form_with V.horizon b (map form_item_of lane.items)) (rising_is lane.kind)
+    ∙ ap (form_with V.horizon (rises_on lane.kind)) (sym (map-map form_item book_item lane.items))
+
+pub legal_in_form : (N : Table) → IsSized N → (p : ℕ) (V : PlantRows) → V ≡ plant_rows N p → (l : ℕ) → Contains (incoming_lanes N p) (incoming_lane N l)
+    → (records : List Record) → IsBeginning (loads N (lane_at N l)) records → IsInForm (form_of V (incoming_at V (incoming_place V l))) records
+legal_in_form N sized p V view l own records legal =
+    let place = in_placed V N p l view own in
+    let periods : horizon N ≡ V.horizon = sym (ap (λ (z : PlantRows). z.horizon) view) in
+    let same : lane_form N (lane_at N l) ≡ form_of V (incoming_at V (incoming_place V l)) =
+    forms_are_seen N l ∙ ap (λ (h : ℕ). seen_form h (incoming_lane N l)) periods ∙ form_is V (incoming_lane N l) ∙ ap (form_of V) (sym place.is) in
+    subst (λ (form : LaneForm). IsInForm form records) same (legal_is_in_form N sized (lane_at N l) records legal)
