@@ -13,18 +13,11 @@ use Rattle.mrp_view.specs.View.{lane_numbers}
 use Rattle.mrp_record.specs.declared.record.Record.{Record}
 use Rattle.mrp_events.specs.State.{changed}
 use Rattle.mrp_lane.specs.Ends.{End, Name}
+use Rattle.mrp_view.proofs.OwnEdges.{range_rises}
 use Rattle.mrp_agent.proofs.Sent.{changed_there, changed_elsewhere}
 use Rattle.mrp_run.specs.Plant.{AreEnds, names}
 
 -- ---- numbers that rise differ
-
-range_rises : (a n : ℕ) → AllPairs (λ x y. x < y) (range_with_len a n)
-range_rises a zero = λ i j d low lt. absurd (omega arith)
-range_rises a (suc n) =
-    let rest : List ℕ = range_with_len (a + 1) n in
-    AllPairs-cons (λ x y. x < y) a rest
-    (λ k d h. let within = range_only (a + 1) n (get_or rest k d) (In-from_contains rest (get_or rest k d) (Contains-get_or rest k d h)) in omega (arith, within.0))
-    (range_rises (a + 1) n)
 
 pub lanes_rise : (N : Table) (own : ℕ → Bool) → AllPairs (λ x y. x < y) (filter own (lane_numbers N))
 lanes_rise N own = AllPairs-filter (λ x y. x < y) own (lane_numbers N) (range_rises 0 (length (lanes N)))

@@ -37,7 +37,7 @@ own N plant = filter (is_of_plant N plant) (range_with_len 0 (length N.pairs))
 
 -- ---- their order
 
-range_rises : (a n : ℕ) → AllPairs (λ x y. x < y) (range_with_len a n)
+pub range_rises : (a n : ℕ) → AllPairs (λ x y. x < y) (range_with_len a n)
 range_rises a zero = λ i j d low lt. absurd (omega arith)
 range_rises a (suc n) =
     let rest : List ℕ = range_with_len (a + 1) n in

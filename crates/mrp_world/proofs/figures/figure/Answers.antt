@@ -1,8 +1,10 @@
-use Rattle.std.proofs.Common.{◌+◌, ◌∙◌, ℕ, ap, arith}
+use Rattle.std.proofs.Common.{◌+◌, ◌∙◌, ◌≤◌, ℕ, ap, arith}
 use Rattle.mrp_net.specs.Lanes.{lane_at}
 use Rattle.mrp_events.proofs.Small.{openings_are_small}
 use Rattle.mrp_world.proofs.Pieces as piece
 use Rattle.mrp_world.proofs.figures.figure.Goals as goal
+use Rattle.mrp_world.proofs.figures.figure.Given.{Over}
+use Rattle.mrp_world.proofs.figures.figure.Goals.{After-get}
 
 pub of-opening-requires : goal.of-opening-requires
 of-opening-requires g c =
@@ -18,25 +20,18 @@ received-received-requires g c = record {
       (piece.read_on _ _ _ _ _ _ _ _ _ c.requires.lane c.requires.item c.requires.shown c.index-boxes-lane.is c.lane.ensures.value c.lane.ensures.plants c.index-plants-receiver.is);
 }
 
+-- what was received and what lies in the mailbox is small
+fits : (g : Over) (c : After-get g) → c.received-received.result + c.pieces-waiting.result ≤ 1000000000000000
+fits g c =
+    piece.shipped_fits g.P.Plant.shows c.args.network.now c.args.plants.now c.args.boxes.now c.args.lane.0 c.args.item c.index-plants-receiver.result c.index-boxes-lane.result
+    c.lane.result.receiver.0 c.received-received.result c.pieces-waiting.result
+    (piece.read_on _ _ _ _ _ _ _ _ _ c.requires.lane c.requires.item c.requires.shown c.index-boxes-lane.is c.lane.ensures.value c.lane.ensures.plants c.index-plants-receiver.is) c.received-received.ensures c.pieces-waiting.ensures
+
 pub overflow_add-get : goal.overflow_add-get
-overflow_add-get g c =
-    omega (
-      arith,
-      c.get.ensures.value,
-      piece.shipped_fits g.P.Plant.shows c.args.network.now c.args.plants.now c.args.boxes.now c.args.lane.0 c.args.item c.index-plants-receiver.result c.index-boxes-lane.result
-          c.lane.result.receiver.0 c.received-received.result c.pieces-waiting.result
-          (piece.read_on _ _ _ _ _ _ _ _ _ c.requires.lane c.requires.item c.requires.shown c.index-boxes-lane.is c.lane.ensures.value c.lane.ensures.plants c.index-plants-receiver.is) c.received-received.ensures c.pieces-waiting.ensures,
-    )
+overflow_add-get g c = omega (arith, c.get.ensures.value, fits g (goal.at.overflow_add-get g c).After-get)
 
 pub of-requires : goal.of-requires
-of-requires g c =
-    omega (
-      arith,
-      c.get.ensures.value,
-      piece.shipped_fits g.P.Plant.shows c.args.network.now c.args.plants.now c.args.boxes.now c.args.lane.0 c.args.item c.index-plants-receiver.result c.index-boxes-lane.result
-          c.lane.result.receiver.0 c.received-received.result c.pieces-waiting.result
-          (piece.read_on _ _ _ _ _ _ _ _ _ c.requires.lane c.requires.item c.requires.shown c.index-boxes-lane.is c.lane.ensures.value c.lane.ensures.plants c.index-plants-receiver.is) c.received-received.ensures c.pieces-waiting.ensures,
-    )
+of-requires g c = omega (arith, c.get.ensures.value, fits g (goal.at.of-requires g c).After-get)
 
 pub returns : goal.returns
 returns g c capacity s at =

@@ -11,53 +11,55 @@ use Rattle.mrp_agent.specs.contracts.agent.Agent.{the_view}
 use Rattle.mrp_agent.proofs.Calls.{CallFacts, call_facts, call_is, read_is}
 use Rattle.mrp_agent.proofs.Owning.{own_found}
 use Rattle.mrp_agent.proofs.agent.Agent.schedule_left.Goals as goal
+use Rattle.mrp_agent.proofs.agent.Agent.schedule_left.Goals.{After-place, After-incoming_place-before, After-index}
+
+-- the lane and its item, as the agent sees them
+facts_there : (c : After-place) → CallFacts (the_view c.self.inside) c.args.lane.now c.args.place
+facts_there c =
+    let A : AgentState = the_view c.self.inside in
+    let there : Contains A.view.outgoing c.args.lane.now = subst (λ (a : AgentState). Contains a.view.outgoing c.args.lane.now) (sym c.self.view_is) c.requires.lane in
+    call_facts A c.self.invariant c.args.lane.now there c.requires.schedule c.args.place c.requires.place
+
+-- the lane before it, over which its customer ships, has a place
+place_there : (c : After-incoming_place-before) → c.incoming_place-before.result ≡ incoming_place (the_view c.self.inside).view (c.args.lane.now.number.0 - 1)
+place_there c = c.incoming_place-before.ensures ∙ ap (λ (z : List IncomingLane). position_or_len (λ (l : IncomingLane). l.number.0 == c.args.lane.now.number.0 - 1) z) c.incoming.ensures
+
+-- and its book is read
+book_there : (c : After-index) → CallFacts (the_view c.self.inside) c.args.lane.now c.args.place
+    → c.incoming_place-before.result ≡ incoming_place (the_view c.self.inside).view (c.args.lane.now.number.0 - 1)
+    → c.index.result.now ≡ book_at (the_view c.self.inside) (incoming_place (the_view c.self.inside).view (c.args.lane.now.number.0 - 1))
+book_there c facts at =
+    let A : AgentState = the_view c.self.inside in
+    let inside : c.incoming_place-before.result < length A.books = omega (arith, facts.book, at) in
+    read_is A.books c.incoming_place-before.result c.index.result.now no_book c.index.ensures inside ∙ ap (book_at A) at
 
 pub unreachable-requires : goal.unreachable-requires
 unreachable-requires c =
     let A : AgentState = the_view c.self.inside in
-    let there : Contains A.view.outgoing c.args.lane.now = subst (λ (a : AgentState). Contains a.view.outgoing c.args.lane.now) (sym c.self.view_is) c.requires.lane in
-    let facts : CallFacts A c.args.lane.now c.args.place = call_facts A c.self.invariant c.args.lane.now there c.requires.schedule c.args.place c.requires.place in
+    let facts = facts_there (goal.at.unreachable-requires c).After-place in
     let at = ap (λ (i : OutgoingItem). position (λ (p : PlantPair). p.number.0 == i.customer.0) A.view.pairs) c.get-item.ensures ∙ own_found A.view (load_at c.args.lane.now.items c.args.place).customer facts.own in
     c.in_default.not-Some _ (c.place.ensures ∙ at)
 
 pub index-requires : goal.index-requires
 index-requires c =
-    let A : AgentState = the_view c.self.inside in
-    let there : Contains A.view.outgoing c.args.lane.now = subst (λ (a : AgentState). Contains a.view.outgoing c.args.lane.now) (sym c.self.view_is) c.requires.lane in
-    let facts : CallFacts A c.args.lane.now c.args.place = call_facts A c.self.invariant c.args.lane.now there c.requires.schedule c.args.place c.requires.place in
-    let at : c.incoming_place-before.result ≡ incoming_place A.view (c.args.lane.now.number.0 - 1) =
-    c.incoming_place-before.ensures ∙ ap (λ (z : List IncomingLane). position_or_len (λ (l : IncomingLane). l.number.0 == c.args.lane.now.number.0 - 1) z) c.incoming.ensures in
-    omega (arith, facts.book, at)
+    let facts = facts_there (goal.at.index-requires c).After-place in
+    omega (arith, facts.book, place_there (goal.at.index-requires c).After-incoming_place-before)
 
 pub left_to_call-requires-clause-book : goal.left_to_call-requires-clause-book
 left_to_call-requires-clause-book c =
-    let A : AgentState = the_view c.self.inside in
-    let there : Contains A.view.outgoing c.args.lane.now = subst (λ (a : AgentState). Contains a.view.outgoing c.args.lane.now) (sym c.self.view_is) c.requires.lane in
-    let facts : CallFacts A c.args.lane.now c.args.place = call_facts A c.self.invariant c.args.lane.now there c.requires.schedule c.args.place c.requires.place in
-    let k : ℕ = incoming_place A.view (c.args.lane.now.number.0 - 1) in
-    let at : c.incoming_place-before.result ≡ k =
-    c.incoming_place-before.ensures ∙ ap (λ (z : List IncomingLane). position_or_len (λ (l : IncomingLane). l.number.0 == c.args.lane.now.number.0 - 1) z) c.incoming.ensures in
-    let inside : c.incoming_place-before.result < length A.books = omega (arith, facts.book, at) in
-    let is : c.index.result.now ≡ book_at A k = read_is A.books c.incoming_place-before.result c.index.result.now no_book c.index.ensures inside ∙ ap (book_at A) at in
-    subst IsShowing (sym is) facts.showing
+    let facts = facts_there (goal.at.left_to_call-requires-clause-book c).After-place in
+    subst IsShowing (sym (book_there (goal.at.left_to_call-requires-clause-book c).After-index facts (place_there (goal.at.left_to_call-requires-clause-book c).After-incoming_place-before))) facts.showing
 
 pub left_to_call-requires-clause-shares : goal.left_to_call-requires-clause-shares
 left_to_call-requires-clause-shares c =
-    let A : AgentState = the_view c.self.inside in
-    let there : Contains A.view.outgoing c.args.lane.now = subst (λ (a : AgentState). Contains a.view.outgoing c.args.lane.now) (sym c.self.view_is) c.requires.lane in
-    let facts : CallFacts A c.args.lane.now c.args.place = call_facts A c.self.invariant c.args.lane.now there c.requires.schedule c.args.place c.requires.place in
+    let facts = facts_there (goal.at.left_to_call-requires-clause-shares c).After-place in
     subst AreShares (sym c.get-item.ensures) facts.shares
 
 pub returns : goal.returns
 returns c =
     let A : AgentState = the_view c.self.inside in
-    let there : Contains A.view.outgoing c.args.lane.now = subst (λ (a : AgentState). Contains a.view.outgoing c.args.lane.now) (sym c.self.view_is) c.requires.lane in
-    let facts : CallFacts A c.args.lane.now c.args.place = call_facts A c.self.invariant c.args.lane.now there c.requires.schedule c.args.place c.requires.place in
-    let k : ℕ = incoming_place A.view (c.args.lane.now.number.0 - 1) in
-    let at : c.incoming_place-before.result ≡ k =
-    c.incoming_place-before.ensures ∙ ap (λ (z : List IncomingLane). position_or_len (λ (l : IncomingLane). l.number.0 == c.args.lane.now.number.0 - 1) z) c.incoming.ensures in
-    let inside : c.incoming_place-before.result < length A.books = omega (arith, facts.book, at) in
-    let is : c.index.result.now ≡ book_at A k = read_is A.books c.incoming_place-before.result c.index.result.now no_book c.index.ensures inside ∙ ap (book_at A) at in
+    let facts = facts_there (goal.at.returns c).After-place in
+    let is = book_there (goal.at.returns c).After-index facts (place_there (goal.at.returns c).After-incoming_place-before) in
     let place = pair_place A.view (load_at c.args.lane.now.items c.args.place).customer.0 in
     let found : c.place.result ≡ Some place =
     c.place.ensures ∙ ap (λ (i : OutgoingItem). position (λ (p : PlantPair). p.number.0 == i.customer.0) A.view.pairs) c.get-item.ensures ∙ own_found A.view (load_at c.args.lane.now.items c.args.place).customer facts.own in

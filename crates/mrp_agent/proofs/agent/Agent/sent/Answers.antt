@@ -4,32 +4,39 @@ use Rattle.mrp_view.specs.declared.view.OutgoingLane.{OutgoingLane}
 use Rattle.mrp_record.specs.declared.record.Record.{Record}
 use Rattle.mrp_agent.specs.Sending.{left_at, next_out}
 use Rattle.mrp_agent.specs.Sent.{IsAppended}
-use Rattle.mrp_agent.specs.State.{AgentState, outgoing_place}
+use Rattle.mrp_agent.specs.State.{AgentState, out_at, outgoing_place}
 use Rattle.mrp_agent.specs.contracts.agent.Agent.{the_view}
 use Rattle.mrp_cursor.specs.Cursor.{OutFigures}
+use Rattle.mrp_cursor.specs.Next.{stepped}
 use Rattle.mrp_agent.proofs.Calls.{stepped_outs, kept_outs, appended}
 use Rattle.mrp_agent.proofs.agent.Agent.sent.Goals as goal
+use Rattle.mrp_agent.proofs.agent.Agent.sent.Goals.{After-step}
+
+-- the lane goes out of the plant
+lane_there : (c : After-step) → outgoing_place (the_view c.self.inside).view c.args.lane.0 < length (the_view c.self.inside).view.outgoing
+lane_there c = subst (λ (a : AgentState). outgoing_place a.view c.args.lane.0 < length a.view.outgoing) (sym c.self.view_is) c.requires.outgoing
+
+-- and its figures go on
+stepped_there : (c : After-step) → (let A : AgentState = the_view c.self.inside in
+    let k : ℕ = outgoing_place A.view c.args.lane.0 in
+    set A.outs c.outgoing_place-k.result c.step.new.self ≡ set A.outs k (stepped (out_at A k) (left_at A k)))
+stepped_there c =
+    let A : AgentState = the_view c.self.inside in
+    let k : ℕ = outgoing_place A.view c.args.lane.0 in
+    let at : c.outgoing_place-k.result ≡ k = c.outgoing_place-k.ensures ∙ ap (λ (z : List OutgoingLane). position_or_len (λ (l : OutgoingLane). l.number.0 == c.args.lane.0) z) c.outgoing.ensures in
+    let inside : k < length A.outs = omega (arith, lane_there c, c.self.invariant.rooms.outs) in
+    stepped_outs A c.outgoing_place-k.result k c.index_mut.result.now c.step.new.self c.left_at-left.result at inside c.index_mut.ensures.value
+    (c.left_at-left.ensures ∙ ap (λ (a : AgentState). left_at a c.outgoing_place-k.result) (sym c.self.view_is)) c.step.ensures
 
 pub invariant_of-self : goal.invariant_of-self
 invariant_of-self c =
-    let A : AgentState = the_view c.self.inside in
-    let k : ℕ = outgoing_place A.view c.args.lane.0 in
-    let within : k < length A.view.outgoing = subst (λ (a : AgentState). outgoing_place a.view c.args.lane.0 < length a.view.outgoing) (sym c.self.view_is) c.requires.outgoing in
-    let at : c.outgoing_place-k.result ≡ k = c.outgoing_place-k.ensures ∙ ap (λ (z : List OutgoingLane). position_or_len (λ (l : OutgoingLane). l.number.0 == c.args.lane.0) z) c.outgoing.ensures in
-    let inside : k < length A.outs = omega (arith, within, c.self.invariant.rooms.outs) in
-    let outs = stepped_outs A c.outgoing_place-k.result k c.index_mut.result.now c.step.new.self c.left_at-left.result at inside c.index_mut.ensures.value
-    (c.left_at-left.ensures ∙ ap (λ (a : AgentState). left_at a c.outgoing_place-k.result) (sym c.self.view_is)) c.step.ensures in
-    kept_outs A k _ within c.self.invariant outs
+    let at = (goal.at.invariant_of-self c).After-step in
+    kept_outs (the_view c.self.inside) _ _ (lane_there at) c.self.invariant (stepped_there at)
 
 pub returns-clause-appended : goal.returns-clause-appended
 returns-clause-appended c =
+    let at = (goal.at.returns-clause-appended c).After-step in
     let A : AgentState = the_view c.self.inside in
-    let k : ℕ = outgoing_place A.view c.args.lane.0 in
-    let within : k < length A.view.outgoing = subst (λ (a : AgentState). outgoing_place a.view c.args.lane.0 < length a.view.outgoing) (sym c.self.view_is) c.requires.outgoing in
-    let at : c.outgoing_place-k.result ≡ k = c.outgoing_place-k.ensures ∙ ap (λ (z : List OutgoingLane). position_or_len (λ (l : OutgoingLane). l.number.0 == c.args.lane.0) z) c.outgoing.ensures in
-    let inside : k < length A.outs = omega (arith, within, c.self.invariant.rooms.outs) in
-    let outs = stepped_outs A c.outgoing_place-k.result k c.index_mut.result.now c.step.new.self c.left_at-left.result at inside c.index_mut.ensures.value
-    (c.left_at-left.ensures ∙ ap (λ (a : AgentState). left_at a c.outgoing_place-k.result) (sym c.self.view_is)) c.step.ensures in
     let B : AgentState = record A { outs = set A.outs c.outgoing_place-k.result c.step.new.self } in
     let P : AgentState → Type 0 = λ a. (r : Record) → next_out a (outgoing_place a.view c.args.lane.0) ≡ Some r → IsAppended a B (outgoing_place a.view c.args.lane.0) r in
-    subst P c.self.view_is (λ r given. appended A B c.self.invariant k within (ap (λ (z : List OutFigures). record A { outs = z }) outs) r given)
+    subst P c.self.view_is (λ r given. appended A B c.self.invariant _ (lane_there at) (ap (λ (z : List OutFigures). record A { outs = z }) (stepped_there at)) r given)
