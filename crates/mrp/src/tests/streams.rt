@@ -3,11 +3,15 @@
 use super::figures::{FIRM_OF_TWO, FIRM_OF_TWO_CUMS};
 use super::{BICYCLE, BICYCLE_PLAN};
 use mrp_tables::TableFaultKind;
-use mrp_text::{TextFault, check_text, cums_text, drive_text, peg_text, status};
+use mrp_text::{
+    NoGate, Settings, TextFault, check_text, cums_text, drive_text, peg_text, plan_text, status,
+};
 use std::alloc::Global;
 use std::io;
 use std::io::{ErrorKind, Read, Write};
 use std::process::Abort;
+use std::sync::Wait;
+use std::thread::Threads;
 
 /// An order that is due within its lead time.
 const LATE: &str =
@@ -138,6 +142,23 @@ fn plan_tells(alloc: Global, fails: usize) -> bool {
 fn a_reader_that_fails(rt: HostRuntime) {
     for fails in 0..22usize {
         is_so_at(&rt, plan_tells(rt.alloc(), fails), fails);
+    }
+}
+
+/// Whether a plan by threads tells the failed read.
+fn threads_tell<T: Threads + Wait + Sync>(rt: &T, alloc: Global, fails: usize) -> bool {
+    let Some(settings) = Settings::new(1, 64) else {
+        return false;
+    };
+    let mut written = Vec::new(alloc);
+    let answer = plan_text(rt, alloc, failing(fails), &mut written, settings, &NoGate);
+    tells_the_read(&answer, written.as_slice(), fails)
+}
+
+#[test]
+fn a_reader_that_fails_before_threads(rt: HostRuntime) {
+    for fails in 0..22usize {
+        is_so_at(&rt, threads_tell(&rt, rt.alloc(), fails), fails);
     }
 }
 

@@ -38,6 +38,13 @@ fn a_table_has_a_million_rows_of_amounts_at_most(rt: HostRuntime) -> Result<(), 
     Ok(())
 }
 
+#[test]
+fn three_million_rows_of_amounts_are_read(rt: HostRuntime) -> Result<(), Fail> {
+    let rows = "demand,A,X,0,1,,,\nreceipt,A,X,0,1,,,\nship,B,A,X,0,1,,\n";
+    assert!(rt; are_read(rt.alloc(), rows, 1_000_000)?);
+    Ok(())
+}
+
 /// A run row, a plant and the rows of so many made pairs.
 fn pairs(alloc: Global, count: u64) -> Result<String, AllocError> {
     let mut text = String::from_str(alloc, "run,2026-01-05,7,1,,,,\nplant,A,,,,,,\n")?;

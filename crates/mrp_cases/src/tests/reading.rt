@@ -160,6 +160,13 @@ pair,E,X,buy,lot,0,0,0
 }
 
 #[test]
+fn a_pair_has_four_sources_at_most(rt: HostRuntime) {
+    let text = "run,2026-01-05,7,1,,,,\nplant,A,,,,,,\n\
+pair,A,X,from:B:200:C:200:D:200:E:200:F:200,lot,0,0,0\n";
+    is_refused(&rt, text.as_bytes(), 3, TableFaultKind::BadSupply);
+}
+
+#[test]
 fn the_form_of_a_row_is_tested_first(rt: HostRuntime) {
     let no_text: &[u8] = b"run,2026-01-05,7,4,,,,\nplant,\xff,,,,,,\n";
     is_refused(&rt, no_text, 2, TableFaultKind::NotUtf8);

@@ -6,10 +6,10 @@
 use super::trials::{Trial, holds_of};
 use mrp_loops::SizedNet;
 use mrp_run::{Gate, NoGate, PlantNo, RunFault, Settings, run_network, run_network_within};
-use mrp_worked::{LONG_RING, RING, TWO_CUSTOMERS, TWO_PLANTS};
+use mrp_worked::{BICYCLE, LONG_RING, NO_LANES, RING, TWO_CUSTOMERS, TWO_PLANTS};
 use std::alloc::Global;
 use std::sync::Wait;
-use std::sync::atomic::{AtomicBool, Ordering};
+use std::sync::atomic::{AtomicBool, AtomicU64, Ordering};
 use std::test::Fail;
 use std::thread;
 use std::thread::Threads;
@@ -162,6 +162,37 @@ impl Gate for Asked {
     }
 }
 
+/// Open to the next turn of each of three plants, once each, and to so many workers.
+#[derive(Drop)]
+struct InOrder {
+    begun: [AtomicU64; 3],
+    workers: u64,
+}
+
+impl InOrder {
+    /// No plant has begun a turn; each has so many workers.
+    fn new(workers: u64) -> InOrder {
+        InOrder {
+            begun: [AtomicU64::new(0), AtomicU64::new(0), AtomicU64::new(0)],
+            workers,
+        }
+    }
+}
+
+impl Gate for InOrder {
+    fn turn(&self, plant: usize, turn: u64) -> bool {
+        plant < 3
+            && self.begun[plant]
+                .swap(turn, Ordering::SeqCst)
+                .wrapping_add(1)
+                == turn
+    }
+
+    fn worker(&self, _plant: usize, worker: u64) -> bool {
+        1 <= worker && worker <= self.workers
+    }
+}
+
 /// Whether a run with so many workers answers that fault under a gate, or is well where there is none.
 pub(super) fn answers<R: Threads + Wait + Sync, G: Gate>(
     rt: &R,
@@ -274,15 +305,27 @@ const fn shut(plant: usize) -> Option<RunFault> {
     Some(RunFault::GateShut(PlantNo(plant)))
 }
 
-/// Whether a run of the long ring answers that fault within so many turns of a plant.
+/// Whether a run of the table answers that fault within so many turns of a plant.
 fn is_answered_within<R: Threads + Wait + Sync>(
     rt: &R,
     alloc: Global,
+    table: &str,
     turns: u64,
     fault: Option<RunFault>,
 ) -> Result<bool, Fail> {
     let trial = Trial::AnswersWithin(turns, fault);
-    holds_of(rt, alloc, LONG_RING, trial, &NoGate)
+    holds_of(rt, alloc, table, trial, &NoGate)
+}
+
+/// Whether a run of two customers with so many workers asks for each turn once, in order, and for no other
+/// workers.
+fn is_asked_in_order<R: Threads + Wait + Sync>(
+    rt: &R,
+    alloc: Global,
+    workers: u64,
+) -> Result<bool, Fail> {
+    let gate = InOrder::new(workers);
+    is_answered(rt, alloc, TWO_CUSTOMERS, workers, &gate, None)
 }
 
 #[test]
@@ -326,10 +369,33 @@ fn a_second_worker_is_asked_for_where_there_are_two(rt: HostRuntime) -> Result<(
 #[test]
 fn too_few_turns_stop_a_run(rt: HostRuntime) -> Result<(), Fail> {
     for turns in [0, 1, 2] {
-        let stops = is_answered_within(&rt, rt.alloc(), turns, Some(RunFault::Stopped))?;
+        let stopped = Some(RunFault::Stopped);
+        let stops = is_answered_within(&rt, rt.alloc(), LONG_RING, turns, stopped)?;
         assert!(&rt; stops, "within {turns}");
     }
-    assert!(&rt; is_answered_within(&rt, rt.alloc(), 1 << 62, None)?);
+    assert!(&rt; is_answered_within(&rt, rt.alloc(), LONG_RING, 1 << 62, None)?);
+    Ok(())
+}
+
+/// Plants without lanes are done in their first turn.
+#[test]
+fn plants_may_be_done_in_their_last_turn(rt: HostRuntime) -> Result<(), Fail> {
+    for table in [BICYCLE, NO_LANES] {
+        let stopped = Some(RunFault::Stopped);
+        assert!(&rt; is_answered_within(&rt, rt.alloc(), table, 0, stopped)?);
+        assert!(&rt; is_answered_within(&rt, rt.alloc(), table, 1, None)?);
+    }
+    Ok(())
+}
+
+#[test]
+fn each_turn_is_asked_for_once_and_in_order(rt: HostRuntime) -> Result<(), Fail> {
+    for workers in [1, 2] {
+        assert!(&rt;
+            is_asked_in_order(&rt, rt.alloc(), workers)?,
+            "{workers} workers"
+        );
+    }
     Ok(())
 }
 
