@@ -4,13 +4,16 @@ use super::figures::{FIRM_OF_TWO, FIRM_OF_TWO_CUMS};
 use super::{BICYCLE, BICYCLE_PLAN};
 use mrp_tables::TableFaultKind;
 use mrp_text::{
-    NoGate, Settings, TextFault, check_text, cums_text, drive_text, peg_text, plan_text, status,
+    NoGate, Settings, TextFault, answer, check_text, cums_text, drive_text, peg_text, plan_text,
+    status,
 };
+use mrp_words::choose;
 use std::alloc::Global;
 use std::io;
 use std::io::{ErrorKind, Read, Write};
 use std::process::Abort;
 use std::sync::Wait;
+use std::test::Fail;
 use std::thread::Threads;
 
 /// An order that is due within its lead time.
@@ -196,6 +199,50 @@ fn a_reader_that_fails_before_figures(rt: HostRuntime) {
     for fails in 0..22usize {
         is_so_at(&rt, figures_tell(rt.alloc(), fails), fails);
     }
+}
+
+/// The words of each choice.
+const CHOICES: [&[&str]; 5] = [
+    &["mrp", "plan"],
+    &["mrp", "plan", "--single"],
+    &["mrp", "check"],
+    &["mrp", "peg", "P1", "WHEEL", "2"],
+    &["mrp", "cums"],
+];
+
+/// Whether the choice of these words tells the failed read.
+fn choice_tells<T: Threads + Wait + Sync>(
+    rt: &T,
+    alloc: Global,
+    words: &[&str],
+    fails: usize,
+) -> Result<bool, Fail> {
+    let choice = choose(alloc, words)?;
+    let mut written = Vec::new(alloc);
+    let answer = answer(rt, alloc, choice, failing(fails), &mut written);
+    Ok(tells_the_read(&answer, written.as_slice(), fails))
+}
+
+/// Whether each choice does.
+fn choices_tell<T: Threads + Wait + Sync>(
+    rt: &T,
+    alloc: Global,
+    fails: usize,
+) -> Result<bool, Fail> {
+    for words in CHOICES {
+        if !choice_tells(rt, alloc, words, fails)? {
+            return Ok(false);
+        }
+    }
+    Ok(true)
+}
+
+#[test]
+fn a_reader_that_fails_before_each_choice(rt: HostRuntime) -> Result<(), Fail> {
+    for fails in 0..22usize {
+        is_so_at(&rt, choices_tell(&rt, rt.alloc(), fails)?, fails);
+    }
+    Ok(())
 }
 
 /// Whether the bicycle is planned where a read after the end of the text fails.
