@@ -1,6 +1,7 @@
 -- What the steps of a plant's thread keep, in the words of `Plant` of the code.
-use Rattle.std.specs.Prelude.{ℕ}
+use Rattle.std.specs.Prelude.{◌≡◌, ◌⊎◌, ℕ, false}
 use Rattle.mrp_rows.specs.Table.{Table}
+use Rattle.mrp_agent.specs.Shows.{is_done}
 use Rattle.mrp_run.specs.declared.plant.Plant.{Plant}
 use Rattle.mrp_run.specs.Plant as plant
 
@@ -20,3 +21,7 @@ Keeps P Q = plant.Kept P.agent P.sends.items P.takes.items Q.agent Q.sends.items
 pub record Finishes (P Q : Plant) : Type 0 where
   pub kept : Keeps P Q
   pub finished : plant.HasFinished P.agent P.sends.items P.takes.items Q.agent Q.sends.items Q.takes.items
+
+-- it has taken no turn, or isn't done after those that it took
+abbrev pub IsUnfinished : Plant → Plant → Type 0
+IsUnfinished before now = (now ≡ before) ⊎ (is_done now.agent ≡ false)

@@ -1,10 +1,11 @@
 //! The thread of one plant.
-ghost use Rattle.std.specs.Prelude.{◌≡◌, ◌≤◌, IfErr, IfOk, OnOk};
+ghost use Rattle.std.specs.Prelude.{◌≡◌, ◌≤◌, Err, IfErr, IfOk, OnOk};
 ghost use Rattle.mrp_crew.specs.declared.fault.CrewFault.{CrewFault};
 ghost use Rattle.mrp_run.specs.Faults as faults;
 ghost use Rattle.mrp_run.specs.Faults.{AllowsOf, IsOf, IsToldOrOf, WasShut, WasSpent, never_spent};
 ghost use Rattle.mrp_run.specs.Plant as at;
-ghost use Rattle.mrp_run.specs.Steps.{IsAtWork, Keeps, Finishes};
+ghost use Rattle.mrp_run.specs.Steps.{IsAtWork, IsUnfinished, Keeps, Finishes};
+ghost use Rattle.mrp_run.specs.declared.fault.RunFault.{RunFault};
 
 use crate::booking::book_all;
 use crate::fault::RunFault;
@@ -125,6 +126,7 @@ fn work<R: Threads + Wait + Sync, G: Gate, S: StopRule>(
     ensures crew { crew.new ≡ crew.old }
     ensures finishes { OnOk result (Finishes plant.old plant.new) }
     ensures fault { IfErr result (IsToldOrOf S.holds (WasShut G.turn_shut G.worker_shut) (WasSpent G.turn_open turns) number) }
+    ensures unfinished { result ≡ Err RunFault.Stopped → IsUnfinished plant.old plant.new }
 {
     for turn in 0..turns {
         begin(number, turn + 1, gate, stop)?;

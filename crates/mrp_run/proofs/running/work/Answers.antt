@@ -1,4 +1,4 @@
-use Rattle.std.proofs.Common.{◌∙◌, inr}
+use Rattle.std.proofs.Common.{◌∙◌, inr, sym}
 use Rattle.mrp_run.proofs.Done.{has_finished}
 use Rattle.mrp_run.proofs.Keeping.{one_after_another, still_works}
 use Rattle.mrp_run.proofs.running.work.Goals as goal
@@ -29,4 +29,5 @@ loop-turn-preserved g c =
       kept = one_after_another p.agent p.sends.items p.takes.items q.agent q.sends.items q.takes.items r.agent r.sends.items r.takes.items c.loop-turn.invariant.kept c.take_turn.ensures.kept;
       crew = c.take_turn.ensures.crew ∙ c.loop-turn.invariant.crew;
       spent = inr c.in_ok-begin.ensures.opened;
+      unfinished = inr (sym c.done.ensures.exact ∙ c.if-done.false);
     }
