@@ -8,7 +8,7 @@ use Rattle.mrp_lot.specs.One.{PlanRows}
 use Rattle.mrp_rows.specs.Table.{Table}
 use Rattle.mrp_report.specs.Report.{pairs_text, plan_text}
 use Rattle.mrp_report.specs.Sending.{AppendsFront}
-use Rattle.mrp_report.proofs.Fronts.{front-after, front-longer, front-whole, whole-after}
+use Rattle.mrp_report.proofs.Fronts.{front-after, front-longer, whole-after}
 
 -- numbers from one on, in two parts
 range-split : (a m n : ℕ) → range_with_len a (m + n) ≡ range_with_len a m ++ range_with_len (a + m) n
@@ -34,12 +34,6 @@ unfolding plan_text pairs_text
 report-split N table m within =
     let all : length N.pairs ≡ m + (length N.pairs - m) = omega arith in
     ap (pairs_text N table 0) all ∙ pairs-split N table m (length N.pairs - m)
-
--- the rows of the first pairs were sent: a front of the report
-pub pieces_front : (N : Table) (table : List PlanRows) (a b : Option (List ℕ)) (m : ℕ) → m ≤ length N.pairs
-    → Appends a b (pairs_text N table 0 m) → AppendsFront a b (plan_text N table)
-pieces_front N table a b m within sent =
-    subst (λ text. AppendsFront a b text) (sym (report-split N table m within)) (front-longer a b _ (pairs_text N table m (length N.pairs - m)) (front-whole a b _ sent))
 
 -- the rows of no pair were sent
 pub pieces_none : (N : Table) (table : List PlanRows) (a : Option (List ℕ)) → Appends a a (pairs_text N table 0 0)

@@ -4,8 +4,8 @@ use Rattle.std.proofs.lemmas.List.{take-append-drop, drop_more}
 use Rattle.std.proofs.lemmas.Grind.{flat_map-append}
 use Rattle.std.specs.List.{flat_map}
 use Rattle.std.specs.Io.KnownBytes.{Appends}
-use Rattle.mrp_report.specs.Sending.{AppendsFront}
-use Rattle.mrp_report.proofs.Fronts.{front-after, front-longer, front-whole, whole-after}
+use Rattle.mrp_report.specs.Sending.{AppendsFront, AppendsSome}
+use Rattle.mrp_report.proofs.Fronts.{front-after, front-longer, some-front, some-whole, whole-after}
 use Rattle.mrp_tables.specs.declared.fault.TableFault.{TableFault}
 use Rattle.mrp_tables.specs.declared.fault.TableFaultKind.{TableFaultKind}
 use Rattle.mrp_tables.specs.declared.fault.TableFaultKind.TheVariants as kind
@@ -31,10 +31,10 @@ pub sends-after : {U E : Type 0} (a b c : Option (List ℕ)) (text next : List �
 sends-after a b c text next (Ok u) whole rest = whole-after a b c text next whole rest
 sends-after a b c text next (Err e) whole rest = front-after a b c text next whole rest
 
--- at least a front was sent
-pub sends-front : {U E : Type 0} (a b : Option (List ℕ)) (text : List ℕ) (r : Result U E) → SendsText a b r text → AppendsFront a b text
-sends-front a b text (Ok u) sent = front-whole a b text sent
-sends-front a b text (Err e) sent = sent
+-- some of the text was sent
+pub sends-some : {U E : Type 0} (a b : Option (List ℕ)) (text : List ℕ) (r : Result U E) → SendsText a b r text → AppendsSome a b text
+sends-some a b text (Ok u) sent = some-whole a b text sent
+sends-some a b text (Err e) sent = some-front a b text sent
 
 -- every fault of the table but want of memory has a row
 pub table_line-row : (fault : TableFault) (k : TableFaultKind) → (k ≡ kind.Memory → ⊥) → table_line_of fault k ≡ row_line fault

@@ -6,7 +6,7 @@ use Rattle.mrp_tables.specs.declared.fault.TableFault.{TableFault}
 use Rattle.mrp_report.specs.Sending.{Sends}
 use Rattle.mrp_report.specs.declared.fault.ReportFault.{ReportFault}
 use Rattle.mrp_report.specs.declared.fault.ReportFault.TheVariants as report
-use Rattle.mrp_report.proofs.Fronts.{front-after, front-longer, front-whole}
+use Rattle.mrp_report.proofs.Fronts.{front-after, front-longer, some-longer}
 use Rattle.mrp_text.specs.declared.fault.TextFault.{TextFault}
 use Rattle.mrp_text.specs.declared.fault.TextFault.TheVariants as fault
 use Rattle.mrp_text.specs.Fault.{IsOfReport}
@@ -58,4 +58,4 @@ rest-fails a b c first rest report.WriteFault e P is whole sent kept of =
 rest-fails a b c first rest report.Memory e P is whole sent kept of =
     let Q : TextFault → Type 0 = λ e. Writes {U = Unit {0}} a c (Err e) P in
     let A : Option (List ℕ) → Type 0 = λ d. Appends a d first in
-    subst Q (sym of) (inr (first ++ rest, is, front-longer a c first rest (front-whole a c first (subst A (sym (kept refl)) whole))))
+    subst Q (sym of) (inr (first ++ rest, is, some-longer a c first rest (subst A (sym (kept refl)) whole)))

@@ -12,7 +12,7 @@ use Rattle.mrp_loops.specs.Upstream.{IsLoopAnswered}
 use Rattle.mrp_loops.specs.Sized.{IsSized}
 use Rattle.mrp_loops.specs.BoundFaults.{IsSupplyTooLarge, IsNeedTooLarge}
 use Rattle.mrp_plan.specs.Peg.{peg_terms}
-use Rattle.mrp_report.specs.Sending.{AppendsFront}
+use Rattle.mrp_report.specs.Sending.{AppendsFront, AppendsSome}
 use Rattle.mrp_report.specs.Lanes.{lane_text}
 use Rattle.mrp_report.specs.Report.{plan_text, late_text, peg_text, code_text}
 use Rattle.mrp_world.specs.Figures.{last_figures}
@@ -57,12 +57,12 @@ IsPegReport plant item period N text = (x : ℕ) × IsNamed N x plant item × Is
 abbrev pub IsCumReport : Table → List ℕ → Type 0
 IsCumReport N text = IsPlannable N × (text ≡ lane_text N (last_figures N))
 
--- what became of a text: all of it was written; a front, at a failed write; nothing or a front,
--- where memory was refused; nothing, at every other fault
+-- what became of a text: all of it was written; a front that lacks something, at a failed write; nothing
+-- or some of it, where memory was refused; nothing, at every other fault
 abbrev pub Writes : {U : Type 0} → Option (List ℕ) → Option (List ℕ) → Result U TextFault → (List ℕ → Type 0) → Type 0
 Writes old new (Ok _) IsText = (text : List ℕ) × IsText text × Appends old new text
 Writes old new (Err fault.WriteFault) IsText = (text : List ℕ) × IsText text × AppendsFront old new text
-Writes old new (Err fault.Memory) IsText = Keeps old new ⊎ ((text : List ℕ) × IsText text × AppendsFront old new text)
+Writes old new (Err fault.Memory) IsText = Keeps old new ⊎ ((text : List ℕ) × IsText text × AppendsSome old new text)
 Writes old new (Err _) IsText = Keeps old new
 
 -- ---- refusals

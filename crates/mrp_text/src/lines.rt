@@ -2,7 +2,7 @@
 
 ghost use Rattle.std.specs.Prelude.{◌≡◌, IfErr};
 ghost use Rattle.std.specs.List.{flat_map};
-ghost use Rattle.mrp_report.specs.Sending.{AppendsFront};
+ghost use Rattle.mrp_report.specs.Sending.{AppendsSome};
 ghost use Rattle.mrp_text.specs.Lines.{fault_line, gate_line, SendsText, kind_word, calendar_word, loop_line, loop_word, pair_line, row_line, table_line};
 
 use crate::fault::{PairName, TextFault};
@@ -18,7 +18,7 @@ use std::io::Write;
 ///
 /// [`ReportFault::WriteFault`] where a write fails or takes nothing; a front of the line is written.
 pub fn write_fault<W: Write>(fault: &TextFault, writer: &mut W) -> Result<(), ReportFault>
-    ensures front { AppendsFront (W.contents writer.old) (W.contents writer.new) (fault_line fault.now) }
+    ensures front { AppendsSome (W.contents writer.old) (W.contents writer.new) (fault_line fault.now) }
     ensures line { SendsText (W.contents writer.old) (W.contents writer.new) result (fault_line fault.now) }
     ensures fault { IfErr result (λ met. met ≡ ReportFault.WriteFault) }
 {
