@@ -14,7 +14,7 @@ use Rattle.mrp_loops.specs.Need.{need_at, AreNeeds, AreWithin}
 use Rattle.mrp_loops.specs.Taking.{is_in}
 use Rattle.mrp_loops.specs.Order.{ComesBefore, IsInCodeOrder, IsFound, IsSolved, IsFirstAbove}
 use Rattle.mrp_loops.specs.Sized.{IsPlanningOrder}
-use Rattle.mrp_loops.specs.BoundFaults.{IsNeedTooLarge, IsNeedFault, IsBoundFault}
+use Rattle.mrp_loops.specs.BoundFaults.{AreSuppliesWithin, IsNeedTooLarge, IsNeedFault, IsBoundFault}
 use Rattle.mrp_loops.specs.declared.sized.BoundFault.{BoundFault}
 use Rattle.mrp_loops.specs.declared.sized.BoundFault.TheVariants.{SupplyTooLarge, NeedTooLarge, Memory}
 use Rattle.mrp_loops.proofs.Orders.{before_in_order, pair_placed, pairs_apart, pair_place, demander_place}
@@ -182,7 +182,7 @@ need_too_large N codes order x by_code planning supplies first =
     }
 
 pub bound_fault : (N : Table) (codes : List ℕ) (order : List PairNo) → IsInCodeOrder codes (map (λ z. z.0) order) → IsPlanningOrder N (map (λ z. z.0) order)
-    → ((y : ℕ) → IsPair N y → supply N y ≤ MOST) → (fault : BoundFault) → IsNeedFault N order fault → IsBoundFault N codes fault
+    → AreSuppliesWithin N → (fault : BoundFault) → IsNeedFault N order fault → IsBoundFault N codes fault
 bound_fault N codes order by_code planning supplies (SupplyTooLarge x) h = absurd h
 bound_fault N codes order by_code planning supplies (NeedTooLarge x) h = need_too_large N codes order x by_code planning supplies h
-bound_fault N codes order by_code planning supplies Memory h = tt
+bound_fault N codes order by_code planning supplies Memory h = supplies

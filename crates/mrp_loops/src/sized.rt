@@ -8,7 +8,7 @@ ghost use Rattle.mrp_net.specs.Sums.{supply};
 ghost use Rattle.mrp_loops.specs.Loop.{AreCodes};
 ghost use Rattle.mrp_loops.specs.Need.{AreNeeds, AreWithin};
 ghost use Rattle.mrp_loops.specs.Order.{code_order, IsInCodeOrder};
-ghost use Rattle.mrp_loops.specs.BoundFaults.{IsBoundFault, IsSupplyTooLarge, IsNeedFault};
+ghost use Rattle.mrp_loops.specs.BoundFaults.{AreSuppliesWithin, IsBoundFault, IsSupplyTooLarge, IsNeedFault};
 ghost use Rattle.mrp_loops.specs.Sized.{IsSized, IsPlanningOrder};
 
 use crate::Levels;
@@ -106,7 +106,8 @@ impl<'a> SizedNet<'a> {
 /// # Errors
 ///
 /// [`BoundFault::SupplyTooLarge`] where a supply is above 10^15; [`BoundFault::NeedTooLarge`] where
-/// a supply and need together are; [`BoundFault::Memory`] where a growth was refused.
+/// a supply and need together are; [`BoundFault::Memory`] where a growth was refused, which is asked
+/// for only where no supply is too large.
 pub fn bound<'a>(
     alloc: Global,
     network: &'a Network,
@@ -134,7 +135,7 @@ pub fn bound<'a>(
 
 /// The first pair in the table whose supply is above the bound.
 fn first_oversupplied(network: &Network) -> Option<PairNo>
-    ensures none { IfNone result ((x : ℕ) → IsPair network.now x → supply network.now x ≤ MOST) }
+    ensures none { IfNone result (AreSuppliesWithin network.now) }
     ensures some { IfSome result (λ x. IsSupplyTooLarge network.now x.0) }
 {
     for x in 0..network.pairs() {

@@ -14,7 +14,7 @@ use Rattle.std.proofs.lemmas.Map.Keys.{IsDistinct-head, IsDistinct-tail}
 use Rattle.std.proofs.lemmas.Slice.Eq.{bytes_eq-Decides}
 use Rattle.mrp_spell.specs.declared.supplies.TheConstants.{MOST_SHARE, MOST_SOURCES_OF_PAIR}
 use Rattle.mrp_spell.specs.Spelling.{cut, is_colon, is_name, is_name_byte, number_within}
-use Rattle.mrp_spell.specs.Supplies.{are_different, are_whole, AreWhole, BuyTerms, from_terms, FromTerms, HasName, in_a_row, is_same_plant, IsShare, IsWholeSupply, MakeTerms, plant_shares, PlantShare, share_before, ShareFrom, source_fields, sources_of, sources_text, SourceTerms, split_sources, supply_in, supply_of, supply_text, SupplyTerms, whole_in_a_row}
+use Rattle.mrp_spell.specs.Supplies.{are_different, are_whole, AreWhole, BeginsFrom, BuyTerms, from_terms, FromTerms, HasName, in_a_row, is_same_plant, IsShare, IsWholeSupply, MakeTerms, plant_shares, PlantShare, share_before, ShareFrom, source_fields, sources_of, sources_text, SourceTerms, split_sources, supply_in, supply_of, supply_text, SupplyTerms, whole_in_a_row}
 use Rattle.mrp_spell.specs.declared.supplies.SpelledSupply.{SpelledSupply}
 use Rattle.mrp_spell.specs.declared.supplies.SupplyFault.{SupplyFault}
 use Rattle.mrp_spell.specs.declared.supplies.SupplyFault.TheVariants.{NotASupply, Memory}
@@ -255,8 +255,13 @@ supply_written (FromTerms ss) h =
     ap (supply_in (supply_text (FromTerms ss))) (cut_at (codes "from") (sources_text ss) (plain is_name_byte refl (codes "from") refl))
     ∙ ap from_terms (sources_written ss h)
 
+-- a text that is cut after `from`
+pub begins_from : (text word plants : List ℕ) → cut text ≡ Some (word, plants) → bytes_eq word (codes "from") ≡ true → BeginsFrom text
+begins_from text word plants c is =
+    (plants, cut_text text (word, plants) c ∙ ap (λ w. w ++ (58 ∷ plants)) ((bytes_eq-Decides word (codes "from")).0 is))
+
 -- the answer of a reader of supplies says whose text it was
-pub tells_written : (text : List ℕ) (r : Result SpelledSupply SupplyFault) → TellsSpelled supply_view r (supply_of text) → TellsWritten text r
-tells_written text (Ok x) e = (supply_is_text text (supply_view x) e, supply_is text (supply_view x) e)
-tells_written text (Err NotASupply) e = λ s whole same. let read = sym e ∙ ap supply_of same ∙ supply_written s whole in absurd (cc)
-tells_written text (Err Memory) e = tt
+pub tells_written : (text : List ℕ) (r : Result SpelledSupply SupplyFault) → TellsSpelled supply_view r (supply_of text) → (r ≡ Err Memory → BeginsFrom text) → TellsWritten text r
+tells_written text (Ok x) e begins = (supply_is_text text (supply_view x) e, supply_is text (supply_view x) e)
+tells_written text (Err NotASupply) e begins = λ s whole same. let read = sym e ∙ ap supply_of same ∙ supply_written s whole in absurd (cc)
+tells_written text (Err Memory) e begins = begins refl

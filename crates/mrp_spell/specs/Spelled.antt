@@ -9,7 +9,7 @@ use Rattle.mrp_spell.specs.declared.supplies.SpelledSupply.{SpelledSupply}
 use Rattle.mrp_spell.specs.declared.supplies.SpelledSupply.TheVariants.{Make, Buy, From}
 use Rattle.mrp_spell.specs.declared.supplies.SupplyFault.{SupplyFault}
 use Rattle.mrp_spell.specs.declared.supplies.SupplyFault.TheVariants.{NotASupply, Memory}
-use Rattle.mrp_spell.specs.Supplies.{IsWholeSupply, SourceTerms, supply_text, SupplyTerms, MakeTerms, BuyTerms, FromTerms}
+use Rattle.mrp_spell.specs.Supplies.{BeginsFrom, IsWholeSupply, SourceTerms, supply_text, SupplyTerms, MakeTerms, BuyTerms, FromTerms}
 
 -- a share that ends after it begins, and within the whole
 pub record IsSource (s : SpelledSource) : Type 0 where
@@ -54,8 +54,9 @@ TellsSpelled view (Ok x) spelled = spelled ≡ Some (view x)
 TellsSpelled view (Err NotASupply) spelled = spelled ≡ None
 TellsSpelled view (Err Memory) spelled = Unit {0}
 
--- a supply is answered to its text, and NotASupply to a text that is no supply's
+-- a supply is answered to its text, and NotASupply to a text that is no supply's; memory is wanted only for the
+-- plants that stand after `from:`
 abbrev pub TellsWritten : List ℕ → Result SpelledSupply SupplyFault → Type 0
 TellsWritten text (Ok x) = (text ≡ supply_text (supply_view x)) × IsWholeSupply (supply_view x)
 TellsWritten text (Err NotASupply) = (supply : SupplyTerms) → IsWholeSupply supply → text ≢ supply_text supply
-TellsWritten text (Err Memory) = Unit {0}
+TellsWritten text (Err Memory) = BeginsFrom text

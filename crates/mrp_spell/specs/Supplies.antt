@@ -81,6 +81,10 @@ supply_in text (Some p) =
 unfoldable pub supply_of : List ℕ → Option SupplyTerms
 supply_of text = supply_in text (cut text)
 
+-- `from:` and any text
+abbrev pub BeginsFrom : List ℕ → Type 0
+BeginsFrom text = (plants : List ℕ) × (text ≡ codes "from:" ++ plants)
+
 -- ---- the text of a supply
 
 -- each plant before its share

@@ -1,12 +1,12 @@
 //! How it is spelled where a pair comes from.
 
-ghost use Rattle.std.specs.Prelude.{◌≡◌, ◌+◌, ◌-◌, ◌==◌, ◌≤◌, if◌then◌else◌, length, map, option_map, IfOk, IfSome, Some, None};
+ghost use Rattle.std.specs.Prelude.{◌≡◌, ◌+◌, ◌-◌, ◌==◌, ◌≤◌, if◌then◌else◌, length, map, option_map, Err, IfOk, IfSome, Some, None};
 ghost use Rattle.std.specs.List.{list_any};
 ghost use Rattle.std.specs.Str.{bytes_eq};
 ghost use Rattle.mrp_spell.specs.Spelled.{share_view, source_view, supply_view, AreSources, HasSources, IsSource, TellsSpelled, TellsWritten};
 ghost use Rattle.mrp_spell.specs.Spelling.{number_within};
 ghost use Rattle.mrp_spell.specs.Steps.{share_of, shared_source, sources_with};
-ghost use Rattle.mrp_spell.specs.Supplies.{names_plant, sources_of, supply_of};
+ghost use Rattle.mrp_spell.specs.Supplies.{BeginsFrom, names_plant, sources_of, supply_of};
 ghost use Rattle.mrp_spell.specs.declared.supplies.TheConstants.{MOST_SHARE};
 ghost use Rattle.mrp_spell.specs.declared.supplies.SupplyFault.TheVariants.{Memory};
 
@@ -68,6 +68,11 @@ pub enum SpelledSupply<'r> {
 
 /// The supply that a text spells: `make`, `buy`, `from:PLANT`, or `from:` with two to four plants,
 /// each followed by its share in thousandths. Each supply has just one such text.
+///
+/// # Errors
+///
+/// [`SupplyFault::NotASupply`] where the text spells none; [`SupplyFault::Memory`] where a growth was refused,
+/// which is asked for only after `from:`.
 pub fn supply<'r>(alloc: Global, text: &'r str) -> Result<SpelledSupply<'r>, SupplyFault>
     ensures exact { TellsSpelled supply_view result (supply_of text.now) }
     ensures written { TellsWritten text.now result }
@@ -81,6 +86,7 @@ pub fn supply<'r>(alloc: Global, text: &'r str) -> Result<SpelledSupply<'r>, Sup
 fn read<'r>(alloc: Global, text: &'r str) -> Result<SpelledSupply<'r>, SupplyFault>
     ensures exact { TellsSpelled supply_view result (supply_of text.now) }
     ensures sources { IfOk result HasSources }
+    ensures memory { result ≡ Err Memory → BeginsFrom text.now }
 {
     match cut(text) {
         None => {
