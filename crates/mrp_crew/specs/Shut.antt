@@ -1,10 +1,11 @@
 -- For whom a gate was shut.
-use Rattle.std.specs.Prelude.{◌≡◌, ℕ, false, List, All}
+use Rattle.std.specs.Prelude.{◌≡◌, ◌≤◌, ℕ, false, List, All}
+use Rattle.mrp_crew.specs.declared.crew.TheConstants.{MOST_WORKERS}
 use Rattle.mrp_crew.specs.declared.work.Work.{Work}
 
--- the gate was shut to some worker of the plant
+-- the gate was shut to some worker of the plant, by a number that a crew gives
 abbrev pub WasShut : (ℕ → ℕ → Type 0) → ℕ → Type 0
-WasShut shut plant = (worker : ℕ) × shut plant worker
+WasShut shut plant = (worker : ℕ) × (1 ≤ worker) × (worker ≤ MOST_WORKERS) × shut plant worker
 
 -- the worker was let in, or this holds
 abbrev pub IsLetIn : Type 0 → Work → Type 0

@@ -6,6 +6,7 @@ ghost use Rattle.mrp_agent.specs.Drafts.{CanDraft};
 ghost use Rattle.mrp_agent.specs.State.{AgentState};
 ghost use Rattle.mrp_crew.specs.Rooms.{AreDrafts, IsRoom, WorkedFor, pairs_of};
 ghost use Rattle.mrp_crew.specs.Shut.{AreLetIn, IsLetIn, WasShut};
+ghost use Rattle.mrp_crew.specs.declared.crew.TheConstants.{MOST_WORKERS};
 ghost use Rattle.mrp_crew.specs.Started.{IsAt, IsFor, IsStarted, ordered};
 
 use crate::room::{Room, put_back};
@@ -39,6 +40,7 @@ pub(crate) fn draft_wave<R: Threads + Wait + Sync, G: Gate>(
     requires rooms { All (IsRoom agent.now.view.horizon) rooms.items }
     requires enough { length others.now < length rooms.items }
     requires workers { (workers.items ≡ []) × (length others.now ≤ vec_capacity workers) }
+    requires few { length others.now < MOST_WORKERS }
     requires works { (works.items ≡ []) × (length others.now < vec_capacity works) }
     ensures drafts { AreDrafts agent.now (others.now ++ own ∷ []) result }
     ensures shut { AreLetIn (WasShut G.worker_shut plant) result.works.items }
@@ -52,6 +54,7 @@ pub(crate) fn draft_wave<R: Threads + Wait + Sync, G: Gate>(
             requires rooms { All (IsRoom agent.now.view.horizon) rooms.items }
             requires enough { length others.now < length rooms.items }
             requires workers { (workers.items ≡ []) × (length others.now ≤ vec_capacity workers) }
+            requires few { length others.now < MOST_WORKERS }
             requires works { (works.items ≡ []) × (length others.now < vec_capacity works) }
             ensures drafts { AreDrafts agent.entry.now (others.entry.now ++ own ∷ []) result }
             ensures shut { AreLetIn (WasShut G.worker_shut plant) result.works.items }
@@ -81,6 +84,7 @@ fn draft_beside<'s, E, R: Threads, G: Gate>(
     requires rooms { All (IsRoom agent.now.view.horizon) rooms.items }
     requires enough { length others.now < length rooms.items }
     requires workers { (workers.items ≡ []) × (length others.now ≤ vec_capacity workers) }
+    requires few { length others.now < MOST_WORKERS }
     requires works { (works.items ≡ []) × (length others.now < vec_capacity works) }
     ensures drafts { AreDrafts agent.now (others.now ++ own ∷ []) result }
     ensures shut { AreLetIn (WasShut G.worker_shut plant) result.works.items }
@@ -116,6 +120,7 @@ fn start_all<'s, E, G: Gate>(
     requires can { All (CanDraft agent.now) pairs.now }
     requires rooms { All (IsRoom agent.now.view.horizon) rooms.old.items }
     requires enough { length pairs.now ≤ length rooms.old.items }
+    requires few { length pairs.now < MOST_WORKERS }
     requires workers { (workers.old.items ≡ []) × (length pairs.now ≤ vec_capacity workers.old) }
     ensures rooms { All (IsRoom agent.now.view.horizon) rooms.new.items }
     ensures started { (rest : List PairNo) × (pairs.now ≡ ordered workers.new.items ++ rest) × OnTrue result (rest ≡ []) }
@@ -150,7 +155,7 @@ fn start<'s, E, G: Gate>(
 ) -> Option<Worker<G>>
     requires can { CanDraft agent.now pair }
     requires room { IsRoom agent.now.view.horizon room }
-    requires number { 1 ≤ number }
+    requires number { (1 ≤ number) × (number ≤ MOST_WORKERS) }
     ensures { IfSome result (IsStarted agent.now plant pair) }
 {
     let order = Order {
@@ -164,7 +169,7 @@ fn start<'s, E, G: Gate>(
         move || -> Work
             requires can { CanDraft agent.now pair }
             requires room { IsRoom agent.now.view.horizon room }
-            requires number { 1 ≤ number }
+            requires number { (1 ≤ number) × (number ≤ MOST_WORKERS) }
             ensures pair { result.pair ≡ pair }
             ensures worked { WorkedFor agent.entry.now result }
             ensures shut { IsLetIn (WasShut G.worker_shut plant) result }

@@ -3,6 +3,7 @@ ghost use Rattle.std.specs.Prelude.{◌≡◌, ◌≤◌};
 ghost use Rattle.mrp_agent.specs.Drafts.{CanDraft};
 ghost use Rattle.mrp_crew.specs.Rooms.{IsRoom, WorkedFor};
 ghost use Rattle.mrp_crew.specs.Shut.{IsLetIn, WasShut};
+ghost use Rattle.mrp_crew.specs.declared.crew.TheConstants.{MOST_WORKERS};
 
 use crate::room::Room;
 use mrp_agent::{Agent, Gate};
@@ -67,7 +68,7 @@ pub(crate) fn draft_pair<G: Gate>(
 ) -> Work
     requires can { CanDraft agent.now pair }
     requires room { IsRoom agent.now.view.horizon room }
-    requires number { 1 ≤ number }
+    requires number { (1 ≤ number) × (number ≤ MOST_WORKERS) }
     ensures pair { result.pair ≡ pair }
     ensures worked { WorkedFor agent.now result }
     ensures shut { IsLetIn (WasShut G.worker_shut plant) result }
