@@ -6,8 +6,8 @@ ghost use Rattle.std.specs.Prelude.{◌≡◌, ◌≤◌, ℕ, false, true};
 ///
 /// Whoever writes a gate is promised that turns and workers count from 1: each call proves it. And they may
 /// say what holds where the gate answers: the fault of a shut gate comes only where what holds of a gate that
-/// is shut holds of some turn or some worker of the plant, and a plant has used its turns only where what
-/// holds of an open gate holds of the last of them.
+/// is shut holds of some worker of the plant or of a turn of it, and what holds of an open gate holds of each
+/// turn before that; and a plant has used its turns only where what holds of an open gate holds of each.
 pub trait Gate: Sync {
     /// What holds where the gate is shut to a turn of a plant.
     ghost turn_shut: { ℕ → ℕ → Type 0 } = { λ _ _. Unit {0} };

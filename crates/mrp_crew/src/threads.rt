@@ -186,7 +186,8 @@ fn join_all<R: Threads, G: Gate>(rt: &R, mut workers: Vec<Worker<G>>, works: &mu
     requires room { length workers.items + length works.old.items ≤ vec_capacity works.old }
     ensures pairs { pairs_of (reverse works.new.items) ≡ ordered workers.items ++ pairs_of (reverse works.old.items) }
     ensures worked { (A : AgentState) → All (IsFor A) workers.items → All (WorkedFor A) works.old.items → All (WorkedFor A) works.new.items }
-    ensures shut { (plant : ℕ) → All (IsAt plant) workers.items → AreLetIn (WasShut G.worker_shut plant) works.old.items → AreLetIn (WasShut G.worker_shut plant) works.new.items }
+    ensures shut { (plant : ℕ) → All (IsAt plant) workers.items → AreLetIn (WasShut G.worker_shut plant) works.old.items
+        → AreLetIn (WasShut G.worker_shut plant) works.new.items }
 {
     while let Some(worker) = workers.pop() {
         let Ok(()) = works.push(worker.join(rt)) else {

@@ -1,18 +1,21 @@
 -- Whose fault it is that a run ends early, and what a crew's fault is to the run.
-use Rattle.std.specs.Prelude.{◌≡◌, ◌⊎◌, ℕ}
+use Rattle.std.specs.Prelude.{◌≡◌, ◌+◌, ◌≤◌, ◌<◌, ◌⊎◌, ℕ}
 use Rattle.mrp_rows.specs.declared.numbers.PlantNo.{PlantNo}
+use Rattle.mrp_crew.specs.Shut as workers
 use Rattle.mrp_crew.specs.declared.fault.CrewFault.{CrewFault}
 use Rattle.mrp_crew.specs.declared.fault.CrewFault.TheVariants as crew
 use Rattle.mrp_run.specs.declared.fault.RunFault.{RunFault}
 use Rattle.mrp_run.specs.declared.fault.RunFault.TheVariants.{Memory, ThreadRefused, GateShut, Stopped}
 
--- the gate was shut to some turn of a plant, or to some worker of it
-abbrev pub WasShut : (ℕ → ℕ → Type 0) → (ℕ → ℕ → Type 0) → ℕ → Type 0
-WasShut turn worker plant = ((n : ℕ) × turn plant n) ⊎ ((n : ℕ) × worker plant n)
-
--- a plant has used so many turns: it was given none, or the gate was open to the last of them
+-- a plant has used so many turns: the gate was open to each of them
 abbrev pub WasSpent : (ℕ → ℕ → Type 0) → ℕ → ℕ → Type 0
-WasSpent Open turns plant = (turns ≡ 0) ⊎ Open plant turns
+WasSpent Open turns plant = (turn : ℕ) → 1 ≤ turn → turn ≤ turns → Open plant turn
+
+-- the gate was shut to the turn of a plant that came after those that it had used, one of those that it was given, or
+-- to some worker of it
+abbrev pub WasShut : (ℕ → ℕ → Type 0) → (ℕ → ℕ → Type 0) → (ℕ → ℕ → Type 0) → ℕ → ℕ → Type 0
+WasShut Open Shut Worker turns plant =
+    ((used : ℕ) × (used < turns) × WasSpent Open used plant × Shut plant (used + 1)) ⊎ workers.WasShut Worker plant
 
 -- no plant has used its turns
 abbrev pub never_spent : ℕ → Type 0

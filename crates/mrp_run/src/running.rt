@@ -2,6 +2,7 @@
 ghost use Rattle.std.specs.Prelude.{◌≡◌, ◌≤◌, Err, IfErr, IfOk, OnOk};
 ghost use Rattle.mrp_crew.specs.declared.fault.CrewFault.{CrewFault};
 ghost use Rattle.mrp_run.specs.Faults as faults;
+ghost use Rattle.mrp_crew.specs.Shut.{WasShut as WasWorkerShut};
 ghost use Rattle.mrp_run.specs.Faults.{AllowsOf, IsOf, IsToldOrOf, WasShut, WasSpent, never_spent};
 ghost use Rattle.mrp_run.specs.Plant as at;
 ghost use Rattle.mrp_run.specs.Steps.{IsAtWork, IsUnfinished, Keeps, Finishes};
@@ -53,7 +54,7 @@ pub fn run_plant<R: Threads + Wait + Sync, G: Gate, S: StopRule>(
 ) -> Result<(Agent, Vec<SendEnd>, Vec<TakeEnd>), RunFault>
     requires work { at.IsAtWork agent sends.items takes.items }
     requires horizon { crew.old.horizon ≡ agent.view.horizon }
-    requires rule { AllowsOf S.holds (WasShut G.turn_shut G.worker_shut) (WasSpent G.turn_open turns) plant }
+    requires rule { AllowsOf S.holds (WasShut G.turn_open G.turn_shut G.worker_shut turns) (WasSpent G.turn_open turns) plant }
     ensures crew { crew.new ≡ crew.old }
     ensures kept { IfOk result (λ r. at.Kept agent sends.items takes.items r.0 r.1.items r.2.items) }
     ensures finished { IfOk result (λ r. at.HasFinished agent sends.items takes.items r.0 r.1.items r.2.items) }
@@ -90,7 +91,7 @@ pub(crate) fn run_owned<R: Threads + Wait + Sync, G: Gate, S: StopRule>(
 ) -> Result<Plant, RunFault>
     requires work { IsAtWork plant }
     requires horizon { crew.old.horizon ≡ plant.agent.view.horizon }
-    requires rule { AllowsOf S.holds (WasShut G.turn_shut G.worker_shut) (WasSpent G.turn_open turns) number }
+    requires rule { AllowsOf S.holds (WasShut G.turn_open G.turn_shut G.worker_shut turns) (WasSpent G.turn_open turns) number }
     ensures crew { crew.new ≡ crew.old }
     ensures finishes { IfOk result (λ after. Finishes plant after) }
     ensures fault { IfErr result S.holds }
@@ -125,7 +126,7 @@ fn work<R: Threads + Wait + Sync, G: Gate, S: StopRule>(
     requires horizon { crew.old.horizon ≡ plant.old.agent.view.horizon }
     ensures crew { crew.new ≡ crew.old }
     ensures finishes { OnOk result (Finishes plant.old plant.new) }
-    ensures fault { IfErr result (IsToldOrOf S.holds (WasShut G.turn_shut G.worker_shut) (WasSpent G.turn_open turns) number) }
+    ensures fault { IfErr result (IsToldOrOf S.holds (WasShut G.turn_open G.turn_shut G.worker_shut turns) (WasSpent G.turn_open turns) number) }
     ensures unfinished { result ≡ Err RunFault.Stopped → IsUnfinished plant.old plant.new }
 {
     for turn in 0..turns {
@@ -150,7 +151,7 @@ fn begin<G: Gate, S: StopRule>(
 ) -> Result<(), RunFault>
     requires turn { 1 ≤ turn }
     ensures opened { OnOk result (G.turn_open number.0 turn) }
-    ensures fault { IfErr result (IsToldOrOf S.holds (WasShut G.turn_shut G.worker_shut) never_spent number) }
+    ensures fault { IfErr result (IsToldOrOf S.holds (λ plant. G.turn_shut plant turn) never_spent number) }
 {
     if let Some(fault) = stop.fault() {
         Err(fault)
@@ -174,7 +175,7 @@ fn take_turn<R: Threads + Wait + Sync, G: Gate>(
     requires horizon { crew.old.horizon ≡ plant.old.agent.view.horizon }
     ensures crew { crew.new ≡ crew.old }
     ensures kept { Keeps plant.old plant.new }
-    ensures fault { IfErr result (IsOf (WasShut G.turn_shut G.worker_shut) never_spent number) }
+    ensures fault { IfErr result (IsOf (WasWorkerShut G.worker_shut) never_spent number) }
 {
     let came = book_all(rt, plant);
     let planned = plan_all(rt, alloc, number, plant, crew, gate)?;
@@ -195,7 +196,7 @@ fn plan_all<R: Threads + Wait + Sync, G: Gate>(
     requires horizon { crew.old.horizon ≡ plant.old.agent.view.horizon }
     ensures crew { crew.new ≡ crew.old }
     ensures kept { Keeps plant.old plant.new }
-    ensures fault { IfErr result (IsOf (WasShut G.turn_shut G.worker_shut) never_spent number) }
+    ensures fault { IfErr result (IsOf (WasWorkerShut G.worker_shut) never_spent number) }
     ensures by_crew { IfErr result (λ fault. (why : CrewFault) × (fault ≡ faults.of_crew number why)) }
 {
     match crew.plan_ready(rt, alloc, &mut plant.agent, number.0, gate) {

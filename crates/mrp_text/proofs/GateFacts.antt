@@ -29,33 +29,35 @@ run_fault Shut Spent N run.Stopped said is of = subst (IsRunFault Shut Spent N) 
 
 -- ---- a gate that is always open
 
-never_shut : (p : ℕ) → WasShut (λ _ _. ⊥) (λ _ _. ⊥) p → ⊥
-never_shut p shut = ⊎_elim (λ turn. turn.1) (λ worker. worker.1) shut
+-- of turns it may say anything
+never_shut : (Open : ℕ → ℕ → Type 0) (turns p : ℕ) → WasShut Open (λ _ _. ⊥) (λ _ _. ⊥) turns p → ⊥
+never_shut Open turns p shut = ⊎_elim (λ turn. turn.3) (λ worker. worker.3) shut
 
-abbrev IsOpenRefusal : (ℕ → Type 0) → Table → TextFault → Type 0
-IsOpenRefusal Spent = IsRunRefusal (WasShut (λ _ _. ⊥) (λ _ _. ⊥)) Spent
+abbrev IsOpenRefusal : (ℕ → ℕ → Type 0) → ℕ → (ℕ → Type 0) → Table → TextFault → Type 0
+IsOpenRefusal Open turns Spent = IsRunRefusal (WasShut Open (λ _ _. ⊥) (λ _ _. ⊥) turns) Spent
 
-open_refusal : (Spent : ℕ → Type 0) (N : Table) (f : TextFault) → IsOpenRefusal Spent N f → IsRunRefusal (λ _. ⊥) (λ _. Unit {0}) N f
-open_refusal Spent N fault.ThreadRefused said = said
-open_refusal Spent N (fault.GateShut name) said = absurd (never_shut said.1.0 said.1.2)
-open_refusal Spent N fault.Stopped said = (said.0, (said.1.0, said.1.1, tt))
-open_refusal Spent N _ said = said
+open_refusal : (Open : ℕ → ℕ → Type 0) (turns : ℕ) (Spent : ℕ → Type 0) (N : Table) (f : TextFault) → IsOpenRefusal Open turns Spent N f → IsRunRefusal (λ _. ⊥) (λ _. Unit {0}) N f
+open_refusal Open turns Spent N fault.ThreadRefused said = said
+open_refusal Open turns Spent N (fault.GateShut name) said = absurd (never_shut Open turns said.1.0 said.1.2)
+open_refusal Open turns Spent N fault.Stopped said = (said.0, (said.1.0, said.1.1, tt))
+open_refusal Open turns Spent N _ said = said
 
-open_text : (Spent : ℕ → Type 0) (known : Option (List ℕ)) (f : TextFault) → IsTextRefusal known (IsOpenRefusal Spent) f → IsTextRefusal known (IsRunRefusal (λ _. ⊥) (λ _. Unit {0})) f
-open_text Spent known (fault.Table e) said = said
-open_text Spent known fault.Memory said = said
-open_text Spent known f said = (said.0, said.1, said.2, open_refusal Spent said.0 f said.3)
+open_text : (Open : ℕ → ℕ → Type 0) (turns : ℕ) (Spent : ℕ → Type 0) (known : Option (List ℕ)) (f : TextFault) → IsTextRefusal known (IsOpenRefusal Open turns Spent) f
+    → IsTextRefusal known (IsRunRefusal (λ _. ⊥) (λ _. Unit {0})) f
+open_text Open turns Spent known (fault.Table e) said = said
+open_text Open turns Spent known fault.Memory said = said
+open_text Open turns Spent known f said = (said.0, said.1, said.2, open_refusal Open turns Spent said.0 f said.3)
 
-pub open_refuses : {U : Type 0} (Spent : ℕ → Type 0) (known : Option (List ℕ)) (r : Result U TextFault) → IfErr r (IsTextRefusal known (IsOpenRefusal Spent))
-    → IfErr r (IsTextRefusal known (IsRunRefusal (λ _. ⊥) (λ _. Unit {0})))
-open_refuses Spent known (Ok u) said = tt
-open_refuses Spent known (Err f) said = open_text Spent known f said
+pub open_refuses : {U : Type 0} (Open : ℕ → ℕ → Type 0) (turns : ℕ) (Spent : ℕ → Type 0) (known : Option (List ℕ)) (r : Result U TextFault)
+    → IfErr r (IsTextRefusal known (IsOpenRefusal Open turns Spent)) → IfErr r (IsTextRefusal known (IsRunRefusal (λ _. ⊥) (λ _. Unit {0})))
+open_refuses Open turns Spent known (Ok u) said = tt
+open_refuses Open turns Spent known (Err f) said = open_text Open turns Spent known f said
 
 -- so of a plan that isn't asked for on one thread
-pub open_answer : {U : Type 0} (Spent : ℕ → Type 0) (known : Option (List ℕ)) (r : Result U TextFault) (workers capacity : ℕ) (single : Bool) → single ≡ false
-    → IfErr r (IsTextRefusal known (IsOpenRefusal Spent)) → IfErr r (IsTextRefusal known (IsAnswerRefusal (Plan workers capacity single)))
-open_answer Spent known r workers capacity true e said = absurd (false≢true (sym e))
-open_answer Spent known r workers capacity false e said = open_refuses Spent known r said
+pub open_answer : {U : Type 0} (Open : ℕ → ℕ → Type 0) (turns : ℕ) (Spent : ℕ → Type 0) (known : Option (List ℕ)) (r : Result U TextFault) (workers capacity : ℕ) (single : Bool)
+    → single ≡ false → IfErr r (IsTextRefusal known (IsOpenRefusal Open turns Spent)) → IfErr r (IsTextRefusal known (IsAnswerRefusal (Plan workers capacity single)))
+open_answer Open turns Spent known r workers capacity true e said = absurd (false≢true (sym e))
+open_answer Open turns Spent known r workers capacity false e said = open_refuses Open turns Spent known r said
 
 -- ---- a refusal that is no shut gate
 

@@ -47,7 +47,8 @@ pub fn plan_text<T: Threads + Wait + Sync, R: Read + Drop, W: Write, G: Gate>(
     gate: &G,
 ) -> Result<(), TextFault>
     ensures text { Writes (W.contents writer.old) (W.contents writer.new) result (λ text. OfTable (R.remaining reader) (λ N. IsPlanReport N text)) }
-    ensures refusal { IfErr result (IsTextRefusal (R.remaining reader) (IsRunRefusal (WasShut G.turn_shut G.worker_shut) (WasSpent G.turn_open MOST_TURNS))) }
+    ensures refusal { IfErr result (IsTextRefusal (R.remaining reader)
+        (IsRunRefusal (WasShut G.turn_open G.turn_shut G.worker_shut MOST_TURNS) (WasSpent G.turn_open MOST_TURNS))) }
     ensures untouched { IfErr result (λ fault. IsBeforeWriting fault → writer.new ≡ writer.old) }
 {
     let network = network_of(alloc, reader)?;

@@ -56,7 +56,7 @@ pub(crate) fn write_run<T: Threads + Wait + Sync, W: Write, G: Gate>(
     gate: &G,
 ) -> Result<(), TextFault>
     ensures text { Writes (W.contents writer.old) (W.contents writer.new) result (IsPlanReport network.now) }
-    ensures refusal { IfErr result (IsRunRefusal (WasShut G.turn_shut G.worker_shut) (WasSpent G.turn_open MOST_TURNS) network.now) }
+    ensures refusal { IfErr result (IsRunRefusal (WasShut G.turn_open G.turn_shut G.worker_shut MOST_TURNS) (WasSpent G.turn_open MOST_TURNS) network.now) }
     ensures untouched { IfErr result (λ fault. IsBeforeWriting fault → writer.new ≡ writer.old) }
 {
     let levels = levels_of(alloc, network)?;

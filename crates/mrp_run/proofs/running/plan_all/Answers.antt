@@ -19,4 +19,4 @@ returns-in-Err-clause-by_crew g c = (c.in-Err.fault, c.of_crew.ensures)
 
 pub returns-in-Err-clause-fault : goal.returns-in-Err-clause-fault
 returns-in-Err-clause-fault g c =
-    crew_is_of g.G.Gate.turn_shut g.G.Gate.worker_shut c.args.number c.in-Err.fault c.of_crew.result c.of_crew.ensures c.in-Err.ensures.shut
+    crew_is_of g.G.Gate.worker_shut c.args.number c.in-Err.fault c.of_crew.result c.of_crew.ensures c.in-Err.ensures.shut

@@ -1,6 +1,7 @@
 use Rattle.std.proofs.Common.{◌∙◌, inr, sym}
 use Rattle.mrp_run.proofs.Done.{has_finished}
 use Rattle.mrp_run.proofs.Keeping.{one_after_another, still_works}
+use Rattle.mrp_run.proofs.StopRules.{next_spent}
 use Rattle.mrp_run.proofs.running.work.Goals as goal
 
 pub take_turn-requires-clause-work : goal.take_turn-requires-clause-work
@@ -28,6 +29,6 @@ loop-turn-preserved g c =
     record {
       kept = one_after_another p.agent p.sends.items p.takes.items q.agent q.sends.items q.takes.items r.agent r.sends.items r.takes.items c.loop-turn.invariant.kept c.take_turn.ensures.kept;
       crew = c.take_turn.ensures.crew ∙ c.loop-turn.invariant.crew;
-      spent = inr c.in_ok-begin.ensures.opened;
+      spent = next_spent g.G.Gate.turn_open c.loop-turn.turn c.args.number.0 c.loop-turn.invariant.spent c.in_ok-begin.ensures.opened;
       unfinished = inr (sym c.done.ensures.exact ∙ c.if-done.false);
     }

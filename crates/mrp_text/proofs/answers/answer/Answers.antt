@@ -21,14 +21,14 @@ returns-in-Cums-clause-text g c = rw (c.in-Cums.is) c.cums_text.ensures.text
 pub returns-in-Some-clause-refusal : goal.returns-in-Some-clause-refusal
 returns-in-Some-clause-refusal g c =
     let off : c.in-Plan.single ≡ false = search rules in
-    rw (c.in-Plan.is) (open_answer _ _ c.plan_text.result c.in-Plan.workers c.in-Plan.capacity c.in-Plan.single off c.plan_text.ensures.refusal)
+    rw (c.in-Plan.is) (open_answer _ _ _ _ c.plan_text.result c.in-Plan.workers c.in-Plan.capacity c.in-Plan.single off c.plan_text.ensures.refusal)
 
 pub returns-in-Plan-default-default-true-clause-gate : goal.returns-in-Plan-default-default-true-clause-gate
 returns-in-Plan-default-default-true-clause-gate g c = never_gate _ IsRefusal c.drive_text.result (λ N name said. said) c.drive_text.ensures.refusal
 
 pub returns-in-Some-clause-gate : goal.returns-in-Some-clause-gate
 returns-in-Some-clause-gate g c =
-    never_gate _ (IsRunRefusal (λ _. ⊥) (λ _. Unit {0})) c.plan_text.result (λ N name said. said.1.2) (open_refuses _ _ c.plan_text.result c.plan_text.ensures.refusal)
+    never_gate _ (IsRunRefusal (λ _. ⊥) (λ _. Unit {0})) c.plan_text.result (λ N name said. said.1.2) (open_refuses _ _ _ _ c.plan_text.result c.plan_text.ensures.refusal)
 
 pub returns-in-Check-clause-gate : goal.returns-in-Check-clause-gate
 returns-in-Check-clause-gate g c = never_gate _ IsRefusal c.check_text.result (λ N name said. said) c.check_text.ensures.refusal

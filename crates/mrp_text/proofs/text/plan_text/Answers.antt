@@ -11,5 +11,5 @@ returns-clause-text g c =
 
 pub returns-clause-refusal : goal.returns-clause-refusal
 returns-clause-refusal g c =
-    refuses-of _ (IsRunRefusal (WasShut g.G.Gate.turn_shut g.G.Gate.worker_shut) (WasSpent g.G.Gate.turn_open MOST_TURNS)) c.in_ok-network.network c.write_run-written.result c.in_ok-network.ensures.table
+    refuses-of _ (IsRunRefusal (WasShut g.G.Gate.turn_open g.G.Gate.turn_shut g.G.Gate.worker_shut MOST_TURNS) (WasSpent g.G.Gate.turn_open MOST_TURNS)) c.in_ok-network.network c.write_run-written.result c.in_ok-network.ensures.table
     c.in_ok-network.ensures.rows (λ e said. said) c.write_run-written.ensures.refusal
