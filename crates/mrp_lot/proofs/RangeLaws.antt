@@ -70,7 +70,7 @@ pub filter_map-range-same : {X : Type 0} (f g : ℕ → Option X) (n : ℕ) → 
 filter_map-range-same f g n same = filter_map-range_from-same f g 0 n (λ k low high. same k (omega arith))
 
 -- a value that counts at one place counts once
-placed_past : (v p n : ℕ) → n ≤ p → sum_by (λ u. if p == u then v else 0) (range_with_len 0 n) ≡ 0
+pub placed_past : (v p n : ℕ) → n ≤ p → sum_by (λ u. if p == u then v else 0) (range_with_len 0 n) ≡ 0
 placed_past v p zero past = refl
 placed_past v p (suc n) past =
     let miss = cond-false (p == n) v 0 (ne_eqb p n (omega arith)) in

@@ -1,10 +1,10 @@
 -- Sums of rows by period: no period, and not all periods together, have more than all rows.
-use Rattle.std.proofs.Common.{◌≡◌, ℕ, ◌+◌, ◌<◌, ◌≤◌, ◌==◌, ◌&&◌, if◌then◌else◌, Bool, true, false, List, [], ◌∷◌, length, sum, sum_by, slice_index, slice_index_or, zero, suc, arith, refl, ap, ◌∙◌, ⊎_elim, eq-eqb, ne_eqb}
+use Rattle.std.proofs.Common.{◌≡◌, ℕ, ◌+◌, ◌<◌, ◌≤◌, ◌==◌, ◌&&◌, if◌then◌else◌, Bool, true, false, List, [], ◌∷◌, length, sum, sum_by, slice_index, slice_index_or, arith, ap, ◌∙◌, ⊎_elim}
 use Rattle.std.specs.List.{range_with_len}
-use Rattle.std.proofs.lemmas.Bool.{cases_eq, cond-true, cond-false}
+use Rattle.std.proofs.lemmas.Bool.{cases_lt}
 use Rattle.std.proofs.lemmas.List.FromFn.{get_or-range_with_len, get_or-map-range_with_len, length-range_with_len, length-map-range_with_len}
 use Rattle.std.proofs.lemmas.List.Sums.{sum_by-cons, get_or-le-sum_by, sum-map}
-use Rattle.mrp_lot.proofs.RangeLaws.{sum_by-range-suc, sum_by-add, sum_by-none, sum_by-ext}
+use Rattle.mrp_lot.proofs.RangeLaws.{placed_past, placed_once, sum_by-add, sum_by-none, sum_by-ext}
 use Rattle.mrp_rows.specs.Table.{Table, horizon}
 use Rattle.mrp_rows.specs.declared.rows.DemandRow.{DemandRow}
 use Rattle.mrp_rows.specs.declared.rows.ReceiptRow.{ReceiptRow}
@@ -12,23 +12,8 @@ use Rattle.mrp_rows.specs.declared.rows.ShipRow.{ShipRow}
 use Rattle.mrp_net.specs.Sums.{demand, demand_total, incoming, received, received_total, shipped, shipped_total, row_of}
 
 -- one amount, in its period, counts once at the most
-placed_past : (v p n : ℕ) → n ≤ p → sum_by (λ t. if p == t then v else 0) (range_with_len 0 n) ≡ 0
-placed_past v p zero past = refl
-placed_past v p (suc n) past =
-    let miss = cond-false (p == n) v 0 (ne_eqb p n (omega arith)) in
-    omega (arith, sum_by-range-suc (λ t. if p == t then v else 0) n, placed_past v p n (omega arith), miss)
-
 placed-le : (v p n : ℕ) → sum_by (λ t. if p == t then v else 0) (range_with_len 0 n) ≤ v
-placed-le v p zero = omega arith
-placed-le v p (suc n) =
-    ⊎_elim
-    (λ (e : p ≡ n).
-    let hit = cond-true (p == n) v 0 (eq-eqb p n e) in
-    omega (arith, sum_by-range-suc (λ t. if p == t then v else 0) n, placed_past v p n (omega arith), hit))
-    (λ (ne : p ≡ n → ⊥).
-    let miss = cond-false (p == n) v 0 (ne_eqb p n ne) in
-    omega (arith, sum_by-range-suc (λ t. if p == t then v else 0) n, placed-le v p n, miss))
-    (cases_eq p n)
+placed-le v p n = ⊎_elim (λ (within : p < n). omega (arith, placed_once v p n within)) (λ (past : n ≤ p). omega (arith, placed_past v p n past)) (cases_lt p n)
 
 -- an amount that counts only where a test holds
 tested-le : (b : Bool) (v p n : ℕ) → sum_by (λ t. if b && (p == t) then v else 0) (range_with_len 0 n) ≤ (if b then v else 0)
