@@ -5,7 +5,7 @@ use Rattle.std.proofs.lemmas.List.Elements.{All-append, All-map, All-filter}
 use Rattle.mrp_rows.specs.Table.{Table, IsTable, IsPair}
 use Rattle.mrp_net.specs.declared.edge.Edge.{Edge}
 use Rattle.mrp_net.specs.Edges.{bill_edge, source_edge, edges, demanders, suppliers, IsEdge}
-use Rattle.mrp_group.specs.Groups.{sorted_by}
+use Rattle.mrp_group.specs.Groups.{sorted_by, IsGrouped}
 use Rattle.mrp_net.specs.Built.{by_demander, by_pair, AreDemanders, AreSuppliers}
 use Rattle.mrp_group.proofs.Grouping.{before_key-all, length-sorted_by}
 use Rattle.mrp_group.proofs.Sorting.{filter-sorted_by, group-sorted_by, All-sorted_by, IsGrouped-within}
@@ -21,6 +21,12 @@ by_demander_joins N all = All-sorted_by (IsEdge N) (λ e. e.demander.0) (length 
 
 pub by_pair_joins : (N : Table) → All (IsEdge N) (edges N) → All (IsEdge N) (by_pair N)
 by_pair_joins N all = All-sorted_by (IsEdge N) (λ e. e.pair.0) (length N.pairs) (by_demander N) (by_demander_joins N all)
+
+-- keys that number the pairs number them as well where rows and pairs are read
+pub keys_read : {P : Type 0} (key : Edge → ℕ) (read rows : List Edge) (found pairs : List P) → read ≡ rows → found ≡ pairs → All (λ e. key e < length pairs) rows → All (λ e. key e < length found) read
+keys_read {P} key read rows found pairs same_rows same_pairs below =
+    subst (λ (z : List Edge). All (λ e. key e < length found) z) (sym same_rows)
+    (subst (λ (z : List P). All (λ e. key e < length z) rows) (sym same_pairs) below)
 
 -- sorted, they are as many
 sorted_length : (N : Table) (key : Edge → ℕ) (rows : List Edge) → All (λ e. key e < length N.pairs) rows → length (sorted_by key (length N.pairs) rows) ≡ length rows
@@ -58,16 +64,17 @@ pub record EdgesOf (M : Table) (rows : List Edge) (starts : List ℕ) (x : ℕ) 
   pub value : slice_range rows (slice_index starts x) (slice_index starts (x + 1)) ≡ are
   pub edges : All (IsEdge M) are
 
+edges_of : (key : Edge → ℕ) (all : Table → List Edge) (mine : Table → ℕ → List Edge) (N M : Table) (rows : List Edge) (starts : List ℕ) (x : ℕ) → N ≡ M → IsGrouped key (length N.pairs) (all N) rows starts → IsPair M x
+    → (IsPair N x → slice_range rows (slice_index starts x) (slice_index starts (x + 1)) ≡ mine N x) → All (IsEdge N) (mine N x) → EdgesOf M rows starts x (mine M x)
+edges_of key all mine N M rows starts x is are pair slice joined =
+    let here : IsPair N x = subst (λ (z : Table). IsPair z x) (sym is) pair in
+    let ends = IsGrouped-within key (length N.pairs) (all N) rows starts x are here in
+    subst (λ (z : Table). EdgesOf z rows starts x (mine z x)) is (record { rises = ends.0; within = ends.1; value = slice here; edges = joined })
+
 pub demanders_of : (N M : Table) (rows : List Edge) (starts : List ℕ) (x : ℕ) → N ≡ M → AreDemanders N rows starts → IsTable N → IsPair M x → EdgesOf M rows starts x (demanders M x)
 demanders_of N M rows starts x is are table pair =
-    let here : IsPair N x = subst (λ (z : Table). IsPair z x) (sym is) pair in
-    let ends = IsGrouped-within (λ e. e.pair.0) (length N.pairs) (by_demander N) rows starts x are here in
-    subst (λ (z : Table). EdgesOf z rows starts x (demanders z x)) is
-    (record { rises = ends.0; within = ends.1; value = demanders_slice N rows starts x are here; edges = demanders_join N x (edges_join N table) })
+    edges_of (λ e. e.pair.0) by_demander demanders N M rows starts x is are pair (demanders_slice N rows starts x are) (demanders_join N x (edges_join N table))
 
 pub suppliers_of : (N M : Table) (rows : List Edge) (starts : List ℕ) (x : ℕ) → N ≡ M → AreSuppliers N rows starts → IsTable N → IsPair M x → EdgesOf M rows starts x (suppliers M x)
 suppliers_of N M rows starts x is are table pair =
-    let here : IsPair N x = subst (λ (z : Table). IsPair z x) (sym is) pair in
-    let ends = IsGrouped-within (λ e. e.demander.0) (length N.pairs) (by_pair N) rows starts x are here in
-    subst (λ (z : Table). EdgesOf z rows starts x (suppliers z x)) is
-    (record { rises = ends.0; within = ends.1; value = suppliers_slice N rows starts x are here; edges = suppliers_join N x (edges_join N table) })
+    edges_of (λ e. e.demander.0) by_pair suppliers N M rows starts x is are pair (suppliers_slice N rows starts x are) (suppliers_join N x (edges_join N table))
