@@ -1,10 +1,10 @@
 -- The sources of a pair stand together, and each is found by its pair and plant.
-use Rattle.std.proofs.Common.{◌≡◌, ◌≢◌, ℕ, suc, zero, ◌+◌, ◌<◌, ◌≤◌, ◌&&◌, Bool, true, cond, eqb, ltb, List, [], ◌∷◌, inl, inr, length, get_or, slice_index, slice_range, map, replicate, refl, sym, ap, ◌∙◌, arith, ◌^◌, subst}
+use Rattle.std.proofs.Common.{◌≡◌, ◌≢◌, ℕ, suc, zero, ◌+◌, ◌<◌, ◌≤◌, ◌&&◌, Bool, true, cond, eqb, ltb, List, [], ◌∷◌, inl, inr, length, get_or, slice_index, slice_range, map, refl, sym, ap, ◌∙◌, arith, ◌^◌, subst}
 use Rattle.std.specs.List.{All, Contains, filter, sum_by}
 use Rattle.std.specs.List.Sorted.{IsNonDecreasingBy}
 use Rattle.std.proofs.lemmas.Bool.{cases_lt, cases_eq, eq-eqb, eqb-true, ne_eqb, and_from, and_parts, true≢false, false_from_ne_true}
 use Rattle.std.proofs.lemmas.Bool.Decides.{nat_tests}
-use Rattle.std.proofs.lemmas.List.{get_or_read, get_or-map, get_or-replicate, length-map, length-replicate}
+use Rattle.std.proofs.lemmas.List.{get_or_read, get_or-map, length-map}
 use Rattle.std.proofs.lemmas.List.Elements.{All-head, All-tail, All-map, All-filter, filter_passes}
 use Rattle.std.proofs.lemmas.List.Folds.{list_any_at, list_any_none}
 use Rattle.std.proofs.lemmas.List.Sums.{sum_by-cons, fails_before_first, passes_at_first}
@@ -15,15 +15,14 @@ use Rattle.mrp_rows.specs.Table.{Table, IsTable, IsPair, IsSourceRow, is_taken_f
 use Rattle.mrp_net.specs.declared.lane.Lane.{Lane}
 use Rattle.mrp_net.specs.declared.lane.Shipment.{Shipment}
 use Rattle.mrp_net.specs.declared.lanes.Sent.{Sent}
-use Rattle.mrp_group.specs.Added.{AddsTotals}
 use Rattle.mrp_group.specs.Groups.{before_key}
 use Rattle.mrp_net.specs.Lanes.{figure, shipped_from, ships_from, shipment_of, lane_items, pair_on, taken_over, item_of, customer_of, supplier_of}
 use Rattle.mrp_net.specs.Sources.{source_no, AreSourceStarts, sent, AreShipments, AreSent}
 use Rattle.mrp_net.specs.Sums.{pair_at}
 use Rattle.mrp_net.proofs.Covering.{sum_by-same}
-use Rattle.mrp_net.proofs.Routing.{filter-map, filter_same, map-map, ShowsGroups-slice}
+use Rattle.mrp_net.proofs.Routing.{filter-map, filter_same, map-map, ShowsGroups-slice, ShowsGroups-within}
 use Rattle.mrp_net.proofs.Sharing.{sum_map, pairs_are_found}
-use Rattle.mrp_net.proofs.Summing.{figure_within, shipped_from_within}
+use Rattle.mrp_net.proofs.Summing.{AreTotalsOf, figure_within, shipped_from_within}
 
 -- in rows that stand in the order of their keys, those of smaller keys stand first
 none_before : {X : Type 0} (key : X → ℕ) (k : ℕ) (rows : List X) → All (λ r. k ≤ key r) rows → before_key key k rows ≡ 0
@@ -174,37 +173,36 @@ item_is_taken N lane item is contains =
     ∙ All-filter test (λ s. is_taken_from N s.pair.0 s.plant.0 ≡ true) N.sources (takes N) k no_source short
 
 -- the sums by source
-sums_from_zero : (n k : ℕ) (before : List ℕ) → before ≡ replicate n 0 → k < n → get_or before k 0 ≡ 0
-sums_from_zero n k before zeros h = ap (λ (z : List ℕ). get_or z k 0) zeros ∙ get_or-replicate n k 0 0 h
+sums_by_source : {R : Type 0} (source amount : R → ℕ) (sums : ℕ → ℕ → ℕ) (N : Table) (rows : List R) (totals : List ℕ) → AreTotalsOf source amount (length N.sources) rows totals
+    → ((x p : ℕ) → is_taken_from N x p ≡ true → sum_by (λ r. cond (eqb (source r) (source_no N x p)) (amount r) 0) rows ≡ sums x p) → ((x p : ℕ) → sums x p ≤ 10 ^ 18) → AreSent N sums totals
+sums_by_source source amount sums N rows totals totals_are are few = record {
+  size = totals_are.size;
+  each = λ x p taken. omega (arith, totals_are.each (source_no N x p) (source_within N x p taken), are x p taken, few x p);
+}
 
-sums_by_source : {R : Type 0} (source amount : R → ℕ) (sums : ℕ → ℕ → ℕ) (N : Table) (rows : List R) (before after : List ℕ) → before ≡ replicate (length N.sources) 0 → length after ≡ length before → AddsTotals source amount rows before after
-    → ((x p : ℕ) → is_taken_from N x p ≡ true → sum_by (λ r. cond (eqb (source r) (source_no N x p)) (amount r) 0) rows ≡ sums x p) → ((x p : ℕ) → sums x p ≤ 10 ^ 18) → AreSent N sums after
-sums_by_source source amount sums N rows before after zeros same adds are few =
-    let room : length before ≡ length N.sources = ap length zeros ∙ length-replicate (length N.sources) 0 in
-    record {
-      size = same ∙ room;
-      each = λ x p taken.
-          let k : ℕ = source_no N x p in
-          let within : k < length N.sources = source_within N x p taken in
-          omega (arith, adds k (omega arith), sums_from_zero (length N.sources) k before zeros within, are x p taken, few x p);
-    }
-
-pub figures_built : (N : Table) (before after : List ℕ) → IsTable N → before ≡ replicate (length N.sources) 0 → length after ≡ length before → AddsTotals (λ (c : CumRow). source_no N c.pair.0 c.from.0) (λ c. c.figure) N.cums before after → AreSent N (figure N) after
-figures_built N before after is zeros same adds =
-    sums_by_source (λ c. source_no N c.pair.0 c.from.0) (λ c. c.figure) (figure N) N N.cums before after zeros same adds
+pub figures_built : (N : Table) (totals : List ℕ) → IsTable N → AreTotalsOf (λ (c : CumRow). source_no N c.pair.0 c.from.0) (λ c. c.figure) (length N.sources) N.cums totals → AreSent N (figure N) totals
+figures_built N totals is totals_are =
+    sums_by_source (λ c. source_no N c.pair.0 c.from.0) (λ c. c.figure) (figure N) N N.cums totals totals_are
     (λ x p taken. sum_by-same (λ c. cond (eqb (source_no N c.pair.0 c.from.0) (source_no N x p)) c.figure 0) (λ c. cond (eqb c.pair.0 x && eqb c.from.0 p) c.figure 0) N.cums
     (λ i d h. ap (λ (b : Bool). cond b (get_or N.cums i d).figure 0) (source_test N (get_or N.cums i d).pair.0 (get_or N.cums i d).from.0 x p taken)))
     (λ x p. let most = figure_within N is x p in omega arith)
 
-pub shipped_built : (N : Table) (before after : List ℕ) → IsTable N → before ≡ replicate (length N.sources) 0 → length after ≡ length before → AddsTotals (λ (t : Sent). t.source) (λ t. t.shipment.quantity) (map (sent N) N.ships) before after → AreSent N (shipped_from N) after
-shipped_built N before after is zeros same adds =
-    sums_by_source (λ (t : Sent). t.source) (λ t. t.shipment.quantity) (shipped_from N) N (map (sent N) N.ships) before after zeros same adds
+pub shipped_built : (N : Table) (totals : List ℕ) → IsTable N → AreTotalsOf (λ (t : Sent). t.source) (λ t. t.shipment.quantity) (length N.sources) (map (sent N) N.ships) totals → AreSent N (shipped_from N) totals
+shipped_built N totals is totals_are =
+    sums_by_source (λ (t : Sent). t.source) (λ t. t.shipment.quantity) (shipped_from N) N (map (sent N) N.ships) totals totals_are
     (λ x p taken. let by_source : sum_by (λ (t : Sent). cond (eqb t.source (source_no N x p)) t.shipment.quantity 0) (map (sent N) N.ships) ≡ sum_by (λ s. cond (eqb (source_no N s.pair.0 s.from.0) (source_no N x p)) s.quantity 0) N.ships =
     sum_map (λ (t : Sent). cond (eqb t.source (source_no N x p)) t.shipment.quantity 0) (sent N) N.ships in
     by_source
     ∙ sum_by-same (λ s. cond (eqb (source_no N s.pair.0 s.from.0) (source_no N x p)) s.quantity 0) (λ s. cond (eqb s.pair.0 x && eqb s.from.0 p) s.quantity 0) N.ships
     (λ i d h. ap (λ (b : Bool). cond b (get_or N.ships i d).quantity 0) (source_test N (get_or N.ships i d).pair.0 (get_or N.ships i d).from.0 x p taken)))
     (shipped_from_within N is)
+
+-- where the shipments of a source begin and end
+pub shipments_ends : (N M : Table) (rows : List Shipment) (starts : List ℕ) (at : ℕ) → N ≡ M → AreShipments N rows starts → at < length M.sources
+    → (slice_index starts at ≤ slice_index starts (at + 1)) × (slice_index starts (at + 1) ≤ length rows)
+shipments_ends N M rows starts at same are within =
+    let there : AreShipments M rows starts = subst (λ (z : Table). AreShipments z rows starts) same are in
+    ShowsGroups-within (λ (t : Sent). t.shipment) (λ t. t.source) (length M.sources) (map (sent M) M.ships) rows starts at there within
 
 -- the shipments of a source are a slice
 pub shipments_slice : (N : Table) (rows : List Shipment) (starts : List ℕ) (x p : ℕ) → AreShipments N rows starts → is_taken_from N x p ≡ true → slice_range rows (slice_index starts (source_no N x p)) (slice_index starts (source_no N x p + 1)) ≡ map shipment_of (ships_from N x p)

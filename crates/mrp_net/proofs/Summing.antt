@@ -1,5 +1,5 @@
 -- Sums of a table's rows are within 64 bits, so nothing is cut off them.
-use Rattle.std.proofs.Common.{◌≡◌, ℕ, ◌+◌, ◌-◌, ◌*◌, ◌^◌, ◌<◌, ◌≤◌, ◌&&◌, Bool, true, false, cond, eqb, List, [], ◌∷◌, ◌++◌, length, get_or, map, take, drop, replicate, refl, sym, subst, ap, ◌∙◌, inl, inr, arith}
+use Rattle.std.proofs.Common.{◌≡◌, ℕ, ◌+◌, ◌-◌, ◌*◌, ◌^◌, ◌<◌, ◌≤◌, ◌&&◌, Bool, true, false, cond, eqb, List, [], ◌∷◌, ◌++◌, length, get_or, map, take, drop, min, replicate, refl, sym, subst, ap, ◌∙◌, inl, inr, arith}
 use Rattle.std.specs.List.{All, AllByRecursion, IsDistinct, sum_by}
 use Rattle.std.proofs.lemmas.Bool.{cond_both, cases_Bool, and_from, and_parts, eq-eqb, eqb-true, false_from_ne_true, true≢false}
 use Rattle.std.proofs.lemmas.Grind.{same_number_lists}
@@ -17,8 +17,8 @@ use Rattle.mrp_rows.specs.declared.rows.ReceiptRow.{ReceiptRow}
 use Rattle.mrp_rows.specs.declared.rows.ShipRow.{ShipRow}
 use Rattle.mrp_rows.specs.declared.rows.CumRow.{CumRow}
 use Rattle.mrp_rows.specs.Table.{Table, IsTable, IsPair, horizon, is_same_cum}
-use Rattle.mrp_group.specs.Added.{AddsTotals, AddsAmounts, sum_in}
-use Rattle.mrp_group.proofs.Adding.{AddsAmounts-same}
+use Rattle.mrp_group.specs.Added.{AddsTotals, AddsAmounts, sum_in, sum_of}
+use Rattle.mrp_group.proofs.Adding.{AddsAmounts-same, AddsTotals-same}
 use Rattle.mrp_net.specs.Sums.{pair_at, no_pair, row_of, demand, demand_total, received, shipped, incoming}
 use Rattle.mrp_net.specs.Lanes.{figure, shipped_from}
 use Rattle.mrp_net.specs.Built.{AreTotals, ArePeriods, capped_supply}
@@ -78,13 +78,13 @@ amount_read N M sums amounts x t n v is are periods pair period read =
     ∙ there.each x t pair period
 
 -- what is added to zeros, in a slice of a list that is put back, are the sums
-pub sums_built : {R : Type 0} (pair period amount : R → ℕ) (N : Table) (periods : ℕ) (read rows : List R) (first slice after : List ℕ) (n : ℕ)
-    → first ≡ replicate (length N.pairs * horizon N) 0 → periods ≡ horizon N → read ≡ rows → slice ≡ first → length after ≡ length slice → length after ≡ n
-    → AddsAmounts pair period amount periods read slice after → ((x t : ℕ) → sum_in pair period amount x t rows ≤ 10 ^ 18)
+pub sums_built : {R : Type 0} (pair period amount : R → ℕ) (N : Table) (periods : ℕ) (rows : List R) (first slice after : List ℕ) (n : ℕ)
+    → first ≡ replicate (length N.pairs * horizon N) 0 → periods ≡ horizon N → slice ≡ first → length after ≡ length slice → length after ≡ n
+    → AddsAmounts pair period amount periods rows slice after → ((x t : ℕ) → sum_in pair period amount x t rows ≤ 10 ^ 18)
     → ArePeriods N (λ x t. sum_in pair period amount x t rows) (take n (after ++ drop (length after) first))
-sums_built pair period amount N periods read rows first slice after n zeros width same_rows same long back adds few =
+sums_built pair period amount N periods rows first slice after n zeros width same long back adds few =
     let room : length first ≡ length N.pairs * horizon N = ap length zeros ∙ length-replicate (length N.pairs * horizon N) 0 in
-    let added = AddsAmounts-same pair period amount periods (horizon N) read rows slice first after width same_rows same adds in
+    let added = AddsAmounts-same pair period amount periods (horizon N) rows rows slice first after width refl same adds in
     rw (take_at after (drop (length after) first) n back) (record {
       size = long ∙ ap length same ∙ room;
       each = λ x t h g.
@@ -104,15 +104,28 @@ incoming_built N periods read first slice after n is are width same_rows same lo
       each = λ x t h g. omega (arith, added x t g (place_within N first x t are.size h g), are.each x t h g, received_within N is x t, shipped_within N is x t);
     })
 
-pub demand_totals_built : (N : Table) (before after : List ℕ) → IsTable N → before ≡ replicate (length N.pairs) 0 → length after ≡ length before → AddsTotals (λ (d : DemandRow). d.pair.0) (λ d. d.quantity) N.demands before after → AreTotals N (demand_total N) after
-demand_totals_built N before after is zeros same adds =
-    let room : length before ≡ length N.pairs = ap length zeros ∙ length-replicate (length N.pairs) 0 in
-    record {
-      size = same ∙ room;
-      each = λ x h.
-          let was : get_or before x 0 ≡ 0 = ap (λ (z : List ℕ). get_or z x 0) zeros ∙ get_or-replicate (length N.pairs) x 0 0 h in
-          omega (arith, adds x (omega arith), was, demand_total_within N is x);
-    }
+-- the totals of rows by a key below n; one past 2^64 - 1 stays there
+pub record AreTotalsOf {R : Type 0} (key amount : R → ℕ) (n : ℕ) (rows : List R) (totals : List ℕ) : Type 0 where
+  pub size : length totals ≡ n
+  pub each : (k : ℕ) → k < n → get_or totals k 0 ≡ min (sum_of key amount k rows) (2 ^ 64 - 1)
+
+-- totals that are added to zeros, one for each owner, in a slice of a list that is put back
+pub totals_built : {R O : Type 0} (key amount : R → ℕ) (found owners : List O) (read rows : List R) (first slice after : List ℕ) (n : ℕ)
+    → first ≡ replicate (length found) 0 → found ≡ owners → read ≡ rows → slice ≡ first → length after ≡ length slice → length after ≡ n
+    → AddsTotals key amount read slice after → AreTotalsOf key amount (length owners) rows (take n (after ++ drop (length after) first))
+totals_built {R} {O} key amount found owners read rows first slice after n zeros same_owners same_rows same long back adds =
+    let none : first ≡ replicate (length owners) 0 = zeros ∙ ap (λ (z : List O). replicate (length z) 0) same_owners in
+    let room : length first ≡ length owners = ap length none ∙ length-replicate (length owners) 0 in
+    let added = AddsTotals-same key amount read rows slice first after same_rows same adds in
+    rw (take_at after (drop (length after) first) n back) (record {
+      size = long ∙ ap length same ∙ room;
+      each = λ k h.
+          let was : get_or first k 0 ≡ 0 = ap (λ (z : List ℕ). get_or z k 0) none ∙ get_or-replicate (length owners) k 0 0 h in
+          omega (arith, added k (omega arith), was);
+    })
+
+pub demand_totals_built : (N : Table) (totals : List ℕ) → IsTable N → AreTotalsOf (λ (d : DemandRow). d.pair.0) (λ d. d.quantity) (length N.pairs) N.demands totals → AreTotals N (demand_total N) totals
+demand_totals_built N totals is are = record { size = are.size; each = λ x h. omega (arith, are.each x h, demand_total_within N is x) }
 
 pub supplies_built : (N : Table) (before with_receipts with_ships after : List ℕ) → before ≡ map (λ p. p.on_hand) N.pairs → length with_receipts ≡ length before → length with_ships ≡ length with_receipts → length after ≡ length with_ships → AddsTotals (λ (r : ReceiptRow). r.pair.0) (λ r. r.quantity) N.receipts before with_receipts → AddsTotals (λ (s : ShipRow). s.pair.0) (λ s. s.quantity) N.ships with_receipts with_ships → AddsTotals (λ (c : CumRow). c.pair.0) (λ c. c.figure) N.cums with_ships after → AreTotals N (capped_supply N) after
 supplies_built N before with_receipts with_ships after is same1 same2 same3 adds1 adds2 adds3 =

@@ -1,9 +1,9 @@
-use Rattle.std.proofs.Common.{◌≡◌, ℕ, ◌<◌, List, length, map, drop, replicate, rules, arith, sym, ap, ◌∙◌, subst}
+use Rattle.std.proofs.Common.{◌≡◌, ℕ, ◌<◌, List, length, map, replicate, rules, arith, sym, ap, ◌∙◌, subst}
 use Rattle.std.specs.List.{All}
-use Rattle.std.proofs.lemmas.List.{take_at, length-replicate}
+use Rattle.std.proofs.lemmas.List.{length-replicate}
 use Rattle.mrp_net.specs.declared.lanes.Sent.{Sent}
 use Rattle.mrp_net.specs.Sources.{sent}
-use Rattle.mrp_group.proofs.Adding.{AddsTotals-same}
+use Rattle.mrp_net.proofs.Summing.{totals_built}
 use Rattle.mrp_net.proofs.Sourcing.{sent_within, shipped_built}
 use Rattle.mrp_net.proofs.lanes.shipped.Goals as goal
 
@@ -18,11 +18,6 @@ add_totals-requires-clause-keys c =
 pub returns : goal.returns
 returns c =
     let N = c.args.tables.now in
-    let first : List ℕ = c.in_ok-shipped.shipped.items in
-    let after : List ℕ = c.add_totals.new.totals in
-    let zeros : first ≡ replicate (length c.sources.result.now) 0 = search rules in
-    let all_zeros : first ≡ replicate (length N.sources) 0 = zeros ∙ ap (λ z. replicate (length z) 0) c.sources.ensures.value in
-    let same : length after ≡ length first = c.add_totals.auto.totals ∙ ap length c.as_mut_slice.ensures.value in
-    let adds = AddsTotals-same (λ (t : Sent). t.source) (λ t. t.shipment.quantity) c.args.all.now (map (sent N) N.ships) c.as_mut_slice.result.now first after c.requires c.as_mut_slice.ensures.value c.add_totals.ensures in
-    let back : length after ≡ c.in_ok-shipped.shipped.len = omega (arith, c.add_totals.auto.totals, c.as_mut_slice.ensures.len) in
-    rw (take_at after (drop (length after) first) c.in_ok-shipped.shipped.len back) (shipped_built N first after c.sources.ensures.table all_zeros same adds)
+    shipped_built N _ c.sources.ensures.table
+    (totals_built (λ (t : Sent). t.source) (λ t. t.shipment.quantity) c.sources.result.now N.sources c.args.all.now (map (sent N) N.ships) c.in_ok-shipped.shipped.items c.as_mut_slice.result.now c.add_totals.new.totals c.in_ok-shipped.shipped.len
+    (search rules) c.sources.ensures.value c.requires c.as_mut_slice.ensures.value c.add_totals.auto.totals (omega (arith, c.add_totals.auto.totals, c.as_mut_slice.ensures.len)) c.add_totals.ensures)

@@ -1,28 +1,16 @@
-use Rattle.std.proofs.Common.{ℕ, ◌+◌, length, map, slice_index, slice_range, ap, ◌∙◌, subst}
+use Rattle.std.proofs.Common.{ℕ, ◌+◌, slice_index, slice_range, ap, ◌∙◌, subst}
 use Rattle.mrp_rows.specs.Table.{Table}
 use Rattle.mrp_net.specs.declared.lane.Lane.{Lane}
-use Rattle.mrp_net.specs.declared.lanes.Sent.{Sent}
 use Rattle.mrp_net.specs.Lanes.{shipments, pair_on, supplier_of}
-use Rattle.mrp_net.specs.Sources.{sent, AreShipments}
-use Rattle.mrp_net.proofs.Routing.{ShowsGroups-within}
-use Rattle.mrp_net.proofs.Sourcing.{shipments_slice}
+use Rattle.mrp_net.specs.Sources.{AreShipments}
+use Rattle.mrp_net.proofs.Sourcing.{shipments_ends, shipments_slice}
 use Rattle.mrp_net.proofs.network.Network.shipments.Goals as goal
 
 pub get-requires-clause-rises : goal.get-requires-clause-rises
-get-requires-clause-rises c =
-    let M = c.args.self.now in
-    let rows = c.self.inside.lanes.shipments.rows.items in
-    let starts = c.self.inside.lanes.shipments.starts.items in
-    let are : AreShipments M rows starts = subst (λ (z : Table). AreShipments z rows starts) c.self.view_is c.self.invariant.lanes.shipments in
-    (ShowsGroups-within (λ (t : Sent). t.shipment) (λ t. t.source) (length M.sources) (map (sent M) M.ships) rows starts c.source-at.result are c.source-at.ensures.within).0
+get-requires-clause-rises c = (shipments_ends _ c.args.self.now c.self.inside.lanes.shipments.rows.items c.self.inside.lanes.shipments.starts.items c.source-at.result c.self.view_is c.self.invariant.lanes.shipments c.source-at.ensures.within).0
 
 pub get-requires-clause-within : goal.get-requires-clause-within
-get-requires-clause-within c =
-    let M = c.args.self.now in
-    let rows = c.self.inside.lanes.shipments.rows.items in
-    let starts = c.self.inside.lanes.shipments.starts.items in
-    let are : AreShipments M rows starts = subst (λ (z : Table). AreShipments z rows starts) c.self.view_is c.self.invariant.lanes.shipments in
-    (ShowsGroups-within (λ (t : Sent). t.shipment) (λ t. t.source) (length M.sources) (map (sent M) M.ships) rows starts c.source-at.result are c.source-at.ensures.within).1
+get-requires-clause-within c = (shipments_ends _ c.args.self.now c.self.inside.lanes.shipments.rows.items c.self.inside.lanes.shipments.starts.items c.source-at.result c.self.view_is c.self.invariant.lanes.shipments c.source-at.ensures.within).1
 
 pub returns : goal.returns
 returns c =
