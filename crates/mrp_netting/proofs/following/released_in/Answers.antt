@@ -13,6 +13,7 @@ loop-t-init c =
       | else-u-eq0 w ↦ first_later c.args.lead c.args.u c.if-u-eq0.first (λ e. omega arith) (omega arith)
     ] in
     record {
+      begins = first;
       total = sym (released_before c.args.lead c.args.order.now c.args.u c.if-u-eq0.first first);
       end = omega arith;
     }
@@ -24,25 +25,16 @@ overflow_add-total c =
 
 pub loop-t-preserved : goal.loop-t-preserved
 loop-t-preserved c =
-    let first : IsFirst c.args.lead c.args.u c.if-u-eq0.first =
-    elim c.if-u-eq0.branch [
-      | then-u-eq0 w ↦ first_in_zero c.args.lead c.args.u c.if-u-eq0.first (omega arith) (omega arith)
-      | else-u-eq0 w ↦ first_later c.args.lead c.args.u c.if-u-eq0.first (λ e. omega arith) (omega arith)
-    ] in
     let here = get_or_read c.args.order.now c.loop-t.t _ (omega (arith, c.min-end.ensures)) c.index-order-t.is 0 in
-    let more = released_more c.args.lead c.args.order.now c.args.u c.loop-t.t (first.at c.loop-t.t c.loop-t.auto.t (omega (arith, c.min-end.ensures))) in
+    let more = released_more c.args.lead c.args.order.now c.args.u c.loop-t.t (c.loop-t.invariant.begins.at c.loop-t.t c.loop-t.auto.t (omega (arith, c.min-end.ensures))) in
     record {
+      begins = c.loop-t.invariant.begins;
       total = omega (arith, here, more, c.get-total.ensures.value, c.loop-t.invariant.total);
       end = omega arith;
     }
 
 pub returns : goal.returns
 returns c =
-    let first : IsFirst c.args.lead c.args.u c.if-u-eq0.first =
-    elim c.if-u-eq0.branch [
-      | then-u-eq0 w ↦ first_in_zero c.args.lead c.args.u c.if-u-eq0.first (omega arith) (omega arith)
-      | else-u-eq0 w ↦ first_later c.args.lead c.args.u c.if-u-eq0.first (λ e. omega arith) (omega arith)
-    ] in
     c.loop-t.invariant.total
-    ∙ released_all c.args.lead c.args.order.now c.args.u c.if-u-eq0.first (length c.args.order.now) c.min-end.result c.loop-t.t first
+    ∙ released_all c.args.lead c.args.order.now c.args.u c.if-u-eq0.first (length c.args.order.now) c.min-end.result c.loop-t.t c.loop-t.invariant.begins
     c.min-end.ensures c.loop-t.auto.t (omega arith) c.loop-t.invariant.end
