@@ -1,7 +1,7 @@
 use Rattle.std.proofs.Common.{◌≡◌, ℕ, ◌≤◌, List, length, map, arith, sym, ap, ◌∙◌, subst}
 use Rattle.std.specs.List.{All, filter, range_with_len}
 use Rattle.mrp_rows.specs.declared.rows.PairRow.{PairRow}
-use Rattle.mrp_rows.specs.Table.{IsPair}
+use Rattle.mrp_rows.specs.Table.{Table, IsPair}
 use Rattle.mrp_view.specs.declared.view.PlantPair.{PlantPair}
 use Rattle.mrp_net.specs.Sums.{pair_at}
 use Rattle.mrp_view.specs.View.{is_of_plant, plant_pair, plant_pairs}
@@ -9,6 +9,10 @@ use Rattle.mrp_view.proofs.Pushing.{at_plant_pushed, at_plant_passed}
 use Rattle.mrp_view.proofs.Seeing.{pairs_are_pairs, pairs_are_few}
 use Rattle.mrp_view.proofs.viewing.plant_pairs.Goals as goal
 use Rattle.mrp_view.proofs.viewing.plant_pairs.Goals.{then-row-plant+in_ok-push, else-row-plant}
+
+-- once all pairs are looked at, those that were kept are the plant's
+all_looked_at : (N : Table) (plant : ℕ) (pairs : List PlantPair) (x end : ℕ) → pairs ≡ map (plant_pair N) (filter (is_of_plant N plant) (range_with_len 0 x)) → x ≡ end → end ≡ length N.pairs → pairs ≡ plant_pairs N plant
+all_looked_at N plant pairs x end kept last all = kept ∙ ap (λ (z : ℕ). map (plant_pair N) (filter (is_of_plant N plant) (range_with_len 0 z))) (last ∙ all)
 
 pub loop-x-preserved : goal.loop-x-preserved
 loop-x-preserved c = elim c.if-row-plant.branch [
@@ -21,15 +25,11 @@ loop-x-preserved c = elim c.if-row-plant.branch [
 pub returns-clause-pairs : goal.returns-clause-pairs
 returns-clause-pairs c =
     let N = c.args.network.now in
-    let plant : ℕ = c.args.plant.0 in
-    let last : c.loop-x.x ≡ c.pairs-x-end.result = omega arith in
-    let all : c.loop-x.pairs.items ≡ plant_pairs N plant = c.loop-x.invariant ∙ ap (λ (z : ℕ). map (plant_pair N) (filter (is_of_plant N plant) (range_with_len 0 z))) (last ∙ c.pairs-x-end.ensures.value) in
-    subst (λ (z : List PlantPair). All (λ (p : PlantPair). IsPair N p.number.0) z) (sym all) (pairs_are_pairs N plant)
+    let all = all_looked_at N c.args.plant.0 c.loop-x.pairs.items c.loop-x.x c.pairs-x-end.result c.loop-x.invariant (omega arith) c.pairs-x-end.ensures.value in
+    subst (λ (z : List PlantPair). All (λ (p : PlantPair). IsPair N p.number.0) z) (sym all) (pairs_are_pairs N c.args.plant.0)
 
 pub returns-clause-few : goal.returns-clause-few
 returns-clause-few c =
     let N = c.args.network.now in
-    let plant : ℕ = c.args.plant.0 in
-    let last : c.loop-x.x ≡ c.pairs-x-end.result = omega arith in
-    let all : c.loop-x.pairs.items ≡ plant_pairs N plant = c.loop-x.invariant ∙ ap (λ (z : ℕ). map (plant_pair N) (filter (is_of_plant N plant) (range_with_len 0 z))) (last ∙ c.pairs-x-end.ensures.value) in
-    subst (λ (z : List PlantPair). length z ≤ length N.pairs) (sym all) (pairs_are_few N plant)
+    let all = all_looked_at N c.args.plant.0 c.loop-x.pairs.items c.loop-x.x c.pairs-x-end.result c.loop-x.invariant (omega arith) c.pairs-x-end.ensures.value in
+    subst (λ (z : List PlantPair). length z ≤ length N.pairs) (sym all) (pairs_are_few N c.args.plant.0)
