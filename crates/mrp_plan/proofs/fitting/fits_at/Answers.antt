@@ -1,34 +1,26 @@
-use Rattle.std.proofs.Common.{◌≡◌, ℕ, List, sym, ap, ◌∙◌, subst}
+use Rattle.std.proofs.Common.{◌≡◌, ℕ, Bool, true, false, List, sym, ap, ◌∙◌, subst}
 use Rattle.std.proofs.lemmas.Bool.{false≢true}
 use Rattle.mrp_lot.specs.One.{PlanRows, IsWithin, one}
 use Rattle.mrp_lot.specs.declared.params.PairParams.{PairParams}
 use Rattle.mrp_rows.specs.Rows.{params_of}
 use Rattle.mrp_net.specs.Sums.{incoming, params_at, row_of}
-use Rattle.mrp_net.specs.Plan.{rows_at, gross, pair_plan}
+use Rattle.mrp_net.specs.Plan.{gross, pair_plan}
 use Rattle.mrp_plan.proofs.Planning.{one-gross, one-incoming, pair_within}
 use Rattle.mrp_plan.proofs.fitting.fits_at.Goals as goal
 
+-- where a row of the pair's own rows fails its test, they aren't the rows that the pair has by its plan
+rows_differ : (part : PlanRows → List ℕ) (own there plan : PlanRows) (row want : List ℕ) (has : Bool) → row ≡ part own → own ≡ there → part plan ≡ want → (row ≡ want → has ≡ true) → has ≡ false → there ≡ plan → ⊥
+rows_differ part own there plan row want has is at of_plan test fails same = false≢true (sym fails ∙ test (is ∙ ap part (at ∙ same) ∙ of_plan))
+
 pub returns-then-not-has_incoming : goal.returns-then-not-has_incoming
 returns-then-not-has_incoming c =
-    let N = c.args.network.now in
-    let x = c.args.x.0 in
-    let row : c.incoming.result.now ≡ (rows_at c.args.plan.now x).incoming = c.incoming.ensures ∙ ap (λ (r : PlanRows). r.incoming) c.pair-own.ensures in (
-      λ no_. absurd (false≢true no_),
-      λ is.
-          let are = row ∙ ap (λ (r : PlanRows). r.incoming) is ∙ one-incoming N c.args.plan.now x in
-          absurd (false≢true (sym c.if-not-has_incoming.true ∙ c.has_incoming.ensures.1 are)),
-    )
+    let differ = rows_differ (λ r. r.incoming) _ _ _ _ _ _ c.incoming.ensures c.pair-own.ensures (one-incoming c.args.network.now c.args.plan.now c.args.x.0) c.has_incoming.ensures.1 c.if-not-has_incoming.true in
+    (λ no_. absurd (false≢true no_), λ is. absurd (differ is))
 
 pub returns-then-not-has_gross : goal.returns-then-not-has_gross
 returns-then-not-has_gross c =
-    let N = c.args.network.now in
-    let x = c.args.x.0 in
-    let row : c.gross.result.now ≡ (rows_at c.args.plan.now x).gross = c.gross.ensures ∙ ap (λ (r : PlanRows). r.gross) c.pair-own.ensures in (
-      λ no_. absurd (false≢true no_),
-      λ is.
-          let are = row ∙ ap (λ (r : PlanRows). r.gross) is ∙ one-gross N c.args.plan.now x in
-          absurd (false≢true (sym c.if-not-has_gross.true ∙ c.has_gross.ensures.1 are)),
-    )
+    let differ = rows_differ (λ r. r.gross) _ _ _ _ _ _ c.gross.ensures c.pair-own.ensures (one-gross c.args.network.now c.args.plan.now c.args.x.0) c.has_gross.ensures.1 c.if-not-has_gross.true in
+    (λ no_. absurd (false≢true no_), λ is. absurd (differ is))
 
 pub is_plan-requires : goal.is_plan-requires
 is_plan-requires c =
