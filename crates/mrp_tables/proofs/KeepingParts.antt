@@ -1,16 +1,20 @@
 -- What is read of a row that is kept: what its fields spell, and each test of its grammar.
-use Rattle.std.proofs.Common.{◌≡◌, ℕ, true, false, not, ltb, List, length, Some, is_some, Ok}
+use Rattle.std.proofs.Common.{◌≡◌, ℕ, Bool, true, false, not, ltb, List, length, Some, is_some, Result, Ok}
 use Rattle.std.proofs.lemmas.Bool.{not-true}
 use Rattle.mrp_rows.specs.declared.rows.TheConstants.{MOST_BILLS, MOST_OF_A_KIND}
 use Rattle.mrp_rows.specs.declared.rows.BillRow.{BillRow}
 use Rattle.mrp_rows.specs.declared.rows.CumRow.{CumRow}
+use Rattle.mrp_rows.specs.declared.rows.DemandRow.{DemandRow}
+use Rattle.mrp_rows.specs.declared.rows.ReceiptRow.{ReceiptRow}
 use Rattle.mrp_rows.specs.declared.rows.ResetRow.{ResetRow}
 use Rattle.mrp_rows.specs.declared.rows.ShipRow.{ShipRow}
 use Rattle.mrp_rows.specs.Names.{pair_named, plant_no}
 use Rattle.mrp_rows.specs.Table.{Table, arrivals, horizon, rises_from}
 use Rattle.mrp_rows.specs.declared.numbers.PlantNo.{PlantNo}
 use Rattle.mrp_rows.specs.declared.numbers.PairNo.{PairNo}
-use Rattle.mrp_tables.specs.Grammar.{BillTerms, LaneTerms, bill_fits, cum_of, cum_terms, has_bill, has_cum, has_reset, is_made, known_lane, reset_of, reset_terms, ship_of, ship_terms}
+use Rattle.mrp_tables.specs.declared.fault.TableFaultKind.{TableFaultKind}
+use Rattle.mrp_tables.specs.declared.fault.TableFaultKind.TheVariants as fault
+use Rattle.mrp_tables.specs.Grammar.{◌>>=◌, AmountTerms, BillTerms, LaneTerms, amount_terms, bill_fits, check, cum_of, cum_terms, demand_of, has_bill, has_cum, has_reset, is_made, known_lane, known_pair, receipt_of, reset_of, reset_terms, ship_of, ship_terms}
 use Rattle.mrp_tables.proofs.KeepingSteps.{after, after_check, after_some, same_Ok}
 
 pub record BillParts (N : Table) (t : BillTerms) (b : BillRow) : Type 0 where
@@ -36,6 +40,42 @@ bill_parts N t b is =
     let h5 = after_check (is_made N h3.0) _ _ b h4.2 in
     let h6 = after_check (ltb (length N.bills) MOST_BILLS) _ _ b h5.1 in
     record { x = h3.0; y = h4.0; new = not-true (has_bill N parent component) h1.0; parent = h3.1; component = h4.1; made = h5.0; room = h6.0; same = same_Ok _ b h6.1 }
+
+-- ---- demands and receipts
+
+-- a row made of a pair, a period and a quantity, where there is room for it
+pub record AmountParts {A : Type 0} (N : Table) (row : List (List ℕ)) (has_room : Bool) (made : PairNo → ℕ → ℕ → A) (x : A) : Type 0 where
+  pub terms : AmountTerms
+  pub found : PlantNo × PairNo
+  pub read : amount_terms row (horizon N) ≡ Ok terms
+  pub known : known_pair N terms.plant terms.item ≡ Ok found
+  pub room : has_room ≡ true
+  pub same : made found.1 terms.period terms.quantity ≡ x
+
+abbrev AmountOf : {A : Type 0} → Table → List (List ℕ) → Bool → (PairNo → ℕ → ℕ → A) → Result A TableFaultKind
+AmountOf N row has_room made =
+    amount_terms row (horizon N) >>= λ t. known_pair N t.plant t.item >>= λ found. check has_room fault.TooMany >>= λ _. Ok (made found.1 t.period t.quantity)
+
+amount_parts : {A : Type 0} (N : Table) (row : List (List ℕ)) (has_room : Bool) (made : PairNo → ℕ → ℕ → A) (x : A) → AmountOf N row has_room made ≡ Ok x → AmountParts N row has_room made x
+amount_parts N row has_room made x is =
+    let a = after (amount_terms row (horizon N)) _ x is in
+    let b = after (known_pair N a.0.plant a.0.item) _ x a.2 in
+    let c = after_check has_room _ _ x b.2 in
+    record { terms = a.0; found = b.0; read = a.1; known = b.1; room = c.0; same = same_Ok _ x c.1 }
+
+abbrev pub demand_made : PairNo → ℕ → ℕ → DemandRow
+demand_made pair period quantity = record { pair = pair; period = period; quantity = quantity }
+
+pub demand_parts : (N : Table) (row : List (List ℕ)) (x : DemandRow) → demand_of N row ≡ Ok x → AmountParts N row (ltb (length N.demands) MOST_OF_A_KIND) demand_made x
+unfolding demand_of
+demand_parts N row x is = amount_parts N row (ltb (length N.demands) MOST_OF_A_KIND) demand_made x is
+
+abbrev pub receipt_made : PairNo → ℕ → ℕ → ReceiptRow
+receipt_made pair period quantity = record { pair = pair; period = period; quantity = quantity }
+
+pub receipt_parts : (N : Table) (row : List (List ℕ)) (x : ReceiptRow) → receipt_of N row ≡ Ok x → AmountParts N row (ltb (length N.receipts) MOST_OF_A_KIND) receipt_made x
+unfolding receipt_of
+receipt_parts N row x is = amount_parts N row (ltb (length N.receipts) MOST_OF_A_KIND) receipt_made x is
 
 -- ---- rows of a lane
 

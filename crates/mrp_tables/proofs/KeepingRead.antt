@@ -29,7 +29,7 @@ use Rattle.mrp_tables.specs.Grammar.{amount_terms, AmountTerms, bill_fits, bill_
 use Rattle.mrp_tables.specs.Lists.{AreLanes, has_lane, is_same_lane, lane_of, reset_key_of}
 use Rattle.mrp_tables.proofs.Arrivals.{among_lanes, same_lane_laws}
 use Rattle.mrp_tables.proofs.KeepingLists.{position_there}
-use Rattle.mrp_tables.proofs.KeepingParts.{bill_parts, cum_parts, reset_parts, ship_parts}
+use Rattle.mrp_tables.proofs.KeepingParts.{bill_parts, cum_parts, demand_parts, receipt_parts, reset_parts, ship_parts}
 use Rattle.mrp_tables.proofs.KeepingRows.{on_lane}
 use Rattle.mrp_tables.proofs.KeepingSteps.{after, after_check, after_some, same_Ok}
 use Rattle.mrp_tables.proofs.Keys.{any_source}
@@ -151,26 +151,18 @@ amount_is N row t read is =
     subst (λ (x : AmountTerms). IsAmountOf N x.period x.quantity) same (record { period = period_is N (field row 3) c.0 read c.1; some = few.0; few = few.1 })
 
 pub demand_read : (N : Table) (row : List (List ℕ)) (x : DemandRow) → IsRead N → demand_of N row ≡ Ok x → IsRead (with_demand N x)
-unfolding demand_of
 demand_read N row x read is =
-    let a = after (amount_terms row (horizon N)) _ x is in
-    let b = after (known_pair N a.0.plant a.0.item) _ x a.2 in
-    let c = after_check (ltb (length N.demands) MOST_OF_A_KIND) _ _ x b.2 in
-    let same : record { pair = b.0.1; period = a.0.period; quantity = a.0.quantity } ≡ x = same_Ok _ x c.1 in
-    let says = amount_is N row a.0 read a.1 in
-    let made : IsDemandRow N x = subst (IsDemandRow N) same (record { pair = known_within N a.0.plant a.0.item b.0 b.1; period = says.period; some = says.some; quantity = says.few }) in
-    read-with_demand N x read made (lt_test (length N.demands) MOST_OF_A_KIND c.0)
+    let p = demand_parts N row x is in
+    let says = amount_is N row p.terms read p.read in
+    let pair = known_within N p.terms.plant p.terms.item p.found p.known in
+    read-with_demand N x read (subst (IsDemandRow N) p.same (record { pair = pair; period = says.period; some = says.some; quantity = says.few })) (lt_test (length N.demands) MOST_OF_A_KIND p.room)
 
 pub receipt_read : (N : Table) (row : List (List ℕ)) (x : ReceiptRow) → IsRead N → receipt_of N row ≡ Ok x → IsRead (with_receipt N x)
-unfolding receipt_of
 receipt_read N row x read is =
-    let a = after (amount_terms row (horizon N)) _ x is in
-    let b = after (known_pair N a.0.plant a.0.item) _ x a.2 in
-    let c = after_check (ltb (length N.receipts) MOST_OF_A_KIND) _ _ x b.2 in
-    let same : record { pair = b.0.1; period = a.0.period; quantity = a.0.quantity } ≡ x = same_Ok _ x c.1 in
-    let says = amount_is N row a.0 read a.1 in
-    let made : IsReceiptRow N x = subst (IsReceiptRow N) same (record { pair = known_within N a.0.plant a.0.item b.0 b.1; period = says.period; some = says.some; quantity = says.few }) in
-    read-with_receipt N x read made (lt_test (length N.receipts) MOST_OF_A_KIND c.0)
+    let p = receipt_parts N row x is in
+    let says = amount_is N row p.terms read p.read in
+    let pair = known_within N p.terms.plant p.terms.item p.found p.known in
+    read-with_receipt N x read (subst (IsReceiptRow N) p.same (record { pair = pair; period = says.period; some = says.some; quantity = says.few })) (lt_test (length N.receipts) MOST_OF_A_KIND p.room)
 
 -- ---- lanes
 

@@ -1,5 +1,5 @@
 -- Rows of one list more: plants, demands, receipts, and rows on what one plant ships to another.
-use Rattle.std.proofs.Common.{◌≡◌, ℕ, ◌==◌, ◌&&◌, true, false, not, List, [], Option, Some, None, length, ltb, Ok, refl, ap, sym, ◌∙◌, subst, arith}
+use Rattle.std.proofs.Common.{◌≡◌, ℕ, true, false, not, List, [], Option, Some, length, ltb, Ok, refl, ap, sym, ◌∙◌, subst, arith}
 use Rattle.std.specs.List.{list_any}
 use Rattle.std.proofs.lemmas.Bool.{not-true}
 use Rattle.std.proofs.lemmas.List.Elements.{All-push}
@@ -92,13 +92,7 @@ ship_keeps N row x once sourced none is = (
 
 new_cum : (N : Table) (from pair : Option ℕ) (c : CumRow) → cum_between N from pair ≡ false → from ≡ Some c.from.0 → pair ≡ Some c.pair.0
     → list_any (λ x. is_same_cum x c) N.cums ≡ false
-new_cum N None pair c fresh ef ep = absurd (cc)
-new_cum N (Some f) None c fresh ef ep = absurd (cc)
-new_cum N (Some f) (Some p) c fresh ef ep =
-    let sf : f ≡ c.from.0 = cc in
-    let sp : p ≡ c.pair.0 = cc in
-    ap (λ (x : ℕ). list_any (λ d. (d.from.0 == x) && (d.pair.0 == c.pair.0)) N.cums) (sym sf)
-    ∙ ap (λ (y : ℕ). list_any (λ d. (d.from.0 == f) && (d.pair.0 == y)) N.cums) (sym sp) ∙ fresh
+new_cum N from pair c fresh ef ep = sym (ap (λ (o : Option ℕ). cum_between N o pair) ef ∙ ap (λ (o : Option ℕ). cum_between N (Some c.from.0) o) ep) ∙ fresh
 
 cum_lane : (N : Table) (row : List (List ℕ)) (x : CumRow) → cum_of N row ≡ Ok x → (is_taken_from N x.pair.0 x.from.0 ≡ true) × (list_any (λ c. is_same_cum c x) N.cums ≡ false)
 cum_lane N row x is =
@@ -119,13 +113,7 @@ cum_keeps N row x once sourced is =
 
 new_reset : (N : Table) (from pair : Option ℕ) (c : ResetRow) → reset_between N from pair ≡ false → from ≡ Some c.from.0 → pair ≡ Some c.pair.0
     → list_any (λ x. is_same_reset x c) N.resets ≡ false
-new_reset N None pair c fresh ef ep = absurd (cc)
-new_reset N (Some f) None c fresh ef ep = absurd (cc)
-new_reset N (Some f) (Some p) c fresh ef ep =
-    let sf : f ≡ c.from.0 = cc in
-    let sp : p ≡ c.pair.0 = cc in
-    ap (λ (x : ℕ). list_any (λ d. (d.from.0 == x) && (d.pair.0 == c.pair.0)) N.resets) (sym sf)
-    ∙ ap (λ (y : ℕ). list_any (λ d. (d.from.0 == f) && (d.pair.0 == y)) N.resets) (sym sp) ∙ fresh
+new_reset N from pair c fresh ef ep = sym (ap (λ (o : Option ℕ). reset_between N o pair) ef ∙ ap (λ (o : Option ℕ). reset_between N (Some c.from.0) o) ep) ∙ fresh
 
 reset_lane : (N : Table) (row : List (List ℕ)) (x : ResetRow) → reset_of N row ≡ Ok x → (is_taken_from N x.pair.0 x.from.0 ≡ true) × (list_any (λ c. is_same_reset c x) N.resets ≡ false)
     × (rises_from 0 (arrivals N x.from.0 x.pair.0) ≡ true)

@@ -1,5 +1,5 @@
 -- Each row but a pair's is what is written of what it adds.
-use Rattle.std.proofs.Common.{◌≡◌, ℕ, ◌-◌, ltb, not, true, List, length, Option, Some, Ok, refl, ap, sym, ◌∙◌, subst}
+use Rattle.std.proofs.Common.{◌≡◌, ℕ, ◌-◌, Bool, ltb, not, true, List, [], ◌∷◌, length, Option, Some, Ok, refl, ap, sym, ◌∙◌, subst}
 use Rattle.mrp_cal.specs.Calendar.{CalendarTerms, IsCalendar, IsCalendarFrom}
 use Rattle.mrp_cal.specs.Days.{day_text}
 use Rattle.mrp_qty.specs.declared.horizon.TheConstants.{LONGEST}
@@ -7,7 +7,7 @@ use Rattle.mrp_qty.specs.declared.quantity.TheConstants.{MOST}
 use Rattle.mrp_spell.specs.Spelling.{number_of, number_text}
 use Rattle.mrp_rows.specs.declared.numbers.PairNo.{PairNo}
 use Rattle.mrp_rows.specs.declared.numbers.PlantNo.{PlantNo}
-use Rattle.mrp_rows.specs.declared.rows.TheConstants.{MOST_IN_ROW, MOST_OF_A_KIND, MOST_PER, MOST_PLANTS}
+use Rattle.mrp_rows.specs.declared.rows.TheConstants.{MOST_IN_ROW, MOST_PER, MOST_PLANTS}
 use Rattle.mrp_rows.specs.declared.rows.BillRow.{BillRow}
 use Rattle.mrp_rows.specs.declared.rows.CumRow.{CumRow}
 use Rattle.mrp_rows.specs.declared.rows.DemandRow.{DemandRow}
@@ -22,12 +22,12 @@ use Rattle.mrp_tables.specs.Grammar.{amount_terms, AmountTerms, bill_fits, bill_
 use Rattle.mrp_tables.specs.Grammar.{plant_of, plant_terms, ranged, receipt_of, reset_of, reset_terms, run_terms, RunTerms, ship_of, ship_terms}
 use Rattle.mrp_tables.specs.Reading.{first_terms, is_run, kind_of_row}
 use Rattle.mrp_tables.specs.Written.{bill_fields, cum_fields, demand_fields, pair_item, pair_plant, plant_fields, plant_name, receipt_fields, reset_fields, run_fields, ship_fields}
-use Rattle.mrp_tables.proofs.KeepingParts.{bill_parts, cum_parts, reset_parts, ship_parts}
+use Rattle.mrp_tables.proofs.KeepingParts.{AmountParts, bill_parts, cum_parts, demand_made, demand_parts, receipt_made, receipt_parts, reset_parts, ship_parts}
 use Rattle.mrp_tables.proofs.KeepingRead.{bill_terms_read}
 use Rattle.mrp_tables.proofs.KeepingRows.{on_lane}
 use Rattle.mrp_tables.proofs.KeepingSteps.{after, after_check, after_some, same_Ok}
 use Rattle.mrp_tables.proofs.WrittenDay.{first_text}
-use Rattle.mrp_tables.proofs.WrittenFields.{five_used, four_used, IsNamed, IsOfKind, name_text, number_is_text, of_kind, pair_found, plant_found, ranged_text, six_used, two_used}
+use Rattle.mrp_tables.proofs.WrittenFields.{AreFree, five_used, four_used, IsNamed, IsOfKind, name_text, number_is_text, of_kind, pair_found, plant_found, ranged_text, six_used, two_used, word_of}
 
 -- ---- plants
 
@@ -100,29 +100,19 @@ known_said N plant item found is =
     let same : ◌≡◌ {A = PlantNo × PairNo} (record { 0 = a.0 }, record { 0 = b.0 }) found = same_Ok _ found b.2 in
     subst (λ (f : PlantNo × PairNo). IsNamed N plant item f.1.0) same (pair_found N plant item b.0 (ap (λ (o : Option ℕ). pair_named N o item) a.1 ∙ b.1))
 
+-- a row of an amount has its word, and then what it was made of
+amount_said : {A : Type 0} (N : Table) (row : List (List ℕ)) (k : Kind) (has_room : Bool) (made : PairNo → ℕ → ℕ → A) (x : A) → IsOfKind row k → AreFree row 5 → (p : AmountParts N row has_room made x)
+    → row ≡ word_of k ∷ pair_plant N p.found.1.0 ∷ pair_item N p.found.1.0 ∷ number_text p.terms.period ∷ number_text p.terms.quantity ∷ [] ∷ [] ∷ [] ∷ []
+amount_said N row k has_room made x is free p =
+    let says = amount_terms_said row (horizon N) p.terms p.read in
+    let names = known_said N p.terms.plant p.terms.item p.found p.known in
+    five_used row _ _ _ _ _ is.size is.word free (says.plant ∙ names.plant) (says.item ∙ names.item) says.period says.quantity
+
 pub demand_said : (N : Table) (row : List (List ℕ)) (x : DemandRow) → IsOfKind row kind.Demand → demand_of N row ≡ Ok x → row ≡ demand_fields N x
-unfolding demand_of
-demand_said N row x k is =
-    let a = after (amount_terms row (horizon N)) _ x is in
-    let b = after (known_pair N a.0.plant a.0.item) _ x a.2 in
-    let c = after_check (ltb (length N.demands) MOST_OF_A_KIND) _ _ x b.2 in
-    let same : record { pair = b.0.1; period = a.0.period; quantity = a.0.quantity } ≡ x = same_Ok _ x c.1 in
-    let says = amount_terms_said row (horizon N) a.0 a.1 in
-    let names = known_said N a.0.plant a.0.item b.0 b.1 in
-    subst (λ (z : DemandRow). row ≡ demand_fields N z) same
-    (five_used row _ (pair_plant N b.0.1.0) (pair_item N b.0.1.0) (number_text a.0.period) (number_text a.0.quantity) k.size k.word k.free (says.plant ∙ names.plant) (says.item ∙ names.item) says.period says.quantity)
+demand_said N row x k is = let p = demand_parts N row x is in subst (λ (z : DemandRow). row ≡ demand_fields N z) p.same (amount_said N row kind.Demand _ demand_made x k k.free p)
 
 pub receipt_said : (N : Table) (row : List (List ℕ)) (x : ReceiptRow) → IsOfKind row kind.Receipt → receipt_of N row ≡ Ok x → row ≡ receipt_fields N x
-unfolding receipt_of
-receipt_said N row x k is =
-    let a = after (amount_terms row (horizon N)) _ x is in
-    let b = after (known_pair N a.0.plant a.0.item) _ x a.2 in
-    let c = after_check (ltb (length N.receipts) MOST_OF_A_KIND) _ _ x b.2 in
-    let same : record { pair = b.0.1; period = a.0.period; quantity = a.0.quantity } ≡ x = same_Ok _ x c.1 in
-    let says = amount_terms_said row (horizon N) a.0 a.1 in
-    let names = known_said N a.0.plant a.0.item b.0 b.1 in
-    subst (λ (z : ReceiptRow). row ≡ receipt_fields N z) same
-    (five_used row _ (pair_plant N b.0.1.0) (pair_item N b.0.1.0) (number_text a.0.period) (number_text a.0.quantity) k.size k.word k.free (says.plant ∙ names.plant) (says.item ∙ names.item) says.period says.quantity)
+receipt_said N row x k is = let p = receipt_parts N row x is in subst (λ (z : ReceiptRow). row ≡ receipt_fields N z) p.same (amount_said N row kind.Receipt _ receipt_made x k k.free p)
 
 -- ---- what one plant ships to another
 
