@@ -5,7 +5,12 @@ use Rattle.mrp_rows.specs.Table.{Table}
 use Rattle.mrp_lane.specs.Ends.{End}
 use Rattle.mrp_agent.specs.State.{AgentState}
 use Rattle.mrp_crew.specs.Planning.{IsPlannable, PlansAll, all_planned}
+use Rattle.mrp_run.specs.declared.moving.Lanes.{Lanes}
+use Rattle.mrp_run.specs.declared.moving.Lanes.TheVariants.{Incoming, Outgoing}
+use Rattle.mrp_run.specs.declared.plant.Plant.{Plant}
 use Rattle.mrp_run.specs.Plant.{AtWork, IsAtWork, Kept}
+use Rattle.mrp_run.specs.Steps.{Keeps, lane_count}
+use Rattle.mrp_run.proofs.Held.{same_length}
 
 pub nothing_done : (A : AgentState) (s t : List End) → Kept A s t A s t
 nothing_done A s t = record { view = refl; sends = refl; takes = refl; works = λ N p work. work }
@@ -22,6 +27,11 @@ one_after_another A s t B s2 t2 C s3 t3 first second = record {
 -- the plant is still at work after it
 pub still_works : (A : AgentState) (s t : List End) (B : AgentState) (s2 t2 : List End) → Kept A s t B s2 t2 → IsAtWork A s t → IsAtWork B s2 t2
 still_works A s t B s2 t2 kept (N, p, work) = (N, p, kept.works N p work)
+
+-- with as many lanes
+pub same_lanes : (lanes : Lanes) (P Q : Plant) → Keeps P Q → lane_count lanes Q ≡ lane_count lanes P
+same_lanes Incoming P Q kept = same_length Q.takes.items P.takes.items kept.takes
+same_lanes Outgoing P Q kept = same_length Q.sends.items P.sends.items kept.sends
 
 -- ---- planning
 

@@ -1,7 +1,9 @@
 -- What the steps of a plant's thread keep, in the words of `Plant` of the code.
-use Rattle.std.specs.Prelude.{◌≡◌, ◌⊎◌, ℕ, false}
+use Rattle.std.specs.Prelude.{◌≡◌, ◌⊎◌, ℕ, false, length}
 use Rattle.mrp_rows.specs.Table.{Table}
 use Rattle.mrp_agent.specs.Shows.{is_done}
+use Rattle.mrp_run.specs.declared.moving.Lanes.{Lanes}
+use Rattle.mrp_run.specs.declared.moving.Lanes.TheVariants.{Incoming, Outgoing}
 use Rattle.mrp_run.specs.declared.plant.Plant.{Plant}
 use Rattle.mrp_run.specs.Plant as plant
 
@@ -16,6 +18,11 @@ IsFinished N p P = plant.IsFinished N p P.agent P.sends.items P.takes.items
 
 abbrev pub Keeps : Plant → Plant → Type 0
 Keeps P Q = plant.Kept P.agent P.sends.items P.takes.items Q.agent Q.sends.items Q.takes.items
+
+-- how many lanes come to it, or go from it
+abbrev pub lane_count : Lanes → Plant → ℕ
+lane_count Incoming P = length P.takes.items
+lane_count Outgoing P = length P.sends.items
 
 -- its work is kept and done
 pub record Finishes (P Q : Plant) : Type 0 where

@@ -11,6 +11,7 @@ mod dealing;
 mod fault;
 mod gathering;
 pub mod laws;
+mod moving;
 mod network;
 mod offering;
 mod pairing;

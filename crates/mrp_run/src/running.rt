@@ -8,9 +8,8 @@ ghost use Rattle.mrp_run.specs.Plant as at;
 ghost use Rattle.mrp_run.specs.Steps.{IsAtWork, IsUnfinished, Keeps, Finishes};
 ghost use Rattle.mrp_run.specs.declared.fault.RunFault.{RunFault};
 
-use crate::booking::book_all;
 use crate::fault::RunFault;
-use crate::offering::offer_all;
+use crate::moving::{Lanes, move_all};
 use crate::plant::Plant;
 use crate::stop::{Stop, StopRule};
 use mrp_agent::{Agent, Gate};
@@ -177,9 +176,9 @@ fn take_turn<R: Threads + Wait + Sync, G: Gate>(
     ensures kept { Keeps plant.old plant.new }
     ensures fault { IfErr result (IsOf (WasWorkerShut G.worker_shut) never_spent number) }
 {
-    let came = book_all(rt, plant);
+    let came = move_all(rt, plant, Lanes::Incoming);
     let planned = plan_all(rt, alloc, number, plant, crew, gate)?;
-    let sent = offer_all(rt, plant);
+    let sent = move_all(rt, plant, Lanes::Outgoing);
     Ok(came || planned || sent)
 }
 

@@ -1,6 +1,0 @@
-use Rattle.mrp_run.specs.Steps.{Keeps}
-use Rattle.mrp_run.proofs.offering.offer_all.Given as goal
-
--- what was sent so far kept the plant at work
-abbrev pub invariant-loop-k : goal.invariant-loop-k
-invariant-loop-k g l = Keeps l.fn.plant l.plant

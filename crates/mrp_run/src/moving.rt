@@ -1,0 +1,67 @@
+//! How a plant moves records over its lanes, one after the other until none can be moved.
+ghost use Rattle.std.specs.Prelude.{◌≡◌, ◌<◌};
+ghost use Rattle.mrp_run.specs.Steps.{IsAtWork, Keeps, lane_count};
+
+use crate::booking::book_next;
+use crate::offering::offer_next;
+use crate::plant::Plant;
+use std::sync::Wait;
+
+/// Which lanes of a plant: over those that come in it books, and over those that go out it offers.
+#[derive(Clone, Copy)]
+pub(crate) enum Lanes {
+    Incoming,
+    Outgoing,
+}
+
+/// Moves over each of the lanes what can be moved, and answers whether any record was.
+pub(crate) fn move_all<R: Wait>(rt: &R, plant: &mut Plant, lanes: Lanes) -> bool
+    requires work { IsAtWork plant.old }
+    ensures kept { Keeps plant.old plant.new }
+{
+    let mut any = false;
+    for k in 0..lane_count(plant, lanes) {
+        if move_lane(rt, plant, lanes, k) {
+            any = true;
+        }
+    }
+    any
+}
+
+/// How many of the lanes there are.
+fn lane_count(plant: &Plant, lanes: Lanes) -> usize
+    ensures { result ≡ lane_count lanes plant.now }
+{
+    match lanes {
+        Lanes::Incoming => plant.takes.len(),
+        Lanes::Outgoing => plant.sends.len(),
+    }
+}
+
+/// Moves over a lane what can be moved, and answers whether any record was.
+fn move_lane<R: Wait>(rt: &R, plant: &mut Plant, lanes: Lanes, k: usize) -> bool
+    requires work { IsAtWork plant.old }
+    requires lane { k < lane_count lanes plant.old }
+    ensures kept { Keeps plant.old plant.new }
+{
+    let mut any = false;
+    for _ in rt.forever() {
+        if !move_next(rt, plant, lanes, k) {
+            break;
+        }
+        any = true;
+    }
+    any
+}
+
+/// Moves a record over a lane, and answers whether there was one that could be moved.
+fn move_next<R: Wait>(rt: &R, plant: &mut Plant, lanes: Lanes, k: usize) -> bool
+    requires work { IsAtWork plant.old }
+    requires lane { k < lane_count lanes plant.old }
+    ensures kept { Keeps plant.old plant.new }
+{
+    match lanes {
+        Lanes::Incoming => book_next(rt, plant, k),
+        Lanes::Outgoing => offer_next(rt, plant, k),
+    }
+}
