@@ -3,3 +3,4 @@ pub mod LoopNames
 pub mod NameFacts
 pub mod TextFacts
 pub mod GateFacts
+pub mod OneReport

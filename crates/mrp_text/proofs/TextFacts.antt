@@ -38,16 +38,25 @@ keeps-all : (a : Option (List ℕ)) → Keeps a a
 keeps-all None = tt
 keeps-all (Some xs) = refl
 
--- the first part of a text was not sent whole
-pub first-fails : (a b : Option (List ℕ)) (first rest : List ℕ) (f : ReportFault) (e : TextFault) (P : List ℕ → Type 0)
-    → P (first ++ rest) → Sends {U = Unit {0}} a b (Err f) first → (f ≡ report.Memory → b ≡ a) → IsOfReport f e → Writes {U = Unit {0}} a b (Err e) P
-first-fails a b first rest report.WriteFault e P is sent kept of =
+-- a text was not sent whole
+pub report-fails : (a b : Option (List ℕ)) (text : List ℕ) (f : ReportFault) (e : TextFault) (P : List ℕ → Type 0)
+    → P text → Sends {U = Unit {0}} a b (Err f) text → (f ≡ report.Memory → b ≡ a) → IsOfReport f e → Writes {U = Unit {0}} a b (Err e) P
+report-fails a b text report.WriteFault e P is sent kept of =
     let Q : TextFault → Type 0 = λ e. Writes {U = Unit {0}} a b (Err e) P in
-    subst Q (sym of) (first ++ rest, is, front-longer a b first rest sent)
-first-fails a b first rest report.Memory e P is sent kept of =
+    subst Q (sym of) (text, is, sent)
+report-fails a b text report.Memory e P is sent kept of =
     let Q : TextFault → Type 0 = λ e. Writes {U = Unit {0}} a b (Err e) P in
     let K : Option (List ℕ) → Type 0 = λ c. Keeps a c in
     subst Q (sym of) (inl (subst K (sym (kept refl)) (keeps-all a)))
+
+sends-longer : (a b : Option (List ℕ)) (first rest : List ℕ) (f : ReportFault) → Sends {U = Unit {0}} a b (Err f) first → Sends {U = Unit {0}} a b (Err f) (first ++ rest)
+sends-longer a b first rest report.WriteFault sent = front-longer a b first rest sent
+sends-longer a b first rest report.Memory sent = tt
+
+-- the first part of a text was not sent whole
+pub first-fails : (a b : Option (List ℕ)) (first rest : List ℕ) (f : ReportFault) (e : TextFault) (P : List ℕ → Type 0)
+    → P (first ++ rest) → Sends {U = Unit {0}} a b (Err f) first → (f ≡ report.Memory → b ≡ a) → IsOfReport f e → Writes {U = Unit {0}} a b (Err e) P
+first-fails a b first rest f e P is sent kept of = report-fails a b (first ++ rest) f e P is (sends-longer a b first rest f sent) kept of
 
 -- the first part of a text was sent, and the rest not whole
 pub rest-fails : (a b c : Option (List ℕ)) (first rest : List ℕ) (f : ReportFault) (e : TextFault) (P : List ℕ → Type 0)

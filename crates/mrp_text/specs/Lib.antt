@@ -4,3 +4,4 @@ pub mod Fault
 pub mod Lines
 pub mod Text
 pub mod Runs
+pub mod Laws

@@ -2,11 +2,10 @@
 use Rattle.std.specs.Prelude.{◌≡◌, ℕ, ◌<◌, ◌≤◌, ◌⊎◌, List, [], ◌∷◌, ◌++◌, Option, Some, option_map, slice_get, length, Result, Ok, Err, string_bytes}
 use Rattle.std.specs.Io.KnownBytes.{Appends, Keeps}
 use Rattle.csv.specs.Reading.{strip_bom}
-use Rattle.mrp_lot.specs.One.{PlanRows}
 use Rattle.mrp_rows.specs.Table.{Table, IsTable, horizon}
 use Rattle.mrp_tables.specs.Reading.{OfRecords, Reads, TellsRows}
 use Rattle.mrp_net.specs.Names.{IsNamed}
-use Rattle.mrp_net.specs.Plan.{Fits}
+use Rattle.mrp_net.specs.Plan.{plan_of}
 use Rattle.mrp_loops.specs.Loop.{AreCodes, IsLoopFree}
 use Rattle.mrp_loops.specs.Upstream.{IsLoopAnswered}
 use Rattle.mrp_loops.specs.Sized.{IsSized}
@@ -36,9 +35,12 @@ OfTable known says = (N : Table) × IsTable N × IsTableOf known N × says N
 abbrev pub IsPlannable : Table → Type 0
 IsPlannable N = IsSized N
 
--- the plan rows and then the late rows of the plan: of a table of plans that fits, and only one does
+-- the plan rows and then the late rows of the plan of the network, which is the only table of plans that fits
+abbrev pub plan_report : Table → List ℕ
+plan_report N = plan_text N (plan_of N) ++ late_text N (plan_of N)
+
 abbrev pub IsPlanReport : Table → List ℕ → Type 0
-IsPlanReport N text = IsPlannable N × ((plans : List PlanRows) × Fits N plans × (text ≡ plan_text N plans ++ late_text N plans))
+IsPlanReport N text = IsPlannable N × (text ≡ plan_report N)
 
 -- the code rows of the network
 abbrev pub IsCodeReport : Table → List ℕ → Type 0
@@ -47,7 +49,7 @@ IsCodeReport N text = IsPlannable N × ((codes : List ℕ) × AreCodes N codes �
 -- the peg rows of a pair in a period of the plan
 abbrev pub IsPegs : Table → ℕ → ℕ → List ℕ → Type 0
 IsPegs N x period text =
-    IsPlannable N × (period < horizon N) × ((plans : List PlanRows) × Fits N plans × (text ≡ peg_text N (peg_terms N plans x period)))
+    IsPlannable N × (period < horizon N) × (text ≡ peg_text N (peg_terms N (plan_of N) x period))
 
 -- those of the pair of these names
 abbrev pub IsPegReport : List ℕ → List ℕ → ℕ → Table → List ℕ → Type 0

@@ -17,6 +17,7 @@
 mod answers;
 mod fault;
 mod firm;
+mod laws;
 mod lines;
 mod network;
 mod run;
@@ -25,6 +26,7 @@ mod writing;
 
 pub use answers::{answer, exit_status};
 pub use fault::{PairName, TextFault, status};
+pub use laws::{bytes_make_one_table, reports_are_one, reports_exclude_refusals};
 pub use lines::write_fault;
 pub use mrp_agent::{Gate, NoGate};
 pub use mrp_report::ReportFault;

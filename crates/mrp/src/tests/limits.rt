@@ -69,6 +69,36 @@ fn a_loop_of_1000_pairs_is_named(rt: HostRuntime) -> Result<(), Fail> {
     Ok(())
 }
 
+/// The bills by which the part F goes into each of so many pairs.
+fn of_one_part(alloc: Global, count: u64) -> Result<String, AllocError> {
+    let mut rows = String::new(alloc);
+    for number in 0..count {
+        let row = format!(in alloc; "bill,A,X{number},F,1,,,\n")?;
+        rows.push_str(row.as_str())?;
+    }
+    Ok(rows)
+}
+
+/// Whether a part that goes into 19,999 others has the next code behind theirs.
+fn goes_into_all_others(alloc: Global) -> Result<bool, AllocError> {
+    let parents = made(alloc, 19_999)?;
+    let bills = of_one_part(alloc, 19_999)?;
+    let table = format!(in alloc; "{ONE_PLANT}{parents}pair,A,F,buy,lot,0,0,0\n{bills}")?;
+    let low_level = codes(alloc, table.as_str())?;
+    Ok(
+        lines_that_begin(low_level.as_str(), "code,A,X") == 19_999
+            && low_level
+                .as_str()
+                .ends_with("\ncode,A,X19998,0\ncode,A,F,1\n"),
+    )
+}
+
+#[test]
+fn a_part_goes_into_all_others(rt: HostRuntime) -> Result<(), Fail> {
+    assert!(rt; goes_into_all_others(rt.alloc())?);
+    Ok(())
+}
+
 /// Two plants with names of 20 characters.
 const TWO_LONG_NAMES: &str = "run,2026-01-05,7,1,,,,\nplant,AAAAAAAAAAAAAAAAAAAA,,,,,,\n\
 plant,BBBBBBBBBBBBBBBBBBBB,,,,,,\n";
@@ -102,6 +132,34 @@ fn are_reported_whole(alloc: Global) -> Result<bool, AllocError> {
             && lines_that_begin(figures.as_str(), "lane,") == 20_000
             && lines_that_begin(low_level.as_str(), "code,") == 20_000,
     )
+}
+
+/// The rows of a kind, of the figures of so many items that the first plant takes from the second.
+fn of_figures(alloc: Global, kind: &str, count: u64) -> Result<String, AllocError> {
+    let mut rows = String::new(alloc);
+    for number in 0..count {
+        let row = format!(in alloc;
+            "{kind},BBBBBBBBBBBBBBBBBBBB,AAAAAAAAAAAAAAAAAAAA,ITEM-OF-A-NAME-{number},0,,,\n"
+        )?;
+        rows.push_str(row.as_str())?;
+    }
+    Ok(rows)
+}
+
+/// Whether the figures of 5,000 items that start anew in the first period are reported.
+fn are_started_anew(alloc: Global) -> Result<bool, AllocError> {
+    let pairs = taken(alloc, 5_000)?;
+    let shipped = of_figures(alloc, "cum", 5_000)?;
+    let anew = of_figures(alloc, "reset", 5_000)?;
+    let table = format!(in alloc; "{TWO_LONG_NAMES}{pairs}{shipped}{anew}")?;
+    let figures = cums(alloc, table.as_str())?;
+    Ok(lines_that_begin(figures.as_str(), "lane,") == 10_000)
+}
+
+#[test]
+fn figures_of_5000_items_start_anew(rt: HostRuntime) -> Result<(), Fail> {
+    assert!(rt; are_started_anew(rt.alloc())?);
+    Ok(())
 }
 
 #[test]

@@ -297,6 +297,129 @@ fn each_kind_of_row_has_names_and_numbers(rt: HostRuntime) -> Result<(), Fail> {
 }
 
 #[test]
+fn each_field_of_a_run_is_tested(rt: HostRuntime) {
+    let refused = [
+        (
+            "run,,7,4,,,,\n",
+            TableFaultKind::CalendarFault(CalFault::BadDate),
+        ),
+        (
+            "run,2026-1-5,7,4,,,,\n",
+            TableFaultKind::CalendarFault(CalFault::BadDate),
+        ),
+        ("run,2026-01-05,,4,,,,\n", TableFaultKind::BadNumber),
+        ("run,2026-01-05,1.5,4,,,,\n", TableFaultKind::BadNumber),
+        (
+            "run,2026-01-05,0,4,,,,\n",
+            TableFaultKind::CalendarFault(CalFault::DaysOutOfRange),
+        ),
+        ("run,2026-01-05,7,,,,,\n", TableFaultKind::BadNumber),
+        ("run,2026-01-05,7,105,,,,\n", TableFaultKind::BadNumber),
+        ("run,2026-01-05,7,1.5,,,,\n", TableFaultKind::BadNumber),
+        (
+            "run,2199-12-31,2,1,,,,\n",
+            TableFaultKind::CalendarFault(CalFault::PastEnd),
+        ),
+    ];
+    for (text, kind) in refused {
+        is_refused(&rt, text.as_bytes(), 1, kind);
+    }
+}
+
+#[test]
+fn each_field_of_a_pair_is_tested(rt: HostRuntime) -> Result<(), Fail> {
+    let refused = [
+        ("pair,A B,Z,buy,lot,0,0,0", TableFaultKind::BadName),
+        ("pair,,Z,buy,lot,0,0,0", TableFaultKind::BadName),
+        ("pair,A,,buy,lot,0,0,0", TableFaultKind::BadName),
+        (
+            "pair,A,NAME-OF-21-CHARACTERS,buy,lot,0,0,0",
+            TableFaultKind::BadName,
+        ),
+        ("pair,A,Z,,lot,0,0,0", TableFaultKind::BadSupply),
+        ("pair,A,Z,make:3,lot,0,0,0", TableFaultKind::BadSupply),
+        ("pair,A,Z,form:B,lot,0,0,0", TableFaultKind::BadSupply),
+        ("pair,A,Z,From:B,lot,0,0,0", TableFaultKind::BadSupply),
+        ("pair,A,Z,from:,lot,0,0,0", TableFaultKind::BadSupply),
+        ("pair,A,Z,buy,,0,0,0", TableFaultKind::BadRule),
+        ("pair,A,Z,buy,lots,0,0,0", TableFaultKind::BadRule),
+        ("pair,A,Z,buy,periods:105,0,0,0", TableFaultKind::BadRule),
+        ("pair,A,Z,buy,min:1,0,0,0", TableFaultKind::BadRule),
+        ("pair,A,Z,buy,lot,105,0,0", TableFaultKind::BadNumber),
+        ("pair,A,Z,buy,lot,1.5,0,0", TableFaultKind::BadNumber),
+        ("pair,A,Z,buy,lot,,0,0", TableFaultKind::BadNumber),
+        (
+            "pair,A,Z,buy,lot,0,1000000000001,0",
+            TableFaultKind::BadNumber,
+        ),
+        ("pair,A,Z,buy,lot,0,-1,0", TableFaultKind::BadNumber),
+        ("pair,A,Z,buy,lot,0,,0", TableFaultKind::BadNumber),
+        (
+            "pair,A,Z,buy,lot,0,0,1000000000001",
+            TableFaultKind::BadNumber,
+        ),
+        ("pair,A,Z,buy,lot,0,0,1.5", TableFaultKind::BadNumber),
+        ("pair,A,Z,buy,lot,0,0,", TableFaultKind::BadNumber),
+    ];
+    for (row, kind) in refused {
+        are_refused(&rt, row, 7, kind)?;
+    }
+    Ok(())
+}
+
+#[test]
+fn each_name_of_a_row_is_tested(rt: HostRuntime) -> Result<(), Fail> {
+    let misspelt = [
+        "bill,A B,X,Y,1,,,",
+        "bill,A,X,Y Z,1,,,",
+        "demand,A B,X,0,1,,,",
+        "receipt,,X,0,1,,,",
+        "ship,B B,A,Y,0,1,,",
+        "ship,B,A A,Y,0,1,,",
+        "cum,B B,A,Y,1,,,",
+        "cum,B,A,Y Y,1,,,",
+        "reset,B B,A,Y,1,,,",
+        "reset,B,A A,Y,1,,,",
+    ];
+    for row in misspelt {
+        are_refused(&rt, row, 7, TableFaultKind::BadName)?;
+    }
+    Ok(())
+}
+
+#[test]
+fn each_number_of_a_row_is_tested(rt: HostRuntime) -> Result<(), Fail> {
+    let misspelt = [
+        "bill,A,X,Y,,,,",
+        "bill,A,X,Y,1.5,,,",
+        "bill,A,X,Y,1000001,,,",
+        "demand,A,X,,1,,,",
+        "demand,A,X,0,0,,,",
+        "demand,A,X,0,1.5,,,",
+        "demand,A,X,0,,,,",
+        "demand,A,X,0,1000000000001,,,",
+        "receipt,A,X,,1,,,",
+        "receipt,A,X,0,0,,,",
+        "receipt,A,X,0,1.5,,,",
+        "receipt,A,X,0,,,,",
+        "receipt,A,X,0,1000000000001,,,",
+        "ship,B,A,Y,,1,,",
+        "ship,B,A,Y,0,0,,",
+        "ship,B,A,Y,0,1.5,,",
+        "ship,B,A,Y,0,,,",
+        "ship,B,A,Y,0,1000000000001,,",
+        "cum,B,A,Y,,,,",
+        "cum,B,A,Y,1.5,,,",
+        "reset,B,A,Y,,,,",
+        "reset,B,A,Y,1.5,,,",
+    ];
+    for row in misspelt {
+        are_refused(&rt, row, 7, TableFaultKind::BadNumber)?;
+    }
+    Ok(())
+}
+
+#[test]
 fn each_kind_of_row_names_what_is_there(rt: HostRuntime) -> Result<(), Fail> {
     let refused = [
         ("bill,C,X,Y,1,,,", TableFaultKind::UnknownPlant),

@@ -1,8 +1,9 @@
-use Rattle.std.proofs.Common.{Err, ap, refl}
+use Rattle.std.proofs.Common.{Err, ap}
 use Rattle.std.proofs.lemmas.Result.{err_from_is_err_and}
 use Rattle.mrp_report.proofs.Fronts.{whole-after}
 use Rattle.mrp_report.specs.Report.{late_text, plan_text}
 use Rattle.mrp_text.specs.Text.{IsPlanReport}
+use Rattle.mrp_text.proofs.OneReport.{is_plan_report}
 use Rattle.mrp_text.proofs.TextFacts.{first-fails, rest-fails}
 use Rattle.mrp_text.proofs.writing.report_plan.Goals as goal
 
@@ -12,7 +13,7 @@ returns-in_err-plan_rows-clause-text g c =
     let N = c.args.net.now.network in
     rw p.1
     (first-fails _ _ (plan_text N c.args.plan.now) (late_text N c.args.plan.now) c.in_err-plan_rows.field-0.0 p.0 (IsPlanReport N)
-    (c.requires.plannable, (c.args.plan.now, c.requires.fits, refl)) c.in_err-plan_rows.ensures.text
+    (is_plan_report N c.args.plan.now c.requires.plannable c.requires.fits) c.in_err-plan_rows.ensures.text
     (λ same. ap g.W.Write.contents (c.in_err-plan_rows.ensures.untouched (ap Err same))) p.2)
 
 pub returns-in_err-late_rows-clause-text : goal.returns-in_err-late_rows-clause-text
@@ -21,13 +22,13 @@ returns-in_err-late_rows-clause-text g c =
     let N = c.args.net.now.network in
     rw p.1
     (rest-fails _ _ _ (plan_text N c.args.plan.now) (late_text N c.args.plan.now) c.in_err-late_rows.field-0.0 p.0 (IsPlanReport N)
-    (c.requires.plannable, (c.args.plan.now, c.requires.fits, refl)) c.in_ok-plan_rows.ensures.text c.in_err-late_rows.ensures.text
+    (is_plan_report N c.args.plan.now c.requires.plannable c.requires.fits) c.in_ok-plan_rows.ensures.text c.in_err-late_rows.ensures.text
     (λ same. ap g.W.Write.contents (c.in_err-late_rows.ensures.untouched (ap Err same))) p.2)
 
 pub returns-clause-text : goal.returns-clause-text
 returns-clause-text g c =
     let N = c.args.net.now.network in (
       _,
-      (c.requires.plannable, (c.args.plan.now, c.requires.fits, refl)),
+      (is_plan_report N c.args.plan.now c.requires.plannable c.requires.fits),
       whole-after _ _ _ (plan_text N c.args.plan.now) (late_text N c.args.plan.now) c.in_ok-plan_rows.ensures.text c.in_ok-late_rows.ensures.text,
     )

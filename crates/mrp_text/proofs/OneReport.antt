@@ -1,0 +1,119 @@
+-- The plan of a network that can be planned is one, and so is each report of a text; one that has a report is not refused.
+use Rattle.std.proofs.Common.{◌≡◌, ℕ, ◌+◌, ◌≤◌, ◌<◌, Bool, true, false, List, ◌++◌, Result, Ok, Err, Some, refl, sym, ap, ◌∙◌, subst, arith}
+use Rattle.std.specs.Prelude.{slice_index, slice_get}
+use Rattle.csv.specs.Reading.{strip_bom, records, default_config}
+use Rattle.mrp_qty.specs.declared.quantity.TheConstants.{MOST}
+use Rattle.mrp_lot.specs.One.{PlanRows}
+use Rattle.mrp_rows.specs.Table.{Table, IsTable, pair_no}
+use Rattle.mrp_net.specs.Sums.{pair_at}
+use Rattle.mrp_tables.specs.declared.fault.TableFault.{TableFault}
+use Rattle.mrp_tables.specs.declared.fault.TableFaultKind.{TableFaultKind}
+use Rattle.mrp_tables.specs.declared.fault.TableFaultKind.TheVariants as kind
+use Rattle.mrp_tables.specs.Reading.{OfRows, Reads}
+use Rattle.mrp_tables.proofs.OneWay.{reads_one_way}
+use Rattle.mrp_net.specs.Names.{IsNamed}
+use Rattle.mrp_net.specs.Plan.{Fits, plan_of}
+use Rattle.mrp_net.specs.Sums.{supply}
+use Rattle.mrp_net.proofs.Naming.{same_place}
+use Rattle.mrp_net.proofs.Sharing.{pairs_are_found}
+use Rattle.mrp_loops.specs.Sized.{IsSized}
+use Rattle.mrp_loops.proofs.OnePlan.{one_plan}
+use Rattle.mrp_loops.proofs.Upstream.{codes_are_one}
+use Rattle.mrp_loops.proofs.Within.{needs_within}
+use Rattle.mrp_plan.specs.Peg.{peg_terms}
+use Rattle.mrp_report.specs.Report.{plan_text, late_text, peg_text, code_text}
+use Rattle.mrp_words.specs.declared.words.Choice.{Choice}
+use Rattle.mrp_words.specs.declared.words.Choice.TheVariants.{Plan, Check, Peg, Cums}
+use Rattle.mrp_text.specs.declared.fault.TextFault.{TextFault}
+use Rattle.mrp_text.specs.declared.fault.TextFault.TheVariants as fault
+use Rattle.mrp_text.specs.Answer.{IsAnswer, IsAnswerRefusal}
+use Rattle.mrp_text.specs.Fault.{status_of, table_status_of}
+use Rattle.mrp_text.specs.Laws.{BytesMakeOneTable, ReportsAreOne, ReportsExcludeRefusals}
+use Rattle.mrp_text.specs.Text.{IsPegRefusal, IsPegReport, IsPlanReport, IsRefusal, IsRunRefusal, IsTableOf, IsTextRefusal}
+
+-- ---- the plan
+
+-- a table of plans that fits is the plan of the network
+the_plan : (N : Table) (plans : List PlanRows) → IsSized N → Fits N plans → plans ≡ plan_of N
+the_plan N plans sized fits = (one_plan N sized.table sized.loop_free).only plans fits
+
+-- so its rows are the plan report
+pub is_plan_report : (N : Table) (plans : List PlanRows) → IsSized N → Fits N plans → IsPlanReport N (plan_text N plans ++ late_text N plans)
+is_plan_report N plans sized fits = (sized, ap (λ (p : List PlanRows). plan_text N p ++ late_text N p) (the_plan N plans sized fits))
+
+-- ---- one report
+
+-- bytes make one table
+pub one_table : BytesMakeOneTable
+one_table bytes N M a b =
+    let same = reads_one_way (records default_config (strip_bom bytes)) (Ok N) (Ok M) a b in
+    cc
+
+-- names are those of one pair
+one_named : (N : Table) (x y : ℕ) (plant item : List ℕ) → IsTable N → IsNamed N x plant item → IsNamed N y plant item → x ≡ y
+one_named N x y plant item table a b =
+    sym (pairs_are_found N table x a.pair)
+    ∙ ap (λ (p : ℕ). pair_no N p (pair_at N x).item.0) (same_place N.plants (pair_at N x).plant.0 (pair_at N y).plant.0 plant table.once.plants a.at_plant b.at_plant)
+    ∙ ap (λ (i : ℕ). pair_no N (pair_at N y).plant.0 i) (same_place N.items (pair_at N x).item.0 (pair_at N y).item.0 item table.once.items a.of_item b.of_item)
+    ∙ pairs_are_found N table y b.pair
+
+one_peg_report : (plant item : List ℕ) (period : ℕ) (N : Table) (a b : List ℕ) → IsTable N → IsPegReport plant item period N a → IsPegReport plant item period N b → a ≡ b
+one_peg_report plant item period N a b table x y =
+    x.2.2 ∙ ap (λ (p : ℕ). peg_text N (peg_terms N (plan_of N) p period)) (one_named N x.0 y.0 plant item table x.1 y.1) ∙ sym y.2.2
+
+one_answer : (choice : Choice) (N : Table) (a b : List ℕ) → IsTable N → IsAnswer choice N a → IsAnswer choice N b → a ≡ b
+one_answer (Plan workers capacity single) N a b table x y = x.1 ∙ sym y.1
+one_answer Check N a b table x y = x.1.2 ∙ ap (code_text N) (codes_are_one N x.1.0 y.1.0 x.1.1 y.1.1) ∙ sym y.1.2
+one_answer (Peg plant item period) N a b table x y = one_peg_report plant.now item.now period N a b table x y
+one_answer Cums N a b table x y = x.1 ∙ sym y.1
+
+pub one_report : ReportsAreOne
+one_report choice bytes a b x y =
+    one_answer choice y.0 a b y.1 (subst (λ (N : Table). IsAnswer choice N a) (one_table bytes x.0 y.0 x.2 y.2) x.3) y.3
+
+-- ---- no refusal beside it
+
+-- a network that can be planned isn't refused
+sized_passes : (N : Table) (f : TextFault) → IsSized N → IsRefusal N f → status_of f ≡ 3
+sized_passes N (fault.Loop names) sized said = absurd (sized.loop_free said.0 said.1.found.loop)
+sized_passes N (fault.SupplyTooLarge name) sized said =
+    let x = said.1.0 in
+    absurd (omega (arith, said.1.1.above, sized.within x said.1.1.pair))
+sized_passes N (fault.NeedTooLarge name) sized said =
+    let x = said.1.2.0 in
+    let is = said.1.2.1 in
+    absurd (omega (arith, is.above, needs_within N sized is.needs is.are_needs x is.pair))
+sized_passes N fault.WriteFault sized said = refl
+sized_passes N fault.Memory sized said = refl
+sized_passes N _ sized said = absurd said
+
+run_passes : (N : Table) (f : TextFault) → IsSized N → IsRunRefusal (λ _. ⊥) (λ _. Unit {0}) N f → status_of f ≡ 3
+run_passes N fault.ThreadRefused sized said = refl
+run_passes N (fault.GateShut name) sized said = refl
+run_passes N fault.Stopped sized said = refl
+run_passes N f sized said = sized_passes N f sized said
+
+-- nor is a question about a pair and a period of it that are there
+peg_passes : (plant item : List ℕ) (period : ℕ) (N : Table) (text : List ℕ) (f : TextFault) → IsPegReport plant item period N text → IsPegRefusal plant item period N f → status_of f ≡ 3
+peg_passes plant item period N text fault.NoPair is said = absurd (said.1 is.0 is.1)
+peg_passes plant item period N text fault.NoPeriod is said = absurd (omega (arith, said.1.2, is.2.1))
+peg_passes plant item period N text f is said = sized_passes N f is.2.0 said
+
+answer_passes : (choice : Choice) (N : Table) (text : List ℕ) (f : TextFault) → IsAnswer choice N text → IsAnswerRefusal choice N f → status_of f ≡ 3
+answer_passes (Plan workers capacity true) N text f is said = sized_passes N f is.0 said
+answer_passes (Plan workers capacity false) N text f is said = run_passes N f is.0 said
+answer_passes Check N text f is said = sized_passes N f is.0 said
+answer_passes (Peg plant item period) N text f is said = peg_passes plant.now item.now period N text f is said
+answer_passes Cums N text f is said = sized_passes N f is.0 said
+
+-- nor are rows that make a table
+rows_pass : (rows : List (List (List ℕ))) (N : Table) (e : TableFault) (k : TableFaultKind) (above : Type 0) → Reads rows (Ok N) → OfRows k above (Reads rows (Err e)) → table_status_of k ≡ 3
+rows_pass rows N e kind.ReadFault above read said = refl
+rows_pass rows N e kind.Memory above read said = refl
+rows_pass rows N e _ above read said = let same = reads_one_way rows (Ok N) (Err e) read said in absurd (cc)
+
+pub accepted_passes : ReportsExcludeRefusals
+accepted_passes choice bytes text (fault.Table e) is said = rows_pass (records default_config (strip_bom bytes)) is.0 e e.kind _ is.2 said
+accepted_passes choice bytes text fault.Memory is said = refl
+accepted_passes choice bytes text f is said =
+    answer_passes choice is.0 text f is.3 (subst (λ (N : Table). IsAnswerRefusal choice N f) (one_table bytes said.0 is.0 said.2 is.2) said.3)

@@ -1,0 +1,18 @@
+use Rattle.std.proofs.Common.{List, Err, ap, ◌∙◌}
+use Rattle.std.proofs.lemmas.Result.{err_from_is_err_and}
+use Rattle.mrp_lot.specs.One.{PlanRows}
+use Rattle.mrp_plan.specs.Peg.{peg_terms}
+use Rattle.mrp_report.specs.Report.{peg_text}
+use Rattle.mrp_text.specs.Text.{IsPegs}
+use Rattle.mrp_text.proofs.TextFacts.{report-fails}
+use Rattle.mrp_text.proofs.writing.report_pegs.Goals as goal
+
+pub returns-in_err-peg_rows-clause-text : goal.returns-in_err-peg_rows-clause-text
+returns-in_err-peg_rows-clause-text g c =
+    let p = err_from_is_err_and c.from_residual-in_err-peg_rows.result c.from_residual-in_err-peg_rows.ensures.1 in
+    let N = c.args.net.now.network in
+    let terms = c.as_slice.ensures.value ∙ c.in_ok-terms.ensures.terms ∙ ap (λ (plans : List PlanRows). peg_terms N plans c.args.x.0 c.args.period) c.in_ok-plan.ensures.value in
+    rw p.1
+    (report-fails _ _ (peg_text N c.as_slice.result.now) c.in_err-peg_rows.field-0.0 p.0 (IsPegs N c.args.x.0 c.args.period)
+    (c.requires.plannable, c.requires.period, ap (peg_text N) terms) c.in_err-peg_rows.ensures.text
+    (λ same. ap g.W.Write.contents (c.in_err-peg_rows.ensures.untouched (ap Err same))) p.2)

@@ -1,0 +1,24 @@
+-- What holds of the reports and refusals of one text.
+use Rattle.std.specs.Prelude.{◌≡◌, List, ℕ, Some}
+use Rattle.mrp_rows.specs.Table.{Table}
+use Rattle.mrp_words.specs.declared.words.Choice.{Choice}
+use Rattle.mrp_text.specs.declared.fault.TextFault.{TextFault}
+use Rattle.mrp_text.specs.Answer.{IsAnswer, IsAnswerRefusal}
+use Rattle.mrp_text.specs.Fault.{status_of}
+use Rattle.mrp_text.specs.Text.{IsTableOf, IsTextRefusal, OfTable}
+
+-- bytes make one table at most
+abbrev pub BytesMakeOneTable : Type 0
+BytesMakeOneTable = (bytes : List ℕ) (N M : Table) → IsTableOf (Some bytes) N → IsTableOf (Some bytes) M → N ≡ M
+
+-- bytes have one report at most of the kind that is chosen
+abbrev pub ReportsAreOne : Type 0
+ReportsAreOne =
+    (choice : Choice) (bytes a b : List ℕ)
+    → OfTable (Some bytes) (λ N. IsAnswer choice N a) → OfTable (Some bytes) (λ N. IsAnswer choice N b) → a ≡ b
+
+-- where bytes have a report, no fault is theirs but one of the machine
+abbrev pub ReportsExcludeRefusals : Type 0
+ReportsExcludeRefusals =
+    (choice : Choice) (bytes text : List ℕ) (fault : TextFault)
+    → OfTable (Some bytes) (λ N. IsAnswer choice N text) → IsTextRefusal (Some bytes) (IsAnswerRefusal choice) fault → status_of fault ≡ 3

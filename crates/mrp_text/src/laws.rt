@@ -1,0 +1,20 @@
+//! Laws of reports and refusals, each the contract of a function that does nothing.
+
+ghost use Rattle.mrp_text.specs.Laws.{BytesMakeOneTable, ReportsAreOne, ReportsExcludeRefusals};
+
+/// Bytes are those of one table at most.
+pub fn bytes_make_one_table()
+    ensures { BytesMakeOneTable }
+{}
+
+/// Bytes have one report at most of each kind: one plan report, one code report, one cumulative report, and one peg
+/// report of a pair in a period.
+pub fn reports_are_one()
+    ensures { ReportsAreOne }
+{}
+
+/// A text that is accepted is not refused: where bytes have a report of a kind, no fault is theirs when it is asked
+/// for but one of the machine, with status 3.
+pub fn reports_exclude_refusals()
+    ensures { ReportsExcludeRefusals }
+{}
