@@ -97,6 +97,21 @@ force : (form : LaneForm) (es : List Entry) (item : ℕ) (i : FormItem) → IsKn
 force form es item i k =
     ap (λ (n : ℕ). in_force i.opening n es) k.same ∙ ap (λ (n : ℕ). in_force n item es) (sym k.opening)
 
+-- the tests that each record of the item has before its own
+item_asked : (form : LaneForm) (records : List Record) (number n : ℕ) (i : FormItem) → IsKnown form (contents records) n i → (x y : Option BookFault) → x ≡ y
+    → cond (nat_lt number (length records + 1)) (Some fault.Repeated) (cond (nat_lt (length records + 1) number) (Some fault.Gap)
+    (cond (is_closed (contents records)) (Some fault.AfterClose) (cond (is_ended i.item (contents records) || is_other_begun (begun (contents records)) n) (Some fault.AfterItemEnd) x)))
+    ≡ cond (nat_le number (length records)) (Some fault.Repeated) (cond (nat_lt (length records + 1) number) (Some fault.Gap)
+    (cond (is_closed (contents records)) (Some fault.AfterClose) (cond (not (is_some (item_on form n))) (Some fault.NotOnLane)
+    (cond (is_ended n (contents records) || is_other_open form n (contents records)) (Some fault.AfterItemEnd) y))))
+item_asked form records number n i k x y same =
+    let es = contents records in
+    asked _ _ fault.Repeated _ _ (before_next number (length records))
+    (asked _ _ fault.Gap _ _ refl
+    (asked _ _ fault.AfterClose _ _ refl
+    (skipped _ fault.NotOnLane _ _ (on_lane form es n i k)
+    (asked _ _ fault.AfterItemEnd _ _ (in_turn form es n i k) same))))
+
 -- ---- records of each kind
 
 line_first : (form : LaneForm) (records : List Record) (number : ℕ) (item : ItemNo) (p q c : ℕ) (i : FormItem) → IsKnown form (contents records) item.0 i
@@ -117,16 +132,12 @@ line_first form records number item p q c i k =
     ap (λ (m : ℕ). cond (was_reset m es) (not (is_anew i.reset p)) (is_anew i.reset p)) k.same
     ∙ ap (λ (o : Option ℕ). cond (was_reset n es) (not (is_anew o p)) (is_anew o p)) (sym k.reset)
     ∙ wrong_side (was_reset n es) (is_anew (reset_of form n) p) in
-    asked _ _ fault.Repeated _ _ (before_next number (length records))
-    (asked _ _ fault.Gap _ _ refl
-    (asked _ _ fault.AfterClose _ _ refl
-    (skipped _ fault.NotOnLane _ _ (on_lane form es n i k)
-    (asked _ _ fault.AfterItemEnd _ _ (in_turn form es n i k)
+    item_asked form records number n i k _ _
     (asked _ _ fault.PeriodWrong _ _ period
     (asked _ _ fault.QuantityZero _ _ refl
     (asked _ _ fault.CumWrong _ _ cum
     (asked _ _ fault.TooLarge _ _ large
-    (asked _ _ fault.ResetWrong _ _ side refl)))))))))
+    (asked _ _ fault.ResetWrong _ _ side refl)))))
 
 end_first : (form : LaneForm) (records : List Record) (number : ℕ) (item : ItemNo) (m c : ℕ) (i : FormItem) → IsKnown form (contents records) item.0 i
     → first_of (number_tests (figures form records) number ++ with_item (Some (figure_of (contents records) i)) (begun (contents records)) item.0 (end_tests number m c))
@@ -139,14 +150,10 @@ end_first form records number item m c i k =
     ∙ ap (λ (j : ℕ). not (m == line_count n es) || not (c == j)) (force form es n i k) in
     let missing : (is_some i.reset && not (was_reset i.item es)) ≡ (is_some (reset_of form n) && not (was_reset n es)) =
     ap (λ (j : ℕ). is_some i.reset && not (was_reset j es)) k.same ∙ ap (λ (o : Option ℕ). is_some o && not (was_reset n es)) (sym k.reset) in
-    asked _ _ fault.Repeated _ _ (before_next number (length records))
-    (asked _ _ fault.Gap _ _ refl
-    (asked _ _ fault.AfterClose _ _ refl
-    (skipped _ fault.NotOnLane _ _ (on_lane form es n i k)
-    (asked _ _ fault.AfterItemEnd _ _ (in_turn form es n i k)
+    item_asked form records number n i k _ _
     (asked _ _ fault.TooLarge _ _ (or_false (nat_lt MOST number))
     (asked _ _ fault.EndWrong _ _ end
-    (asked _ _ fault.ResetWrong _ _ missing refl)))))))
+    (asked _ _ fault.ResetWrong _ _ missing refl)))
 
 reset_first : (form : LaneForm) (records : List Record) (number : ℕ) (item : ItemNo) (c : ℕ) (i : FormItem) → IsKnown form (contents records) item.0 i
     → first_of (number_tests (figures form records) number ++ with_item (Some (figure_of (contents records) i)) (begun (contents records)) item.0 (reset_tests number c))
@@ -160,13 +167,9 @@ reset_first form records number item c i k =
     ∙ ap (λ (j : ℕ). not (is_some (reset_of form n)) || (was_reset j es || not (c == in_force i.opening i.item es))) k.same
     ∙ ap (λ (j : ℕ). not (is_some (reset_of form n)) || (was_reset n es || not (c == j))) (force form es n i k)
     ∙ or_grouped (not (is_some (reset_of form n))) (was_reset n es) (not (c == in_force (opening_of form n) n es)) in
-    asked _ _ fault.Repeated _ _ (before_next number (length records))
-    (asked _ _ fault.Gap _ _ refl
-    (asked _ _ fault.AfterClose _ _ refl
-    (skipped _ fault.NotOnLane _ _ (on_lane form es n i k)
-    (asked _ _ fault.AfterItemEnd _ _ (in_turn form es n i k)
+    item_asked form records number n i k _ _
     (asked _ _ fault.TooLarge _ _ (or_false (nat_lt MOST number))
-    (asked _ _ fault.ResetWrong _ _ wrong refl))))))
+    (asked _ _ fault.ResetWrong _ _ wrong refl))
 
 close_first : (form : LaneForm) (records : List Record) (number : ℕ) → first_fault (figures form records) (Close number) ≡ first_had form records (Close number)
 close_first form records number =

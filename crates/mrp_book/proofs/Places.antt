@@ -56,17 +56,24 @@ first_of-err (x ∷ xs) ys f e =
           rw other (first_of-err xs ys f later)
     ]
 
-pub first_of-ok : (xs ys : List Test) → first_of xs ≡ None → first_of (xs ++ ys) ≡ first_of ys
-first_of-ok [] ys e = refl
-first_of-ok (x ∷ xs) ys e =
+-- where no test holds, neither the first nor a later one does
+pub first_passed : (x : Test) (xs : List Test) → first_of (x ∷ xs) ≡ None → (x.holds ≡ false) × (first_of xs ≡ None)
+first_passed x xs e =
     elim (cases_Bool x.holds) [
       | inl here ↦
           let is : Some x.fault ≡ None = rw here at e in
           absurd (cc is)
       | inr other ↦
           let later : first_of xs ≡ None = rw other at e in
-          rw other (first_of-ok xs ys later)
+          (other, later)
     ]
+
+pub first_of-ok : (xs ys : List Test) → first_of xs ≡ None → first_of (xs ++ ys) ≡ first_of ys
+first_of-ok [] ys e = refl
+first_of-ok (x ∷ xs) ys e =
+    let passed = first_passed x xs e in
+    let other = passed.0 in
+    rw other (first_of-ok xs ys passed.1)
 
 pub not_on_lane : (items : List ItemFigure) (begun : Option ℕ) (item : ℕ) → position (λ g. g.item.0 == item) items ≡ None
     → (tests : ItemFigure → List Test) → first_of (with_item (find_item items item) begun item tests) ≡ Some fault.NotOnLane

@@ -1,8 +1,8 @@
 -- What the checks of a record say of its first fault, and what booking it keeps.
-use Rattle.std.proofs.Common.{◌≡◌, ℕ, ◌+◌, ◌<◌, ◌≤◌, ◌==◌, false, Ok, Some, None, Option, List, [], ◌∷◌, ◌++◌, inl, inr, refl, sym, ◌∙◌, ap, subst, length, map, get_or, set, zero, suc, arith}
+use Rattle.std.proofs.Common.{◌≡◌, ℕ, ◌+◌, ◌<◌, ◌≤◌, ◌==◌, false, Ok, Some, None, Option, List, [], ◌∷◌, ◌++◌, refl, sym, ◌∙◌, ap, subst, length, map, get_or, set, zero, suc, arith}
 use Rattle.std.specs.Prelude.{slice_get, nat_lt}
 use Rattle.std.specs.List.{All}
-use Rattle.std.proofs.lemmas.Bool.{cases_Bool, not-false, eqb-true, ltb-false, or_parts}
+use Rattle.std.proofs.lemmas.Bool.{not-false, eqb-true, ltb-false, or_parts}
 use Rattle.std.proofs.lemmas.List.Elements.{All-set, All-weaker, All-get_or}
 use Rattle.std.proofs.lemmas.Option.{get_or_from_slice_get, slice_get_read}
 use Rattle.mrp_qty.specs.declared.quantity.TheConstants.{MOST}
@@ -12,7 +12,7 @@ use Rattle.mrp_book.specs.declared.item.ItemFigure.{ItemFigure}
 use Rattle.mrp_book.specs.After.{at_item, with_line, with_end, with_reset, IsBook, IsWithin}
 use Rattle.mrp_book.specs.Faults.{Test, first_of, number_tests, with_item, find_item, line_tests, end_tests, reset_tests, IsInTurn}
 use Rattle.mrp_book.specs.Figures.{Figures}
-use Rattle.mrp_book.proofs.Places.{first_of-ok, changed_at, shown_at}
+use Rattle.mrp_book.proofs.Places.{first_passed, first_of-ok, changed_at, shown_at}
 
 -- no test of a table holds
 abbrev pub NoneHolds : List Test → Type 0
@@ -22,14 +22,8 @@ NoneHolds (t ∷ ts) = (t.holds ≡ false) × NoneHolds ts
 pub none_holds : (ts : List Test) → first_of ts ≡ None → NoneHolds ts
 none_holds [] e = tt
 none_holds (t ∷ ts) e =
-    elim (cases_Bool t.holds) [
-      | inl here ↦
-          let is : Some t.fault ≡ None = rw here at e in
-          absurd (cc is)
-      | inr other ↦
-          let later : first_of ts ≡ None = rw other at e in
-          (other, none_holds ts later)
-    ]
+    let passed = first_passed t ts e in
+    (passed.0, none_holds ts passed.1)
 
 -- ---- a book with one item changed
 

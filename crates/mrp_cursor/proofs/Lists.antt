@@ -1,12 +1,10 @@
 -- Lists by their places.
-use Rattle.std.proofs.Common.{◌≡◌, ℕ, ◌<◌, ◌≤◌, zero, suc, Bool, true, Some, None, List, [], ◌∷◌, ◌++◌, refl, sym, ◌∙◌, ap, length, get_or, map, take, drop, arith}
+use Rattle.std.proofs.Common.{◌≡◌, ℕ, ◌<◌, ◌≤◌, zero, suc, Some, None, List, [], ◌∷◌, ◌++◌, refl, sym, ◌∙◌, ap, length, get_or, map, take, drop, arith}
 use Rattle.std.specs.Prelude.{slice_get}
-use Rattle.std.specs.List.{Contains, list_any, range_with_len}
+use Rattle.std.specs.List.{Contains, range_with_len}
 use Rattle.std.proofs.lemmas.List.{ext_get_or}
 use Rattle.std.proofs.lemmas.List.FromFn.{length-range_with_len, get_or-range_with_len, length-map-range_with_len, get_or-map-range_with_len}
 use Rattle.std.proofs.lemmas.Option.{slice_get_within, get_or_from_slice_get}
-use Rattle.std.proofs.lemmas.List.Folds.{list_any-append}
-use Rattle.std.proofs.lemmas.Bool.{or_left, or_right}
 
 -- ---- the element at a place
 
@@ -30,15 +28,6 @@ pub none_there : {X : Type 0} (xs : List X) (i : ℕ) → slice_get xs i ≡ Non
 none_there [] i e = omega arith
 none_there (y ∷ ys) zero e = absurd (cc)
 none_there (y ∷ ys) (suc i) e = omega (arith, none_there ys i e)
-
-pub still_there : {X : Type 0} (xs ys : List X) (i : ℕ) → i < length xs → slice_get (xs ++ ys) i ≡ slice_get xs i
-still_there [] ys i h = absurd (omega arith)
-still_there (x ∷ xs) ys zero h = refl
-still_there (x ∷ xs) ys (suc i) h = still_there xs ys i (omega arith)
-
-pub at_end : {X : Type 0} (xs : List X) (x : X) → slice_get (xs ++ x ∷ []) (length xs) ≡ Some x
-at_end [] x = refl
-at_end (y ∷ ys) x = at_end ys x
 
 -- ---- members
 
@@ -64,11 +53,3 @@ elements_are {X} d xs n e =
     let f : ℕ → X = λ k. get_or xs k d in
     let sizes : length (map f (range_with_len 0 n)) ≡ n = length-map-range_with_len f 0 n in
     ext_get_or d (map f (range_with_len 0 n)) xs (sizes ∙ sym e) (λ i h. get_or-map-range_with_len f 0 n i i d (omega (arith, sizes)) (omega arith))
-
--- ---- tests of some element
-
-pub any_left : {X : Type 0} (p : X → Bool) (xs ys : List X) → list_any p xs ≡ true → list_any p (xs ++ ys) ≡ true
-any_left p xs ys h = list_any-append p xs ys ∙ or_left (list_any p xs) (list_any p ys) h
-
-pub any_right : {X : Type 0} (p : X → Bool) (xs ys : List X) → list_any p ys ≡ true → list_any p (xs ++ ys) ≡ true
-any_right p xs ys h = list_any-append p xs ys ∙ or_right (list_any p xs) (list_any p ys) h

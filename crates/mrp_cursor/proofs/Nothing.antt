@@ -14,10 +14,11 @@ use Rattle.mrp_record.specs.Text.{Load, block, body, last_figure, IsBeginning}
 use Rattle.mrp_record.proofs.Beginnings.{closed_is_whole, texts_have_one_length, beginnings_are_no_longer, ended_items_are_done}
 use Rattle.mrp_record.proofs.Own.{AllOf-block, own_kept}
 use Rattle.mrp_record.proofs.Running.{length-block}
+use Rattle.mrp_rows.proofs.Lists.{any_left, any_right}
 use Rattle.mrp_cursor.specs.Cursor.{OutFigures, Goods, load_of, blocks}
 use Rattle.mrp_cursor.specs.Laws.{Agrees, IsQueued, MaySend, NoneIsLeft}
 use Rattle.mrp_cursor.specs.Shows.{ShowsSent}
-use Rattle.mrp_cursor.proofs.Lists.{none_there, contains_there, any_left, any_right}
+use Rattle.mrp_cursor.proofs.Lists.{none_there, contains_there}
 use Rattle.mrp_cursor.proofs.Texts.{sizes_are, blocks_there, load_at, later_blocks, whole_text, open_text}
 
 -- all queued blocks were sent

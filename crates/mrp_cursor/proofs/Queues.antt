@@ -12,11 +12,12 @@ use Rattle.std.proofs.lemmas.List.Sorted.{Contains-permutation, IsPermutation-mo
 use Rattle.mrp_record.specs.declared.record.Record.{Record}
 use Rattle.mrp_record.specs.Entries.{Entry}
 use Rattle.mrp_record.specs.Text.{block}
+use Rattle.mrp_rows.proofs.Lists.{slice_get-append}
 use Rattle.mrp_cursor.specs.Cursor.{OutFigures, IsQueue, Goods, load_of, blocks, unsent}
 use Rattle.mrp_cursor.specs.Laws.{QueuesShow, LooksAtQueued}
 use Rattle.mrp_cursor.specs.Next.{queued}
 use Rattle.mrp_cursor.specs.Shows.{ShowsSent, IsPart}
-use Rattle.mrp_cursor.proofs.Lists.{still_there, contains_there, range_has, Contains-first, Contains-rest}
+use Rattle.mrp_cursor.proofs.Lists.{contains_there, range_has, Contains-first, Contains-rest}
 use Rattle.mrp_cursor.proofs.Parts.{part_fresh, part_fresh_at}
 use Rattle.mrp_cursor.proofs.Texts.{sizes_are}
 
@@ -45,7 +46,7 @@ push_shows goods o sent place h later room =
       text = h.text ∙ ap (λ (z : List ℕ). blocks goods z ++ h.part) (sym (take-append-le o.head o.queue (place ∷ []) h.head));
       within = λ is_open other there.
           elim (cases_lt o.head (length o.queue)) [
-            | inl before ↦ h.within is_open other (sym (still_there o.queue (place ∷ []) o.head before) ∙ there)
+            | inl before ↦ h.within is_open other (sym (slice_get-append o.queue (place ∷ []) o.head before) ∙ there)
             | inr beyond ↦
                 let all : o.head ≡ length o.queue = omega (arith, h.head) in
                 let between = h.between is_open all in

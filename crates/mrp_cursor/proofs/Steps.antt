@@ -16,7 +16,7 @@ use Rattle.mrp_cursor.specs.declared.remainder.Due.TheVariants.{Moving, Restarti
 use Rattle.mrp_cursor.specs.declared.remainder.NextLine.{NextLine}
 use Rattle.mrp_cursor.specs.declared.remainder.Remainder.{Remainder}
 use Rattle.mrp_cursor.specs.Cursor.{OutFigures, Goods, load_of, blocks}
-use Rattle.mrp_cursor.specs.Laws.{Agrees, IsBounded, IsQueued, MaySend, GivenContinues, StepsKeepPlaces, StepsShow}
+use Rattle.mrp_cursor.specs.Laws.{IsSmall, Agrees, IsBounded, IsQueued, MaySend, GivenContinues, StepsKeepPlaces, StepsShow}
 use Rattle.mrp_cursor.specs.Next.{IsNext, IsRemainder, IsLeft, due, added, figure_said, record_due, next_record, stepped_by, stepped}
 use Rattle.mrp_cursor.specs.Shows.{ShowsSent, IsPart, figure_at, reset_at}
 use Rattle.mrp_cursor.proofs.Dues.{line_is_due, reset_is_due, end_is_due, reset_is_next}
@@ -106,49 +106,6 @@ further_in_block goods o sent place r entry mark lines moved anew h small at num
       after = λ closed. absurd (both_ways o.closed (open_there goods o sent place h at) closed);
     }
 
-after_line : (goods : ℕ → Goods) (o : OutFigures) (sent : List Record) (place : ℕ) (left : Remainder) (line : NextLine)
-    → ShowsSent goods o sent → IsBounded goods o → slice_get o.queue o.head ≡ Some place → IsRemainder (goods place) o.mark left → due o.anew left ≡ Moving line
-    → ShowsSent goods (stepped_by o (Moving line)) (sent ++ record_due o left (Moving line) ∷ [])
-after_line goods o sent place left line h small at rest what =
-    let g = goods place in
-    let is_open = open_there goods o sent place h at in
-    let part = h.within is_open place at in
-    let facts = line_is_due o.anew left.reset left.line line what in
-    let delivery : Delivery = record { period = line.period; quantity = line.quantity } in
-    let next : g.from o.mark ≡ delivery ∷ g.from line.after = subst (IsNext g.from o.mark) facts.0 rest.line in
-    let side : is_anew (reset_at o.anew g.reset) line.period ≡ false = subst (λ (z : Option ℕ). is_anew (reset_at o.anew z) line.period ≡ false) rest.reset facts.1 in
-    let bounds = small.head place at in
-    let pieces : o.moved + (line.quantity + total (g.from line.after)) ≤ total (g.from 0) = omega (arith, part.pieces, ap total next, total-cons delivery (g.from line.after)) in
-    let count : suc (length (g.from line.after)) ≡ length (g.from o.mark) = sym (ap length next) in
-    let lines : added o.lines 1 ≡ o.lines + 1 = added_is o.lines 1 (omega (arith, part.lines, bounds.lines, count)) in
-    let moved : added o.moved line.quantity ≡ o.moved + line.quantity = added_is o.moved line.quantity (omega (arith, bounds.figures, pieces)) in
-    let entry = LineOf g.item line.period line.quantity (figure_at o.anew o.moved g.opening + line.quantity) in
-    let r = record_due o left (Moving line) in
-    let said : content r ≡ entry =
-    line_said o.anew o.moved line.quantity left.opening g.opening g.item left.item.0 line.period rest.item rest.opening (omega (arith, bounds.figures, pieces)) in
-    let grown = part_line g o.mark line.after o.lines o.moved o.anew h.part delivery part next side in
-    let grown_there : IsPart g line.after (added o.lines 1) (added o.moved line.quantity) o.anew (h.part ++ entry ∷ []) =
-    subst (λ (m : ℕ). IsPart g line.after m (added o.moved line.quantity) o.anew (h.part ++ entry ∷ [])) (sym lines)
-    (subst (λ (m : ℕ). IsPart g line.after (o.lines + 1) m o.anew (h.part ++ entry ∷ [])) (sym moved) grown) in
-    further_in_block goods o sent place r entry line.after (added o.lines 1) (added o.moved line.quantity) o.anew h small at refl said grown_there
-
-after_reset : (goods : ℕ → Goods) (o : OutFigures) (sent : List Record) (place : ℕ) (left : Remainder)
-    → ShowsSent goods o sent → IsBounded goods o → slice_get o.queue o.head ≡ Some place → IsRemainder (goods place) o.mark left → due o.anew left ≡ Restarting
-    → ShowsSent goods (stepped_by o Restarting) (sent ++ record_due o left Restarting ∷ [])
-after_reset goods o sent place left h small at rest what =
-    let g = goods place in
-    let is_open = open_there goods o sent place h at in
-    let facts = reset_is_due o.anew left.reset left.line what in
-    let part = subst (λ (b : Bool). IsPart g o.mark o.lines o.moved b h.part) facts.0 (h.within is_open place at) in
-    let next = reset_is_next g.from o.mark left.reset left.line rest.line facts.1 in
-    let bounds = small.head place at in
-    let entry = ResetOf g.item (g.opening + o.moved) in
-    let r = record_due o left Restarting in
-    let old : content r ≡ ResetOf left.item.0 (figure_said false o.moved left.opening) = ap (λ (b : Bool). ResetOf left.item.0 (figure_said b o.moved left.opening)) facts.0 in
-    let said : content r ≡ entry = old ∙ reset_said o.moved left.opening g.opening g.item left.item.0 rest.item rest.opening (omega (arith, bounds.figures, part.pieces)) in
-    let grown = part_reset g o.mark o.lines o.moved next.0 h.part part (sym rest.reset ∙ next.1) next.2 in
-    further_in_block goods o sent place r entry o.mark o.lines 0 true h small at refl said grown
-
 -- a whole block is one more
 block_more : (goods : ℕ → Goods) (queue : List ℕ) (head place : ℕ) (part : List Entry) (e : Entry) → slice_get queue head ≡ Some place → block (load_of (goods place)) ≡ part ++ e ∷ []
     → blocks goods (take head queue) ++ (part ++ e ∷ []) ≡ blocks goods (take (suc head) queue) ++ []
@@ -159,35 +116,76 @@ block_more goods queue head place part e at is =
     ∙ ap (flat_map f) (sym (take_there queue head place at))
     ∙ sym (append-nil (blocks goods (take (suc head) queue)))
 
-after_end : (goods : ℕ → Goods) (o : OutFigures) (sent : List Record) (place : ℕ) (left : Remainder)
-    → ShowsSent goods o sent → IsBounded goods o → slice_get o.queue o.head ≡ Some place → IsRemainder (goods place) o.mark left → due o.anew left ≡ Ending
-    → ShowsSent goods (stepped_by o Ending) (sent ++ record_due o left Ending ∷ [])
-after_end goods o sent place left h small at rest what =
-    let g = goods place in
-    let is_open = open_there goods o sent place h at in
-    let part = h.within is_open place at in
-    let facts = end_is_due o.anew left.reset left.line what in
-    let none : g.from o.mark ≡ [] = subst (IsNext g.from o.mark) facts.0 rest.line in
-    let bounds = small.head place at in
-    let entry = EndOf g.item o.lines (figure_at o.anew o.moved g.opening) in
-    let r = record_due o left Ending in
-    let said : content r ≡ entry = end_said o.anew o.moved left.opening g.opening g.item left.item.0 o.lines rest.item rest.opening (omega (arith, bounds.figures, part.pieces)) in
-    let whole = part_end g o.mark o.lines o.moved o.anew h.part part none (ap (reset_at o.anew) (sym rest.reset) ∙ facts.1) in
-    let inside = slice_get_within o.queue o.head place at in
-    let head : min (o.head + 1) (length o.queue) ≡ suc o.head = omega (arith, inside) in
-    let text = contents_more sent r (blocks goods (take o.head o.queue)) h.part entry h.text said ∙ block_more goods o.queue o.head place h.part entry at whole in
-    record {
-      numbers = numbers_more 1 sent r h.numbers (omega (arith, h.next));
-      next = next_more o.next sent r h.next small.number;
-      later = h.later;
-      places = h.places;
-      head = omega arith;
-      part = [];
-      text = text ∙ ap (λ (n : ℕ). blocks goods (take n o.queue) ++ []) (sym head);
-      within = λ _ other _. part_fresh (goods other);
-      between = λ _ _. (refl, record { mark = refl; lines = refl; moved = refl; anew = refl });
-      after = λ closed. absurd (both_ways o.closed is_open closed);
-    }
+-- what is left of the item that is sent decides the next record
+module _ (goods : ℕ → Goods) (o : OutFigures) (sent : List Record) (place : ℕ) (left : Remainder)
+    (h : ShowsSent goods o sent) (small : IsBounded goods o) (at : slice_get o.queue o.head ≡ Some place) (rest : IsRemainder (goods place) o.mark left) where
+  abbrev g : Goods
+  g = goods place
+
+  is_open : o.closed ≡ false
+  is_open = open_there goods o sent place h at
+
+  part : IsPart g o.mark o.lines o.moved o.anew h.part
+  part = h.within is_open place at
+
+  bounds : IsSmall g
+  bounds = small.head place at
+
+  after_line : (line : NextLine) → due o.anew left ≡ Moving line → ShowsSent goods (stepped_by o (Moving line)) (sent ++ record_due o left (Moving line) ∷ [])
+  after_line line what =
+      let facts = line_is_due o.anew left.reset left.line line what in
+      let delivery : Delivery = record { period = line.period; quantity = line.quantity } in
+      let next : g.from o.mark ≡ delivery ∷ g.from line.after = subst (IsNext g.from o.mark) facts.0 rest.line in
+      let side : is_anew (reset_at o.anew g.reset) line.period ≡ false = subst (λ (z : Option ℕ). is_anew (reset_at o.anew z) line.period ≡ false) rest.reset facts.1 in
+      let pieces : o.moved + (line.quantity + total (g.from line.after)) ≤ total (g.from 0) = omega (arith, part.pieces, ap total next, total-cons delivery (g.from line.after)) in
+      let count : suc (length (g.from line.after)) ≡ length (g.from o.mark) = sym (ap length next) in
+      let lines : added o.lines 1 ≡ o.lines + 1 = added_is o.lines 1 (omega (arith, part.lines, bounds.lines, count)) in
+      let moved : added o.moved line.quantity ≡ o.moved + line.quantity = added_is o.moved line.quantity (omega (arith, bounds.figures, pieces)) in
+      let entry = LineOf g.item line.period line.quantity (figure_at o.anew o.moved g.opening + line.quantity) in
+      let r = record_due o left (Moving line) in
+      let said : content r ≡ entry =
+      line_said o.anew o.moved line.quantity left.opening g.opening g.item left.item.0 line.period rest.item rest.opening (omega (arith, bounds.figures, pieces)) in
+      let grown = part_line g o.mark line.after o.lines o.moved o.anew h.part delivery part next side in
+      let grown_there : IsPart g line.after (added o.lines 1) (added o.moved line.quantity) o.anew (h.part ++ entry ∷ []) =
+      subst (λ (m : ℕ). IsPart g line.after m (added o.moved line.quantity) o.anew (h.part ++ entry ∷ [])) (sym lines)
+      (subst (λ (m : ℕ). IsPart g line.after (o.lines + 1) m o.anew (h.part ++ entry ∷ [])) (sym moved) grown) in
+      further_in_block goods o sent place r entry line.after (added o.lines 1) (added o.moved line.quantity) o.anew h small at refl said grown_there
+
+  after_reset : due o.anew left ≡ Restarting → ShowsSent goods (stepped_by o Restarting) (sent ++ record_due o left Restarting ∷ [])
+  after_reset what =
+      let facts = reset_is_due o.anew left.reset left.line what in
+      let part = subst (λ (b : Bool). IsPart g o.mark o.lines o.moved b h.part) facts.0 (h.within is_open place at) in
+      let next = reset_is_next g.from o.mark left.reset left.line rest.line facts.1 in
+      let entry = ResetOf g.item (g.opening + o.moved) in
+      let r = record_due o left Restarting in
+      let old : content r ≡ ResetOf left.item.0 (figure_said false o.moved left.opening) = ap (λ (b : Bool). ResetOf left.item.0 (figure_said b o.moved left.opening)) facts.0 in
+      let said : content r ≡ entry = old ∙ reset_said o.moved left.opening g.opening g.item left.item.0 rest.item rest.opening (omega (arith, bounds.figures, part.pieces)) in
+      let grown = part_reset g o.mark o.lines o.moved next.0 h.part part (sym rest.reset ∙ next.1) next.2 in
+      further_in_block goods o sent place r entry o.mark o.lines 0 true h small at refl said grown
+
+  after_end : due o.anew left ≡ Ending → ShowsSent goods (stepped_by o Ending) (sent ++ record_due o left Ending ∷ [])
+  after_end what =
+      let facts = end_is_due o.anew left.reset left.line what in
+      let none : g.from o.mark ≡ [] = subst (IsNext g.from o.mark) facts.0 rest.line in
+      let entry = EndOf g.item o.lines (figure_at o.anew o.moved g.opening) in
+      let r = record_due o left Ending in
+      let said : content r ≡ entry = end_said o.anew o.moved left.opening g.opening g.item left.item.0 o.lines rest.item rest.opening (omega (arith, bounds.figures, part.pieces)) in
+      let whole = part_end g o.mark o.lines o.moved o.anew h.part part none (ap (reset_at o.anew) (sym rest.reset) ∙ facts.1) in
+      let inside = slice_get_within o.queue o.head place at in
+      let head : min (o.head + 1) (length o.queue) ≡ suc o.head = omega (arith, inside) in
+      let text = contents_more sent r (blocks goods (take o.head o.queue)) h.part entry h.text said ∙ block_more goods o.queue o.head place h.part entry at whole in
+      record {
+        numbers = numbers_more 1 sent r h.numbers (omega (arith, h.next));
+        next = next_more o.next sent r h.next small.number;
+        later = h.later;
+        places = h.places;
+        head = omega arith;
+        part = [];
+        text = text ∙ ap (λ (n : ℕ). blocks goods (take n o.queue) ++ []) (sym head);
+        within = λ _ other _. part_fresh (goods other);
+        between = λ _ _. (refl, record { mark = refl; lines = refl; moved = refl; anew = refl });
+        after = λ closed. absurd (both_ways o.closed is_open closed);
+      }
 
 -- ---- the closing record
 
@@ -228,7 +226,7 @@ after_close goods o sent h small none is_open full =
 after_due : (goods : ℕ → Goods) (o : OutFigures) (sent : List Record) (place : ℕ) (left : Remainder) (what : Due)
     → ShowsSent goods o sent → IsBounded goods o → slice_get o.queue o.head ≡ Some place → IsRemainder (goods place) o.mark left → due o.anew left ≡ what
     → ShowsSent goods (stepped_by o what) (sent ++ record_due o left what ∷ [])
-after_due goods o sent place left (Moving line) h small at rest e = after_line goods o sent place left line h small at rest e
+after_due goods o sent place left (Moving line) h small at rest e = after_line goods o sent place left h small at rest line e
 after_due goods o sent place left Restarting h small at rest e = after_reset goods o sent place left h small at rest e
 after_due goods o sent place left Ending h small at rest e = after_end goods o sent place left h small at rest e
 

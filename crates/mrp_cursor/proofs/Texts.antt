@@ -16,10 +16,11 @@ use Rattle.mrp_record.specs.Entries.{Entry, Closing, content, contents, is_closi
 use Rattle.mrp_record.specs.Text.{Load, block, block_length, IsText}
 use Rattle.mrp_record.proofs.Own.{AllOf-block, none_closing, list_any-append, list_any-front}
 use Rattle.mrp_record.proofs.Running.{length-block}
+use Rattle.mrp_rows.proofs.Lists.{any_right}
 use Rattle.mrp_cursor.specs.Cursor.{OutFigures, Goods, load_of, blocks}
 use Rattle.mrp_cursor.specs.Laws.{Agrees, ShownBegin, ClosedIsShown, ClosedShowsWhole, ShownAreShort, SmallAreBounded, QueuedArePlaces}
 use Rattle.mrp_cursor.specs.Shows.{ShowsSent, left_from, figure_at, reset_at}
-use Rattle.mrp_cursor.proofs.Lists.{contains_there, drop_there, none_there, Contains-first, Contains-rest, elements_are, range_below, any_right}
+use Rattle.mrp_cursor.proofs.Lists.{contains_there, drop_there, none_there, Contains-first, Contains-rest, elements_are, range_below}
 
 -- ---- places
 

@@ -12,12 +12,12 @@ use Rattle.mrp_record.specs.declared.record.Record.{Record}
 use Rattle.mrp_record.specs.Entries.{Entry, Closing, content, contents, is_closing, is_closed}
 use Rattle.mrp_record.specs.Text.{Load, block, text_of, IsBeginning, length_of_text}
 use Rattle.mrp_record.proofs.Beginnings.{beginnings_are_no_longer, texts_have_one_length}
+use Rattle.mrp_rows.proofs.Lists.{any_right}
 use Rattle.mrp_events.specs.declared.event.Event.{Event}
 use Rattle.mrp_events.specs.declared.event.Event.TheVariants.{Send, Receive, Plan}
 use Rattle.mrp_events.specs.Loads.{loads}
 use Rattle.mrp_events.specs.Progress.{unplanned, text_length, left_on, steps_left, RunsBeginWithSteps, EventsAreSteps, NoneIsLeftAtTheEnd}
 use Rattle.mrp_events.specs.State.{State, CanSend, CanTake, CanPlan, changed, after_send, after_take, after_plan, Step, IsFinished, IsReached}
-use Rattle.mrp_events.proofs.Going.{any_right}
 use Rattle.mrp_events.proofs.Keeping.{LaneKeeps, Keeps, keeps, changed_by}
 use Rattle.mrp_events.proofs.Summing.{sum_same, sum_falls, by_number}
 use Rattle.mrp_events.proofs.Ordering.{closed_lanes_are_whole, front_is_legal}

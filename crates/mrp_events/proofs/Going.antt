@@ -21,6 +21,7 @@ use Rattle.mrp_record.proofs.Beginnings.{contents_parts}
 use Rattle.mrp_record.proofs.Loads as record_loads
 use Rattle.mrp_record.proofs.Own.{AllOf, AllOf-block, own_kept}
 use Rattle.mrp_record.proofs.Standing.{IsWithin, stands}
+use Rattle.mrp_rows.proofs.Lists.{any_left, any_right}
 use Rattle.mrp_events.specs.declared.event.Event.{Event}
 use Rattle.mrp_events.specs.declared.event.Event.TheVariants.{Send, Receive}
 use Rattle.mrp_events.specs.Loads.{loads, load_of}
@@ -101,22 +102,6 @@ AllOf_at item (x ∷ xs) ys e h = AllOf_at item xs ys e h.1
 
 ends_append : (item : ℕ) (xs ys : List Entry) → is_ended item (xs ++ ys) ≡ (list_any is_end (entries_of item xs ++ entries_of item ys))
 ends_append item xs ys = ap (list_any is_end) (filter-append (is_of item) xs ys)
-
-pub any_left : (p : Entry → Bool) (xs ys : List Entry) → list_any p xs ≡ true → list_any p (xs ++ ys) ≡ true
-any_left p [] ys h = absurd (false≢true h)
-any_left p (x ∷ xs) ys h = elim (cases_Bool (p x)) [
-  | inl here ↦ rw here refl
-  | inr not_here ↦
-      let later : list_any p xs ≡ true = rw not_here at h in
-      rw not_here (any_left p xs ys later)
-]
-
-pub any_right : (p : Entry → Bool) (xs ys : List Entry) → list_any p ys ≡ true → list_any p (xs ++ ys) ≡ true
-any_right p [] ys h = h
-any_right p (x ∷ xs) ys h = elim (cases_Bool (p x)) [
-  | inl here ↦ rw here refl
-  | inr not_here ↦ rw not_here (any_right p xs ys h)
-]
 
 block_ends : (load : Load) → is_ended load.item (block load) ≡ true
 block_ends load =

@@ -22,12 +22,12 @@ use Rattle.mrp_loops.proofs.Edges.{HasEdge-from_in, HasEdge-pairs}
 use Rattle.mrp_loops.proofs.OnePlan.{one_plan}
 use Rattle.mrp_record.specs.declared.record.Record.{Record}
 use Rattle.mrp_record.specs.Entries.{Entry, content, contents, entries_of, is_end, is_ended, is_of}
+use Rattle.mrp_rows.proofs.Lists.{any_left}
 use Rattle.mrp_events.specs.declared.event.Event.{Event}
 use Rattle.mrp_events.specs.declared.event.Event.TheVariants.{Send, Receive, Plan}
 use Rattle.mrp_events.specs.Local.{local_incoming, local_gross, AreLegal, PlannedAreReady, AreLocal, LocalPlansAreThePlan, ReachedPlansAreThePlan}
 use Rattle.mrp_events.specs.State.{State, opening_state, IsReady, changed, Step, Run}
 use Rattle.mrp_events.proofs.Bringing.{despatches_bring_incoming, schedules_bring_gross, same_where}
-use Rattle.mrp_events.proofs.Going.{any_left}
 use Rattle.mrp_events.proofs.Keeping.{changed_by}
 use Rattle.mrp_events.proofs.Ordering.{lanes_keep_order}
 

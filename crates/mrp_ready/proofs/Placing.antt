@@ -108,6 +108,11 @@ ArePlaced-exchange numbers places slots begin end i j first last are in_i in_j r
 abbrev none : PairNo
 none = record { 0 = 0 }
 
+-- the number of a place goes along with its slot
+goes_along : (old new : ℕ → PairNo) (olds news : List ℕ) (z k m n : ℕ) → z ≡ k → get_or news k 0 ≡ m → new m ≡ old n → get_or olds k 0 ≡ n → new (get_or news z 0) ≡ old (get_or olds z 0)
+goes_along old new olds news z k m n e now moved before =
+    ap (λ (w : ℕ). new (get_or news w 0)) e ∙ ap new now ∙ moved ∙ ap old (sym before) ∙ ap (λ (w : ℕ). old (get_or olds w 0)) (sym e)
+
 -- each place keeps its number
 pub numbers-exchange : (numbers : List PairNo) (places slots : List ℕ) (begin end i j : ℕ) → ArePlaced numbers places slots begin end → i < length slots → j < length slots → map (number_at (swap numbers i j)) (slots_after places slots i j) ≡ map (number_at numbers) slots
 numbers-exchange numbers places slots begin end i j are in_i in_j =
@@ -122,19 +127,9 @@ numbers-exchange numbers places slots begin end i j are in_i in_j =
     let within : z < length slots = omega (arith, first_size) in
     get_or-map (number_at (swap numbers i j)) (slots_after places slots i j) z 0 none (omega (arith, size))
     ∙ (elim (cases_eq z y) as (λ _. number_at (swap numbers i j) (get_or (slots_after places slots i j) z 0) ≡ number_at numbers (get_or slots z 0)) [
-      | inl e ↦
-          ap (λ (w : ℕ). number_at (swap numbers i j) (get_or (slots_after places slots i j) w 0)) e
-          ∙ ap (number_at (swap numbers i j)) is.slot_of_second
-          ∙ swaps.0
-          ∙ ap (number_at numbers) (sym (are.slot_of j in_j))
-          ∙ ap (λ (w : ℕ). number_at numbers (get_or slots w 0)) (sym e)
+      | inl e ↦ goes_along (number_at numbers) (number_at (swap numbers i j)) slots (slots_after places slots i j) z y _ _ e is.slot_of_second swaps.0 (are.slot_of j in_j)
       | inr not_y ↦ elim (cases_eq z x) as (λ _. number_at (swap numbers i j) (get_or (slots_after places slots i j) z 0) ≡ number_at numbers (get_or slots z 0)) [
-        | inl e ↦
-            ap (λ (w : ℕ). number_at (swap numbers i j) (get_or (slots_after places slots i j) w 0)) e
-            ∙ ap (number_at (swap numbers i j)) is.slot_of_first
-            ∙ swaps.1
-            ∙ ap (number_at numbers) (sym (are.slot_of i in_i))
-            ∙ ap (λ (w : ℕ). number_at numbers (get_or slots w 0)) (sym e)
+        | inl e ↦ goes_along (number_at numbers) (number_at (swap numbers i j)) slots (slots_after places slots i j) z x _ _ e is.slot_of_first swaps.1 (are.slot_of i in_i)
         | inr not_x ↦
             ap (number_at (swap numbers i j)) (is.other_slots z not_x not_y)
             ∙ swaps.2 (get_or slots z 0) (other_slot numbers places slots begin end i z are within not_x) (other_slot numbers places slots begin end j z are within not_y)

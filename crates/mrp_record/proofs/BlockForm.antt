@@ -14,6 +14,16 @@ use Rattle.mrp_record.specs.Text.{Load, total, running, early, late, block}
 use Rattle.mrp_record.proofs.Running.{early-append-late, running_unended}
 use Rattle.mrp_record.proofs.Tallies.{Tally, after, tally, start, LineGoesOn, EndGoesOn, ResetGoesOn, OwnForm, figure_is, closed_is, lines_is, next_is, anew_is, ended_is}
 
+-- ---- totals
+
+-- each line moves something
+pub length_within : (lines : List Delivery) → All (λ line. 1 ≤ line.quantity) lines → length lines ≤ total lines
+length_within [] some = omega arith
+length_within (line ∷ lines) some =
+    let P = λ (d : Delivery). 1 ≤ d.quantity in
+    let first : 1 ≤ line.quantity = All-head P line lines some in
+    omega (arith, sum_by-cons (λ (d : Delivery). d.quantity) line lines, first, length_within lines (All-tail P line lines some))
+
 -- ---- running totals
 
 pub figure_running : (item first figure : ℕ) (lines : List Delivery) → fold figure_after figure (running item first lines) ≡ figure + total lines

@@ -1,28 +1,17 @@
 -- The items of a lane, each once.
-use Rattle.std.proofs.Common.{◌≡◌, ℕ, ◌+◌, ◌<◌, ◌≤◌, ◌==◌, Bool, true, false, cond, zero, suc, Some, List, [], ◌∷◌, ◌++◌, inl, inr, refl, sym, ◌∙◌, ap, length, get_or, arith}
-use Rattle.std.specs.List.{All, AllByRecursion, Contains, IsDistinct, find, count_by, list_any}
+use Rattle.std.proofs.Common.{◌≡◌, ℕ, ◌+◌, ◌<◌, ◌==◌, Bool, true, false, cond, zero, suc, Some, List, [], ◌∷◌, ◌++◌, inl, inr, refl, sym, ◌∙◌, ap, length, get_or, arith}
+use Rattle.std.specs.List.{All, AllByRecursion, Contains, IsDistinct, find, list_any}
 use Rattle.std.specs.List.Sorted.{IsPermutation}
-use Rattle.std.proofs.lemmas.Bool.{cases_Bool, eq-eqb, eqb-true, eqb-false, ne_eqb, false≢true, cond-true, cond-false, or_parts}
+use Rattle.std.proofs.lemmas.Bool.{cases_Bool, eqb-true, eqb-false, ne_eqb, false≢true, or_parts}
 use Rattle.std.proofs.lemmas.List.Elements.{All-nil, All-cons, All-contains, All-from_recursion}
-use Rattle.std.proofs.lemmas.List.Sums.{sum_by-cons, sum_by-append}
+use Rattle.std.proofs.lemmas.List.Sums.{sum_by-append}
 use Rattle.std.proofs.lemmas.List.Sorted.{sum_by-IsPermutation}
 use Rattle.mrp_record.specs.Form.{FormItem}
 use Rattle.mrp_record.specs.Laws.{is_same_form_item}
+use Rattle.mrp_record.proofs.Once as once
+use Rattle.mrp_record.proofs.Once.{key_count}
 
 -- ---- an item that is found
-
-pub item_is : (items : List FormItem) (item : ℕ) (i : FormItem) → find (λ j. j.item == item) items ≡ Some i → i.item ≡ item
-item_is [] item i e = absurd (cc)
-item_is (j ∷ items) item i e =
-    elim (cases_Bool (j.item == item)) [
-      | inl here ↦
-          let some : Some j ≡ Some i = rw here at e in
-          let one : j ≡ i = cc in
-          ap (λ (z : FormItem). z.item) (sym one) ∙ eqb-true j.item item here
-      | inr other ↦
-          let later : find (λ (j : FormItem). j.item == item) items ≡ Some i = rw other at e in
-          item_is items item i later
-    ]
 
 contains_first : {X : Type 0} (x y : X) (xs : List X) → x ≡ y → Contains (x ∷ xs) y
 contains_first x y xs e = (0, (omega arith), e)
@@ -30,18 +19,26 @@ contains_first x y xs e = (0, (omega arith), e)
 contains_later : {X : Type 0} (x y : X) (xs : List X) → Contains xs y → Contains (x ∷ xs) y
 contains_later x y xs h = (suc h.0, (omega (arith, h.1)), h.2)
 
-pub found_in : (items : List FormItem) (item : ℕ) (i : FormItem) → find (λ j. j.item == item) items ≡ Some i → Contains items i
-found_in [] item i e = absurd (cc)
-found_in (j ∷ items) item i e =
+-- the item that is found has the number and is one of the items
+found : (items : List FormItem) (item : ℕ) (i : FormItem) → find (λ j. j.item == item) items ≡ Some i → (i.item ≡ item) × Contains items i
+found [] item i e = absurd (cc)
+found (j ∷ items) item i e =
     elim (cases_Bool (j.item == item)) [
       | inl here ↦
           let some : Some j ≡ Some i = rw here at e in
           let one : j ≡ i = cc in
-          contains_first j i items one
+          (ap (λ (z : FormItem). z.item) (sym one) ∙ eqb-true j.item item here, contains_first j i items one)
       | inr other ↦
           let later : find (λ (j : FormItem). j.item == item) items ≡ Some i = rw other at e in
-          contains_later j i items (found_in items item i later)
+          let rest = found items item i later in
+          (rest.0, contains_later j i items rest.1)
     ]
+
+pub item_is : (items : List FormItem) (item : ℕ) (i : FormItem) → find (λ j. j.item == item) items ≡ Some i → i.item ≡ item
+item_is items item i e = (found items item i e).0
+
+pub found_in : (items : List FormItem) (item : ℕ) (i : FormItem) → find (λ j. j.item == item) items ≡ Some i → Contains items i
+found_in items item i e = (found items item i e).1
 
 pub none_at : {X : Type 0} (p : X → Bool) (xs : List X) → list_any p xs ≡ false → All (λ x. p x ≡ false) xs
 none_at {X} p [] h = All-nil (λ (x : X). p x ≡ false)
@@ -79,54 +76,25 @@ found_self (j ∷ items) i once there =
         false≢true (sym no ∙ same)
 
 abbrev item_count : ℕ → List FormItem → ℕ
-item_count item items = count_by (λ j. j.item == item) items
+item_count item items = key_count (λ i. i.item) item items
 
-count_cons : (item : ℕ) (j : FormItem) (items : List FormItem) → item_count item (j ∷ items) ≡ cond (j.item == item) 1 0 + item_count item items
-count_cons item j items = sum_by-cons (λ (i : FormItem). cond (i.item == item) 1 0) j items
-
-count_own : (item : ℕ) (j : FormItem) (items : List FormItem) → (j.item == item) ≡ true → item_count item (j ∷ items) ≡ suc (item_count item items)
-count_own item j items e =
-    let one = cond-true {A = ℕ} (j.item == item) 1 0 e in
-    omega (arith, count_cons item j items)
-
-count_other : (item : ℕ) (j : FormItem) (items : List FormItem) → (j.item == item) ≡ false → item_count item (j ∷ items) ≡ item_count item items
-count_other item j items e =
-    let none = cond-false {A = ℕ} (j.item == item) 1 0 e in
-    omega (arith, count_cons item j items)
-
-none_after : (item : ℕ) (i : FormItem) (items : List FormItem) → i.item ≡ item → AllByRecursion (λ other. is_same_form_item i other ≡ false) items → item_count item items ≡ 0
-none_after item i [] e h = refl
-none_after item i (other ∷ items) e h =
-    elim (cases_Bool (other.item == item)) [
-      | inl same ↦
-          let back : i.item ≡ other.item = e ∙ sym (eqb-true other.item item same) in
-          absurd (false≢true (sym h.0 ∙ eq-eqb i.item other.item back))
-      | inr apart ↦ count_other item other items apart ∙ none_after item i items e h.1
-    ]
-
-at_most_one : (item : ℕ) (items : List FormItem) → IsDistinct is_same_form_item items → item_count item items ≤ 1
-unfolding IsDistinct
-at_most_one item [] h = omega arith
-at_most_one item (i ∷ items) h =
-    elim (cases_Bool (i.item == item)) [
-      | inl own ↦ omega (arith, count_own item i items own, none_after item i items (eqb-true i.item item own) h.0)
-      | inr apart ↦ omega (arith, count_other item i items apart, at_most_one item items h.1)
-    ]
+count_own : (item : ℕ) (j : FormItem) (items : List FormItem) → j.item ≡ item → item_count item (j ∷ items) ≡ suc (item_count item items)
+count_own = once.count_own (λ i. i.item)
 
 none_counted : (item : ℕ) (items : List FormItem) → item_count item items ≡ 0 → All (λ j. (item == j.item) ≡ false) items
 none_counted item [] h = All-nil (λ (j : FormItem). (item == j.item) ≡ false)
 none_counted item (j ∷ items) h =
     elim (cases_Bool (j.item == item)) [
-      | inl own ↦ absurd (omega (arith, count_own item j items own))
+      | inl own ↦ absurd (omega (arith, count_own item j items (eqb-true j.item item own)))
       | inr apart ↦
           All-cons (λ (k : FormItem). (item == k.item) ≡ false) j items (ne_eqb item j.item (λ e. eqb-false j.item item apart (sym e)))
-          (none_counted item items (sym (count_other item j items apart) ∙ h))
+          (none_counted item items (sym (once.count_other (λ i. i.item) item j items apart) ∙ h))
     ]
 
 -- after an item in any order of the items the others are apart from it
 pub apart_after : (items done todo : List FormItem) (i : FormItem) → IsDistinct is_same_form_item items → IsPermutation items (done ++ i ∷ todo) → All (λ j. (i.item == j.item) ≡ false) todo
-apart_after items done todo i once order =
-    let few = at_most_one i.item items once in
+apart_after items done todo i distinct order =
+    let few = once.at_most_one (λ i. i.item) i.item items distinct in
     let same = sum_by-IsPermutation (λ (j : FormItem). cond (j.item == i.item) 1 0) items (done ++ i ∷ todo) order in
     let parts = sum_by-append (λ (j : FormItem). cond (j.item == i.item) 1 0) done (i ∷ todo) in
-    none_counted i.item todo (omega (arith, few, same, parts, count_own i.item i todo (eq-eqb i.item i.item refl)))
+    none_counted i.item todo (omega (arith, few, same, parts, count_own i.item i todo refl))

@@ -17,7 +17,7 @@ use Rattle.mrp_record.specs.Text.{Load, body, block, last_figure, text_of, IsBeg
 use Rattle.mrp_record.proofs.Beginnings.{number_at, contents_parts, fronts_are_beginnings, beginnings_are_no_longer}
 use Rattle.mrp_record.proofs.BlockForm.{block_in_form}
 use Rattle.mrp_record.proofs.Figures.{cum_is_opening_and_moved, moved_within}
-use Rattle.mrp_record.proofs.Loads.{In, In-append, In-from_contains, Contains-from_in, In-permutation, load_count, is_loaded, count_own, at_most_one, count_permuted, item_found, no_block, one_block}
+use Rattle.mrp_record.proofs.Loads.{In, In-append, In-from_contains, Contains-from_in, In-permutation, load_count, count_own, at_most_one, count_permuted, item_found, no_block, one_block}
 use Rattle.mrp_record.proofs.Own.{AllOf, AllOf-block, AllOf-front, own_kept, others_left, none_closing, list_any-append}
 use Rattle.mrp_record.proofs.Standing.{IsWithin, stands}
 use Rattle.mrp_record.proofs.Tallies.{tally, start, OwnForm, OwnGoesOn, own_at, figure_is, closed_is, lines_is, next_is, anew_is, ended_is}
@@ -159,7 +159,7 @@ placed loads once order permuted entries rest w =
     let few = at_most_one w.load.item loads once in
     let here : In w.load order = subst (In w.load) (sym w.order_is) (In-append w.load w.done (w.load ∷ w.todo) (inl refl)) in
     let counts : load_count w.load.item order ≡ load_count w.load.item w.done + load_count w.load.item (w.load ∷ w.todo) =
-    ap (load_count w.load.item) w.order_is ∙ sum_by-append (λ (l : Load). cond (is_loaded w.load.item l) 1 0) w.done (w.load ∷ w.todo) in
+    ap (load_count w.load.item) w.order_is ∙ sum_by-append (λ (l : Load). cond (l.item == w.load.item) 1 0) w.done (w.load ∷ w.todo) in
     record {
       among = In-permutation w.load order loads (IsPermutation-sym loads order permuted) here;
       few = few;

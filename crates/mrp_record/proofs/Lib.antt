@@ -7,6 +7,7 @@ pub mod Forming
 pub mod Fronts
 pub mod Growing
 pub mod Loads
+pub mod Once
 pub mod Orders
 pub mod Own
 pub mod OwnFronts

@@ -1,39 +1,31 @@
 -- The loads of a lane: each item has one, and the records of an item are those of its block.
-use Rattle.std.proofs.Common.{◌≡◌, ℕ, ◌+◌, ◌<◌, ◌≤◌, ◌==◌, Bool, true, false, cond, zero, suc, Some, List, [], ◌∷◌, ◌++◌, ◌⊎◌, inl, inr, refl, sym, ◌∙◌, ap, subst, length, get_or, map, arith}
-use Rattle.std.specs.List.{Contains, IsDistinct, AllByRecursion, flat_map, count_by, find}
+use Rattle.std.proofs.Common.{◌≡◌, ℕ, ◌+◌, ◌<◌, ◌≤◌, ◌==◌, true, false, cond, zero, suc, Some, List, [], ◌∷◌, ◌++◌, ◌⊎◌, inl, inr, refl, sym, ◌∙◌, ap, subst, length, get_or, map, arith}
+use Rattle.std.specs.List.{Contains, flat_map, find}
 use Rattle.std.specs.List.Sorted.{IsPermutation}
-use Rattle.std.proofs.lemmas.Bool.{eq-eqb, eqb-true, cases_Bool, false≢true, cond-true, cond-false}
+use Rattle.std.proofs.lemmas.Bool.{eq-eqb, eqb-true, cases_Bool}
 use Rattle.std.proofs.lemmas.List.{append-nil}
 use Rattle.std.proofs.lemmas.List.Elements.{filter-append}
-use Rattle.std.proofs.lemmas.List.Sums.{sum_by-cons}
 use Rattle.std.proofs.lemmas.List.Sorted.{sum_by-IsPermutation, Contains-permutation}
 use Rattle.mrp_record.specs.Entries.{Entry, Closing, is_of, entries_of}
 use Rattle.mrp_record.specs.Form.{FormItem}
-use Rattle.mrp_record.specs.Laws.{is_same_item, AreLoads, form_item}
+use Rattle.mrp_record.specs.Laws.{AreLoads, form_item}
 use Rattle.mrp_record.specs.Text.{Load, block, text_of}
+use Rattle.mrp_record.proofs.Once as once
+use Rattle.mrp_record.proofs.Once.{key_count}
 use Rattle.mrp_record.proofs.Own.{AllOf-block, own_kept, others_left}
-
--- whether the load is the item's
-abbrev pub is_loaded : ℕ → Load → Bool
-is_loaded item load = load.item == item
 
 -- how many loads an item has
 abbrev pub load_count : ℕ → List Load → ℕ
-load_count item loads = count_by (is_loaded item) loads
+load_count item loads = key_count (λ load. load.item) item loads
 
-pub load_count-cons : (item : ℕ) (load : Load) (loads : List Load) → load_count item (load ∷ loads) ≡ cond (load.item == item) 1 0 + load_count item loads
-load_count-cons item load loads = sum_by-cons (λ (l : Load). cond (is_loaded item l) 1 0) load loads
+load_count-cons : (item : ℕ) (load : Load) (loads : List Load) → load_count item (load ∷ loads) ≡ cond (load.item == item) 1 0 + load_count item loads
+load_count-cons = once.count_cons (λ load. load.item)
 
 pub count_own : (item : ℕ) (load : Load) (loads : List Load) → load.item ≡ item → load_count item (load ∷ loads) ≡ suc (load_count item loads)
-count_own item load loads e =
-    let own : (load.item == item) ≡ true = eq-eqb load.item item e in
-    let one = cond-true {A = ℕ} (load.item == item) 1 0 own in
-    omega (arith, load_count-cons item load loads)
+count_own = once.count_own (λ load. load.item)
 
 pub count_other : (item : ℕ) (load : Load) (loads : List Load) → (load.item == item) ≡ false → load_count item (load ∷ loads) ≡ load_count item loads
-count_other item load loads e =
-    let none = cond-false {A = ℕ} (load.item == item) 1 0 e in
-    omega (arith, load_count-cons item load loads)
+count_other = once.count_other (λ load. load.item)
 
 -- ---- members
 
@@ -72,29 +64,11 @@ count_member load (first ∷ loads) h = elim h [
 
 -- ---- an item has one load
 
-none_after : (item : ℕ) (load : Load) (loads : List Load) → load.item ≡ item → AllByRecursion (λ other. is_same_item load other ≡ false) loads → load_count item loads ≡ 0
-none_after item load [] e h = refl
-none_after item load (other ∷ loads) e h =
-    elim (cases_Bool (other.item == item)) [
-      | inl same ↦
-          let back : load.item ≡ other.item = e ∙ sym (eqb-true other.item item same) in
-          absurd (false≢true (sym h.0 ∙ eq-eqb load.item other.item back))
-      | inr apart ↦ count_other item other loads apart ∙ none_after item load loads e h.1
-    ]
-
 pub at_most_one : (item : ℕ) (loads : List Load) → AreLoads loads → load_count item loads ≤ 1
-unfolding IsDistinct
-at_most_one item [] h = omega arith
-at_most_one item (load ∷ loads) h =
-    elim (cases_Bool (load.item == item)) [
-      | inl own ↦
-          let is : load.item ≡ item = eqb-true load.item item own in
-          omega (arith, count_own item load loads is, none_after item load loads is h.0)
-      | inr apart ↦ omega (arith, count_other item load loads apart, at_most_one item loads h.1)
-    ]
+at_most_one = once.at_most_one (λ load. load.item)
 
 pub count_permuted : (item : ℕ) (loads order : List Load) → IsPermutation loads order → load_count item order ≡ load_count item loads
-count_permuted item loads order h = sum_by-IsPermutation (λ (l : Load). cond (is_loaded item l) 1 0) loads order h
+count_permuted item loads order h = sum_by-IsPermutation (λ (l : Load). cond (l.item == item) 1 0) loads order h
 
 -- the item of a load is found among the items of the lane
 pub item_found : (load : Load) (loads : List Load) → In load loads → load_count load.item loads ≤ 1 → find (λ (i : FormItem). i.item == load.item) (map form_item loads) ≡ Some (form_item load)

@@ -1,5 +1,5 @@
 -- What the records of one item add up to, record by record, and which records an item may have next.
-use Rattle.std.proofs.Common.{◌≡◌, ℕ, ◌+◌, ◌<◌, ◌≤◌, Bool, true, false, cond, ◌||◌, List, [], ◌∷◌, ◌++◌, refl, sym, ◌∙◌, arith}
+use Rattle.std.proofs.Common.{◌≡◌, ℕ, ◌+◌, ◌<◌, ◌≤◌, Bool, true, false, cond, ◌||◌, List, [], ◌∷◌, ◌++◌, refl, sym, ◌∙◌, ap, arith}
 use Rattle.std.specs.Prelude.{is_some}
 use Rattle.std.specs.List.{fold, list_any, sum_by, count_by}
 use Rattle.std.proofs.lemmas.List.Sums.{sum_by-cons}
@@ -30,59 +30,61 @@ start opening = record { figure = opening; closed = 0; lines = 0; next = 0; anew
 
 -- ---- the parts of a tally are those that the definitions name
 
-pub figure_is : (t : Tally) (es : List Entry) → (tally t es).figure ≡ fold figure_after t.figure es
-figure_is t [] = refl
-figure_is t (LineOf i p q c ∷ es) = figure_is (after t (LineOf i p q c)) es
-figure_is t (EndOf i n c ∷ es) = figure_is (after t (EndOf i n c)) es
-figure_is t (ResetOf i c ∷ es) = figure_is (after t (ResetOf i c)) es
-figure_is t (Closing ∷ es) = figure_is t es
+of_each_kind : (P : Entry → Type 0) → ((i p q c : ℕ) → P (LineOf i p q c)) → ((i n c : ℕ) → P (EndOf i n c)) → ((i c : ℕ) → P (ResetOf i c)) → P Closing → (e : Entry) → P e
+of_each_kind P line end reset closing (LineOf i p q c) = line i p q c
+of_each_kind P line end reset closing (EndOf i n c) = end i n c
+of_each_kind P line end reset closing (ResetOf i c) = reset i c
+of_each_kind P line end reset closing Closing = closing
 
-pub closed_is : (t : Tally) (es : List Entry) → (tally t es).closed ≡ t.closed + sum_by closed_of es
-closed_is t [] = omega arith
-closed_is t (LineOf i p q c ∷ es) = omega (arith, closed_is (after t (LineOf i p q c)) es, sum_by-cons closed_of (LineOf i p q c) es)
-closed_is t (EndOf i n c ∷ es) = omega (arith, closed_is (after t (EndOf i n c)) es, sum_by-cons closed_of (EndOf i n c) es)
-closed_is t (ResetOf i c ∷ es) = omega (arith, closed_is (after t (ResetOf i c)) es, sum_by-cons closed_of (ResetOf i c) es)
-closed_is t (Closing ∷ es) = omega (arith, closed_is t es, sum_by-cons closed_of Closing es)
+-- a part that a record changes by itself
+folded : {X : Type 0} (part : Tally → X) (step : X → Entry → X) → ((e : Entry) (t : Tally) → part (after t e) ≡ step (part t) e)
+    → (t : Tally) (es : List Entry) → part (tally t es) ≡ fold step (part t) es
+folded part step each t [] = refl
+folded part step each t (e ∷ es) = folded part step each (after t e) es ∙ ap (λ z. fold step z es) (each e t)
 
--- a line counts one
-abbrev one : Entry → ℕ
-one e = cond (is_line e) 1 0
-
-pub lines_is : (t : Tally) (es : List Entry) → (tally t es).lines ≡ t.lines + count_by is_line es
-lines_is t [] = omega arith
-lines_is t (LineOf i p q c ∷ es) = omega (arith, lines_is (after t (LineOf i p q c)) es, sum_by-cons one (LineOf i p q c) es)
-lines_is t (EndOf i n c ∷ es) = omega (arith, lines_is (after t (EndOf i n c)) es, sum_by-cons one (EndOf i n c) es)
-lines_is t (ResetOf i c ∷ es) = omega (arith, lines_is (after t (ResetOf i c)) es, sum_by-cons one (ResetOf i c) es)
-lines_is t (Closing ∷ es) = omega (arith, lines_is t es, sum_by-cons one Closing es)
-
-pub next_is : (t : Tally) (es : List Entry) → (tally t es).next ≡ fold next_after t.next es
-next_is t [] = refl
-next_is t (LineOf i p q c ∷ es) = next_is (after t (LineOf i p q c)) es
-next_is t (EndOf i n c ∷ es) = next_is (after t (EndOf i n c)) es
-next_is t (ResetOf i c ∷ es) = next_is (after t (ResetOf i c)) es
-next_is t (Closing ∷ es) = next_is t es
-
-or_true : (b : Bool) → (b || true) ≡ true
-or_true true = refl
-or_true false = refl
+-- a part that a record adds to
+summed : (part : Tally → ℕ) (amount : Entry → ℕ) → ((e : Entry) (t : Tally) → part (after t e) ≡ part t + amount e)
+    → (t : Tally) (es : List Entry) → part (tally t es) ≡ part t + sum_by amount es
+summed part amount each t [] = omega arith
+summed part amount each t (e ∷ es) = omega (arith, summed part amount each (after t e) es, each e t, sum_by-cons amount e es)
 
 or_false : (b : Bool) → (b || false) ≡ b
 or_false true = refl
 or_false false = refl
 
+or_grouped : (a b c : Bool) → ((a || b) || c) ≡ (a || (b || c))
+or_grouped true b c = refl
+or_grouped false b c = refl
+
+or_true : (b : Bool) → true ≡ (b || true)
+or_true true = refl
+or_true false = refl
+
+-- a part that says whether there was such a record
+told : (part : Tally → Bool) (is : Entry → Bool) → ((e : Entry) (t : Tally) → part (after t e) ≡ (part t || is e))
+    → (t : Tally) (es : List Entry) → part (tally t es) ≡ (part t || list_any is es)
+told part is each t [] = sym (or_false (part t))
+told part is each t (e ∷ es) = told part is each (after t e) es ∙ ap (λ z. z || list_any is es) (each e t) ∙ or_grouped (part t) (is e) (list_any is es)
+
+pub figure_is : (t : Tally) (es : List Entry) → (tally t es).figure ≡ fold figure_after t.figure es
+figure_is = folded (λ t. t.figure) figure_after (of_each_kind _ (λ i p q c t. refl) (λ i n c t. refl) (λ i c t. refl) (λ t. refl))
+
+pub next_is : (t : Tally) (es : List Entry) → (tally t es).next ≡ fold next_after t.next es
+next_is = folded (λ t. t.next) next_after (of_each_kind _ (λ i p q c t. refl) (λ i n c t. refl) (λ i c t. refl) (λ t. refl))
+
+pub closed_is : (t : Tally) (es : List Entry) → (tally t es).closed ≡ t.closed + sum_by closed_of es
+closed_is = summed (λ t. t.closed) closed_of (of_each_kind _ (λ i p q c t. omega arith) (λ i n c t. omega arith) (λ i c t. refl) (λ t. omega arith))
+
+pub lines_is : (t : Tally) (es : List Entry) → (tally t es).lines ≡ t.lines + count_by is_line es
+lines_is = summed (λ t. t.lines) (λ e. cond (is_line e) 1 0) (of_each_kind _ (λ i p q c t. refl) (λ i n c t. omega arith) (λ i c t. omega arith) (λ t. omega arith))
+
 pub anew_is : (t : Tally) (es : List Entry) → (tally t es).anew ≡ (t.anew || list_any is_reset es)
-anew_is t [] = sym (or_false t.anew)
-anew_is t (LineOf i p q c ∷ es) = anew_is (after t (LineOf i p q c)) es
-anew_is t (EndOf i n c ∷ es) = anew_is (after t (EndOf i n c)) es
-anew_is t (ResetOf i c ∷ es) = anew_is (after t (ResetOf i c)) es ∙ sym (or_true t.anew)
-anew_is t (Closing ∷ es) = anew_is t es
+anew_is = told (λ t. t.anew) is_reset
+    (of_each_kind _ (λ i p q c t. sym (or_false t.anew)) (λ i n c t. sym (or_false t.anew)) (λ i c t. or_true t.anew) (λ t. sym (or_false t.anew)))
 
 pub ended_is : (t : Tally) (es : List Entry) → (tally t es).ended ≡ (t.ended || list_any is_end es)
-ended_is t [] = sym (or_false t.ended)
-ended_is t (LineOf i p q c ∷ es) = ended_is (after t (LineOf i p q c)) es
-ended_is t (EndOf i n c ∷ es) = ended_is (after t (EndOf i n c)) es ∙ sym (or_true t.ended)
-ended_is t (ResetOf i c ∷ es) = ended_is (after t (ResetOf i c)) es
-ended_is t (Closing ∷ es) = ended_is t es
+ended_is = told (λ t. t.ended) is_end
+    (of_each_kind _ (λ i p q c t. sym (or_false t.ended)) (λ i n c t. or_true t.ended) (λ i c t. sym (or_false t.ended)) (λ t. sym (or_false t.ended)))
 
 -- ---- what may come next
 

@@ -20,7 +20,8 @@ pub(crate) struct PairKey {
     item: ItemNo,
 }
 
-/// The rows read so far by their kinds, each in table order, with what finds a name or a pair.
+/// The rows read so far by their kinds, each in table order, with what finds a name or a pair. Where a growth
+/// is refused no call says what the lists hold then: drop them.
 #[derive(Drop)]
 pub struct RowLists {
     calendar: Calendar,

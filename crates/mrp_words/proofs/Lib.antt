@@ -2,3 +2,4 @@ pub mod Numbers
 pub mod RowFacts
 pub mod CommandFacts
 pub mod Commands
+pub mod Taken

@@ -1,11 +1,11 @@
-use Rattle.std.proofs.Common.{◌≡◌, ◌∙◌, rules, ap, Some}
+use Rattle.std.proofs.Common.{◌≡◌, rules, Some}
 use Rattle.clap.specs.declared.builder.value_parser.ValueParser.TheVariants.{Unsigned}
 use Rattle.mrp_words.specs.declared.words.TheConstants.{LAST_PERIOD}
+use Rattle.mrp_words.proofs.Taken.{taken}
 use Rattle.mrp_words.proofs.words.period_argument.Goals as goal
 
 pub returns : goal.returns
 returns c =
-    let given = c.value_parser-2.ensures.given in
     let made : c.range.result ≡ Unsigned 0 LAST_PERIOD = rw c.value_parser.ensures at c.range.ensures in
-    let parser : c.value_parser-2.result.value_parser ≡ Some (Unsigned 0 LAST_PERIOD) = given.1 ∙ ap Some (given.2 ∙ made) in
+    let parser : c.value_parser-2.result.value_parser ≡ Some (Unsigned 0 LAST_PERIOD) = taken _ _ _ c.value_parser-2.ensures.given made in
     search rules

@@ -18,8 +18,7 @@ pub returns-else-self-slot : goal.returns-else-self-slot
 returns-else-self-slot c =
     let s = c.self.inside.slots in
     let is = shown_where s.numbers.items s.places.items s.slots.items c.self.inside.begin c.self.inside.end c.args.self.now c.self.invariant c.self.view_is c.args.x in
-    let within : c.args.x < length s.slots.items = omega (arith, c.if-x-len.false, c.len.ensures) in
-    let read : c.index-slot.result.now ≡ get_or s.slots.items c.args.x 0 = get_or_read s.slots.items c.args.x c.index-slot.result.now within c.index-slot.ensures 0 in (
+    let read = get_or_read s.slots.items c.args.x c.index-slot.result.now (omega (arith, c.if-x-len.false, c.len.ensures)) c.index-slot.ensures 0 in (
       λ t. let reached : c.self.inside.begin ≤ c.index-slot.result.now = leb-true c.self.inside.begin c.index-slot.result.now t in absurd (omega (arith, c.if-self-slot.false)),
       λ h. let reached : c.self.inside.begin ≤ get_or s.slots.items c.args.x 0 = (is.0 h).1 in absurd (omega (arith, read, c.if-self-slot.false)),
     )
