@@ -1,3 +1,4 @@
 pub mod Calendars
 pub mod Days
 pub mod Digits
+pub mod Written

@@ -16,6 +16,11 @@ pub fn the_text_of_a_day_spells_it()
     ensures { (day : ℤ) → pos 0 ≤ℤ day → day ≤ℤ epoch_day last_date → SpellsDay (day_text day) day }
 {}
 
+/// Each day from 1970-01-01 to 2199-12-31 has one text: what spells it is its text.
+pub fn a_day_has_one_text()
+    ensures { (text : List ℕ) (day : ℤ) → pos 0 ≤ℤ day → day ≤ℤ epoch_day last_date → SpellsDay text day → text ≡ day_text day }
+{}
+
 /// The limits as numbers: a period has 1 to 31 days, days are counted from 1970-01-01, which is day 0,
 /// and the last day that a calendar may have is 2199-12-31.
 pub fn limits_are_numbers()

@@ -1,5 +1,5 @@
 -- The fault of a row is the first test of the list that it fails.
-use Rattle.std.proofs.Common.{◌≡◌, ℕ, ◌==◌, ◌&&◌, not, Bool, true, false, cond, List, length, Option, Some, None, is_some, Result, Ok, Err, ok_or, if◌then◌else◌, refl}
+use Rattle.std.proofs.Common.{◌≡◌, ℕ, ◌==◌, ◌&&◌, not, Bool, true, false, cond, List, length, Option, Some, None, is_some, Ok, Err, ok_or, if◌then◌else◌, refl}
 use Rattle.std.specs.List.{list_all}
 use Rattle.std.specs.Str.{is_utf8}
 use Rattle.mrp_spell.specs.Spelling.{number_of}
@@ -7,12 +7,12 @@ use Rattle.mrp_rows.specs.declared.numbers.ItemNo.{ItemNo}
 use Rattle.mrp_rows.specs.Table.{Table}
 use Rattle.mrp_record.specs.declared.record.Record.{Record}
 use Rattle.mrp_record.specs.declared.record.Record.TheVariants.{Line, ItemEnd, Reset, Close}
-use Rattle.mrp_tables.specs.Grammar.{field}
+use Rattle.mrp_tables.specs.Grammar.{◌>>=◌, check, field}
 use Rattle.mrp_stream.specs.declared.fault.RecordFaultKind.{RecordFaultKind}
 use Rattle.mrp_stream.specs.declared.fault.RecordFaultKind.TheVariants as fault
 use Rattle.mrp_stream.specs.declared.kind.Kind.{Kind}
 use Rattle.mrp_stream.specs.declared.kind.Kind.TheVariants as kind
-use Rattle.mrp_stream.specs.Grammar.{◌>>=◌, check, close_of, end_of, is_empty_from, item_named, kind_of, line_of, of_kind, record_of, reset_of, row_kind, spelled_record, used}
+use Rattle.mrp_stream.specs.Grammar.{close_of, end_of, is_empty_from, item_named, kind_of, line_of, of_kind, record_of, reset_of, row_kind, spelled_record, used}
 use Rattle.mrp_stream.specs.Tests.{RowsHaveTheirFirstFault, fits_kind, has_known_item, has_numbers, refusal}
 
 -- ---- what a kind asks of its numbers and its item

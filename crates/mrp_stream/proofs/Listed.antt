@@ -1,58 +1,42 @@
 -- Each fault that a row may have stands in the list of these.
-use Rattle.std.proofs.Common.{◌≡◌, ℕ, ◌==◌, Bool, true, false, List, length, Option, Some, None, Result, Ok, Err, ok_or, if◌then◌else◌, IfErr, refl, ◌∙◌, arith}
+use Rattle.std.proofs.Common.{◌≡◌, ℕ, ◌==◌, List, length, Result, Ok, Err, IfErr, refl, ◌∙◌, arith}
 use Rattle.std.specs.List.{Contains, list_all}
 use Rattle.std.specs.Str.{is_utf8}
 use Rattle.mrp_spell.specs.Spelling.{number_of}
 use Rattle.mrp_rows.specs.Table.{Table}
 use Rattle.mrp_record.specs.declared.record.Record.{Record}
 use Rattle.mrp_tables.specs.Grammar.{field}
+use Rattle.mrp_tables.proofs.KeepingSteps.{chosen, found, steps, tested}
 use Rattle.mrp_stream.specs.declared.fault.RecordFaultKind.{RecordFaultKind}
 use Rattle.mrp_stream.specs.declared.fault.RecordFaultKind.TheVariants as fault
 use Rattle.mrp_stream.specs.declared.kind.Kind.{Kind}
 use Rattle.mrp_stream.specs.declared.kind.Kind.TheVariants as kind
-use Rattle.mrp_stream.specs.Grammar.{◌>>=◌, check, close_of, end_of, is_empty_from, item_at, item_named, kind_of, line_of, number_at, of_kind, record_of, reset_of, row_kind, spelled_record, used}
+use Rattle.mrp_stream.specs.Grammar.{close_of, end_of, is_empty_from, item_at, item_named, kind_of, line_of, number_at, of_kind, record_of, reset_of, row_kind, spelled_record, used}
 use Rattle.mrp_stream.specs.Laws.{row_faults}
 
 module _ (P : RecordFaultKind → Type 0) where
-  -- a step and the steps after it
-  steps : {A B : Type 0} (r : Result A RecordFaultKind) (f : A → Result B RecordFaultKind) → IfErr r P → ((x : A) → IfErr (f x) P) → IfErr (r >>= f) P
-  steps (Ok x) f h g = g x
-  steps (Err e) f h g = h
-
-  tested : (b : Bool) (e : RecordFaultKind) → P e → IfErr (check b e) P
-  tested true e h = tt
-  tested false e h = h
-
-  found : {A : Type 0} (o : Option A) (e : RecordFaultKind) → P e → IfErr (ok_or o e) P
-  found (Some x) e h = tt
-  found None e h = h
-
-  chosen : {A : Type 0} (b : Bool) (x : A) (e : RecordFaultKind) → P e → IfErr (if b then Ok x else Err e) P
-  chosen true x e h = tt
-  chosen false x e h = h
-
   number : (row : List (List ℕ)) (i : ℕ) → P fault.BadNumber → IfErr (number_at row i) P
-  number row i n = found (number_of (field row i)) fault.BadNumber n
+  number row i n = found P (number_of (field row i)) fault.BadNumber n
 
   item : (N : Table) (row : List (List ℕ)) → P fault.UnknownItem → IfErr (item_at N row) P
-  item N row u = found (item_named N (field row 2)) fault.UnknownItem u
+  item N row u = found P (item_named N (field row 2)) fault.UnknownItem u
 
   line-of : (N : Table) (row : List (List ℕ)) → P fault.BadNumber → P fault.UnknownItem → IfErr (line_of N row) P
   unfolding line_of
   line-of N row n u =
-      steps _ _ (number row 1 n) (λ first. steps _ _ (number row 3 n) (λ period. steps _ _ (number row 4 n) (λ quantity. steps _ _ (number row 5 n) (λ cumulative. steps _ _ (item N row u) (λ item. tt)))))
+      steps P _ _ (number row 1 n) (λ first. steps P _ _ (number row 3 n) (λ period. steps P _ _ (number row 4 n) (λ quantity. steps P _ _ (number row 5 n) (λ cumulative. steps P _ _ (item N row u) (λ item. tt)))))
 
   end-of : (N : Table) (row : List (List ℕ)) → P fault.BadNumber → P fault.UnknownItem → IfErr (end_of N row) P
   unfolding end_of
-  end-of N row n u = steps _ _ (number row 1 n) (λ first. steps _ _ (number row 3 n) (λ lines. steps _ _ (number row 4 n) (λ cumulative. steps _ _ (item N row u) (λ item. tt))))
+  end-of N row n u = steps P _ _ (number row 1 n) (λ first. steps P _ _ (number row 3 n) (λ lines. steps P _ _ (number row 4 n) (λ cumulative. steps P _ _ (item N row u) (λ item. tt))))
 
   reset-of : (N : Table) (row : List (List ℕ)) → P fault.BadNumber → P fault.UnknownItem → IfErr (reset_of N row) P
   unfolding reset_of
-  reset-of N row n u = steps _ _ (number row 1 n) (λ first. steps _ _ (number row 3 n) (λ closed. steps _ _ (item N row u) (λ item. tt)))
+  reset-of N row n u = steps P _ _ (number row 1 n) (λ first. steps P _ _ (number row 3 n) (λ closed. steps P _ _ (item N row u) (λ item. tt)))
 
   close-of : (row : List (List ℕ)) → P fault.BadNumber → IfErr (close_of row) P
   unfolding close_of
-  close-of row n = steps _ _ (number row 1 n) (λ first. tt)
+  close-of row n = steps P _ _ (number row 1 n) (λ first. tt)
 
   of-kind : (N : Table) (row : List (List ℕ)) (k : Kind) → P fault.BadNumber → P fault.UnknownItem → IfErr (of_kind N row k) P
   of-kind N row kind.Line n u = line-of N row n u
@@ -62,15 +46,15 @@ module _ (P : RecordFaultKind → Type 0) where
 
   row-kind : (row : List (List ℕ)) → P fault.FieldCount → P fault.UnknownKind → IfErr (row_kind row) P
   unfolding row_kind
-  row-kind row c k = steps _ _ (tested (length row == 6) _ c) (λ six. steps _ _ (found (kind_of (field row 0)) _ k) (λ x. chosen (is_empty_from row (used x)) x fault.FieldCount c))
+  row-kind row c k = steps P _ _ (tested P (length row == 6) _ c) (λ six. steps P _ _ (found P (kind_of (field row 0)) _ k) (λ x. chosen P (is_empty_from row (used x)) x fault.FieldCount c))
 
   spelled-record : (N : Table) (row : List (List ℕ)) → P fault.FieldCount → P fault.UnknownKind → P fault.BadNumber → P fault.UnknownItem → IfErr (spelled_record N row) P
   unfolding spelled_record
-  spelled-record N row c k n u = steps _ _ (row-kind row c k) (λ x. of-kind N row x n u)
+  spelled-record N row c k n u = steps P _ _ (row-kind row c k) (λ x. of-kind N row x n u)
 
   record-of : (N : Table) (row : List (List ℕ)) → P fault.NotUtf8 → P fault.FieldCount → P fault.UnknownKind → P fault.BadNumber → P fault.UnknownItem → IfErr (record_of N row) P
   unfolding record_of
-  record-of N row t c k n u = steps _ _ (tested (list_all is_utf8 row) _ t) (λ text. spelled-record N row c k n u)
+  record-of N row t c k n u = steps P _ _ (tested P (list_all is_utf8 row) _ t) (λ text. spelled-record N row c k n u)
 
 -- the list
 pub listed : (N : Table) (row : List (List ℕ)) → IfErr (record_of N row) (Contains row_faults)

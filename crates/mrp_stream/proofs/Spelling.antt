@@ -1,5 +1,5 @@
 -- A row that is read as a record is the row of that record.
-use Rattle.std.proofs.Common.{◌≡◌, ◌<◌, ◌==◌, ℕ, Bool, true, false, if◌then◌else◌, List, [], ◌∷◌, length, codes, Option, Some, None, Result, Ok, Err, ok_or, refl, ap, subst, ◌∙◌, arith}
+use Rattle.std.proofs.Common.{◌≡◌, ◌<◌, ◌==◌, ℕ, Bool, true, false, if◌then◌else◌, List, [], ◌∷◌, length, codes, Some, None, Result, Ok, Err, refl, ap, subst, ◌∙◌, arith}
 use Rattle.std.specs.List.{All, list_all}
 use Rattle.std.specs.Str.{bytes_eq, is_utf8}
 use Rattle.std.proofs.lemmas.List.Elements.{All-cons, All-nil}
@@ -13,30 +13,16 @@ use Rattle.mrp_spell.proofs.Decimals.{number-spelled}
 use Rattle.mrp_rows.specs.declared.numbers.ItemNo.{ItemNo}
 use Rattle.mrp_rows.specs.Table.{Table}
 use Rattle.mrp_record.specs.declared.record.Record.{Record}
-use Rattle.mrp_record.specs.declared.record.Record.TheVariants.{Line, ItemEnd, Reset, Close}
-use Rattle.mrp_tables.specs.Grammar.{field, is_empty}
+use Rattle.mrp_tables.specs.Grammar.{◌>>=◌, field, is_empty}
+use Rattle.mrp_tables.proofs.KeepingSteps.{after, after_check, after_some, same_Ok}
 use Rattle.mrp_stream.specs.declared.fault.RecordFaultKind.{RecordFaultKind}
 use Rattle.mrp_stream.specs.declared.fault.RecordFaultKind.TheVariants as fault
 use Rattle.mrp_stream.specs.declared.kind.Kind.{Kind}
 use Rattle.mrp_stream.specs.declared.kind.Kind.TheVariants as kind
 use Rattle.mrp_stream.specs.Rows.{HasRow, item_name, record_fields}
-use Rattle.mrp_stream.specs.Grammar.{◌>>=◌, check, close_of, end_of, is_empty_from, item_at, item_named, kind_of, line_of, number_at, of_kind, record_of, reset_of, row_kind, spelled_record, used, with_fields}
+use Rattle.mrp_stream.specs.Grammar.{close_of, end_of, is_empty_from, item_at, item_named, kind_of, line_of, number_at, of_kind, record_of, reset_of, row_kind, spelled_record, used, with_fields}
 use Rattle.mrp_stream.proofs.Bytes.{both_true}
 use Rattle.mrp_stream.proofs.Names.{name_of_item}
-
--- ---- a good answer's steps were good
-
-bind_ok : {A B : Type 0} (x : Result A RecordFaultKind) (f : A → Result B RecordFaultKind) (b : B) → (x >>= f) ≡ Ok b → (a : A) × (x ≡ Ok a) × (f a ≡ Ok b)
-bind_ok (Ok a) f b e = (a, refl, e)
-bind_ok (Err k) f b e = absurd (cc)
-
-ok_some : {A : Type 0} (o : Option A) (k : RecordFaultKind) (a : A) → ok_or o k ≡ Ok a → o ≡ Some a
-ok_some None k a e = absurd (cc)
-ok_some (Some x) k a e = cc
-
-check_ok : (b : Bool) (k : RecordFaultKind) (u : Unit {0}) → check b k ≡ Ok u → b ≡ true
-check_ok true k u e = refl
-check_ok false k u e = absurd (cc)
 
 -- ---- the kind of a row
 
@@ -76,12 +62,12 @@ free_kind row k l e = by (is_empty_from row (used l)) refl e
 kind_is : (row : List (List ℕ)) (k : Kind) → row_kind row ≡ Ok k → IsOfKind row k
 unfolding row_kind
 kind_is row k e =
-    let counted = bind_ok (check (length row == 6) fault.FieldCount) _ k e in
-    let named = bind_ok (ok_or (kind_of (field row 0)) fault.UnknownKind) _ k counted.2 in
+    let counted = after_check (length row == 6) _ _ k e in
+    let named = after_some (kind_of (field row 0)) _ _ k counted.1 in
     let free = free_kind row k named.0 named.2 in
     record {
-      six = check_ok (length row == 6) fault.FieldCount counted.0 counted.1;
-      word = kind_word (field row 0) k (ok_some (kind_of (field row 0)) fault.UnknownKind k (named.1 ∙ ap Ok free.1));
+      six = counted.0;
+      word = kind_word (field row 0) k (named.1 ∙ ap (λ (l : Kind). Some l) free.1);
       free = free.0;
     }
 
@@ -106,12 +92,36 @@ empty_is : (text : List ℕ) → is_empty text ≡ true → text ≡ []
 empty_is [] e = refl
 empty_is (b ∷ bs) e = let same = eqb-true (length (b ∷ bs)) 0 e in absurd (omega (arith, same))
 
--- a number field and its number
-number_field : (row : List (List ℕ)) (i n : ℕ) → number_at row i ≡ Ok n → (field row i ≡ number_text n) × IsShort n
-number_field row i n e = number-spelled (field row i) n (ok_some (number_of (field row i)) fault.BadNumber n e)
+-- a number field, its number and what is made with it of the rest
+record NumberRead (row : List (List ℕ)) (i : ℕ) (made : ℕ → Result Record RecordFaultKind) (r : Record) : Type 0 where
+  number : ℕ
+  field_is : field row i ≡ number_text number
+  short : IsShort number
+  rest : made number ≡ Ok r
 
-item_field : (N : Table) (row : List (List ℕ)) (item : ItemNo) → item_at N row ≡ Ok item → (item.0 < length N.items) × (field row 2 ≡ item_name N item)
-item_field N row item e = name_of_item N (field row 2) item (ok_some (item_named N (field row 2)) fault.UnknownItem item e)
+number_read : (row : List (List ℕ)) (i : ℕ) (made : ℕ → Result Record RecordFaultKind) (r : Record) → (number_at row i >>= made) ≡ Ok r → NumberRead row i made r
+number_read row i made r e =
+    let n = after_some (number_of (field row i)) _ made r e in
+    let is = number-spelled (field row i) n.0 n.1 in
+    record { number = n.0; field_is = is.0; short = is.1; rest = n.2 }
+
+-- the two numbers of each record on an item
+two_read : (row : List (List ℕ)) (made : ℕ → ℕ → Result Record RecordFaultKind) (r : Record) → (number_at row 1 >>= λ n. number_at row 3 >>= λ m. made n m) ≡ Ok r
+    → (n : NumberRead row 1 (λ n. number_at row 3 >>= λ m. made n m) r) × NumberRead row 3 (made n.number) r
+two_read row made r e = let n = number_read row 1 (λ n. number_at row 3 >>= λ m. made n m) r e in (n, number_read row 3 (made n.number) r n.rest)
+
+-- the item of a row, and the record that is made with it
+record ItemRead (N : Table) (row : List (List ℕ)) (made : ItemNo → Record) (r : Record) : Type 0 where
+  item : ItemNo
+  there : item.0 < length N.items
+  field_is : field row 2 ≡ item_name N item
+  is_made : made item ≡ r
+
+item_read : (N : Table) (row : List (List ℕ)) (made : ItemNo → Record) (r : Record) → (item_at N row >>= λ item. Ok (made item)) ≡ Ok r → ItemRead N row made r
+item_read N row made r e =
+    let i = after_some (item_named N (field row 2)) _ _ r e in
+    let is = name_of_item N (field row 2) i.0 i.1 in
+    record { item = i.0; there = is.0; field_is = is.1; is_made = same_Ok _ r i.2 }
 
 -- short numbers
 short_one : (a : ℕ) → IsShort a → All IsShort (a ∷ [])
@@ -131,78 +141,50 @@ short_four a b c d sa sb sc sd = All-cons IsShort a (b ∷ c ∷ d ∷ []) sa (s
 abbrev Spells : Table → List (List ℕ) → Record → Type 0
 Spells N row r = HasRow N r × (row ≡ record_fields N r)
 
-spells_as : (N : Table) (row : List (List ℕ)) (r s : Record) → ◌≡◌ {A = Result Record RecordFaultKind} (Ok s) (Ok r) → Spells N row s → Spells N row r
-spells_as N row r s e is = let same : s ≡ r = cc in subst (Spells N row) same is
-
 line_is : (N : Table) (row : List (List ℕ)) (r : Record) → IsOfKind row kind.Line → line_of N row ≡ Ok r → Spells N row r
 unfolding line_of
 line_is N row r k e =
-    let number = bind_ok (number_at row 1) _ r e in
-    let period = bind_ok (number_at row 3) _ r number.2 in
-    let quantity = bind_ok (number_at row 4) _ r period.2 in
-    let cumulative = bind_ok (number_at row 5) _ r quantity.2 in
-    let item = bind_ok (item_at N row) _ r cumulative.2 in
-    let n = number_field row 1 number.0 number.1 in
-    let p = number_field row 3 period.0 period.1 in
-    let q = number_field row 4 quantity.0 quantity.1 in
-    let c = number_field row 5 cumulative.0 cumulative.1 in
-    let i = item_field N row item.0 item.1 in
-    spells_as N row r (Line number.0 item.0 period.0 quantity.0 cumulative.0) item.2 (
-      record {
-        numbers = short_four number.0 period.0 quantity.0 cumulative.0 n.1 p.1 q.1 c.1;
-        item = i.0;
-      },
-      row_is row _ _ _ _ _ _ k.six k.word n.0 i.1 p.0 q.0 c.0,
+    let two = two_read row _ r e in
+    let q = number_read row 4 _ r two.1.rest in
+    let c = number_read row 5 _ r q.rest in
+    let i = item_read N row _ r c.rest in
+    subst (Spells N row) i.is_made (
+      record { numbers = short_four two.0.number two.1.number q.number c.number two.0.short two.1.short q.short c.short; item = i.there },
+      row_is row _ _ _ _ _ _ k.six k.word two.0.field_is i.field_is two.1.field_is q.field_is c.field_is,
     )
 
 end_is : (N : Table) (row : List (List ℕ)) (r : Record) → IsOfKind row kind.ItemEnd → end_of N row ≡ Ok r → Spells N row r
 unfolding end_of
 end_is N row r k e =
-    let number = bind_ok (number_at row 1) _ r e in
-    let lines = bind_ok (number_at row 3) _ r number.2 in
-    let cumulative = bind_ok (number_at row 4) _ r lines.2 in
-    let item = bind_ok (item_at N row) _ r cumulative.2 in
-    let n = number_field row 1 number.0 number.1 in
-    let l = number_field row 3 lines.0 lines.1 in
-    let c = number_field row 4 cumulative.0 cumulative.1 in
-    let i = item_field N row item.0 item.1 in
-    spells_as N row r (ItemEnd number.0 item.0 lines.0 cumulative.0) item.2 (
-      record {
-        numbers = short_three number.0 lines.0 cumulative.0 n.1 l.1 c.1;
-        item = i.0;
-      },
-      row_is row _ _ _ _ _ _ k.six k.word n.0 i.1 l.0 c.0 (empty_is (field row 5) k.free),
+    let two = two_read row _ r e in
+    let c = number_read row 4 _ r two.1.rest in
+    let i = item_read N row _ r c.rest in
+    subst (Spells N row) i.is_made (
+      record { numbers = short_three two.0.number two.1.number c.number two.0.short two.1.short c.short; item = i.there },
+      row_is row _ _ _ _ _ _ k.six k.word two.0.field_is i.field_is two.1.field_is c.field_is (empty_is (field row 5) k.free),
     )
 
 reset_is : (N : Table) (row : List (List ℕ)) (r : Record) → IsOfKind row kind.Reset → reset_of N row ≡ Ok r → Spells N row r
 unfolding reset_of
 reset_is N row r k e =
-    let number = bind_ok (number_at row 1) _ r e in
-    let closed = bind_ok (number_at row 3) _ r number.2 in
-    let item = bind_ok (item_at N row) _ r closed.2 in
-    let n = number_field row 1 number.0 number.1 in
-    let c = number_field row 3 closed.0 closed.1 in
-    let i = item_field N row item.0 item.1 in
+    let two = two_read row _ r e in
+    let i = item_read N row _ r two.1.rest in
     let free = both_true (is_empty (field row 4)) (is_empty (field row 5)) k.free in
-    spells_as N row r (Reset number.0 item.0 closed.0) item.2 (
-      record {
-        numbers = short_two number.0 closed.0 n.1 c.1;
-        item = i.0;
-      },
-      row_is row _ _ _ _ _ _ k.six k.word n.0 i.1 c.0 (empty_is (field row 4) free.0) (empty_is (field row 5) free.1),
+    subst (Spells N row) i.is_made (
+      record { numbers = short_two two.0.number two.1.number two.0.short two.1.short; item = i.there },
+      row_is row _ _ _ _ _ _ k.six k.word two.0.field_is i.field_is two.1.field_is (empty_is (field row 4) free.0) (empty_is (field row 5) free.1),
     )
 
 close_is : (N : Table) (row : List (List ℕ)) (r : Record) → IsOfKind row kind.Close → close_of row ≡ Ok r → Spells N row r
 unfolding close_of
 close_is N row r k e =
-    let number = bind_ok (number_at row 1) _ r e in
-    let n = number_field row 1 number.0 number.1 in
+    let n = number_read row 1 _ r e in
     let five = both_true _ (is_empty (field row 5)) k.free in
     let four = both_true _ (is_empty (field row 4)) five.0 in
     let three = both_true (is_empty (field row 2)) (is_empty (field row 3)) four.0 in
-    spells_as N row r (Close number.0) number.2 (
-      record { numbers = short_one number.0 n.1; item = tt },
-      row_is row _ _ _ _ _ _ k.six k.word n.0 (empty_is (field row 2) three.0) (empty_is (field row 3) three.1) (empty_is (field row 4) four.1) (empty_is (field row 5) five.1),
+    subst (Spells N row) (same_Ok _ r n.rest) (
+      record { numbers = short_one n.number n.short; item = tt },
+      row_is row _ _ _ _ _ _ k.six k.word n.field_is (empty_is (field row 2) three.0) (empty_is (field row 3) three.1) (empty_is (field row 4) four.1) (empty_is (field row 5) five.1),
     )
 
 of_kind_is : (N : Table) (row : List (List ℕ)) (r : Record) (k : Kind) → IsOfKind row k → of_kind N row k ≡ Ok r → Spells N row r
@@ -214,11 +196,11 @@ of_kind_is N row r kind.Close k e = close_is N row r k e
 -- what is read as a record is its row
 pub spelled_is : (N : Table) (row : List (List ℕ)) (r : Record) → spelled_record N row ≡ Ok r → HasRow N r × (row ≡ record_fields N r)
 unfolding spelled_record
-spelled_is N row r e = let k = bind_ok (row_kind row) (of_kind N row) r e in of_kind_is N row r k.0 (kind_is row k.0 k.1) k.2
+spelled_is N row r e = let k = after (row_kind row) (of_kind N row) r e in of_kind_is N row r k.0 (kind_is row k.0 k.1) k.2
 
 pub record_is : (N : Table) (row : List (List ℕ)) (r : Record) → record_of N row ≡ Ok r → HasRow N r × (row ≡ record_fields N r)
 unfolding record_of
-record_is N row r e = spelled_is N row r (bind_ok (check (list_all is_utf8 row) fault.NotUtf8) _ r e).2
+record_is N row r e = spelled_is N row r (after_check (list_all is_utf8 row) _ _ r e).1
 
 -- a row whose fields are text
 all_utf8 : (row : List (List ℕ)) → AllText row → list_all is_utf8 row ≡ true

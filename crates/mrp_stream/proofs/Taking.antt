@@ -1,16 +1,17 @@
 -- What taking a row answers.
-use Rattle.std.proofs.Common.{◌≡◌, ◌<◌, ℕ, Bool, true, false, List, ◌∷◌, length, Option, Some, None, Result, Ok, Err, inr, pos as integer, refl, ap, arith}
+use Rattle.std.proofs.Common.{◌≡◌, ◌<◌, ℕ, Bool, true, false, List, ◌∷◌, length, Option, Some, None, Result, Ok, Err, inr, pos as integer, refl, ap, ◌∙◌, arith}
 use Rattle.std.specs.List.{list_all}
 use Rattle.std.specs.Str.{is_utf8}
 use Rattle.std.proofs.lemmas.Bool.{false≢true}
-use Rattle.csv.specs.Reading.{ExplainsRead, ReadRecord, stops_reader}
+use Rattle.csv.specs.Reading.{ExplainsRead, reader_trim, ReadRecord, Ready}
 use Rattle.csv.specs.declared.error.ErrorKind.{ErrorKind}
 use Rattle.csv.specs.declared.error.ErrorKind.TheVariants as error
 use Rattle.csv.specs.declared.reader.Reader.{Reader}
+use Rattle.csv.specs.declared.reader.Trim.TheVariants as trim
 use Rattle.mrp_rows.specs.Table.{Table, empty_table}
 use Rattle.mrp_tables.specs.declared.fault.TableFaultKind.TheVariants as table_fault
-use Rattle.mrp_tables.specs.Left.{GivesAll, left_of, MayCome, OfLeft, StartsBadly, TakesRow}
-use Rattle.mrp_tables.proofs.Taken.{ends_rows, explains_as, takes_row}
+use Rattle.mrp_tables.specs.Left.{GivesAll, left_of, OfLeft, StartsBadly, TakesRow}
+use Rattle.mrp_tables.proofs.Taken.{ends_rows, explains, takes_row}
 use Rattle.mrp_tables.proofs.Loop.{of_left_from}
 use Rattle.mrp_stream.specs.declared.fault.RecordFaultKind.{RecordFaultKind}
 use Rattle.mrp_stream.specs.declared.fault.RecordFaultKind.TheVariants as fault
@@ -33,30 +34,20 @@ bad_row : (N : Table) (rows : List (List (List ℕ))) → StartsBadly 1 rows (re
 bad_row N rows bad = (bad.row, bad.rest, bad.rows_are, no_text_first N bad.row bad.no_text)
 
 -- why a read failed
-pub explains : {R : Type 0} (rem : R → Option (List ℕ)) (old new : Reader R) (why : ErrorKind) → GivesAll old → ExplainsRead rem old new true why
+explains-bad : {R : Type 0} (rem : R → Option (List ℕ)) (old new : Reader R) (why : ErrorKind) → GivesAll old → ExplainsRead rem old new true why
     → (N : Table) → TellsBad N (left_of rem old) (fault_of why)
-explains rem old new (error.Io e) gives r N = tt
-explains rem old new (error.Utf8 pos e) gives r N =
-    of_left_from (left_of rem old) _ _ (bad_row N) (explains_as rem old new 1 (error.Utf8 pos e) table_fault.NotUtf8 refl gives r)
-explains rem old new (error.UnequalLengths pos expected len) gives r N = tt
-explains rem old new (error.Serialize text) gives r N = tt
-explains rem old new (error.Deserialize pos e) gives r N = tt
-explains rem old new error.OutOfMemory gives r N = tt
+explains-bad rem old new (error.Io e) gives r N = tt
+explains-bad rem old new (error.Utf8 pos e) gives r N = of_left_from (left_of rem old) _ _ (bad_row N) (explains rem old new 1 (error.Utf8 pos e) gives r)
+explains-bad rem old new (error.UnequalLengths pos expected len) gives r N = tt
+explains-bad rem old new (error.Serialize text) gives r N = tt
+explains-bad rem old new (error.Deserialize pos e) gives r N = tt
+explains-bad rem old new error.OutOfMemory gives r N = tt
 
-pub explains_as_kind : {R : Type 0} (rem : R → Option (List ℕ)) (old new : Reader R) (why : ErrorKind) (k : RecordFaultKind) → k ≡ fault_of why → GivesAll old
-    → ExplainsRead rem old new true why → (N : Table) → TellsBad N (left_of rem old) k
-explains_as_kind rem old new why k same gives r N = rw same (explains rem old new why gives r N)
+pub explains_as_kind : {R : Type 0} (rem : R → Option (List ℕ)) (old new : Reader R) (why kind : ErrorKind) (told : RecordFaultKind) → GivesAll old → (reader_trim old ≡ trim.None → Ready old → ExplainsRead rem old new true why)
+    → kind ≡ why → told ≡ fault_of kind → (N : Table) → TellsBad N (left_of rem old) told
+explains_as_kind rem old new why kind told gives explained same is N = rw (is ∙ ap fault_of same) (explains-bad rem old new why gives (explained gives.1 gives.2) N)
 
--- ---- why a fault is ReadFault
-
--- a failed read stops the reader
-pub stops_at : (why : ErrorKind) → fault_of why ≡ fault.ReadFault → MayCome why → stops_reader why ≡ true
-stops_at (error.Io e) same comes = refl
-stops_at (error.Utf8 pos e) same comes = absurd (cc)
-stops_at (error.UnequalLengths pos expected len) same comes = absurd comes
-stops_at (error.Serialize text) same comes = absurd comes
-stops_at (error.Deserialize pos e) same comes = absurd comes
-stops_at error.OutOfMemory same comes = absurd (cc)
+-- ---- a row more than may be read
 
 -- an answer of a row says that a row is there
 some_row : (rows rest : List (List (List ℕ))) (row : List (List ℕ)) → rows ≡ row ∷ rest → 0 < length rows

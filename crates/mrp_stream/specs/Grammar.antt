@@ -1,5 +1,5 @@
 -- What a row says, tested in the order of the faults.
-use Rattle.std.specs.Prelude.{ℕ, ◌==◌, ◌&&◌, Bool, true, false, if◌then◌else◌, List, length, codes}
+use Rattle.std.specs.Prelude.{ℕ, ◌==◌, ◌&&◌, Bool, if◌then◌else◌, List, length, codes}
 use Rattle.std.specs.Prelude.{Option, Some, None, option_map, position, Result, Ok, Err, ok_or}
 use Rattle.std.specs.List.{list_all}
 use Rattle.std.specs.Str.{bytes_eq, is_utf8}
@@ -8,21 +8,11 @@ use Rattle.mrp_rows.specs.declared.numbers.ItemNo.{ItemNo}
 use Rattle.mrp_rows.specs.Table.{Table}
 use Rattle.mrp_record.specs.declared.record.Record.{Record}
 use Rattle.mrp_record.specs.declared.record.Record.TheVariants.{Line, ItemEnd, Reset, Close}
-use Rattle.mrp_tables.specs.Grammar.{field, is_free}
+use Rattle.mrp_tables.specs.Grammar.{◌>>=◌, check, field, is_free}
 use Rattle.mrp_stream.specs.declared.fault.RecordFaultKind.{RecordFaultKind}
 use Rattle.mrp_stream.specs.declared.fault.RecordFaultKind.TheVariants as fault
 use Rattle.mrp_stream.specs.declared.kind.Kind.{Kind}
 use Rattle.mrp_stream.specs.declared.kind.Kind.TheVariants as kind
-
--- the answer of a test, or the first fault
-infixl 10 ◌>>=◌
-abbrev pub ◌>>=◌ : {A B : Type 0} → Result A RecordFaultKind → (A → Result B RecordFaultKind) → Result B RecordFaultKind
-Ok x >>= f = f x
-Err e >>= f = Err e
-
-abbrev pub check : Bool → RecordFaultKind → Result (Unit {0}) RecordFaultKind
-check true e = Ok tt
-check false e = Err e
 
 abbrev pub kind_of : List ℕ → Option Kind
 kind_of word =

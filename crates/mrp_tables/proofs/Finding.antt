@@ -49,30 +49,35 @@ known_ok N t l k f is = sym (known_as N t l f) ∙ ap (seen lane_ends) (sym is)
 
 -- ---- rows of a lane that isn't there
 
-pub ship_unknown : (N : Table) (row : List (List ℕ)) (t : LaneTerms × ℕ × ℕ) (e : TableFaultKind) → Ok t ≡ ship_terms row (horizon N) → known_lane N t.0 ≡ Err e → Err e ≡ ship_of N row
+pub ship_unknown : (N : Table) (row : List (List ℕ)) (periods : ℕ) (t : LaneTerms × ℕ × ℕ) (l : NamedLane) (e : TableFaultKind) → Ok t ≡ ship_terms row periods → periods ≡ horizon N → Finds N t.0 l
+    → Err e ≡ known_found l → Err e ≡ ship_of N row
 unfolding ship_of
-ship_unknown N row t e spelled known = rw (← spelled, known) refl
+ship_unknown N row periods t l e spelled same finds is = let terms = spelled ∙ ap (ship_terms row) same in rw (← terms, known_err N t.0 l e finds is) refl
 
-pub cum_fresh : (N : Table) (t : LaneTerms) (l : NamedLane) → Finds N t l → false ≡ cum_between N (option_map (λ p. p.0) l.from) (option_map (λ x. x.0) l.pair) → has_cum N t ≡ false
+cum_fresh : (N : Table) (t : LaneTerms) (l : NamedLane) → Finds N t l → false ≡ cum_between N (option_map (λ p. p.0) l.from) (option_map (λ x. x.0) l.pair) → has_cum N t ≡ false
 cum_fresh N t l f h =
     sym (h ∙ ap (λ (o : Option ℕ). cum_between N o (option_map (λ x. x.0) l.pair)) f.from ∙ ap (λ (o : Option ℕ). cum_between N (plant_no N t.from) o) f.pair)
 
-pub cum_unknown : (N : Table) (row : List (List ℕ)) (t : LaneTerms × ℕ) (e : TableFaultKind) → Ok t ≡ cum_terms row → has_cum N t.0 ≡ false → known_lane N t.0 ≡ Err e → Err e ≡ cum_of N row
+pub cum_unknown : (N : Table) (row : List (List ℕ)) (t : LaneTerms × ℕ) (l : NamedLane) (e : TableFaultKind) → Ok t ≡ cum_terms row → Finds N t.0 l
+    → false ≡ cum_between N (option_map (λ p. p.0) l.from) (option_map (λ x. x.0) l.pair) → Err e ≡ known_found l → Err e ≡ cum_of N row
 unfolding cum_of
-cum_unknown N row t e spelled fresh known = rw (← spelled, fresh, known) refl
+cum_unknown N row t l e spelled finds new is = rw (← spelled, cum_fresh N t.0 l finds new, known_err N t.0 l e finds is) refl
 
-pub full : (count most : ℕ) → most ≤ count → nat_lt count most ≡ false
+full : (count most : ℕ) → most ≤ count → nat_lt count most ≡ false
 full count most le = grind (arith, nat_tests)
 
-pub cum_full : (N : Table) (row : List (List ℕ)) (t : LaneTerms × ℕ) (l : PlantNo × PairNo) → Ok t ≡ cum_terms row → has_cum N t.0 ≡ false → known_lane N t.0 ≡ Ok l → nat_lt (length N.cums) MOST_OF_A_KIND ≡ false
-    → Err fault.TooMany ≡ cum_of N row
+pub cum_full : (N : Table) (row : List (List ℕ)) (t : LaneTerms × ℕ) (l : NamedLane) (k : KnownLane) → Ok t ≡ cum_terms row → Finds N t.0 l
+    → false ≡ cum_between N (option_map (λ p. p.0) l.from) (option_map (λ x. x.0) l.pair) → Ok k ≡ known_found l → MOST_OF_A_KIND ≤ length N.cums → Err fault.TooMany ≡ cum_of N row
 unfolding cum_of
-cum_full N row t l spelled fresh known most = rw (← spelled, fresh, known, most) refl
+cum_full N row t l k spelled finds new is most = rw (← spelled, cum_fresh N t.0 l finds new, known_ok N t.0 l k finds is, full (length N.cums) MOST_OF_A_KIND most) refl
 
-pub reset_fresh : (N : Table) (t : LaneTerms) (l : NamedLane) → Finds N t l → false ≡ reset_between N (option_map (λ p. p.0) l.from) (option_map (λ x. x.0) l.pair) → has_reset N t ≡ false
+reset_fresh : (N : Table) (t : LaneTerms) (l : NamedLane) → Finds N t l → false ≡ reset_between N (option_map (λ p. p.0) l.from) (option_map (λ x. x.0) l.pair) → has_reset N t ≡ false
 reset_fresh N t l f h =
     sym (h ∙ ap (λ (o : Option ℕ). reset_between N o (option_map (λ x. x.0) l.pair)) f.from ∙ ap (λ (o : Option ℕ). reset_between N (plant_no N t.from) o) f.pair)
 
-pub reset_unknown : (N : Table) (row : List (List ℕ)) (t : LaneTerms × ℕ) (e : TableFaultKind) → Ok t ≡ reset_terms row (horizon N) → has_reset N t.0 ≡ false → known_lane N t.0 ≡ Err e → Err e ≡ reset_of N row
+pub reset_unknown : (N : Table) (row : List (List ℕ)) (periods : ℕ) (t : LaneTerms × ℕ) (l : NamedLane) (e : TableFaultKind) → Ok t ≡ reset_terms row periods → periods ≡ horizon N → Finds N t.0 l
+    → false ≡ reset_between N (option_map (λ p. p.0) l.from) (option_map (λ x. x.0) l.pair) → Err e ≡ known_found l → Err e ≡ reset_of N row
 unfolding reset_of
-reset_unknown N row t e spelled fresh known = rw (← spelled, fresh, known) refl
+reset_unknown N row periods t l e spelled same finds new is =
+    let terms = spelled ∙ ap (reset_terms row) same in
+    rw (← terms, reset_fresh N t.0 l finds new, known_err N t.0 l e finds is) refl

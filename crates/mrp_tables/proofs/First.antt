@@ -19,8 +19,8 @@ use Rattle.mrp_tables.specs.declared.fault.TableFaultKind.TheVariants as fault
 use Rattle.mrp_tables.specs.declared.kind.Kind.{Kind}
 use Rattle.mrp_tables.specs.declared.kind.Kind.TheVariants as kind
 use Rattle.mrp_tables.specs.Faults.{faults_of, faults_of_any, faults_of_kind}
-use Rattle.mrp_tables.specs.Grammar.{◌>>=◌, amount_terms, AmountTerms, bill_fits, bill_terms, BillTerms, check, cum_between, cum_of, cum_terms, demand_of, field, has_bill, has_cum, has_reset, is_empty_from, is_made, kind_of, known_lane, known_pair}
-use Rattle.mrp_tables.specs.Grammar.{knows_sources, lane_terms, LaneTerms, may_follow, name_of, pair_fits, pair_terms, PairTerms, plant_of, receipt_of, reset_between, reset_of, reset_terms, row_kind, run_terms, RunTerms, ship_of, ship_terms, used}
+use Rattle.mrp_tables.specs.Grammar.{◌>>=◌, amount_of, amount_terms, AmountTerms, bill_fits, bill_terms, BillTerms, check, cum_between, cum_of, cum_terms, demand_made, demand_of, field, has_bill, has_cum, has_reset, is_empty_from, is_made, kind_of, known_lane, known_pair}
+use Rattle.mrp_tables.specs.Grammar.{knows_sources, lane_terms, LaneTerms, may_follow, name_of, pair_fits, pair_terms, PairTerms, plant_of, receipt_made, receipt_of, reset_between, reset_of, reset_terms, row_kind, run_terms, RunTerms, ship_of, ship_terms, used}
 use Rattle.mrp_tables.specs.Reading.{first_terms, is_run, kind_of_row, row_after, row_of_kind}
 use Rattle.mrp_tables.specs.Tests.{amount_passes, bill_passes, cum_passes, first_failed, fits_kind, has_number, HasFirstFault, is_in_order, is_lane, pair_in, pair_passes, passes, passes_of, plant_in, plant_passes}
 use Rattle.mrp_tables.specs.Tests.{refusal, reset_passes, row_passes, run_passes, ship_passes, sources_in, stands_well, three_names, two_names}
@@ -92,18 +92,18 @@ two_two_ok f true true x y None n t e = absurd (cc)
 two_two_ok f true false x y m n t e = absurd (cc)
 two_two_ok f false b x y m n t e = absurd (cc)
 
-abbrev amount_of : List ℕ → List ℕ → ℕ → ℕ → AmountTerms
-amount_of p q i j = record { plant = p; item = q; period = i; quantity = j }
+abbrev amount_with : List ℕ → List ℕ → ℕ → ℕ → AmountTerms
+amount_with p q i j = record { plant = p; item = q; period = i; quantity = j }
 
 amount_refusal : (row : List (List ℕ)) (periods : ℕ) → refusal (amount_terms row periods)
     ≡ cond (not (two_names row)) (Some fault.BadName) (cond (not (has_number row 3 0 (periods - 1) && has_number row 4 1 MOST_IN_ROW)) (Some fault.BadNumber) None)
 unfolding amount_terms
-amount_refusal row periods = two_two amount_of (is_name (field row 1)) (is_name (field row 2)) (field row 1) (field row 2) (number_within (field row 3) 0 (periods - 1)) (number_within (field row 4) 1 MOST_IN_ROW)
+amount_refusal row periods = two_two amount_with (is_name (field row 1)) (is_name (field row 2)) (field row 1) (field row 2) (number_within (field row 3) 0 (periods - 1)) (number_within (field row 4) 1 MOST_IN_ROW)
 
 amount_names : (row : List (List ℕ)) (periods : ℕ) (t : AmountTerms) → amount_terms row periods ≡ Ok t → (t.plant ≡ field row 1) × (t.item ≡ field row 2)
 unfolding amount_terms
 amount_names row periods t e =
-    let is = two_two_ok amount_of (is_name (field row 1)) (is_name (field row 2)) (field row 1) (field row 2) (number_within (field row 3) 0 (periods - 1)) (number_within (field row 4) 1 MOST_IN_ROW) t e in
+    let is = two_two_ok amount_with (is_name (field row 1)) (is_name (field row 2)) (field row 1) (field row 2) (number_within (field row 3) 0 (periods - 1)) (number_within (field row 4) 1 MOST_IN_ROW) t e in
     (sym (ap (λ (a : AmountTerms). a.plant) is.2), sym (ap (λ (a : AmountTerms). a.item) is.2))
 
 -- three names and a number
@@ -411,19 +411,20 @@ bill-first N row =
     more (bill_passes N row) (fault.BadName ∷ fault.BadNumber ∷ []) (fault.Repeated ∷ fault.UnknownPlant ∷ fault.UnknownPair ∷ fault.NotMade ∷ fault.TooMany ∷ []) (bill_terms row) (bill_fits N)
     (bill_refusal row) (λ t is. bill_fit N row t (bill_names row t is))
 
+amount-first : {A : Type 0} (N : Table) (row : List (List ℕ)) (has_room : Bool) (made : PairNo → ℕ → ℕ → A)
+    → refusal (amount_of N row has_room made) ≡ first_failed (amount_passes has_room N row) (fault.BadName ∷ fault.BadNumber ∷ fault.UnknownPlant ∷ fault.UnknownPair ∷ fault.TooMany ∷ [])
+amount-first N row has_room made =
+    let p = amount_passes has_room N row in
+    more p (fault.BadName ∷ fault.BadNumber ∷ []) (fault.UnknownPlant ∷ fault.UnknownPair ∷ fault.TooMany ∷ []) (amount_terms row (horizon N)) _ (amount_refusal row (horizon N))
+    (λ t is. more p (fault.UnknownPlant ∷ fault.UnknownPair ∷ []) (fault.TooMany ∷ []) (known_pair N t.plant t.item) _ (known_in N row t (amount_names row (horizon N) t is)) (λ x found. last has_room fault.TooMany _))
+
 demand-first : (N : Table) (row : List (List ℕ)) → refusal (demand_of N row) ≡ first_failed (amount_passes (nat_lt (length N.demands) MOST_OF_A_KIND) N row) (faults_of_kind kind.Demand)
 unfolding demand_of
-demand-first N row =
-    let p = amount_passes (nat_lt (length N.demands) MOST_OF_A_KIND) N row in
-    more p (fault.BadName ∷ fault.BadNumber ∷ []) (fault.UnknownPlant ∷ fault.UnknownPair ∷ fault.TooMany ∷ []) (amount_terms row (horizon N)) _ (amount_refusal row (horizon N))
-    (λ t is. more p (fault.UnknownPlant ∷ fault.UnknownPair ∷ []) (fault.TooMany ∷ []) (known_pair N t.plant t.item) _ (known_in N row t (amount_names row (horizon N) t is)) (λ x found. last (nat_lt (length N.demands) MOST_OF_A_KIND) fault.TooMany _))
+demand-first N row = amount-first N row _ demand_made
 
 receipt-first : (N : Table) (row : List (List ℕ)) → refusal (receipt_of N row) ≡ first_failed (amount_passes (nat_lt (length N.receipts) MOST_OF_A_KIND) N row) (faults_of_kind kind.Receipt)
 unfolding receipt_of
-receipt-first N row =
-    let p = amount_passes (nat_lt (length N.receipts) MOST_OF_A_KIND) N row in
-    more p (fault.BadName ∷ fault.BadNumber ∷ []) (fault.UnknownPlant ∷ fault.UnknownPair ∷ fault.TooMany ∷ []) (amount_terms row (horizon N)) _ (amount_refusal row (horizon N))
-    (λ t is. more p (fault.UnknownPlant ∷ fault.UnknownPair ∷ []) (fault.TooMany ∷ []) (known_pair N t.plant t.item) _ (known_in N row t (amount_names row (horizon N) t is)) (λ x found. last (nat_lt (length N.receipts) MOST_OF_A_KIND) fault.TooMany _))
+receipt-first N row = amount-first N row _ receipt_made
 
 ship-first : (N : Table) (row : List (List ℕ)) → refusal (ship_of N row) ≡ first_failed (ship_passes N row) (faults_of_kind kind.Ship)
 unfolding ship_of

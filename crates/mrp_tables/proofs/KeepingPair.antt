@@ -17,6 +17,7 @@ use Rattle.mrp_rows.specs.declared.rows.Supply.TheVariants as supply
 use Rattle.mrp_spell.specs.Supplies.{names_plant, SourceTerms, SupplyTerms, MakeTerms, BuyTerms, FromTerms}
 use Rattle.mrp_rows.specs.Growing.{add_item}
 use Rattle.mrp_rows.specs.Names.{has_plant, pair_named, pair_of, plant_no}
+use Rattle.mrp_rows.proofs.Lists.{any_left, slice_get-append, slice_get-push}
 use Rattle.mrp_tables.specs.Grammar.{knows_sources, PairTerms, pair_fits, pair_row, pair_terms, pair_with, place_of, source_row, supply_kind, with_pair_terms}
 use Rattle.mrp_spell.specs.Supplies.{is_same_plant, IsShare, IsWholeSupply, named_sources}
 use Rattle.mrp_spell.specs.declared.supplies.TheConstants.{MOST_SOURCES_OF_PAIR}
@@ -25,7 +26,7 @@ use Rattle.mrp_tables.specs.declared.kind.Kind.{Kind}
 use Rattle.mrp_tables.specs.declared.kind.Kind.TheVariants as kind
 use Rattle.mrp_tables.specs.Reading.{IsReadSoFar}
 use Rattle.mrp_spell.proofs.Lists.{All-from_any, distinct_append, distinct_push, IsDistinct-nil}
-use Rattle.mrp_tables.proofs.KeepingLists.{any-from_no_position, any-from_position, any_left, distinct_name, filter_everything, filter_nothing, get_last, get_left, names_at, ordered_append, position-from_any, position_last, position_there}
+use Rattle.mrp_tables.proofs.KeepingLists.{any-from_no_position, any-from_position, distinct_name, filter_everything, filter_nothing, names_at, ordered_append, position-from_any, position_last, position_there}
 use Rattle.mrp_rows.proofs.Grow.{Changes, Grows, length-add_item-le, name_added, one_more, read_grows, same_rows}
 use Rattle.mrp_tables.proofs.KeepingRead.{lt_test, plant_within}
 use Rattle.mrp_tables.proofs.KeepingShares.{named_few, named_shares, pair_terms_are, shares_are, SpellsPair}
@@ -185,7 +186,7 @@ module _ (N : Table) (plant : PlantNo) (t : PairTerms) (read : IsRead N) (once :
   new_rows = map (source_row N (length N.pairs)) (named_sources t.supply)
 
   old_pair : (x : ℕ) → x < length N.pairs → slice_get M.pairs x ≡ slice_get N.pairs x
-  old_pair x lt = get_left N.pairs (new_row ∷ []) x lt
+  old_pair x lt = slice_get-append N.pairs (new_row ∷ []) x lt
 
   old_supply : (x : ℕ) → x < length N.pairs → supply_at M x ≡ supply_at N x
   old_supply x lt = ap (λ o. unwrap_or (option_map (λ p. p.supply) o) supply.Buy) (old_pair x lt)
@@ -194,7 +195,7 @@ module _ (N : Table) (plant : PlantNo) (t : PairTerms) (read : IsRead N) (once :
   old_plant x lt = ap (λ o. unwrap_or (option_map (λ p. p.plant.0) o) 0) (old_pair x lt)
 
   last_pair : slice_get M.pairs (length N.pairs) ≡ Some new_row
-  last_pair = get_last N.pairs new_row
+  last_pair = slice_get-push N.pairs new_row
 
   old_sources : All (λ s. s.pair.0 < length N.pairs) N.sources
   old_sources = λ k d lt. (read.sources k d lt).pair

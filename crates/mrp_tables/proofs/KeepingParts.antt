@@ -1,5 +1,5 @@
 -- What is read of a row that is kept: what its fields spell, and each test of its grammar.
-use Rattle.std.proofs.Common.{◌≡◌, ℕ, Bool, true, false, not, ltb, List, length, Some, is_some, Result, Ok}
+use Rattle.std.proofs.Common.{◌≡◌, ℕ, Bool, true, false, not, ltb, List, length, Some, is_some, Ok}
 use Rattle.std.proofs.lemmas.Bool.{not-true}
 use Rattle.mrp_rows.specs.declared.rows.TheConstants.{MOST_BILLS, MOST_OF_A_KIND}
 use Rattle.mrp_rows.specs.declared.rows.BillRow.{BillRow}
@@ -12,9 +12,7 @@ use Rattle.mrp_rows.specs.Names.{pair_named, plant_no}
 use Rattle.mrp_rows.specs.Table.{Table, arrivals, horizon, rises_from}
 use Rattle.mrp_rows.specs.declared.numbers.PlantNo.{PlantNo}
 use Rattle.mrp_rows.specs.declared.numbers.PairNo.{PairNo}
-use Rattle.mrp_tables.specs.declared.fault.TableFaultKind.{TableFaultKind}
-use Rattle.mrp_tables.specs.declared.fault.TableFaultKind.TheVariants as fault
-use Rattle.mrp_tables.specs.Grammar.{◌>>=◌, AmountTerms, BillTerms, LaneTerms, amount_terms, bill_fits, check, cum_of, cum_terms, demand_of, has_bill, has_cum, has_reset, is_made, known_lane, known_pair, receipt_of, reset_of, reset_terms, ship_of, ship_terms}
+use Rattle.mrp_tables.specs.Grammar.{AmountTerms, BillTerms, LaneTerms, amount_of, amount_terms, bill_fits, cum_of, cum_terms, demand_made, demand_of, has_bill, has_cum, has_reset, is_made, known_lane, known_pair, receipt_made, receipt_of, reset_of, reset_terms, ship_of, ship_terms}
 use Rattle.mrp_tables.proofs.KeepingSteps.{after, after_check, after_some, same_Ok}
 
 pub record BillParts (N : Table) (t : BillTerms) (b : BillRow) : Type 0 where
@@ -52,26 +50,16 @@ pub record AmountParts {A : Type 0} (N : Table) (row : List (List ℕ)) (has_roo
   pub room : has_room ≡ true
   pub same : made found.1 terms.period terms.quantity ≡ x
 
-abbrev AmountOf : {A : Type 0} → Table → List (List ℕ) → Bool → (PairNo → ℕ → ℕ → A) → Result A TableFaultKind
-AmountOf N row has_room made =
-    amount_terms row (horizon N) >>= λ t. known_pair N t.plant t.item >>= λ found. check has_room fault.TooMany >>= λ _. Ok (made found.1 t.period t.quantity)
-
-amount_parts : {A : Type 0} (N : Table) (row : List (List ℕ)) (has_room : Bool) (made : PairNo → ℕ → ℕ → A) (x : A) → AmountOf N row has_room made ≡ Ok x → AmountParts N row has_room made x
+amount_parts : {A : Type 0} (N : Table) (row : List (List ℕ)) (has_room : Bool) (made : PairNo → ℕ → ℕ → A) (x : A) → amount_of N row has_room made ≡ Ok x → AmountParts N row has_room made x
 amount_parts N row has_room made x is =
     let a = after (amount_terms row (horizon N)) _ x is in
     let b = after (known_pair N a.0.plant a.0.item) _ x a.2 in
     let c = after_check has_room _ _ x b.2 in
     record { terms = a.0; found = b.0; read = a.1; known = b.1; room = c.0; same = same_Ok _ x c.1 }
 
-abbrev pub demand_made : PairNo → ℕ → ℕ → DemandRow
-demand_made pair period quantity = record { pair = pair; period = period; quantity = quantity }
-
 pub demand_parts : (N : Table) (row : List (List ℕ)) (x : DemandRow) → demand_of N row ≡ Ok x → AmountParts N row (ltb (length N.demands) MOST_OF_A_KIND) demand_made x
 unfolding demand_of
 demand_parts N row x is = amount_parts N row (ltb (length N.demands) MOST_OF_A_KIND) demand_made x is
-
-abbrev pub receipt_made : PairNo → ℕ → ℕ → ReceiptRow
-receipt_made pair period quantity = record { pair = pair; period = period; quantity = quantity }
 
 pub receipt_parts : (N : Table) (row : List (List ℕ)) (x : ReceiptRow) → receipt_of N row ≡ Ok x → AmountParts N row (ltb (length N.receipts) MOST_OF_A_KIND) receipt_made x
 unfolding receipt_of

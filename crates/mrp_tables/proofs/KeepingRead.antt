@@ -25,11 +25,11 @@ use Rattle.mrp_spell.specs.Spelling.{is_name, number_within}
 use Rattle.mrp_spell.proofs.Ranges.{within_range}
 use Rattle.mrp_tables.specs.declared.fault.TableFaultKind.{TableFaultKind}
 use Rattle.mrp_tables.specs.declared.fault.TableFaultKind.TheVariants as fault
-use Rattle.mrp_tables.specs.Grammar.{amount_terms, AmountTerms, bill_fits, bill_of, bill_terms, BillTerms, cum_of, cum_terms, demand_of, field, known_lane, known_pair, lane_terms, LaneTerms, name_of, plant_of, plant_terms, ranged, receipt_of, reset_of, reset_terms, ship_of, ship_terms}
+use Rattle.mrp_tables.specs.Grammar.{◌>>=◌, amount_terms, AmountTerms, bill_fits, bill_of, bill_terms, BillTerms, cum_of, cum_terms, demand_made, demand_of, field, known_lane, known_pair, lane_number, lane_terms, LaneTerms, name_of, plant_of, plant_terms, ranged, receipt_made, receipt_of, reset_of, reset_terms, ship_of, ship_terms}
 use Rattle.mrp_tables.specs.Lists.{AreLanes, has_lane, is_same_lane, lane_of, reset_key_of}
 use Rattle.mrp_tables.proofs.Arrivals.{among_lanes, same_lane_laws}
 use Rattle.mrp_tables.proofs.KeepingLists.{position_there}
-use Rattle.mrp_tables.proofs.KeepingParts.{bill_parts, cum_parts, demand_parts, receipt_parts, reset_parts, ship_parts}
+use Rattle.mrp_tables.proofs.KeepingParts.{AmountParts, bill_parts, cum_parts, demand_parts, receipt_parts, reset_parts, ship_parts}
 use Rattle.mrp_tables.proofs.KeepingRows.{on_lane}
 use Rattle.mrp_tables.proofs.KeepingSteps.{after, after_check, after_some, same_Ok}
 use Rattle.mrp_tables.proofs.Keys.{any_source}
@@ -52,6 +52,21 @@ named_is text name e = by (is_name text) refl e
 
 pub lt_test : (m n : ℕ) → ltb m n ≡ true → m < n
 lt_test m n e = grind (arith, nat_tests)
+
+-- the first two fields of a row that are names, and what is made with them of the rest
+pub record TwoNamesRead {A : Type 0} (row : List (List ℕ)) (made : List ℕ → List ℕ → Result A TableFaultKind) (t : A) : Type 0 where
+  pub first : List ℕ
+  pub second : List ℕ
+  pub first_is : name_of (field row 1) ≡ Ok first
+  pub second_is : name_of (field row 2) ≡ Ok second
+  pub rest : made first second ≡ Ok t
+
+pub two_names_read : {A : Type 0} (row : List (List ℕ)) (made : List ℕ → List ℕ → Result A TableFaultKind) (t : A)
+    → (name_of (field row 1) >>= λ a. name_of (field row 2) >>= λ b. made a b) ≡ Ok t → TwoNamesRead row made t
+two_names_read row made t is =
+    let a = after (name_of (field row 1)) _ t is in
+    let b = after (name_of (field row 2)) _ t a.2 in
+    record { first = a.0; second = b.0; first_is = a.1; second_is = b.1; rest = b.2 }
 
 -- ---- places
 
@@ -101,12 +116,11 @@ pub record BillRead (row : List (List ℕ)) (t : BillTerms) : Type 0 where
 pub bill_terms_read : (row : List (List ℕ)) (t : BillTerms) → bill_terms row ≡ Ok t → BillRead row t
 unfolding bill_terms
 bill_terms_read row t is =
-    let a = after (name_of (field row 1)) _ t is in
-    let b = after (name_of (field row 2)) _ t a.2 in
-    let c = after (name_of (field row 3)) _ t b.2 in
+    let n = two_names_read row _ t is in
+    let c = after (name_of (field row 3)) _ t n.rest in
     let d = after (ranged (field row 4) 1 MOST_PER) _ t c.2 in
-    let same : record { plant = a.0; parent = b.0; component = c.0; per = d.0 } ≡ t = same_Ok _ t d.2 in
-    subst (BillRead row) same (record { plant = a.1; parent = b.1; component = c.1; per = d.1 })
+    let same : record { plant = n.first; parent = n.second; component = c.0; per = d.0 } ≡ t = same_Ok _ t d.2 in
+    subst (BillRead row) same (record { plant = n.first_is; parent = n.second_is; component = c.1; per = d.1 })
 
 per_is : (row : List (List ℕ)) (t : BillTerms) → bill_terms row ≡ Ok t → (1 ≤ t.per) × (t.per ≤ MOST_PER)
 per_is row t is = ranged_is (field row 4) 1 MOST_PER t.per (bill_terms_read row t is).per
@@ -134,63 +148,91 @@ Falls N t = t < horizon N
 period_is : (N : Table) (text : List ℕ) (t : ℕ) → IsRead N → ranged text 0 (horizon N - 1) ≡ Ok t → Falls N t
 period_is N text t read is = let within = ranged_is text 0 (horizon N - 1) t is in omega (arith, within.1, read.limits.some_periods)
 
+-- a period and a quantity, as they are read of two fields
 record IsAmountOf (N : Table) (t n : ℕ) : Type 0 where
   period : Falls N t
   some : 1 ≤ n
   few : n ≤ MOST_IN_ROW
 
-amount_is : (N : Table) (row : List (List ℕ)) (t : AmountTerms) → IsRead N → amount_terms row (horizon N) ≡ Ok t → IsAmountOf N t.period t.quantity
+amount_is : (N : Table) (period quantity : List ℕ) (t n : ℕ) → IsRead N → ranged period 0 (horizon N - 1) ≡ Ok t → ranged quantity 1 MOST_IN_ROW ≡ Ok n → IsAmountOf N t n
+amount_is N period quantity t n read falls is = let few = ranged_is quantity 1 MOST_IN_ROW n is in record { period = period_is N period t read falls; some = few.0; few = few.1 }
+
+-- each field of a demand or a receipt row is read as it stands in the terms
+pub record AmountRead (row : List (List ℕ)) (periods : ℕ) (t : AmountTerms) : Type 0 where
+  pub plant : name_of (field row 1) ≡ Ok t.plant
+  pub item : name_of (field row 2) ≡ Ok t.item
+  pub period : ranged (field row 3) 0 (periods - 1) ≡ Ok t.period
+  pub quantity : ranged (field row 4) 1 MOST_IN_ROW ≡ Ok t.quantity
+
+pub amount_terms_read : (row : List (List ℕ)) (periods : ℕ) (t : AmountTerms) → amount_terms row periods ≡ Ok t → AmountRead row periods t
 unfolding amount_terms
-amount_is N row t read is =
-    let a = after (name_of (field row 1)) _ t is in
-    let b = after (name_of (field row 2)) _ t a.2 in
-    let c = after (ranged (field row 3) 0 (horizon N - 1)) _ t b.2 in
+amount_terms_read row periods t is =
+    let n = two_names_read row _ t is in
+    let c = after (ranged (field row 3) 0 (periods - 1)) _ t n.rest in
     let d = after (ranged (field row 4) 1 MOST_IN_ROW) _ t c.2 in
-    let same : record { plant = a.0; item = b.0; period = c.0; quantity = d.0 } ≡ t = same_Ok _ t d.2 in
-    let few = ranged_is (field row 4) 1 MOST_IN_ROW d.0 d.1 in
-    subst (λ (x : AmountTerms). IsAmountOf N x.period x.quantity) same (record { period = period_is N (field row 3) c.0 read c.1; some = few.0; few = few.1 })
+    let same : record { plant = n.first; item = n.second; period = c.0; quantity = d.0 } ≡ t = same_Ok _ t d.2 in
+    subst (AmountRead row periods) same (record { plant = n.first_is; item = n.second_is; period = c.1; quantity = d.1 })
+
+-- what is read of such a row is there, and in its range
+amount_known : {A : Type 0} (N : Table) (row : List (List ℕ)) (has_room : Bool) (made : PairNo → ℕ → ℕ → A) (x : A) → IsRead N → (p : AmountParts N row has_room made x)
+    → (p.found.1.0 < length N.pairs) × IsAmountOf N p.terms.period p.terms.quantity
+amount_known N row has_room made x read p =
+    let fields = amount_terms_read row (horizon N) p.terms p.read in
+    (known_within N p.terms.plant p.terms.item p.found p.known, amount_is N _ _ p.terms.period p.terms.quantity read fields.period fields.quantity)
 
 pub demand_read : (N : Table) (row : List (List ℕ)) (x : DemandRow) → IsRead N → demand_of N row ≡ Ok x → IsRead (with_demand N x)
 demand_read N row x read is =
     let p = demand_parts N row x is in
-    let says = amount_is N row p.terms read p.read in
-    let pair = known_within N p.terms.plant p.terms.item p.found p.known in
-    read-with_demand N x read (subst (IsDemandRow N) p.same (record { pair = pair; period = says.period; some = says.some; quantity = says.few })) (lt_test (length N.demands) MOST_OF_A_KIND p.room)
+    let says = amount_known N row _ demand_made x read p in
+    read-with_demand N x read (subst (IsDemandRow N) p.same (record { pair = says.0; period = says.1.period; some = says.1.some; quantity = says.1.few })) (lt_test (length N.demands) MOST_OF_A_KIND p.room)
 
 pub receipt_read : (N : Table) (row : List (List ℕ)) (x : ReceiptRow) → IsRead N → receipt_of N row ≡ Ok x → IsRead (with_receipt N x)
 receipt_read N row x read is =
     let p = receipt_parts N row x is in
-    let says = amount_is N row p.terms read p.read in
-    let pair = known_within N p.terms.plant p.terms.item p.found p.known in
-    read-with_receipt N x read (subst (IsReceiptRow N) p.same (record { pair = pair; period = says.period; some = says.some; quantity = says.few })) (lt_test (length N.receipts) MOST_OF_A_KIND p.room)
+    let says = amount_known N row _ receipt_made x read p in
+    read-with_receipt N x read (subst (IsReceiptRow N) p.same (record { pair = says.0; period = says.1.period; some = says.1.some; quantity = says.1.few })) (lt_test (length N.receipts) MOST_OF_A_KIND p.room)
 
 -- ---- lanes
 
-shipment_is : (N : Table) (row : List (List ℕ)) (t : LaneTerms × ℕ × ℕ) → IsRead N → ship_terms row (horizon N) ≡ Ok t → IsAmountOf N t.1 t.2
+-- each field of a ship row is read as it stands in the terms
+pub record ShipRead (row : List (List ℕ)) (periods : ℕ) (t : LaneTerms × ℕ × ℕ) : Type 0 where
+  pub lane : lane_terms row ≡ Ok t.0
+  pub period : ranged (field row 4) 0 (periods - 1) ≡ Ok t.1
+  pub quantity : ranged (field row 5) 1 MOST_IN_ROW ≡ Ok t.2
+
+pub ship_terms_read : (row : List (List ℕ)) (periods : ℕ) (t : LaneTerms × ℕ × ℕ) → ship_terms row periods ≡ Ok t → ShipRead row periods t
 unfolding ship_terms
-shipment_is N row t read is =
+ship_terms_read row periods t is =
     let a = after (lane_terms row) _ t is in
-    let b = after (ranged (field row 4) 0 (horizon N - 1)) _ t a.2 in
+    let b = after (ranged (field row 4) 0 (periods - 1)) _ t a.2 in
     let c = after (ranged (field row 5) 1 MOST_IN_ROW) _ t b.2 in
     let same : ◌≡◌ {A = LaneTerms × ℕ × ℕ} (a.0, b.0, c.0) t = same_Ok _ t c.2 in
-    let few = ranged_is (field row 5) 1 MOST_IN_ROW c.0 c.1 in
-    subst (λ (x : LaneTerms × ℕ × ℕ). IsAmountOf N x.1 x.2) same (record { period = period_is N (field row 4) b.0 read b.1; some = few.0; few = few.1 })
+    subst (ShipRead row periods) same (record { lane = a.1; period = b.1; quantity = c.1 })
 
 pub ship_read : (N : Table) (row : List (List ℕ)) (x : ShipRow) → IsRead N → ship_of N row ≡ Ok x → IsRead (with_ship N x)
 ship_read N row x read is =
     let p = ship_parts N row x is in
-    let says = shipment_is N row p.terms read p.read in
+    let fields = ship_terms_read row (horizon N) p.terms p.read in
+    let says = amount_is N _ _ p.terms.1 p.terms.2 read fields.period fields.quantity in
     let lane = lane_within N p.terms.0 p.lane p.known in
     let made : IsShipRow N x = subst (IsShipRow N) p.same (record { from = lane.0; pair = lane.1; period = says.period; some = says.some; quantity = says.few }) in
     read-with_ship N x read made (lt_test (length N.ships) MOST_OF_A_KIND p.room)
 
+-- the fields of a cum or a reset row are read as they stand in the terms
+pub record LaneNumberRead (row : List (List ℕ)) (most : ℕ) (t : LaneTerms × ℕ) : Type 0 where
+  pub lane : lane_terms row ≡ Ok t.0
+  pub number : ranged (field row 4) 0 most ≡ Ok t.1
+
+pub lane_number_read : (row : List (List ℕ)) (most : ℕ) (t : LaneTerms × ℕ) → lane_number row most ≡ Ok t → LaneNumberRead row most t
+lane_number_read row most t is =
+    let a = after (lane_terms row) _ t is in
+    let b = after (ranged (field row 4) 0 most) _ t a.2 in
+    let same : ◌≡◌ {A = LaneTerms × ℕ} (a.0, b.0) t = same_Ok _ t b.2 in
+    subst (LaneNumberRead row most) same (record { lane = a.1; number = b.1 })
+
 figure_is : (row : List (List ℕ)) (t : LaneTerms × ℕ) → cum_terms row ≡ Ok t → t.1 ≤ MOST
 unfolding cum_terms
-figure_is row t is =
-    let a = after (lane_terms row) _ t is in
-    let b = after (ranged (field row 4) 0 MOST) _ t a.2 in
-    let same : ◌≡◌ {A = LaneTerms × ℕ} (a.0, b.0) t = same_Ok _ t b.2 in
-    subst (λ (x : LaneTerms × ℕ). x.1 ≤ MOST) same (ranged_is (field row 4) 0 MOST b.0 b.1).1
+figure_is row t is = (ranged_is (field row 4) 0 MOST t.1 (lane_number_read row MOST t is).number).1
 
 pub cum_read : (N : Table) (row : List (List ℕ)) (x : CumRow) → IsRead N → cum_of N row ≡ Ok x → IsRead (with_cum N x)
 cum_read N row x read is =
@@ -225,11 +267,7 @@ resets_few N once sourced =
 
 start_is : (N : Table) (row : List (List ℕ)) (t : LaneTerms × ℕ) → IsRead N → reset_terms row (horizon N) ≡ Ok t → Falls N t.1
 unfolding reset_terms
-start_is N row t read is =
-    let a = after (lane_terms row) _ t is in
-    let b = after (ranged (field row 4) 0 (horizon N - 1)) _ t a.2 in
-    let same : ◌≡◌ {A = LaneTerms × ℕ} (a.0, b.0) t = same_Ok _ t b.2 in
-    subst (λ (x : LaneTerms × ℕ). Falls N x.1) same (period_is N (field row 4) b.0 read b.1)
+start_is N row t read is = period_is N (field row 4) t.1 read (lane_number_read row (horizon N - 1) t is).number
 
 pub reset_read : (N : Table) (row : List (List ℕ)) (x : ResetRow) → IsRead N → IsOnce (with_reset N x) → IsSourced (with_reset N x) → reset_of N row ≡ Ok x → IsRead (with_reset N x)
 reset_read N row x read once sourced is =

@@ -13,7 +13,7 @@ use Rattle.mrp_spell.proofs.Wholes.{supply_is}
 use Rattle.mrp_rows.specs.declared.rows.TheConstants.{MOST_IN_ROW}
 use Rattle.mrp_rows.specs.Table.{Table, AreShares, IsAmount, IsName}
 use Rattle.mrp_tables.specs.Grammar.{field, name_of, PairTerms, pair_terms, ranged, source_row}
-use Rattle.mrp_tables.proofs.KeepingRead.{named_is, ranged_is}
+use Rattle.mrp_tables.proofs.KeepingRead.{named_is, ranged_is, two_names_read}
 use Rattle.mrp_tables.proofs.KeepingSteps.{after, after_some, same_Ok}
 
 -- each field of a pair row is read as it stands in the terms
@@ -29,15 +29,14 @@ pub record PairRead (row : List (List ℕ)) (t : PairTerms) : Type 0 where
 pub pair_terms_read : (row : List (List ℕ)) (t : PairTerms) → pair_terms row ≡ Ok t → PairRead row t
 unfolding pair_terms
 pair_terms_read row t is =
-    let a = after (name_of (field row 1)) _ t is in
-    let b = after (name_of (field row 2)) _ t a.2 in
-    let c = after (ranged (field row 5) 0 LONGEST_LEAD) _ t b.2 in
+    let n = two_names_read row _ t is in
+    let c = after (ranged (field row 5) 0 LONGEST_LEAD) _ t n.rest in
     let d = after (ranged (field row 6) 0 MOST_IN_ROW) _ t c.2 in
     let e = after (ranged (field row 7) 0 MOST_IN_ROW) _ t d.2 in
     let f = after_some (rule_of (field row 4)) _ _ t e.2 in
     let g = after_some (supply_of (field row 3)) _ _ t f.2 in
-    let same : record { plant = a.0; item = b.0; supply = g.0; rule = f.0; lead = c.0; on_hand = d.0; safety = e.0 } ≡ t = same_Ok _ t g.2 in
-    subst (PairRead row) same (record { plant = a.1; item = b.1; supply = g.1; rule = f.1; lead = c.1; on_hand = d.1; safety = e.1 })
+    let same : record { plant = n.first; item = n.second; supply = g.0; rule = f.0; lead = c.0; on_hand = d.0; safety = e.0 } ≡ t = same_Ok _ t g.2 in
+    subst (PairRead row) same (record { plant = n.first_is; item = n.second_is; supply = g.1; rule = f.1; lead = c.1; on_hand = d.1; safety = e.1 })
 
 pub record SpellsPair (t : PairTerms) : Type 0 where
   pub item : IsName t.item

@@ -1,5 +1,5 @@
 -- Each fault that a row may have stands in the list of its kind.
-use Rattle.std.proofs.Common.{◌≡◌, ℕ, ◌-◌, Bool, true, false, List, length, Option, Some, None, is_some, not, nat_lt, ◌==◌, Result, Ok, Err, ok_or, if◌then◌else◌, IfErr, refl, sym, ap, ◌∙◌, subst, arith}
+use Rattle.std.proofs.Common.{◌≡◌, ℕ, ◌-◌, Bool, true, false, List, length, Some, is_some, not, nat_lt, ◌==◌, Result, Ok, Err, IfErr, refl, sym, ap, ◌∙◌, subst, arith}
 use Rattle.std.specs.List.{Contains, list_all}
 use Rattle.std.specs.Str.{is_utf8}
 use Rattle.std.proofs.lemmas.Bool.{false≢true}
@@ -10,6 +10,7 @@ use Rattle.mrp_cal.specs.declared.fault.CalFault.TheVariants as cal
 use Rattle.mrp_lot.specs.declared.rule.TheConstants.{LONGEST_LEAD}
 use Rattle.mrp_qty.specs.declared.quantity.TheConstants.{MOST}
 use Rattle.mrp_qty.specs.declared.horizon.TheConstants.{LONGEST}
+use Rattle.mrp_rows.specs.declared.numbers.PairNo.{PairNo}
 use Rattle.mrp_rows.specs.declared.rows.TheConstants.{MOST_BILLS, MOST_IN_ROW, MOST_OF_A_KIND, MOST_PAIRS, MOST_PER, MOST_PLANTS}
 use Rattle.mrp_rows.specs.Names.{has_plant, pair_named, plant_no}
 use Rattle.mrp_rows.specs.Table.{arrivals, horizon, is_taken_from, rises_from, Table}
@@ -20,128 +21,119 @@ use Rattle.mrp_tables.specs.declared.fault.TableFaultKind.TheVariants as fault
 use Rattle.mrp_tables.specs.declared.kind.Kind.{Kind}
 use Rattle.mrp_tables.specs.declared.kind.Kind.TheVariants as kind
 use Rattle.mrp_tables.specs.Faults.{faults_of, faults_of_any, HasListedFaults, IsListed, Rise}
-use Rattle.mrp_tables.specs.Grammar.{◌>>=◌, amount_terms, bill_fits, bill_terms, BillTerms, check, cum_of, cum_terms, demand_of, field, is_empty_from, kind_of, known_lane, known_pair}
-use Rattle.mrp_tables.specs.Grammar.{has_bill, has_cum, has_reset, is_made, knows_sources, lane_terms, LaneTerms, may_follow, name_of, pair_fits, pair_terms, PairTerms, plant_of, ranged, receipt_of, reset_of, reset_terms}
+use Rattle.mrp_tables.specs.Grammar.{◌>>=◌, amount_of, amount_terms, bill_fits, bill_terms, BillTerms, check, cum_of, cum_terms, demand_made, demand_of, field, is_empty_from, kind_of, known_lane, known_pair}
+use Rattle.mrp_tables.specs.Grammar.{has_bill, has_cum, has_reset, is_made, knows_sources, lane_number, lane_terms, LaneTerms, may_follow, name_of, pair_fits, pair_terms, PairTerms, plant_of, ranged, receipt_made, receipt_of, reset_of, reset_terms}
 use Rattle.mrp_tables.specs.Grammar.{row_kind, run_terms, RunTerms, ship_of, ship_terms, TellsFault, used}
 use Rattle.mrp_tables.specs.Reading.{first_terms, is_run, kind_of_row, row_after, row_of_kind, started, Starts, StartsWith, UnlessMemory}
+use Rattle.mrp_tables.proofs.KeepingSteps.{chosen, found, steps, tested}
 
 module _ (P : TableFaultKind → Type 0) where
-  -- a step and the steps after it
-  steps : {A B : Type 0} (r : Result A TableFaultKind) (f : A → Result B TableFaultKind) → IfErr r P → ((x : A) → IfErr (f x) P) → IfErr (r >>= f) P
-  steps (Ok x) f h g = g x
-  steps (Err e) f h g = h
-
-  tested : (b : Bool) (e : TableFaultKind) → P e → IfErr (check b e) P
-  tested true e h = tt
-  tested false e h = h
-
-  found : {A : Type 0} (o : Option A) (e : TableFaultKind) → P e → IfErr (ok_or o e) P
-  found (Some x) e h = tt
-  found None e h = h
-
-  chosen : {A : Type 0} (b : Bool) (x : A) (e : TableFaultKind) → P e → IfErr (if b then Ok x else Err e) P
-  chosen true x e h = tt
-  chosen false x e h = h
-
   -- ---- what the fields of a row spell
 
   name : (text : List ℕ) → P fault.BadName → IfErr (name_of text) P
-  name text h = chosen (is_name text) text fault.BadName h
+  name text h = chosen P (is_name text) text fault.BadName h
 
   number : (text : List ℕ) (low high : ℕ) → P fault.BadNumber → IfErr (ranged text low high) P
-  number text low high h = found (number_within text low high) fault.BadNumber h
+  number text low high h = found P (number_within text low high) fault.BadNumber h
 
   run-terms : (row : List (List ℕ)) → P fault.BadNumber → IfErr (run_terms row) P
   unfolding run_terms
-  run-terms row n = steps _ _ (found (number_of (field row 2)) _ n) (λ days. steps _ _ (number (field row 3) 1 LONGEST n) (λ periods. tt))
+  run-terms row n = steps P _ _ (found P (number_of (field row 2)) _ n) (λ days. steps P _ _ (number (field row 3) 1 LONGEST n) (λ periods. tt))
 
   bill-terms : (row : List (List ℕ)) → P fault.BadName → P fault.BadNumber → IfErr (bill_terms row) P
   unfolding bill_terms
   bill-terms row m n =
-      steps _ _ (name (field row 1) m) (λ plant. steps _ _ (name (field row 2) m) (λ parent. steps _ _ (name (field row 3) m) (λ component. steps _ _ (number (field row 4) 1 MOST_PER n) (λ per. tt))))
+      steps P _ _ (name (field row 1) m) (λ plant. steps P _ _ (name (field row 2) m) (λ parent. steps P _ _ (name (field row 3) m) (λ component. steps P _ _ (number (field row 4) 1 MOST_PER n) (λ per. tt))))
 
   amount-terms : (row : List (List ℕ)) (periods : ℕ) → P fault.BadName → P fault.BadNumber → IfErr (amount_terms row periods) P
   unfolding amount_terms
   amount-terms row periods m n =
-      steps _ _ (name (field row 1) m) (λ plant. steps _ _ (name (field row 2) m) (λ item. steps _ _ (number (field row 3) 0 (periods - 1) n) (λ period. steps _ _ (number (field row 4) 1 MOST_IN_ROW n) (λ quantity. tt))))
+      steps P _ _ (name (field row 1) m) (λ plant. steps P _ _ (name (field row 2) m) (λ item. steps P _ _ (number (field row 3) 0 (periods - 1) n) (λ period. steps P _ _ (number (field row 4) 1 MOST_IN_ROW n) (λ quantity. tt))))
 
   lane-terms : (row : List (List ℕ)) → P fault.BadName → IfErr (lane_terms row) P
   unfolding lane_terms
-  lane-terms row m = steps _ _ (name (field row 1) m) (λ from. steps _ _ (name (field row 2) m) (λ to. steps _ _ (name (field row 3) m) (λ item. tt)))
+  lane-terms row m = steps P _ _ (name (field row 1) m) (λ from. steps P _ _ (name (field row 2) m) (λ to. steps P _ _ (name (field row 3) m) (λ item. tt)))
 
   ship-terms : (row : List (List ℕ)) (periods : ℕ) → P fault.BadName → P fault.BadNumber → IfErr (ship_terms row periods) P
   unfolding ship_terms
-  ship-terms row periods m n = steps _ _ (lane-terms row m) (λ lane. steps _ _ (number (field row 4) 0 (periods - 1) n) (λ period. steps _ _ (number (field row 5) 1 MOST_IN_ROW n) (λ quantity. tt)))
+  ship-terms row periods m n = steps P _ _ (lane-terms row m) (λ lane. steps P _ _ (number (field row 4) 0 (periods - 1) n) (λ period. steps P _ _ (number (field row 5) 1 MOST_IN_ROW n) (λ quantity. tt)))
+
+  lane-number : (row : List (List ℕ)) (most : ℕ) → P fault.BadName → P fault.BadNumber → IfErr (lane_number row most) P
+  lane-number row most m n = steps P _ _ (lane-terms row m) (λ lane. steps P _ _ (number (field row 4) 0 most n) (λ figure. tt))
 
   cum-terms : (row : List (List ℕ)) → P fault.BadName → P fault.BadNumber → IfErr (cum_terms row) P
   unfolding cum_terms
-  cum-terms row m n = steps _ _ (lane-terms row m) (λ lane. steps _ _ (number (field row 4) 0 MOST n) (λ figure. tt))
+  cum-terms row m n = lane-number row MOST m n
 
   reset-terms : (row : List (List ℕ)) (periods : ℕ) → P fault.BadName → P fault.BadNumber → IfErr (reset_terms row periods) P
   unfolding reset_terms
-  reset-terms row periods m n = steps _ _ (lane-terms row m) (λ lane. steps _ _ (number (field row 4) 0 (periods - 1) n) (λ period. tt))
+  reset-terms row periods m n = lane-number row (periods - 1) m n
 
   pair-terms : (row : List (List ℕ)) → P fault.BadName → P fault.BadNumber → P fault.BadRule → P fault.BadSupply → IfErr (pair_terms row) P
   unfolding pair_terms
   pair-terms row m n r s =
-      steps _ _ (name (field row 1) m) (λ plant. steps _ _ (name (field row 2) m) (λ item. steps _ _ (number (field row 5) 0 LONGEST_LEAD n) (λ lead. steps _ _ (number (field row 6) 0 MOST_IN_ROW n) (λ on_hand.
-      steps _ _ (number (field row 7) 0 MOST_IN_ROW n) (λ safety. steps _ _ (found (rule_of (field row 4)) _ r) (λ rule. steps _ _ (found (supply_of (field row 3)) _ s) (λ supply. tt)))))))
+      steps P _ _ (name (field row 1) m) (λ plant. steps P _ _ (name (field row 2) m) (λ item. steps P _ _ (number (field row 5) 0 LONGEST_LEAD n) (λ lead. steps P _ _ (number (field row 6) 0 MOST_IN_ROW n) (λ on_hand.
+      steps P _ _ (number (field row 7) 0 MOST_IN_ROW n) (λ safety. steps P _ _ (found P (rule_of (field row 4)) _ r) (λ rule. steps P _ _ (found P (supply_of (field row 3)) _ s) (λ supply. tt)))))))
 
   -- ---- what a row says
 
   plant-of : (N : Table) (row : List (List ℕ)) → P fault.BadName → P fault.Repeated → P fault.TooMany → IfErr (plant_of N row) P
   unfolding plant_of
-  plant-of N row m r t = steps _ _ (name (field row 1) m) (λ x. steps _ _ (tested (not (has_plant N x)) _ r) (λ fresh. steps _ _ (tested (nat_lt (length N.plants) MOST_PLANTS) _ t) (λ room. tt)))
+  plant-of N row m r t = steps P _ _ (name (field row 1) m) (λ x. steps P _ _ (tested P (not (has_plant N x)) _ r) (λ fresh. steps P _ _ (tested P (nat_lt (length N.plants) MOST_PLANTS) _ t) (λ room. tt)))
 
   pair-fits : (N : Table) (t : PairTerms) → P fault.Repeated → P fault.UnknownPlant → P fault.SelfSource → P fault.TooMany → IfErr (pair_fits N t) P
   unfolding pair_fits
   pair-fits N t r u s m =
-      steps _ _ (tested (not (is_some (pair_named N (plant_no N t.plant) t.item))) _ r) (λ fresh. steps _ _ (found (plant_no N t.plant) _ u) (λ plant. steps _ _ (tested (knows_sources N (named_sources t.supply)) _ u) (λ known. steps _ _ (tested (not (names_plant (named_sources t.supply) t.plant)) _ s) (λ other. steps _ _ (tested (nat_lt (length N.pairs) MOST_PAIRS) _ m) (λ room. tt)))))
+      steps P _ _ (tested P (not (is_some (pair_named N (plant_no N t.plant) t.item))) _ r) (λ fresh. steps P _ _ (found P (plant_no N t.plant) _ u) (λ plant. steps P _ _ (tested P (knows_sources N (named_sources t.supply)) _ u) (λ known. steps P _ _ (tested P (not (names_plant (named_sources t.supply) t.plant)) _ s) (λ other. steps P _ _ (tested P (nat_lt (length N.pairs) MOST_PAIRS) _ m) (λ room. tt)))))
 
   bill-fits : (N : Table) (t : BillTerms) → P fault.Repeated → P fault.UnknownPlant → P fault.UnknownPair → P fault.NotMade → P fault.TooMany → IfErr (bill_fits N t) P
   unfolding bill_fits
   bill-fits N t r u p n m =
-      steps _ _ (tested (not (has_bill N (pair_named N (plant_no N t.plant) t.parent) (pair_named N (plant_no N t.plant) t.component))) _ r) (λ fresh. steps _ _ (tested (is_some (plant_no N t.plant)) _ u) (λ known. steps _ _ (found (pair_named N (plant_no N t.plant) t.parent) _ p) (λ x. steps _ _ (found (pair_named N (plant_no N t.plant) t.component) _ p) (λ y.
-      steps _ _ (tested (is_made N x) _ n) (λ made. steps _ _ (tested (nat_lt (length N.bills) MOST_BILLS) _ m) (λ room. tt))))))
+      steps P _ _ (tested P (not (has_bill N (pair_named N (plant_no N t.plant) t.parent) (pair_named N (plant_no N t.plant) t.component))) _ r) (λ fresh. steps P _ _ (tested P (is_some (plant_no N t.plant)) _ u) (λ known. steps P _ _ (found P (pair_named N (plant_no N t.plant) t.parent) _ p) (λ x. steps P _ _ (found P (pair_named N (plant_no N t.plant) t.component) _ p) (λ y.
+      steps P _ _ (tested P (is_made N x) _ n) (λ made. steps P _ _ (tested P (nat_lt (length N.bills) MOST_BILLS) _ m) (λ room. tt))))))
 
   known-pair : (N : Table) (plant item : List ℕ) → P fault.UnknownPlant → P fault.UnknownPair → IfErr (known_pair N plant item) P
   unfolding known_pair
-  known-pair N plant item u p = steps _ _ (found (plant_no N plant) _ u) (λ k. steps _ _ (found (pair_named N (Some k) item) _ p) (λ x. tt))
+  known-pair N plant item u p = steps P _ _ (found P (plant_no N plant) _ u) (λ k. steps P _ _ (found P (pair_named N (Some k) item) _ p) (λ x. tt))
+
+  amount-of : {A : Type 0} (N : Table) (row : List (List ℕ)) (has_room : Bool) (made : PairNo → ℕ → ℕ → A) → P fault.BadName → P fault.BadNumber → P fault.UnknownPlant → P fault.UnknownPair → P fault.TooMany
+      → IfErr (amount_of N row has_room made) P
+  amount-of N row has_room made m n u p t = steps P _ _ (amount-terms row (horizon N) m n) (λ a. steps P _ _ (known-pair N a.plant a.item u p) (λ x. steps P _ _ (tested P has_room _ t) (λ room. tt)))
 
   demand-of : (N : Table) (row : List (List ℕ)) → P fault.BadName → P fault.BadNumber → P fault.UnknownPlant → P fault.UnknownPair → P fault.TooMany → IfErr (demand_of N row) P
   unfolding demand_of
-  demand-of N row m n u p t = steps _ _ (amount-terms row (horizon N) m n) (λ a. steps _ _ (known-pair N a.plant a.item u p) (λ x. steps _ _ (tested (nat_lt (length N.demands) MOST_OF_A_KIND) _ t) (λ room. tt)))
+  demand-of N row m n u p t = amount-of N row _ demand_made m n u p t
 
   receipt-of : (N : Table) (row : List (List ℕ)) → P fault.BadName → P fault.BadNumber → P fault.UnknownPlant → P fault.UnknownPair → P fault.TooMany → IfErr (receipt_of N row) P
   unfolding receipt_of
-  receipt-of N row m n u p t = steps _ _ (amount-terms row (horizon N) m n) (λ a. steps _ _ (known-pair N a.plant a.item u p) (λ x. steps _ _ (tested (nat_lt (length N.receipts) MOST_OF_A_KIND) _ t) (λ room. tt)))
+  receipt-of N row m n u p t = amount-of N row _ receipt_made m n u p t
 
   known-lane : (N : Table) (t : LaneTerms) → P fault.UnknownPlant → P fault.UnknownPair → P fault.NotSourced → IfErr (known_lane N t) P
   unfolding known_lane
   known-lane N t u p s =
-      steps _ _ (found (plant_no N t.from) _ u) (λ from. steps _ _ (found (plant_no N t.to) _ u) (λ to. steps _ _ (found (pair_named N (Some to) t.item) _ p) (λ x. steps _ _ (tested (is_taken_from N x from) _ s) (λ there. tt))))
+      steps P _ _ (found P (plant_no N t.from) _ u) (λ from. steps P _ _ (found P (plant_no N t.to) _ u) (λ to. steps P _ _ (found P (pair_named N (Some to) t.item) _ p) (λ x. steps P _ _ (tested P (is_taken_from N x from) _ s) (λ there. tt))))
 
   ship-of : (N : Table) (row : List (List ℕ)) → P fault.BadName → P fault.BadNumber → P fault.UnknownPlant → P fault.UnknownPair → P fault.NotSourced → P fault.TooMany → IfErr (ship_of N row) P
   unfolding ship_of
-  ship-of N row m n u p s t = steps _ _ (ship-terms row (horizon N) m n) (λ a. steps _ _ (known-lane N a.0 u p s) (λ lane. steps _ _ (tested (nat_lt (length N.ships) MOST_OF_A_KIND) _ t) (λ room. tt)))
+  ship-of N row m n u p s t = steps P _ _ (ship-terms row (horizon N) m n) (λ a. steps P _ _ (known-lane N a.0 u p s) (λ lane. steps P _ _ (tested P (nat_lt (length N.ships) MOST_OF_A_KIND) _ t) (λ room. tt)))
 
   cum-of : (N : Table) (row : List (List ℕ)) → P fault.BadName → P fault.BadNumber → P fault.Repeated → P fault.UnknownPlant → P fault.UnknownPair → P fault.NotSourced → P fault.TooMany → IfErr (cum_of N row) P
   unfolding cum_of
-  cum-of N row m n r u p s t = steps _ _ (cum-terms row m n) (λ a. steps _ _ (tested (not (has_cum N a.0)) _ r) (λ fresh. steps _ _ (known-lane N a.0 u p s) (λ lane. steps _ _ (tested (nat_lt (length N.cums) MOST_OF_A_KIND) _ t) (λ room. tt))))
+  cum-of N row m n r u p s t = steps P _ _ (cum-terms row m n) (λ a. steps P _ _ (tested P (not (has_cum N a.0)) _ r) (λ fresh. steps P _ _ (known-lane N a.0 u p s) (λ lane. steps P _ _ (tested P (nat_lt (length N.cums) MOST_OF_A_KIND) _ t) (λ room. tt))))
 
   reset-of : (N : Table) (row : List (List ℕ)) → P fault.BadName → P fault.BadNumber → P fault.Repeated → P fault.UnknownPlant → P fault.UnknownPair → P fault.NotSourced → P fault.ResetOrder → IfErr (reset_of N row) P
   unfolding reset_of
-  reset-of N row m n r u p s o = steps _ _ (reset-terms row (horizon N) m n) (λ a. steps _ _ (tested (not (has_reset N a.0)) _ r) (λ fresh. steps _ _ (known-lane N a.0 u p s) (λ lane. steps _ _ (tested (rises_from 0 (arrivals N lane.0.0 lane.1.0)) _ o) (λ in_order. tt))))
+  reset-of N row m n r u p s o = steps P _ _ (reset-terms row (horizon N) m n) (λ a. steps P _ _ (tested P (not (has_reset N a.0)) _ r) (λ fresh. steps P _ _ (known-lane N a.0 u p s) (λ lane. steps P _ _ (tested P (rises_from 0 (arrivals N lane.0.0 lane.1.0)) _ o) (λ in_order. tt))))
 
   -- ---- the kind of a row
 
   row-kind : (row : List (List ℕ)) → P fault.FieldCount → P fault.UnknownKind → IfErr (row_kind row) P
   unfolding row_kind
-  row-kind row c u = steps _ _ (tested (length row == 8) _ c) (λ eight. steps _ _ (found (kind_of (field row 0)) _ u) (λ k. chosen (is_empty_from row (used k)) k fault.FieldCount c))
+  row-kind row c u = steps P _ _ (tested P (length row == 8) _ c) (λ eight. steps P _ _ (found P (kind_of (field row 0)) _ u) (λ k. chosen P (is_empty_from row (used k)) k fault.FieldCount c))
 
   kind-of-row : (row : List (List ℕ)) → P fault.NotUtf8 → P fault.FieldCount → P fault.UnknownKind → IfErr (kind_of_row row) P
   unfolding kind_of_row
-  kind-of-row row t c u = steps _ _ (tested (list_all is_utf8 row) _ t) (λ text. row-kind row c u)
+  kind-of-row row t c u = steps P _ _ (tested P (list_all is_utf8 row) _ t) (λ text. row-kind row c u)
 
 -- ---- the lists
 

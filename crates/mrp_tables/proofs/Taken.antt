@@ -1,16 +1,17 @@
 -- What a read of a record takes off the rows that a reader has left.
-use Rattle.std.proofs.Common.{◌≡◌, inl, inr, ℕ, Bool, true, false, ◌&&◌, List, [], ◌∷◌, Option, Some, None, option_map, refl, sym, ◌∙◌}
+use Rattle.std.proofs.Common.{◌≡◌, inl, inr, ℕ, Bool, true, false, ◌&&◌, List, [], ◌∷◌, Option, Some, None, option_map, refl, sym, ap, subst, ◌∙◌}
 use Rattle.std.specs.List.{list_all}
 use Rattle.std.specs.Str.{is_utf8}
 use Rattle.std.proofs.lemmas.Str.{IsUtf8-from_is_utf8}
 use Rattle.std.proofs.lemmas.Bool.{cases_Bool, false≢true}
 use Rattle.csv.specs.Machine.{Read, next_record}
-use Rattle.csv.specs.Reading.{default_config, ExplainsRead, NextIs, pending_of, ReadRecord, ReadsNext, source_of, stops_reader}
+use Rattle.csv.specs.Reading.{default_config, ExplainsRead, has_failed, NextIs, pending_of, reader_trim, ReadRecord, ReadsNext, Ready, source_of, stops_reader}
 use Rattle.csv.specs.Records.{AllText}
 use Rattle.csv.specs.declared.error.ErrorKind.{ErrorKind}
 use Rattle.csv.specs.declared.error.ErrorKind.TheVariants as error
 use Rattle.csv.specs.declared.parser.State.{State}
 use Rattle.csv.specs.declared.reader.Reader.{Reader}
+use Rattle.csv.specs.declared.reader.Trim.TheVariants as trim
 use Rattle.mrp_tables.specs.declared.fault.TableFaultKind.{TableFaultKind}
 use Rattle.mrp_tables.specs.declared.fault.TableFaultKind.TheVariants as fault
 use Rattle.mrp_tables.specs.Left.{fault_of, GivesAll, left_of, MayCome, OfLeft, records_in, StartsBadly, TakesRow}
@@ -82,8 +83,9 @@ bad_row : (left : Option (List (List (List ℕ)))) (row : List (List ℕ)) (numb
 bad_row None row number bad s = tt
 bad_row (Some rows) row number bad s = record { row = row; rest = s.0; rows_are = s.1; no_text = bad; fault_is = refl }
 
--- why a read failed
-explains : {R : Type 0} (rem : R → Option (List ℕ)) (old new : Reader R) (number : ℕ) (why : ErrorKind) → GivesAll old → ExplainsRead rem old new true why
+-- ---- why a read failed
+
+pub explains : {R : Type 0} (rem : R → Option (List ℕ)) (old new : Reader R) (number : ℕ) (why : ErrorKind) → GivesAll old → ExplainsRead rem old new true why
     → OfRows (fault_of why) (Unit {0}) (OfLeft (left_of rem old) (λ rows. StartsBadly number rows (record { row = number; kind = fault_of why })))
 explains rem old new number (error.Io e) gives r = tt
 explains rem old new number (error.Utf8 pos e) gives r =
@@ -94,7 +96,7 @@ explains rem old new number (error.Deserialize pos e) gives r = tt
 explains rem old new number error.OutOfMemory gives r = tt
 
 -- a reader that gives each record has no error of lengths, and none of values
-pub may_come : {R : Type 0} (rem : R → Option (List ℕ)) (old new : Reader R) (why : ErrorKind) → GivesAll old → ExplainsRead rem old new true why → MayCome why
+may_come : {R : Type 0} (rem : R → Option (List ℕ)) (old new : Reader R) (why : ErrorKind) → GivesAll old → ExplainsRead rem old new true why → MayCome why
 may_come rem old new (error.Io e) gives r = tt
 may_come rem old new (error.Utf8 pos e) gives r = tt
 may_come rem old new (error.UnequalLengths pos expected len) gives r = absurd (false≢true (sym r.0 ∙ gives.3))
@@ -102,15 +104,22 @@ may_come rem old new (error.Serialize text) gives r = absurd r
 may_come rem old new (error.Deserialize pos e) gives r = absurd r
 may_come rem old new error.OutOfMemory gives r = tt
 
-pub explains_as : {R : Type 0} (rem : R → Option (List ℕ)) (old new : Reader R) (number : ℕ) (why : ErrorKind) (kind : TableFaultKind) → kind ≡ fault_of why → GivesAll old
-    → ExplainsRead rem old new true why → OfRows kind (Unit {0}) (OfLeft (left_of rem old) (λ rows. StartsBadly number rows (record { row = number; kind = kind })))
-explains_as rem old new number why kind same gives r = rw same (explains rem old new number why gives r)
+-- a failed read stops the reader, whatever its errors are called
+stops_at : {F : Type 0} (called : ErrorKind → F) (failed : F) → ((pos : _) (e : _) → called (error.Utf8 pos e) ≡ failed → ⊥) → (why : ErrorKind) → called why ≡ failed → MayCome why → stops_reader why ≡ true
+stops_at called failed text (error.Io e) same comes = refl
+stops_at called failed text (error.Utf8 pos e) same comes = absurd (text pos e same)
+stops_at called failed text (error.UnequalLengths pos expected len) same comes = absurd comes
+stops_at called failed text (error.Serialize why) same comes = absurd comes
+stops_at called failed text (error.Deserialize pos e) same comes = absurd comes
+stops_at called failed text error.OutOfMemory same comes = refl
 
--- a failed read stops the reader
-pub stops_at : (why : ErrorKind) → fault_of why ≡ fault.ReadFault → MayCome why → stops_reader why ≡ true
-stops_at (error.Io e) same comes = refl
-stops_at (error.Utf8 pos e) same comes = absurd (cc)
-stops_at (error.UnequalLengths pos expected len) same comes = absurd comes
-stops_at (error.Serialize text) same comes = absurd comes
-stops_at (error.Deserialize pos e) same comes = absurd comes
-stops_at error.OutOfMemory same comes = absurd (cc)
+-- what a reader that gives each record says of the error of its read, and of what it is called
+module _ {R : Type 0} (rem : R → Option (List ℕ)) (old new : Reader R) (gives : GivesAll old) (why kind : ErrorKind) (explained : reader_trim old ≡ trim.None → Ready old → ExplainsRead rem old new true why) (same : kind ≡ why) where
+  pub came : MayCome kind
+  came = subst MayCome (sym same) (may_come rem old new why gives (explained gives.1 gives.2))
+
+  pub explains_as : (number : ℕ) (told : TableFaultKind) → told ≡ fault_of kind → OfRows told (Unit {0}) (OfLeft (left_of rem old) (λ rows. StartsBadly number rows (record { row = number; kind = told })))
+  explains_as number told is = rw (is ∙ ap fault_of same) (explains rem old new number why gives (explained gives.1 gives.2))
+
+  pub has_stopped : {F : Type 0} (called : ErrorKind → F) (failed told : F) → ((pos : _) (e : _) → called (error.Utf8 pos e) ≡ failed → ⊥) → has_failed new ≡ stops_reader why → told ≡ called kind → told ≡ failed → has_failed new ≡ true
+  has_stopped called failed told text fails is ends = fails ∙ stops_at called failed text why (sym (is ∙ ap called same) ∙ ends) (may_come rem old new why gives (explained gives.1 gives.2))

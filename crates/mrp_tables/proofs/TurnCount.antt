@@ -5,5 +5,5 @@ use Rattle.mrp_tables.specs.Lists.{IsDraft}
 
 pub draft_rows-le : (d : Draft) → IsDraft d → d.rows ≤ 4300065
 draft_rows-le d is =
-    let l = is.rows.limits in
+    let l = is.holds.rows.limits in
     omega (arith, is.count, l.plants, l.pairs, l.bills, l.demands, l.receipts, l.ships, l.cums, l.resets)

@@ -18,12 +18,12 @@ use Rattle.mrp_rows.specs.Names.{has_plant, pair_named, plant_no}
 use Rattle.mrp_rows.specs.Table.{horizon, Table}
 use Rattle.mrp_tables.specs.declared.kind.Kind.{Kind}
 use Rattle.mrp_tables.specs.declared.kind.Kind.TheVariants as kind
-use Rattle.mrp_tables.specs.Grammar.{amount_terms, AmountTerms, bill_fits, bill_of, bill_terms, BillTerms, cum_of, cum_terms, demand_of, field, known_pair, lane_terms, LaneTerms, name_of}
-use Rattle.mrp_tables.specs.Grammar.{plant_of, plant_terms, ranged, receipt_of, reset_of, reset_terms, run_terms, RunTerms, ship_of, ship_terms}
+use Rattle.mrp_tables.specs.Grammar.{amount_terms, AmountTerms, bill_fits, bill_of, bill_terms, BillTerms, cum_of, cum_terms, demand_made, demand_of, field, known_lane, known_pair, lane_number, lane_terms, LaneTerms, name_of}
+use Rattle.mrp_tables.specs.Grammar.{plant_of, plant_terms, ranged, receipt_made, receipt_of, reset_of, reset_terms, run_terms, RunTerms, ship_of, ship_terms}
 use Rattle.mrp_tables.specs.Reading.{first_terms, is_run, kind_of_row}
 use Rattle.mrp_tables.specs.Written.{bill_fields, cum_fields, demand_fields, pair_item, pair_plant, plant_fields, plant_name, receipt_fields, reset_fields, run_fields, ship_fields}
-use Rattle.mrp_tables.proofs.KeepingParts.{AmountParts, bill_parts, cum_parts, demand_made, demand_parts, receipt_made, receipt_parts, reset_parts, ship_parts}
-use Rattle.mrp_tables.proofs.KeepingRead.{bill_terms_read}
+use Rattle.mrp_tables.proofs.KeepingParts.{AmountParts, bill_parts, cum_parts, demand_parts, receipt_parts, reset_parts, ship_parts}
+use Rattle.mrp_tables.proofs.KeepingRead.{amount_terms_read, bill_terms_read, lane_number_read, ship_terms_read, two_names_read}
 use Rattle.mrp_tables.proofs.KeepingRows.{on_lane}
 use Rattle.mrp_tables.proofs.KeepingSteps.{after, after_check, after_some, same_Ok}
 use Rattle.mrp_tables.proofs.WrittenDay.{first_text}
@@ -78,19 +78,13 @@ record AmountSaid (row : List (List ℕ)) (t : AmountTerms) : Type 0 where
   quantity : field row 4 ≡ number_text t.quantity
 
 amount_terms_said : (row : List (List ℕ)) (periods : ℕ) (t : AmountTerms) → amount_terms row periods ≡ Ok t → AmountSaid row t
-unfolding amount_terms
 amount_terms_said row periods t is =
-    let a = after (name_of (field row 1)) _ t is in
-    let b = after (name_of (field row 2)) _ t a.2 in
-    let c = after (ranged (field row 3) 0 (periods - 1)) _ t b.2 in
-    let d = after (ranged (field row 4) 1 MOST_IN_ROW) _ t c.2 in
-    let same : record { plant = a.0; item = b.0; period = c.0; quantity = d.0 } ≡ t = same_Ok _ t d.2 in
-    subst (AmountSaid row) same (record {
-      plant = name_text (field row 1) a.0 a.1;
-      item = name_text (field row 2) b.0 b.1;
-      period = ranged_text (field row 3) 0 (periods - 1) c.0 c.1;
-      quantity = ranged_text (field row 4) 1 MOST_IN_ROW d.0 d.1;
-    })
+    let read = amount_terms_read row periods t is in record {
+      plant = name_text (field row 1) t.plant read.plant;
+      item = name_text (field row 2) t.item read.item;
+      period = ranged_text (field row 3) 0 (periods - 1) t.period read.period;
+      quantity = ranged_text (field row 4) 1 MOST_IN_ROW t.quantity read.quantity;
+    }
 
 known_said : (N : Table) (plant item : List ℕ) (found : PlantNo × PairNo) → known_pair N plant item ≡ Ok found → IsNamed N plant item found.1.0
 unfolding known_pair
@@ -124,11 +118,10 @@ record LaneSaid (row : List (List ℕ)) (t : LaneTerms) : Type 0 where
 lane_said : (row : List (List ℕ)) (t : LaneTerms) → lane_terms row ≡ Ok t → LaneSaid row t
 unfolding lane_terms
 lane_said row t is =
-    let a = after (name_of (field row 1)) _ t is in
-    let b = after (name_of (field row 2)) _ t a.2 in
-    let c = after (name_of (field row 3)) _ t b.2 in
-    let same : record { from = a.0; to = b.0; item = c.0 } ≡ t = same_Ok _ t c.2 in
-    subst (LaneSaid row) same (record { from = name_text (field row 1) a.0 a.1; to = name_text (field row 2) b.0 b.1; item = name_text (field row 3) c.0 c.1 })
+    let n = two_names_read row _ t is in
+    let c = after (name_of (field row 3)) _ t n.rest in
+    let same : record { from = n.first; to = n.second; item = c.0 } ≡ t = same_Ok _ t c.2 in
+    subst (LaneSaid row) same (record { from = name_text (field row 1) n.first n.first_is; to = name_text (field row 2) n.second n.second_is; item = name_text (field row 3) c.0 c.1 })
 
 record ShipSaid (row : List (List ℕ)) (t : LaneTerms × ℕ × ℕ) : Type 0 where
   lane : LaneSaid row t.0
@@ -136,70 +129,63 @@ record ShipSaid (row : List (List ℕ)) (t : LaneTerms × ℕ × ℕ) : Type 0 w
   quantity : field row 5 ≡ number_text t.2
 
 ship_terms_said : (row : List (List ℕ)) (periods : ℕ) (t : LaneTerms × ℕ × ℕ) → ship_terms row periods ≡ Ok t → ShipSaid row t
-unfolding ship_terms
 ship_terms_said row periods t is =
-    let a = after (lane_terms row) _ t is in
-    let b = after (ranged (field row 4) 0 (periods - 1)) _ t a.2 in
-    let c = after (ranged (field row 5) 1 MOST_IN_ROW) _ t b.2 in
-    let same : ◌≡◌ {A = LaneTerms × ℕ × ℕ} (a.0, b.0, c.0) t = same_Ok _ t c.2 in
-    subst (ShipSaid row) same (record {
-      lane = lane_said row a.0 a.1;
-      period = ranged_text (field row 4) 0 (periods - 1) b.0 b.1;
-      quantity = ranged_text (field row 5) 1 MOST_IN_ROW c.0 c.1;
-    })
+    let read = ship_terms_read row periods t is in record {
+      lane = lane_said row t.0 read.lane;
+      period = ranged_text (field row 4) 0 (periods - 1) t.1 read.period;
+      quantity = ranged_text (field row 5) 1 MOST_IN_ROW t.2 read.quantity;
+    }
 
 record FigureSaid (row : List (List ℕ)) (t : LaneTerms × ℕ) : Type 0 where
   lane : LaneSaid row t.0
   figure : field row 4 ≡ number_text t.1
 
+lane_number_said : (row : List (List ℕ)) (most : ℕ) (t : LaneTerms × ℕ) → lane_number row most ≡ Ok t → FigureSaid row t
+lane_number_said row most t is = let read = lane_number_read row most t is in record { lane = lane_said row t.0 read.lane; figure = ranged_text (field row 4) 0 most t.1 read.number }
+
 cum_terms_said : (row : List (List ℕ)) (t : LaneTerms × ℕ) → cum_terms row ≡ Ok t → FigureSaid row t
 unfolding cum_terms
-cum_terms_said row t is =
-    let a = after (lane_terms row) _ t is in
-    let b = after (ranged (field row 4) 0 MOST) _ t a.2 in
-    let same : ◌≡◌ {A = LaneTerms × ℕ} (a.0, b.0) t = same_Ok _ t b.2 in
-    subst (FigureSaid row) same (record { lane = lane_said row a.0 a.1; figure = ranged_text (field row 4) 0 MOST b.0 b.1 })
+cum_terms_said row t is = lane_number_said row MOST t is
 
 reset_terms_said : (row : List (List ℕ)) (periods : ℕ) (t : LaneTerms × ℕ) → reset_terms row periods ≡ Ok t → FigureSaid row t
 unfolding reset_terms
-reset_terms_said row periods t is =
-    let a = after (lane_terms row) _ t is in
-    let b = after (ranged (field row 4) 0 (periods - 1)) _ t a.2 in
-    let same : ◌≡◌ {A = LaneTerms × ℕ} (a.0, b.0) t = same_Ok _ t b.2 in
-    subst (FigureSaid row) same (record { lane = lane_said row a.0 a.1; figure = ranged_text (field row 4) 0 (periods - 1) b.0 b.1 })
+reset_terms_said row periods t is = lane_number_said row (periods - 1) t is
+
+-- the names of a lane that is there
+record LaneWritten (N : Table) (row : List (List ℕ)) (lane : PlantNo × PairNo) : Type 0 where
+  from : field row 1 ≡ plant_name N lane.0.0
+  to : field row 2 ≡ pair_plant N lane.1.0
+  item : field row 3 ≡ pair_item N lane.1.0
+
+lane_written : (N : Table) (row : List (List ℕ)) (t : LaneTerms) (lane : PlantNo × PairNo) → LaneSaid row t → known_lane N t ≡ Ok lane → LaneWritten N row lane
+lane_written N row t lane says known =
+    let on = on_lane N t lane known in
+    let to = pair_found N t.to t.item lane.1.0 on.pair in
+    record { from = says.from ∙ plant_found N t.from lane.0.0 on.from; to = says.to ∙ to.plant; item = says.item ∙ to.item }
+
+-- a row of a lane and one number has its word, and then what it was made of
+figure_said : (N : Table) (row : List (List ℕ)) (k : Kind) (t : LaneTerms × ℕ) (lane : PlantNo × PairNo) → IsOfKind row k → AreFree row 5 → FigureSaid row t → known_lane N t.0 ≡ Ok lane
+    → row ≡ word_of k ∷ plant_name N lane.0.0 ∷ pair_plant N lane.1.0 ∷ pair_item N lane.1.0 ∷ number_text t.1 ∷ [] ∷ [] ∷ [] ∷ []
+figure_said N row k t lane is free says known =
+    let names = lane_written N row t.0 lane says.lane known in
+    five_used row _ _ _ _ _ is.size is.word free names.from names.to names.item says.figure
 
 pub ship_said : (N : Table) (row : List (List ℕ)) (x : ShipRow) → IsOfKind row kind.Ship → ship_of N row ≡ Ok x → row ≡ ship_fields N x
 ship_said N row x k is =
     let p = ship_parts N row x is in
     let says = ship_terms_said row (horizon N) p.terms p.read in
-    let on = on_lane N p.terms.0 p.lane p.known in
-    let from = plant_found N p.terms.0.from p.lane.0.0 on.from in
-    let to = pair_found N p.terms.0.to p.terms.0.item p.lane.1.0 on.pair in
-    subst (λ (z : ShipRow). row ≡ ship_fields N z) p.same
-    (six_used row _ (plant_name N p.lane.0.0) (pair_plant N p.lane.1.0) (pair_item N p.lane.1.0) (number_text p.terms.1) (number_text p.terms.2) k.size k.word k.free
-    (says.lane.from ∙ from) (says.lane.to ∙ to.plant) (says.lane.item ∙ to.item) says.period says.quantity)
+    let names = lane_written N row p.terms.0 p.lane says.lane p.known in
+    subst (λ (z : ShipRow). row ≡ ship_fields N z) p.same (six_used row _ _ _ _ _ _ k.size k.word k.free names.from names.to names.item says.period says.quantity)
 
 pub cum_said : (N : Table) (row : List (List ℕ)) (x : CumRow) → IsOfKind row kind.Cum → cum_of N row ≡ Ok x → row ≡ cum_fields N x
 cum_said N row x k is =
     let p = cum_parts N row x is in
-    let says = cum_terms_said row p.terms p.read in
-    let on = on_lane N p.terms.0 p.lane p.known in
-    let from = plant_found N p.terms.0.from p.lane.0.0 on.from in
-    let to = pair_found N p.terms.0.to p.terms.0.item p.lane.1.0 on.pair in
-    subst (λ (z : CumRow). row ≡ cum_fields N z) p.same
-    (five_used row _ (plant_name N p.lane.0.0) (pair_plant N p.lane.1.0) (pair_item N p.lane.1.0) (number_text p.terms.1) k.size k.word k.free
-    (says.lane.from ∙ from) (says.lane.to ∙ to.plant) (says.lane.item ∙ to.item) says.figure)
+    subst (λ (z : CumRow). row ≡ cum_fields N z) p.same (figure_said N row kind.Cum p.terms p.lane k k.free (cum_terms_said row p.terms p.read) p.known)
 
 pub reset_said : (N : Table) (row : List (List ℕ)) (x : ResetRow) → IsOfKind row kind.Reset → reset_of N row ≡ Ok x → row ≡ reset_fields N x
 reset_said N row x k is =
     let p = reset_parts N row x is in
-    let says = reset_terms_said row (horizon N) p.terms p.read in
-    let on = on_lane N p.terms.0 p.lane p.known in
-    let from = plant_found N p.terms.0.from p.lane.0.0 on.from in
-    let to = pair_found N p.terms.0.to p.terms.0.item p.lane.1.0 on.pair in
-    subst (λ (z : ResetRow). row ≡ reset_fields N z) p.same
-    (five_used row _ (plant_name N p.lane.0.0) (pair_plant N p.lane.1.0) (pair_item N p.lane.1.0) (number_text p.terms.1) k.size k.word k.free
-    (says.lane.from ∙ from) (says.lane.to ∙ to.plant) (says.lane.item ∙ to.item) says.figure)
+    subst (λ (z : ResetRow). row ≡ reset_fields N z) p.same (figure_said N row kind.Reset p.terms p.lane k k.free (reset_terms_said row (horizon N) p.terms p.read) p.known)
 
 -- ---- the run
 

@@ -36,13 +36,13 @@ use Rattle.mrp_rows.specs.Table.{arrivals, is_taken_from, rises_from}
 use Rattle.mrp_rows.specs.Growing.{add_item, with_plant, with_bill, with_demand, with_receipt, with_ship, with_cum, with_reset}
 use Rattle.mrp_spell.specs.Spelling.{is_name, number_of, number_within, rule_of}
 
--- the answer of a test, or the first fault
+-- the answer of a test, or the first fault, whatever the faults are
 infixl 10 ◌>>=◌
-abbrev pub ◌>>=◌ : {A B : Type 0} → Result A TableFaultKind → (A → Result B TableFaultKind) → Result B TableFaultKind
+abbrev pub ◌>>=◌ : {A B E : Type 0} → Result A E → (A → Result B E) → Result B E
 Ok x >>= f = f x
 Err e >>= f = Err e
 
-abbrev pub check : Bool → TableFaultKind → Result (Unit {0}) TableFaultKind
+abbrev pub check : {E : Type 0} → Bool → E → Result (Unit {0}) E
 check true e = Ok tt
 check false e = Err e
 
@@ -198,17 +198,18 @@ ship_terms row periods = do
   quantity ← ranged (field row 5) 1 MOST_IN_ROW
   Ok (lane, period, quantity)
 
-unfoldable pub cum_terms : List (List ℕ) → Result (LaneTerms × ℕ) TableFaultKind
-cum_terms row = do
+-- the names of a lane and the number after them, which is at most so much
+abbrev pub lane_number : List (List ℕ) → ℕ → Result (LaneTerms × ℕ) TableFaultKind
+lane_number row most = do
   lane ← lane_terms row
-  figure ← ranged (field row 4) 0 MOST
-  Ok (lane, figure)
+  number ← ranged (field row 4) 0 most
+  Ok (lane, number)
+
+unfoldable pub cum_terms : List (List ℕ) → Result (LaneTerms × ℕ) TableFaultKind
+cum_terms row = lane_number row MOST
 
 unfoldable pub reset_terms : List (List ℕ) → ℕ → Result (LaneTerms × ℕ) TableFaultKind
-reset_terms row periods = do
-  lane ← lane_terms row
-  period ← ranged (field row 4) 0 (periods - 1)
-  Ok (lane, period)
+reset_terms row periods = lane_number row (periods - 1)
 
 pub record PairTerms : Type 0 where
   pub plant : List ℕ
@@ -371,19 +372,25 @@ pair_row N row = pair_terms row >>= λ t. pair_fits N t >>= λ plant. Ok (with_p
 abbrev pub bill_of : Table → List (List ℕ) → Result BillRow TableFaultKind
 bill_of N row = bill_terms row >>= bill_fits N
 
-unfoldable pub demand_of : Table → List (List ℕ) → Result DemandRow TableFaultKind
-demand_of N row = do
+-- what is made of the pair, the period and the quantity of a demand or a receipt row, where there is room for one more
+abbrev pub amount_of : {A : Type 0} → Table → List (List ℕ) → Bool → (PairNo → ℕ → ℕ → A) → Result A TableFaultKind
+amount_of N row has_room made = do
   t ← amount_terms row (horizon N)
   found ← known_pair N t.plant t.item
-  _ ← check (nat_lt (length N.demands) MOST_OF_A_KIND) fault.TooMany
-  Ok (record { pair = found.1; period = t.period; quantity = t.quantity })
+  _ ← check has_room fault.TooMany
+  Ok (made found.1 t.period t.quantity)
+
+abbrev pub demand_made : PairNo → ℕ → ℕ → DemandRow
+demand_made pair period quantity = record { pair = pair; period = period; quantity = quantity }
+
+abbrev pub receipt_made : PairNo → ℕ → ℕ → ReceiptRow
+receipt_made pair period quantity = record { pair = pair; period = period; quantity = quantity }
+
+unfoldable pub demand_of : Table → List (List ℕ) → Result DemandRow TableFaultKind
+demand_of N row = amount_of N row (nat_lt (length N.demands) MOST_OF_A_KIND) demand_made
 
 unfoldable pub receipt_of : Table → List (List ℕ) → Result ReceiptRow TableFaultKind
-receipt_of N row = do
-  t ← amount_terms row (horizon N)
-  found ← known_pair N t.plant t.item
-  _ ← check (nat_lt (length N.receipts) MOST_OF_A_KIND) fault.TooMany
-  Ok (record { pair = found.1; period = t.period; quantity = t.quantity })
+receipt_of N row = amount_of N row (nat_lt (length N.receipts) MOST_OF_A_KIND) receipt_made
 
 unfoldable pub ship_of : Table → List (List ℕ) → Result ShipRow TableFaultKind
 ship_of N row = do

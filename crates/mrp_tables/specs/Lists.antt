@@ -72,24 +72,23 @@ reset_key_of r = record { from = r.from; pair = r.pair }
 abbrev pub AreLanes : List LaneKey → List LaneKey → Type 0
 AreLanes keys some = list_all (has_lane keys) some ≡ true
 
--- the state of the reading fits the rows read so far
-pub record IsDraft (d : Draft) : Type 0 where
+-- what is kept beside the rows read so far fits them
+pub record HoldsRows (d : Draft) : Type 0 where
   pub rows : IsRead d.lists
   pub bill_keys : d.bill_keys.keys ≡ map bill_key_of d.lists.bills
   pub cum_keys : d.cum_keys.keys ≡ map cum_key_of d.lists.cums
   pub reset_keys : d.reset_keys.keys ≡ map reset_key_of d.lists.resets
   pub resets : AreLanes d.lane_keys.keys d.reset_keys.keys
   pub fits : Fits d.lists d.lane_keys.keys d.lanes.items
+
+-- the state of the reading fits the rows read so far
+pub record IsDraft (d : Draft) : Type 0 where
+  pub holds : HoldsRows d
   pub count : d.rows ≡ row_count d.lists
 
 -- one more row is kept, and not counted yet
 pub record AddsRow (old new : Draft) : Type 0 where
-  pub rows : IsRead new.lists
-  pub bill_keys : new.bill_keys.keys ≡ map bill_key_of new.lists.bills
-  pub cum_keys : new.cum_keys.keys ≡ map cum_key_of new.lists.cums
-  pub reset_keys : new.reset_keys.keys ≡ map reset_key_of new.lists.resets
-  pub resets : AreLanes new.lane_keys.keys new.reset_keys.keys
-  pub fits : Fits new.lists new.lane_keys.keys new.lanes.items
+  pub holds : HoldsRows new
   pub counted : new.rows ≡ old.rows
   pub count : row_count new.lists ≡ row_count old.lists + 1
 

@@ -62,12 +62,12 @@ pub fn records_are_all_records()
     ensures { (text : List ℕ) → AreRecords default_config StartRecord text (records default_config text) }
 {}
 
-/// A run row has one calendar, or one fault of its calendar.
+/// A run row has one calendar at most, or one fault of its calendar.
 pub fn a_run_has_one_calendar()
     ensures { (t : RunTerms) (a b : Result CalendarTerms CalFault) → IsCalendarOf t a → IsCalendarOf t b → a ≡ b }
 {}
 
-/// Rows are read one way: they make one table, or have one first fault.
+/// Rows are read one way at most: they make one table, or have one first fault.
 pub fn reads_are_one()
     ensures { (rows : List (List (List ℕ))) (a b : Result Table TableFault) → Reads rows a → Reads rows b → a ≡ b }
 {}

@@ -1,8 +1,8 @@
 use Rattle.std.proofs.Common.{◌≡◌, Err, Ok, length, refl, rules, sym, ◌∙◌}
-use Rattle.std.proofs.lemmas.Result.{err_from_is_err_and}
 use Rattle.csv.specs.Reading.{has_failed}
 use Rattle.csv.specs.Records.{fields_of}
 use Rattle.mrp_tables.specs.Left.{left_of}
+use Rattle.mrp_tables.proofs.KeepingSteps.{handed_on}
 use Rattle.mrp_stream.proofs.Listed.{no_read_fault}
 use Rattle.mrp_stream.proofs.Loop.{adds_record, bad_told, fault_told, none_there, room_for, some_there, stops_full}
 use Rattle.mrp_stream.proofs.Spelling.{text_record}
@@ -10,10 +10,9 @@ use Rattle.mrp_stream.proofs.reading.read_next.Goals as goal
 
 pub returns-in_err-next_row-clause-exact : goal.returns-in_err-next_row-clause-exact
 returns-in_err-next_row-clause-exact g c =
-    let p = err_from_is_err_and c.from_residual.result c.from_residual.ensures.1 in
     let counted : c.len.result ≡ length c.args.records.now.items = search rules in
     let room = room_for (length c.args.records.now.items) c.len.result (Err c.in_err-next_row.field-0.0) counted c.in_err-next_row.ensures.room in
-    rw (p.1, p.2) (bad_told c.args.network.now (left_of g.R.Read.remaining c.args.rows.now) _ _ room (c.in_err-next_row.ensures.exact c.args.network.now))
+    rw (handed_on c.from_residual.result _ c.from_residual.ensures.1) (bad_told c.args.network.now (left_of g.R.Read.remaining c.args.rows.now) _ _ room (c.in_err-next_row.ensures.exact c.args.network.now))
 
 pub returns-then-not-branch-clause-exact : goal.returns-then-not-branch-clause-exact
 returns-then-not-branch-clause-exact g c =
@@ -21,13 +20,12 @@ returns-then-not-branch-clause-exact g c =
 
 pub returns-in_err-spelled_record-clause-exact : goal.returns-in_err-spelled_record-clause-exact
 returns-in_err-spelled_record-clause-exact g c =
-    let p = err_from_is_err_and c.from_residual-in_err-spelled_record.result c.from_residual-in_err-spelled_record.ensures.1 in
     let N = c.args.network.now in
     let row = fields_of c.next_row.new.row in
     let counted : c.len.result ≡ length c.args.records.now.items = search rules in
     let room = room_for (length c.args.records.now.items) c.len.result (Ok c.in_ok-next_row.field-0) counted c.in_ok-next_row.ensures.room c.if-not-branch.false in
     let takes = some_there N c.in_ok-next_row.field-0 (left_of g.R.Read.remaining c.args.rows.now) (left_of g.R.Read.remaining c.next_row.new.rows) row c.if-not-branch.false (c.in_ok-next_row.ensures.exact N) in
-    rw (p.1, p.2) (fault_told N (left_of g.R.Read.remaining c.args.rows.now) (left_of g.R.Read.remaining c.next_row.new.rows) row _ _ room takes (text_record N row c.in_ok-next_row.ensures.text ∙ sym c.in_err-spelled_record.ensures))
+    rw (handed_on c.from_residual-in_err-spelled_record.result _ c.from_residual-in_err-spelled_record.ensures.1) (fault_told N (left_of g.R.Read.remaining c.args.rows.now) (left_of g.R.Read.remaining c.next_row.new.rows) row _ _ room takes (text_record N row c.in_ok-next_row.ensures.text ∙ sym c.in_err-spelled_record.ensures))
 
 pub returns-clause-exact : goal.returns-clause-exact
 returns-clause-exact g c =
@@ -40,11 +38,8 @@ returns-clause-exact g c =
 
 pub returns-in_err-next_row-clause-failed : goal.returns-in_err-next_row-clause-failed
 returns-in_err-next_row-clause-failed g c =
-    let p = err_from_is_err_and c.from_residual.result c.from_residual.ensures.1 in
     let counted : c.len.result ≡ length c.args.records.now.items = search rules in
-    rw (p.1, p.2) (stops_full _ (has_failed c.next_row.new.rows) (length c.args.records.now.items) c.len.result (left_of g.R.Read.remaining c.args.rows.now) counted c.in_err-next_row.ensures.failed)
+    rw (handed_on c.from_residual.result _ c.from_residual.ensures.1) (stops_full _ (has_failed c.next_row.new.rows) (length c.args.records.now.items) c.len.result (left_of g.R.Read.remaining c.args.rows.now) counted c.in_err-next_row.ensures.failed)
 
 pub returns-in_err-spelled_record-clause-failed : goal.returns-in_err-spelled_record-clause-failed
-returns-in_err-spelled_record-clause-failed g c =
-    let p = err_from_is_err_and c.from_residual-in_err-spelled_record.result c.from_residual-in_err-spelled_record.ensures.1 in
-    rw (p.1, p.2) (λ is. absurd (no_read_fault c.args.network.now (fields_of c.next_row.new.row) _ (sym c.in_err-spelled_record.ensures) is))
+returns-in_err-spelled_record-clause-failed g c = rw (handed_on c.from_residual-in_err-spelled_record.result _ c.from_residual-in_err-spelled_record.ensures.1) (λ is. absurd (no_read_fault c.args.network.now (fields_of c.next_row.new.row) _ (sym c.in_err-spelled_record.ensures) is))

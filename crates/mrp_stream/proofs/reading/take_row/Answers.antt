@@ -1,10 +1,8 @@
-use Rattle.std.proofs.Common.{◌≡◌, rules, subst, sym, ◌∙◌}
-use Rattle.csv.specs.Reading.{error_kind}
 use Rattle.csv.specs.Records.{fields_of}
-use Rattle.mrp_tables.proofs.Taken.{may_come}
-use Rattle.mrp_tables.specs.Left.{MayCome}
+use Rattle.mrp_tables.proofs.Taken.{came, has_stopped}
+use Rattle.mrp_stream.specs.declared.fault.RecordFaultKind.TheVariants as fault
 use Rattle.mrp_stream.specs.Left.{fault_of}
-use Rattle.mrp_stream.proofs.Taking.{explains_as_kind, found_or_not, stops_at}
+use Rattle.mrp_stream.proofs.Taking.{explains_as_kind, found_or_not}
 use Rattle.mrp_stream.proofs.reading.take_row.Goals as goal
 
 pub returns-in-Ok-clause-exact : goal.returns-in-Ok-clause-exact
@@ -13,18 +11,12 @@ returns-in-Ok-clause-exact g c =
 
 pub read_fault-requires : goal.read_fault-requires
 read_fault-requires g c =
-    let comes = may_come g.R.Read.remaining c.args.rows.now c.read_record.new.self (error_kind c.in-Err.error) c.requires.gives (c.in-Err.ensures.why c.requires.gives.1 c.requires.gives.2) in
-    record { comes = subst MayCome (sym c.kind.ensures) comes }
+    record { comes = came g.R.Read.remaining c.args.rows.now c.read_record.new.self c.requires.gives _ _ c.in-Err.ensures.why c.kind.ensures }
 
 pub returns-in-Err-clause-exact : goal.returns-in-Err-clause-exact
 returns-in-Err-clause-exact g c =
-    let why = error_kind c.in-Err.error in
-    let same : c.read_fault.result ≡ fault_of why = search rules in
-    explains_as_kind g.R.Read.remaining c.args.rows.now c.read_record.new.self why _ same c.requires.gives (c.in-Err.ensures.why c.requires.gives.1 c.requires.gives.2)
+    explains_as_kind g.R.Read.remaining c.args.rows.now c.read_record.new.self _ _ _ c.requires.gives c.in-Err.ensures.why c.kind.ensures c.read_fault.ensures.value
 
 pub returns-in-Err-clause-failed : goal.returns-in-Err-clause-failed
-returns-in-Err-clause-failed g c = λ failed.
-    let why = error_kind c.in-Err.error in
-    let same : c.read_fault.result ≡ fault_of why = search rules in
-    let comes = may_come g.R.Read.remaining c.args.rows.now c.read_record.new.self why c.requires.gives (c.in-Err.ensures.why c.requires.gives.1 c.requires.gives.2) in
-    c.in-Err.ensures.fails ∙ stops_at why (sym same ∙ failed) comes
+returns-in-Err-clause-failed g c =
+    has_stopped g.R.Read.remaining c.args.rows.now c.read_record.new.self c.requires.gives _ _ c.in-Err.ensures.why c.kind.ensures fault_of fault.ReadFault _ (λ pos e is. cc) c.in-Err.ensures.fails c.read_fault.ensures.value

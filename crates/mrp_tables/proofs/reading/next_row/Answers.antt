@@ -1,8 +1,9 @@
-use Rattle.std.proofs.Common.{◌≡◌, Bool, true, false, Ok, List, ℕ, rules, subst, sym, ◌∙◌}
-use Rattle.csv.specs.Reading.{ReadRecord, error_kind}
+use Rattle.std.proofs.Common.{Bool, true, false, Ok, List, ℕ}
+use Rattle.csv.specs.Reading.{ReadRecord}
 use Rattle.csv.specs.declared.reader.Reader.{Reader}
-use Rattle.mrp_tables.specs.Left.{fault_of, GivesAll, left_of, MayCome, TellsTaken}
-use Rattle.mrp_tables.proofs.Taken.{ends_rows, explains_as, may_come, stops_at, takes_row}
+use Rattle.mrp_tables.specs.declared.fault.TableFaultKind.TheVariants as fault
+use Rattle.mrp_tables.specs.Left.{fault_of, GivesAll, left_of, TellsTaken}
+use Rattle.mrp_tables.proofs.Taken.{came, ends_rows, explains_as, has_stopped, takes_row}
 use Rattle.mrp_tables.proofs.reading.next_row.Goals as goal
 
 found_or_not : {R : Type 0} (rem : R → _) (old new : Reader R) (number : ℕ) (row : List (List ℕ)) (found : Bool) → GivesAll old → ReadRecord rem old new found row
@@ -16,18 +17,12 @@ returns-in-Ok-clause-exact g c =
 
 pub read_fault-requires : goal.read_fault-requires
 read_fault-requires g c =
-    let comes = may_come g.R.Read.remaining c.args.rows.now c.read_record.new.self (error_kind c.in-Err.error) c.requires.gives (c.in-Err.ensures.why c.requires.gives.1 c.requires.gives.2) in
-    record { comes = subst MayCome (sym c.kind.ensures) comes }
+    record { comes = came g.R.Read.remaining c.args.rows.now c.read_record.new.self c.requires.gives _ _ c.in-Err.ensures.why c.kind.ensures }
 
 pub returns-in-Err-clause-exact : goal.returns-in-Err-clause-exact
 returns-in-Err-clause-exact g c =
-    let why = error_kind c.in-Err.error in
-    let same : c.read_fault.result ≡ fault_of why = search rules in
-    explains_as g.R.Read.remaining c.args.rows.now c.read_record.new.self c.args.number why _ same c.requires.gives (c.in-Err.ensures.why c.requires.gives.1 c.requires.gives.2)
+    explains_as g.R.Read.remaining c.args.rows.now c.read_record.new.self c.requires.gives _ _ c.in-Err.ensures.why c.kind.ensures c.args.number _ c.read_fault.ensures.value
 
 pub returns-in-Err-clause-failed : goal.returns-in-Err-clause-failed
-returns-in-Err-clause-failed g c = λ failed.
-    let why = error_kind c.in-Err.error in
-    let same : c.read_fault.result ≡ fault_of why = search rules in
-    let comes = may_come g.R.Read.remaining c.args.rows.now c.read_record.new.self why c.requires.gives (c.in-Err.ensures.why c.requires.gives.1 c.requires.gives.2) in
-    c.in-Err.ensures.fails ∙ stops_at why (sym same ∙ failed) comes
+returns-in-Err-clause-failed g c =
+    has_stopped g.R.Read.remaining c.args.rows.now c.read_record.new.self c.requires.gives _ _ c.in-Err.ensures.why c.kind.ensures fault_of fault.ReadFault _ (λ pos e is. cc) c.in-Err.ensures.fails c.read_fault.ensures.value

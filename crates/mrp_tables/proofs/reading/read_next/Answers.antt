@@ -1,14 +1,13 @@
-use Rattle.std.proofs.lemmas.Result.{err_from_is_err_and}
 use Rattle.csv.specs.Records.{fields_of}
 use Rattle.mrp_tables.specs.Left.{left_of, state_of}
 use Rattle.mrp_tables.proofs.Keeping.{row_after_keeps}
 use Rattle.mrp_tables.proofs.Loop.{added, bad_there, ends_there, goes_row, none_there, refused, refused_at, refused_own, some_there}
+use Rattle.mrp_tables.proofs.KeepingSteps.{handed_on}
 use Rattle.mrp_tables.proofs.reading.read_next.Goals as goal
 
 pub returns-in_err-next_row-clause-exact : goal.returns-in_err-next_row-clause-exact
 returns-in_err-next_row-clause-exact g c =
-    let p = err_from_is_err_and c.from_residual.result c.from_residual.ensures.1 in
-    rw (p.1, p.2) (bad_there (left_of g.R.Read.remaining c.args.rows.now) c.args.number (state_of c.args.draft.now) _ c.in_err-next_row.ensures.exact)
+    rw (handed_on c.from_residual.result _ c.from_residual.ensures.1) (bad_there (left_of g.R.Read.remaining c.args.rows.now) c.args.number (state_of c.args.draft.now) _ c.in_err-next_row.ensures.exact)
 
 pub returns-then-not-branch-clause-exact : goal.returns-then-not-branch-clause-exact
 returns-then-not-branch-clause-exact g c =
@@ -17,9 +16,8 @@ returns-then-not-branch-clause-exact g c =
 
 pub returns-in_err-at_row-clause-exact : goal.returns-in_err-at_row-clause-exact
 returns-in_err-at_row-clause-exact g c =
-    let p = err_from_is_err_and c.from_residual-in_err-at_row.result c.from_residual-in_err-at_row.ensures.1 in
     let takes = some_there c.in_ok-next_row.field-0 (left_of g.R.Read.remaining c.args.rows.now) (left_of g.R.Read.remaining c.next_row.new.rows) c.args.number (fields_of c.next_row.new.row) c.if-not-branch.false c.in_ok-next_row.ensures.exact in
-    rw (p.1, p.2) (refused (left_of g.R.Read.remaining c.args.rows.now) (left_of g.R.Read.remaining c.next_row.new.rows) c.args.draft.now c.add.new.self c.args.number (fields_of c.next_row.new.row)
+    rw (handed_on c.from_residual-in_err-at_row.result _ c.from_residual-in_err-at_row.ensures.1) (refused (left_of g.R.Read.remaining c.args.rows.now) (left_of g.R.Read.remaining c.next_row.new.rows) c.args.draft.now c.add.new.self c.args.number (fields_of c.next_row.new.row)
     c.add.result c.at_row.result _ c.at_row.ensures.same c.in_err-at_row.was c.add.ensures.exact takes)
 
 pub returns-clause-exact : goal.returns-clause-exact
@@ -34,24 +32,17 @@ returns-clause-kept g c =
     row_after_keeps (state_of c.args.draft.now) (state_of c.add.new.self) (fields_of c.next_row.new.row) c.requires.kept good
 
 pub returns-in_err-next_row-clause-number : goal.returns-in_err-next_row-clause-number
-returns-in_err-next_row-clause-number g c =
-    let p = err_from_is_err_and c.from_residual.result c.from_residual.ensures.1 in
-    rw (p.1, p.2) c.in_err-next_row.ensures.number
+returns-in_err-next_row-clause-number g c = rw (handed_on c.from_residual.result _ c.from_residual.ensures.1) c.in_err-next_row.ensures.number
 
 pub returns-in_err-next_row-clause-failed : goal.returns-in_err-next_row-clause-failed
-returns-in_err-next_row-clause-failed g c =
-    let p = err_from_is_err_and c.from_residual.result c.from_residual.ensures.1 in
-    rw (p.1, p.2) c.in_err-next_row.ensures.failed
+returns-in_err-next_row-clause-failed g c = rw (handed_on c.from_residual.result _ c.from_residual.ensures.1) c.in_err-next_row.ensures.failed
 
 pub returns-in_err-at_row-clause-number : goal.returns-in_err-at_row-clause-number
-returns-in_err-at_row-clause-number g c =
-    let p = err_from_is_err_and c.from_residual-in_err-at_row.result c.from_residual-in_err-at_row.ensures.1 in
-    rw (p.1, p.2) (refused_at c.args.number c.add.result c.at_row.result _ c.at_row.ensures.same c.in_err-at_row.was)
+returns-in_err-at_row-clause-number g c = rw (handed_on c.from_residual-in_err-at_row.result _ c.from_residual-in_err-at_row.ensures.1) (refused_at c.args.number c.add.result c.at_row.result _ c.at_row.ensures.same c.in_err-at_row.was)
 
 pub returns-in_err-at_row-clause-failed : goal.returns-in_err-at_row-clause-failed
 returns-in_err-at_row-clause-failed g c =
-    let p = err_from_is_err_and c.from_residual-in_err-at_row.result c.from_residual-in_err-at_row.ensures.1 in
-    rw (p.1, p.2) (λ failed. absurd (refused_own c.args.draft.now c.add.new.self c.args.number (fields_of c.next_row.new.row) c.add.result c.at_row.result _
+    rw (handed_on c.from_residual-in_err-at_row.result _ c.from_residual-in_err-at_row.ensures.1) (λ failed. absurd (refused_own c.args.draft.now c.add.new.self c.args.number (fields_of c.next_row.new.row) c.add.result c.at_row.result _
     c.at_row.ensures.same c.in_err-at_row.was c.add.ensures.exact failed))
 
 pub returns-then-not-branch-clause-last : goal.returns-then-not-branch-clause-last

@@ -1,30 +1,23 @@
 use borrow.Author.Rules.{rules}
 use Rattle.std.proofs.Common.{arith}
-use Rattle.std.proofs.lemmas.Result.{err_from_is_err_and}
 use Rattle.mrp_tables.specs.Left.{left_of, state_of}
 use Rattle.mrp_tables.proofs.Loop.{goes_to_fault, next_true, read_all}
+use Rattle.mrp_tables.proofs.KeepingSteps.{handed_on}
 use Rattle.mrp_tables.proofs.reading.read_rest.Goals as goal
 
 pub returns-in_err-read_next-clause-exact : goal.returns-in_err-read_next-clause-exact
 returns-in_err-read_next-clause-exact g c =
-    let p = err_from_is_err_and c.from_residual.result c.from_residual.ensures.1 in
-    rw (p.1, p.2) (goes_to_fault (left_of g.R.Read.remaining c.args.rows.now) (left_of g.R.Read.remaining c.loop-number.rows) 2 c.loop-number.number
+    rw (handed_on c.from_residual.result _ c.from_residual.ensures.1) (goes_to_fault (left_of g.R.Read.remaining c.args.rows.now) (left_of g.R.Read.remaining c.loop-number.rows) 2 c.loop-number.number
     (state_of c.args.draft.now) (state_of c.loop-number.draft) _ c.in_err-read_next.ensures.number c.loop-number.invariant.goes c.in_err-read_next.ensures.exact)
 
 pub returns-in_err-read_next-clause-failed : goal.returns-in_err-read_next-clause-failed
-returns-in_err-read_next-clause-failed g c =
-    let p = err_from_is_err_and c.from_residual.result c.from_residual.ensures.1 in
-    rw (p.1, p.2) c.in_err-read_next.ensures.failed
+returns-in_err-read_next-clause-failed g c = rw (handed_on c.from_residual.result _ c.from_residual.ensures.1) c.in_err-read_next.ensures.failed
 
 pub returns-in_err-read_next-clause-later : goal.returns-in_err-read_next-clause-later
-returns-in_err-read_next-clause-later g c =
-    let p = err_from_is_err_and c.from_residual.result c.from_residual.ensures.1 in
-    rw (p.1, p.2) (omega (arith, c.in_err-read_next.ensures.number))
+returns-in_err-read_next-clause-later g c = rw (handed_on c.from_residual.result _ c.from_residual.ensures.1) (omega (arith, c.in_err-read_next.ensures.number))
 
 pub returns-in_err-read_next-clause-least : goal.returns-in_err-read_next-clause-least
-returns-in_err-read_next-clause-least g c =
-    let p = err_from_is_err_and c.from_residual.result c.from_residual.ensures.1 in
-    rw (p.1, p.2) (omega (arith, c.in_err-read_next.ensures.number, c.tick.ensures, c.loop-number.invariant.steps))
+returns-in_err-read_next-clause-least g c = rw (handed_on c.from_residual.result _ c.from_residual.ensures.1) (omega (arith, c.in_err-read_next.ensures.number, c.tick.ensures, c.loop-number.invariant.steps))
 
 pub returns-then-not-branch-clause-all : goal.returns-then-not-branch-clause-all
 returns-then-not-branch-clause-all g c =

@@ -1,6 +1,5 @@
 use borrow.Author.Rules.{rules}
 use Rattle.std.proofs.Common.{◌≡◌, ◌+◌, ◌≤◌, max, ℕ, Result, Ok, Err, IfOk, IfErr, ap, arith}
-use Rattle.std.proofs.lemmas.Result.{err_from_is_err_and}
 use Rattle.csv.specs.Records.{fields_of}
 use Rattle.mrp_tables.specs.Left.{left_of, OfLeft}
 use Rattle.mrp_tables.specs.Steps.{StepsTo}
@@ -11,18 +10,16 @@ use Rattle.mrp_tables.proofs.Listed.{first_no_read_fault}
 use Rattle.mrp_tables.proofs.Loop.{some_there}
 use Rattle.mrp_tables.proofs.StepCount.{first_step, later_step, of_each, of_missing, steps_all, steps_named, when_missing}
 use Rattle.mrp_tables.proofs.Whole.{bad_first, first_fault, rest_fault, whole, whole_own}
+use Rattle.mrp_tables.proofs.KeepingSteps.{handed_on}
 use Rattle.mrp_tables.proofs.reading.read_rows.Goals as goal
 
 pub returns-in_err-next_row-clause-table : goal.returns-in_err-next_row-clause-table
-returns-in_err-next_row-clause-table g c =
-    let p = err_from_is_err_and c.from_residual.result c.from_residual.ensures.1 in
-    rw (p.1, p.2) (bad_first (left_of g.R.Read.remaining c.args.rows.now) _ c.in_err-next_row.ensures.number c.in_err-next_row.ensures.exact)
+returns-in_err-next_row-clause-table g c = rw (handed_on c.from_residual.result _ c.from_residual.ensures.1) (bad_first (left_of g.R.Read.remaining c.args.rows.now) _ c.in_err-next_row.ensures.number c.in_err-next_row.ensures.exact)
 
 pub returns-in_err-draft-clause-table : goal.returns-in_err-draft-clause-table
 returns-in_err-draft-clause-table g c =
-    let p = err_from_is_err_and c.from_residual-in_err-draft.result c.from_residual-in_err-draft.ensures.1 in
     let takes = some_there c.in_ok-next_row.field-0 (left_of g.R.Read.remaining c.args.rows.now) (left_of g.R.Read.remaining c.next_row.new.rows) 1 (fields_of c.next_row.new.row) c.if-not-branch.false c.in_ok-next_row.ensures.exact in
-    rw (p.1, p.2) (first_fault (left_of g.R.Read.remaining c.args.rows.now) (left_of g.R.Read.remaining c.next_row.new.rows) (fields_of c.next_row.new.row) _ takes c.in_err-draft.ensures.exact)
+    rw (handed_on c.from_residual-in_err-draft.result _ c.from_residual-in_err-draft.ensures.1) (first_fault (left_of g.R.Read.remaining c.args.rows.now) (left_of g.R.Read.remaining c.next_row.new.rows) (fields_of c.next_row.new.row) _ takes c.in_err-draft.ensures.exact)
 
 pub returns-in-Ok-clause-table : goal.returns-in-Ok-clause-table
 returns-in-Ok-clause-table g c =
@@ -41,14 +38,11 @@ returns-in-Ok-clause-counted g c =
     counted c.accept.result c.read_rest.new.draft.lists _ _ _ _ c.accept.ensures.same c.tick.ensures rest.counted rest.draft.count
 
 pub returns-in_err-next_row-clause-failed : goal.returns-in_err-next_row-clause-failed
-returns-in_err-next_row-clause-failed g c =
-    let p = err_from_is_err_and c.from_residual.result c.from_residual.ensures.1 in
-    rw (p.1, p.2) c.in_err-next_row.ensures.failed
+returns-in_err-next_row-clause-failed g c = rw (handed_on c.from_residual.result _ c.from_residual.ensures.1) c.in_err-next_row.ensures.failed
 
 pub returns-in_err-draft-clause-failed : goal.returns-in_err-draft-clause-failed
 returns-in_err-draft-clause-failed g c =
-    let p = err_from_is_err_and c.from_residual-in_err-draft.result c.from_residual-in_err-draft.ensures.1 in
-    rw (p.1, p.2) (λ failed. absurd (first_no_read_fault (fields_of c.next_row.new.row) _ c.in_err-draft.ensures.exact.0 failed))
+    rw (handed_on c.from_residual-in_err-draft.result _ c.from_residual-in_err-draft.ensures.1) (λ failed. absurd (first_no_read_fault (fields_of c.next_row.new.row) _ c.in_err-draft.ensures.exact.0 failed))
 
 pub returns-in-Ok-clause-failed : goal.returns-in-Ok-clause-failed
 returns-in-Ok-clause-failed g c = whole_own c.read_rest.new.draft.lists c.accept.result _ c.accept.ensures.exact
@@ -56,14 +50,10 @@ returns-in-Ok-clause-failed g c = whole_own c.read_rest.new.draft.lists c.accept
 -- ---- the turns at a fault
 
 pub returns-in_err-next_row-clause-least : goal.returns-in_err-next_row-clause-least
-returns-in_err-next_row-clause-least g c =
-    let p = err_from_is_err_and c.from_residual.result c.from_residual.ensures.1 in
-    rw (p.1, p.2) (omega (arith, c.in_err-next_row.ensures.number, c.tick.ensures))
+returns-in_err-next_row-clause-least g c = rw (handed_on c.from_residual.result _ c.from_residual.ensures.1) (omega (arith, c.in_err-next_row.ensures.number, c.tick.ensures))
 
 pub returns-in_err-draft-clause-least : goal.returns-in_err-draft-clause-least
-returns-in_err-draft-clause-least g c =
-    let p = err_from_is_err_and c.from_residual-in_err-draft.result c.from_residual-in_err-draft.ensures.1 in
-    rw (p.1, p.2) (omega (arith, c.in_err-draft.ensures.exact.1, c.tick.ensures))
+returns-in_err-draft-clause-least g c = rw (handed_on c.from_residual-in_err-draft.result _ c.from_residual-in_err-draft.ensures.1) (omega (arith, c.in_err-draft.ensures.exact.1, c.tick.ensures))
 
 -- the table is all read, so the row that waits is one of those that were counted
 waited : (r : Result Table TableFault) (N : Table) (new mid old rows : ℕ) → IfErr r (λ e. e.row ≤ row_count N) → mid ≡ old + 1 → new ≡ mid + rows → rows ≡ row_count N → IfErr r (λ e. old + max 1 e.row ≤ new)
@@ -78,30 +68,23 @@ returns-in-Ok-clause-least g c =
 -- ---- and exactly
 
 pub returns-in_err-next_row-clause-named : goal.returns-in_err-next_row-clause-named
-returns-in_err-next_row-clause-named g c =
-    let p = err_from_is_err_and c.from_residual.result c.from_residual.ensures.1 in
-    rw (p.1, p.2) (of_missing _ _ (first_step _ _ _ c.in_err-next_row.ensures.number c.tick.ensures))
+returns-in_err-next_row-clause-named g c = rw (handed_on c.from_residual.result _ c.from_residual.ensures.1) (of_missing _ _ (first_step _ _ _ c.in_err-next_row.ensures.number c.tick.ensures))
 
 pub returns-in_err-draft-clause-named : goal.returns-in_err-draft-clause-named
-returns-in_err-draft-clause-named g c =
-    let p = err_from_is_err_and c.from_residual-in_err-draft.result c.from_residual-in_err-draft.ensures.1 in
-    rw (p.1, p.2) (of_missing _ _ (first_step _ _ _ c.in_err-draft.ensures.exact.1 c.tick.ensures))
+returns-in_err-draft-clause-named g c = rw (handed_on c.from_residual-in_err-draft.result _ c.from_residual-in_err-draft.ensures.1) (of_missing _ _ (first_step _ _ _ c.in_err-draft.ensures.exact.1 c.tick.ensures))
 
 pub returns-in-Ok-clause-named : goal.returns-in-Ok-clause-named
 returns-in-Ok-clause-named g c = when_missing c.accept.result _ c.accept.ensures.missing
 
 pub returns-in_err-next_row-clause-ends : goal.returns-in_err-next_row-clause-ends
-returns-in_err-next_row-clause-ends g c =
-    let p = err_from_is_err_and c.from_residual.result c.from_residual.ensures.1 in
-    rw (p.1, p.2) (steps_named (left_of g.R.Read.remaining c.args.rows.now) _ _ _ (first_step _ _ _ c.in_err-next_row.ensures.number c.tick.ensures))
+returns-in_err-next_row-clause-ends g c = rw (handed_on c.from_residual.result _ c.from_residual.ensures.1) (steps_named (left_of g.R.Read.remaining c.args.rows.now) _ _ _ (first_step _ _ _ c.in_err-next_row.ensures.number c.tick.ensures))
 
 pub returns-then-not-branch-clause-ends : goal.returns-then-not-branch-clause-ends
 returns-then-not-branch-clause-ends g c = steps_named (left_of g.R.Read.remaining c.args.rows.now) c.args.steps.now c.tick.new.self 0 (omega (arith, c.tick.ensures))
 
 pub returns-in_err-draft-clause-ends : goal.returns-in_err-draft-clause-ends
 returns-in_err-draft-clause-ends g c =
-    let p = err_from_is_err_and c.from_residual-in_err-draft.result c.from_residual-in_err-draft.ensures.1 in
-    rw (p.1, p.2) (steps_named (left_of g.R.Read.remaining c.args.rows.now) _ _ _ (first_step _ _ _ c.in_err-draft.ensures.exact.1 c.tick.ensures))
+    rw (handed_on c.from_residual-in_err-draft.result _ c.from_residual-in_err-draft.ensures.1) (steps_named (left_of g.R.Read.remaining c.args.rows.now) _ _ _ (first_step _ _ _ c.in_err-draft.ensures.exact.1 c.tick.ensures))
 
 pub returns-in-Ok-clause-ends : goal.returns-in-Ok-clause-ends
 returns-in-Ok-clause-ends g c =

@@ -1,15 +1,14 @@
 use Rattle.std.proofs.Common.{sym, ◌∙◌}
-use Rattle.std.proofs.lemmas.Result.{err_from_is_err_and}
 use Rattle.csv.specs.Records.{fields_of}
 use Rattle.mrp_tables.proofs.Starting.{after-bad_kind, after-bad_order, after-fault, after-made, told}
+use Rattle.mrp_tables.proofs.KeepingSteps.{handed_on}
 use Rattle.mrp_tables.proofs.draft.Draft.add.Goals as goal
 
 pub returns-in_err-kind-clause-exact : goal.returns-in_err-kind-clause-exact
 returns-in_err-kind-clause-exact c =
-    let p = err_from_is_err_and c.from_residual.result c.from_residual.ensures.1 in
     let self = c.args.self.now in
     let bad = after-bad_kind self.lists self.last (fields_of c.args.row.now) c.requires.text c.in_err-kind.field-0.0 (sym c.row_kind.ensures ∙ c.in_err-kind.was) in
-    rw (p.1, p.2) (told _ _ bad)
+    rw (handed_on c.from_residual.result _ c.from_residual.ensures.1) (told _ _ bad)
 
 pub returns-then-not-may_follow-clause-exact : goal.returns-then-not-may_follow-clause-exact
 returns-then-not-may_follow-clause-exact c =
@@ -18,11 +17,10 @@ returns-then-not-may_follow-clause-exact c =
 
 pub returns-in_err-add_row-clause-exact : goal.returns-in_err-add_row-clause-exact
 returns-in_err-add_row-clause-exact c =
-    let p = err_from_is_err_and c.from_residual-in_err-add_row.result c.from_residual-in_err-add_row.ensures.1 in
     let self = c.args.self.now in
     let tells = after-fault self.lists self.last (fields_of c.args.row.now) c.requires.text c.in_ok-kind.kind c.in_err-add_row.field-0.0 (sym c.row_kind.ensures ∙ c.in_ok-kind.was)
     (sym c.may_follow.ensures ∙ c.if-not-may_follow.false) c.in_err-add_row.ensures.exact in
-    rw (p.1, p.2) tells
+    rw (handed_on c.from_residual-in_err-add_row.result _ c.from_residual-in_err-add_row.ensures.1) tells
 
 pub returns-clause-exact : goal.returns-clause-exact
 returns-clause-exact c =

@@ -7,7 +7,7 @@ use Rattle.mrp_tables.proofs.draft.Draft.add_bill.Goals as goal
 pub unreachable-requires : goal.unreachable-requires
 unreachable-requires c =
     let b = c.in_ok-bill.bill in
-    let fresh = any_bill b.parent b.component _ _ c.requires.draft.bill_keys ∙ c.in_ok-bill.ensures.fresh in
+    let fresh = any_bill b.parent b.component _ _ c.requires.draft.holds.bill_keys ∙ c.in_ok-bill.ensures.fresh in
     absurd (true≢false (ap not (sym fresh) ∙ sym c.in_ok-insert.ensures.added ∙ c.if-not-branch.true))
 
 pub returns-in_err-bill-clause-exact : goal.returns-in_err-bill-clause-exact

@@ -14,7 +14,7 @@ use Rattle.mrp_tables.proofs.draft.Draft.add_reset.Goals as goal
 pub unreachable-requires : goal.unreachable-requires
 unreachable-requires c =
     let k = c.in_ok-reset.reset in
-    let fresh = any_reset k.from k.pair _ _ c.requires.draft.reset_keys ∙ c.in_ok-reset.ensures.fresh in
+    let fresh = any_reset k.from k.pair _ _ c.requires.draft.holds.reset_keys ∙ c.in_ok-reset.ensures.fresh in
     absurd (true≢false (ap not (sym fresh) ∙ sym c.in_ok-insert.ensures.added ∙ c.if-not-branch.true))
 
 pub add_reset-requires-clause-room : goal.add_reset-requires-clause-room
@@ -23,7 +23,7 @@ add_reset-requires-clause-room c =
     let r = c.in_ok-reset.reset in
     let k = reset_key_of r in
     let d : SourceRow = record { pair = r.pair; plant = r.from; low = 0; high = 0 } in
-    let old = c.requires.draft in
+    let old = c.requires.draft.holds in
     let fresh = any_reset r.from r.pair _ _ old.reset_keys ∙ c.in_ok-reset.ensures.fresh in
     let keys = c.in_ok-insert.ensures.keys ∙ ap (λ b. if b then self.reset_keys.keys else self.reset_keys.keys ++ k ∷ []) fresh in
     let here = found_lane r.from r.pair self.lane_keys.keys self.lists.sources _ d old.fits.lane_keys refl c.in_ok-reset.ensures.source in
@@ -38,7 +38,7 @@ returns-clause-adds c =
     let r = c.in_ok-reset.reset in
     let k = reset_key_of r in
     let d : SourceRow = record { pair = r.pair; plant = r.from; low = 0; high = 0 } in
-    let old = c.requires.draft in
+    let old = c.requires.draft.holds in
     let N = self.lists in
     let fresh = any_reset r.from r.pair _ _ old.reset_keys ∙ c.in_ok-reset.ensures.fresh in
     let keys = c.in_ok-insert.ensures.keys ∙ ap (λ b. if b then self.reset_keys.keys else self.reset_keys.keys ++ k ∷ []) fresh in
@@ -48,12 +48,14 @@ returns-clause-adds c =
     let count : row_count (with_reset N r) ≡ row_count N + 1 = omega (arith, length_push N.resets r) in
     let named : self.reset_keys.keys ++ k ∷ [] ≡ map reset_key_of (N.resets ++ r ∷ []) = ap (λ (ks : List LaneKey). ks ++ k ∷ []) old.reset_keys ∙ sym (map-append reset_key_of N.resets (r ∷ [])) in
     record {
-      rows = search rules;
-      bill_keys = search rules;
-      cum_keys = search rules;
-      reset_keys = keys ∙ named ∙ ap (λ (M : Table). map reset_key_of M.resets) made;
-      resets = subst (AreLanes self.lane_keys.keys) (sym keys) (lanes_push self.lane_keys.keys self.reset_keys.keys k old.resets here);
-      fits = subst (λ (M : Table). Fits M self.lane_keys.keys self.lanes.items) made fits;
+      holds = record {
+        rows = search rules;
+        bill_keys = search rules;
+        cum_keys = search rules;
+        reset_keys = keys ∙ named ∙ ap (λ (M : Table). map reset_key_of M.resets) made;
+        resets = subst (AreLanes self.lane_keys.keys) (sym keys) (lanes_push self.lane_keys.keys self.reset_keys.keys k old.resets here);
+        fits = subst (λ (M : Table). Fits M self.lane_keys.keys self.lanes.items) made fits;
+      };
       counted = refl;
       count = subst (λ (M : Table). row_count M ≡ row_count N + 1) made count;
     }

@@ -15,7 +15,7 @@ returns-clause-adds c =
     let N = self.lists in
     let x = c.in_ok-ship.ship in
     let k = c.in_ok-ship.place in
-    let old = c.requires.draft in
+    let old = c.requires.draft.holds in
     let d : SourceRow = record { pair = x.pair; plant = x.from; low = 0; high = 0 } in
     let l : Lane = c.index_mut.result.now in
     let each = states_ship N.ships x self.lane_keys.keys N.sources self.lanes.items k d l old.fits.lane_keys old.fits.apart old.fits.each c.in_ok-ship.ensures.place c.index_mut.ensures.value in
@@ -31,13 +31,15 @@ returns-clause-adds c =
     let made = sym c.in_ok-add_ship.ensures.table in
     let count : row_count (with_ship N x) ≡ row_count N + 1 = omega (arith, length_push N.ships x) in
     record {
-      rows = search rules;
-      bill_keys = search rules;
-      cum_keys = search rules;
-      reset_keys = search rules;
-      resets = old.resets;
-      fits = subst (λ (m : Lane). Fits c.add_ship.new.self self.lane_keys.keys (set self.lanes.items k m)) (sym c.ship.ensures)
-          (subst (λ (M : Table). Fits M self.lane_keys.keys (set self.lanes.items k v)) made fits);
+      holds = record {
+        rows = search rules;
+        bill_keys = search rules;
+        cum_keys = search rules;
+        reset_keys = search rules;
+        resets = old.resets;
+        fits = subst (λ (m : Lane). Fits c.add_ship.new.self self.lane_keys.keys (set self.lanes.items k m)) (sym c.ship.ensures)
+            (subst (λ (M : Table). Fits M self.lane_keys.keys (set self.lanes.items k v)) made fits);
+      };
       counted = refl;
       count = subst (λ (M : Table). row_count M ≡ row_count N + 1) made count;
     }

@@ -15,7 +15,7 @@ add_pair-requires-clause-fresh c =
     let item = c.in_ok-item.item.0 in
     let table = c.in_ok-item.ensures.table in
     let is = c.in_ok-item.ensures.place ∙ ap (λ (T : Table). unwrap_or (position (bytes_eq name) T.items) 0) table in
-    let fresh = fresh_pair N plant name item c.requires.draft.rows c.requires.fits.fresh is in
+    let fresh = fresh_pair N plant name item c.requires.draft.holds.rows c.requires.fits.fresh is in
     subst (λ (T : Table). list_any (λ p. (p.plant.0 == plant) && (p.item.0 == item)) T.pairs ≡ false) (sym table) fresh
 
 pub returns-in_err-item-clause-memory : goal.returns-in_err-item-clause-memory
@@ -40,7 +40,7 @@ pub add_sources-requires-clause-pair : goal.add_sources-requires-clause-pair
 add_sources-requires-clause-pair c = rw (c.pairs.ensures.value, c.in_ok-add_pair.ensures.table) (simp length-append (omega arith))
 
 pub add_sources-requires-clause-room : goal.add_sources-requires-clause-room
-add_sources-requires-clause-room c = rw (c.in_ok-add_pair.ensures.table, c.in_ok-item.ensures.table) (simp length-append (omega (arith, c.requires.draft.fits.sources)))
+add_sources-requires-clause-room c = rw (c.in_ok-add_pair.ensures.table, c.in_ok-item.ensures.table) (simp length-append (omega (arith, c.requires.draft.holds.fits.sources)))
 
 pub add_sources-requires-clause-fits : goal.add_sources-requires-clause-fits
 add_sources-requires-clause-fits c = grind (arith, common_steps)

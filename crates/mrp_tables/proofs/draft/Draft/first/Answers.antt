@@ -1,18 +1,17 @@
 use Rattle.std.proofs.Common.{Ok, refl, sym, ◌∙◌, subst, rules}
-use Rattle.std.proofs.lemmas.Result.{err_from_is_err_and}
 use Rattle.csv.specs.Records.{fields_of}
 use Rattle.mrp_rows.specs.Table.{Table}
 use Rattle.mrp_tables.specs.Reading.{Starts}
 use Rattle.mrp_tables.proofs.Arrivals.{no_lanes}
 use Rattle.mrp_tables.proofs.Starting.{first-bad_kind, first-bad_order, first-calendar, other_kind, run_kind, unless_memory}
+use Rattle.mrp_tables.proofs.KeepingSteps.{handed_on}
 use Rattle.mrp_tables.proofs.draft.Draft.first.Goals as goal
 
 pub returns-in_err-row_kind-clause-exact : goal.returns-in_err-row_kind-clause-exact
 returns-in_err-row_kind-clause-exact c =
-    let p = err_from_is_err_and c.from_residual.result c.from_residual.ensures.1 in
     let row = fields_of c.args.row.now in
     let bad = first-bad_kind row c.requires.text c.in_err-row_kind.field-0.0 (sym c.row_kind.ensures ∙ c.in_err-row_kind.was) in
-    rw (p.1, p.2) (unless_memory _ _ bad)
+    rw (handed_on c.from_residual.result _ c.from_residual.ensures.1) (unless_memory _ _ bad)
 
 pub returns-then-ne-clause-exact : goal.returns-then-ne-clause-exact
 returns-then-ne-clause-exact c =
@@ -21,11 +20,10 @@ returns-then-ne-clause-exact c =
 
 pub returns-in_err-calendar-clause-exact : goal.returns-in_err-calendar-clause-exact
 returns-in_err-calendar-clause-exact c =
-    let p = err_from_is_err_and c.from_residual-in_err-calendar.result c.from_residual-in_err-calendar.ensures.1 in
     let k = c.in_ok-row_kind.field-0 in
     let row = fields_of c.args.row.now in
     let bad = first-calendar row c.requires.text k _ (sym c.row_kind.ensures ∙ c.in_ok-row_kind.was) (run_kind k c.if-ne.ensures) c.in_err-calendar.ensures.exact in
-    rw (p.1, p.2) (unless_memory _ _ bad)
+    rw (handed_on c.from_residual-in_err-calendar.result _ c.from_residual-in_err-calendar.ensures.1) (unless_memory _ _ bad)
 
 pub returns-clause-exact : goal.returns-clause-exact
 returns-clause-exact c =
@@ -36,18 +34,20 @@ returns-clause-exact c =
 
 pub returns-clause-draft : goal.returns-clause-draft
 returns-clause-draft c = record {
-  rows = c.new.ensures.rows;
-  bill_keys = search rules;
-  cum_keys = search rules;
-  reset_keys = search rules;
-  resets = no_lanes c.new-2.result.keys c.new-6.result.keys c.new-6.ensures.len;
-  fits = record {
-    lane_keys = search rules;
-    apart = c.new-2.ensures.unique;
-    each = search rules;
-    lanes = search rules;
-    sources = search rules;
-    items = search rules;
+  holds = record {
+    rows = c.new.ensures.rows;
+    bill_keys = search rules;
+    cum_keys = search rules;
+    reset_keys = search rules;
+    resets = no_lanes c.new-2.result.keys c.new-6.result.keys c.new-6.ensures.len;
+    fits = record {
+      lane_keys = search rules;
+      apart = c.new-2.ensures.unique;
+      each = search rules;
+      lanes = search rules;
+      sources = search rules;
+      items = search rules;
+    };
   };
   count = search rules;
 }

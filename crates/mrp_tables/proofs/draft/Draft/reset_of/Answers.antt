@@ -1,19 +1,14 @@
 use Rattle.std.proofs.Common.{ap, ◌∙◌}
-use Rattle.std.proofs.lemmas.Result.{err_from_is_err_and}
 use Rattle.csv.specs.Records.{fields_of}
 use Rattle.mrp_cal.specs.Calendar.{CalendarTerms}
 use Rattle.mrp_tables.specs.Spelled.{lane_view}
-use Rattle.mrp_tables.specs.Grammar.{reset_terms}
-use Rattle.mrp_tables.proofs.Finding.{known_err, reset_fresh, reset_unknown}
+use Rattle.mrp_tables.proofs.Finding.{reset_unknown}
+use Rattle.mrp_tables.proofs.KeepingSteps.{handed_on}
 use Rattle.mrp_tables.proofs.draft.Draft.reset_of.Goals as goal
 
 pub returns-in_err-lane-clause-exact : goal.returns-in_err-lane-clause-exact
 returns-in_err-lane-clause-exact c =
-    let p = err_from_is_err_and c.from_residual-in_err-lane.result c.from_residual-in_err-lane.ensures.1 in
-    let N = c.args.self.now.lists in
-    let t = lane_view c.in_ok-names.names in
-    let l = c.lane_named-named.result in
-    let finds = c.lane_named-named.ensures.exact in
     let periods = c.horizon.ensures.value ∙ ap (λ (k : CalendarTerms). k.periods) c.calendar.ensures.value in
-    let spelled = c.in_ok-names.ensures.exact ∙ ap (reset_terms (fields_of c.args.row.now)) periods in
-    rw (p.1, p.2) (reset_unknown N (fields_of c.args.row.now) (t, c.in_ok-names.period) _ spelled (reset_fresh N t l finds c.if-has_reset.ensures.exact) (known_err N t l _ finds c.in_err-lane.ensures.exact))
+    rw (handed_on c.from_residual-in_err-lane.result _ c.from_residual-in_err-lane.ensures.1)
+    (reset_unknown c.args.self.now.lists (fields_of c.args.row.now) _ (lane_view c.in_ok-names.names, c.in_ok-names.period) c.lane_named-named.result _ c.in_ok-names.ensures.exact periods c.lane_named-named.ensures.exact
+    c.if-has_reset.ensures.exact c.in_err-lane.ensures.exact)

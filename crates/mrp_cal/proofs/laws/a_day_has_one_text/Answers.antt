@@ -1,0 +1,5 @@
+use Rattle.mrp_cal.proofs.Written.{day_is_written}
+use Rattle.mrp_cal.proofs.laws.a_day_has_one_text.Goals as goal
+
+pub returns : goal.returns
+returns c = day_is_written
