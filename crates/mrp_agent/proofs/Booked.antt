@@ -160,7 +160,7 @@ module _ (A : AgentState) (view : IsView A.view) (rooms : HasRooms A) (k : ℕ) 
 
     -- a pair whose block ends awaits it, and then one fewer is awaited
     pub ends_awaited : Awaits A taken → IfSome (ended_place (items_of A.view) r) (IsAwaited A.progress)
-    ends_awaited awaits = is_awaited A.view view taken k within r fits (joins_of A.view) A.progress rooms.waits awaits
+    ends_awaited awaits = is_awaited A.view view taken k within r fits (joins_of A.view) A.progress rooms.progress.waits awaits
 
     pub still_awaits : BlockEnded (ended_place (items_of A.view) r) A.progress progress → Awaits A taken → Awaits New Then
     still_awaits ended awaits =
@@ -255,12 +255,12 @@ module _ (A : AgentState) (view : IsView A.view) (rooms : HasRooms A) (k : ℕ) 
     came = came_length Lane.kind A.view A.came r ∙ rooms.came;
     called = called_length Lane.kind A.view A.called r ∙ rooms.called;
     plans = rooms.plans;
-    periods = rooms.periods;
-    numbers = ended.numbers ∙ rooms.numbers;
-    waits = ended.size ∙ rooms.waits;
-    planned = ap (λ (z : List Bool). length z) ended.planned ∙ rooms.planned;
-    outs = rooms.outs;
-    sizes = rooms.sizes;
+    progress = record {
+      numbers = ended.numbers ∙ rooms.progress.numbers;
+      waits = ended.size ∙ rooms.progress.waits;
+      planned = ap (λ (z : List Bool). length z) ended.planned ∙ rooms.progress.planned;
+    };
+    cursors = rooms.cursors;
   }
 
   booked_taken : BlockEnded (ended_place (items_of A.view) r) A.progress progress → HasTaken A → HasTaken New

@@ -53,7 +53,7 @@ call_facts A kept lane there kind j within =
     let at = place_before A kept.taken.taken kept.view kept.taken.books lane sched in
     record {
       own = own;
-      customer = omega (arith, own_within A.view (load_at lane.items j).customer own, kept.rooms.plans);
+      customer = omega (arith, own_within A.view (load_at lane.items j).customer own, kept.rooms.plans.count);
       before = at.0;
       book = omega (arith, at.0, kept.rooms.books);
       showing = showing_at A kept.taken (incoming_place A.view (lane.number.0 - 1)) at.0;

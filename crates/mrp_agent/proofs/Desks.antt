@@ -28,8 +28,8 @@ drafted_periods A x =
 -- the plan at a place has as many periods as a draft
 pub old_periods : {A : AgentState} {I : Indexes} {x : PairNo} {place : ℕ} {old : PlanRows} → IsAtPlace A I x place → old ≡ get_or A.plans place old → length old.gross ≡ A.view.horizon
 old_periods {A} {I} {x} {place} {old} h at =
-    let within : place < length A.plans = omega (arith, place_within h, h.kept.rooms.plans) in
-    (subst (HasPeriods A.view) (sym at) (h.kept.rooms.periods place old within)).gross
+    let within : place < length A.plans = omega (arith, place_within h, h.kept.rooms.plans.count) in
+    (subst (HasPeriods A.view) (sym at) (h.kept.rooms.plans.periods place old within)).gross
 
 pub same_periods : {A : AgentState} {I : Indexes} {x : PairNo} {place : ℕ} {old new : PlanRows} → IsAtPlace A I x place → old ≡ get_or A.plans place old → new ≡ drafted A x
     → length old.gross ≡ length new.gross
@@ -46,13 +46,12 @@ kept_written {A} {I} {x} {place} {desk} {plan} h is same =
         books = kept.rooms.books;
         came = kept.rooms.came;
         called = kept.rooms.called;
-        plans = length-set A.plans place plan ∙ kept.rooms.plans;
-        periods = All-set (HasPeriods A.view) A.plans place plan (subst (HasPeriods A.view) (sym is) (drafted_periods A x)) kept.rooms.periods;
-        numbers = kept.rooms.numbers;
-        waits = kept.rooms.waits;
-        planned = kept.rooms.planned;
-        outs = kept.rooms.outs;
-        sizes = kept.rooms.sizes;
+        plans = record {
+          count = length-set A.plans place plan ∙ kept.rooms.plans.count;
+          periods = All-set (HasPeriods A.view) A.plans place plan (subst (HasPeriods A.view) (sym is) (drafted_periods A x)) kept.rooms.plans.periods;
+        };
+        progress = kept.rooms.progress;
+        cursors = kept.rooms.cursors;
       };
       taken = record { taken = kept.taken.taken; books = kept.taken.books; waits = kept.taken.waits };
     }

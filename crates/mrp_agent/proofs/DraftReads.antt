@@ -1,104 +1,73 @@
 -- What a call reads of an agent to draft a pair, and what is drafted from that.
-use Rattle.std.proofs.Common.{◌≡◌, ℕ, ◌+◌, ◌*◌, ◌<◌, ◌≤◌, List, length, get_or, map, slice_index, slice_range, sym, ap, ◌∙◌, subst, arith}
-use Rattle.std.proofs.lemmas.List.{get_or_default}
+use Rattle.std.proofs.Common.{◌≡◌, ℕ, List, length, sym, ap, ◌∙◌, subst}
 use Rattle.mrp_lot.specs.One.{PlanRows, one}
 use Rattle.mrp_lot.specs.declared.params.PairParams.{PairParams}
 use Rattle.mrp_rows.specs.declared.numbers.PairNo.{PairNo}
-use Rattle.mrp_group.proofs.Kept.{groups_are_slices}
-use Rattle.mrp_view.specs.declared.view.PlantPair.{PlantPair}
-use Rattle.mrp_view.specs.View.{PlantRows}
 use Rattle.mrp_agent.specs.declared.edges.ParentEdge.{ParentEdge}
 use Rattle.mrp_agent.specs.Asking.{HasDraft, grossed}
 use Rattle.mrp_agent.specs.Drafts.{CanDraft, drafted}
-use Rattle.mrp_agent.specs.Kept.{Indexes, IsKept, parent_edge}
-use Rattle.mrp_agent.specs.State.{AgentState, no_pair, pair_of, pair_place}
-use Rattle.mrp_agent.proofs.Drafts.{drafted_is, edges_at, has_draft, row_within}
-use Rattle.mrp_agent.proofs.Owning.{own_within}
-use Rattle.mrp_agent.proofs.Placing.{IsAtPlace, can_before, place_within}
+use Rattle.mrp_agent.specs.Kept.{Indexes, IsKept}
+use Rattle.mrp_agent.specs.Rows.{edges_at, part_at}
+use Rattle.mrp_agent.specs.State.{AgentState, pair_at, pair_of, pair_place}
+use Rattle.mrp_agent.proofs.Drafts.{called_length, came_length, drafted_is, has_draft}
+use Rattle.mrp_agent.proofs.Placing.{IsAtPlace, can_before}
 
--- the part of a list by pairs that the pair at a place has
-abbrev part_at : ℕ → ℕ → List ℕ → List ℕ
-part_at place periods amounts = slice_range amounts (place * periods) (place * periods + periods)
-
--- it ends within the list
-pub part_within : {A : AgentState} {I : Indexes} {x : PairNo} {place periods : ℕ} (amounts : List ℕ) → IsAtPlace A I x place → periods ≡ A.view.horizon
-    → length amounts ≡ length A.view.pairs * A.view.horizon → place * periods + periods ≤ length amounts
-part_within {A} {I} {x} {place} {periods} amounts h same size =
-    let most : place * A.view.horizon + A.view.horizon ≤ length A.view.pairs * A.view.horizon = row_within place (length A.view.pairs) A.view.horizon (place_within h) in
-    let left : place * periods + periods ≡ place * A.view.horizon + A.view.horizon = ap (λ (n : ℕ). place * n + n) same in
-    omega (arith, most, left, size)
-
--- the edges of its component end within theirs
-pub edges_rise : {A : AgentState} {I : Indexes} {x : PairNo} {place : ℕ} → IsAtPlace A I x place
-    → (slice_index I.starts place ≤ slice_index I.starts (place + 1)) × (slice_index I.starts (place + 1) ≤ length I.edges)
-edges_rise {A} {I} {x} {place} h =
-    let V : PlantRows = A.view in
-    let found =
-    groups_are_slices ParentEdge (λ (e : ParentEdge). e.component) (length V.pairs) (map (parent_edge V) V.edges) I.edges I.starts h.kept.indexes.edges place (place_within h) in
-    (found.0, found.1)
-
--- a pair that can be drafted, and the lists that a call was given for it
-pub record HasRead (A : AgentState) (I : Indexes) (x : PairNo) (place periods : ℕ) (pairs : List PlantPair) (came called : List ℕ) (edges : List ParentEdge) (plans : List PlanRows) : Type 0 where
+-- a pair that can be drafted, and the rows and plans that a call was given for it
+pub record HasRead (A : AgentState) (I : Indexes) (x : PairNo) (place : ℕ) (params : PairParams) (came called : List ℕ) (edges : List ParentEdge) (plans : List PlanRows) : Type 0 where
   pub placed : IsAtPlace A I x place
   pub can : CanDraft A x
-  pub periods_are : periods ≡ A.view.horizon
-  pub pairs_are : pairs ≡ A.view.pairs
-  pub came_are : came ≡ A.came
-  pub called_are : called ≡ A.called
-  pub edges_are : edges ≡ slice_range I.edges (slice_index I.starts place) (slice_index I.starts (place + 1))
+  pub params_are : params ≡ (pair_at A.view place).params
+  pub came_are : came ≡ part_at A.view.horizon place A.came
+  pub called_are : called ≡ part_at A.view.horizon place A.called
+  pub edges_are : edges ≡ edges_at A.view place
   pub plans_are : plans ≡ A.plans
 
-module _ (A : AgentState) (I : Indexes) (x : PairNo) (place periods : ℕ) (pairs : List PlantPair) (came called : List ℕ) (edges : List ParentEdge) (plans : List PlanRows)
-    (read : HasRead A I x place periods pairs came called edges plans) (d : PlantPair) where
-  abbrev Part : List ℕ → List ℕ
-  Part = part_at (pair_place A.view x.0) A.view.horizon
+-- the rows were read of the amounts that the agent has
+pub rows_read : {A : AgentState} {I : Indexes} {x : PairNo} {place : ℕ} {params : PairParams} {came called : List ℕ} {edges : List ParentEdge} {plans : List PlanRows} {came_all called_all : List ℕ}
+    → IsAtPlace A I x place → CanDraft A x → came_all ≡ A.came → called_all ≡ A.called → plans ≡ A.plans
+    → params ≡ (pair_at A.view place).params → came ≡ part_at A.view.horizon place came_all → called ≡ part_at A.view.horizon place called_all → edges ≡ edges_at A.view place
+    → HasRead A I x place params came called edges plans
+rows_read {A} {I} {x} {place} placed can came_is called_is plans_are params_are came_are called_are edges_are = record {
+  placed = placed;
+  can = can;
+  params_are = params_are;
+  came_are = came_are ∙ ap (part_at A.view.horizon place) came_is;
+  called_are = called_are ∙ ap (part_at A.view.horizon place) called_is;
+  edges_are = edges_are;
+  plans_are = plans_are;
+}
 
-  params_read : (get_or pairs place d).params ≡ (pair_of A.view x).params
-  params_read =
-      ap (λ (z : List PlantPair). (get_or z place d).params) read.pairs_are
-      ∙ ap (λ (k : ℕ). (get_or A.view.pairs k d).params) read.placed.at
-      ∙ ap (λ (p : PlantPair). p.params) (get_or_default A.view.pairs (pair_place A.view x.0) d no_pair (own_within A.view x read.can.own))
-
-  part_read : (amounts kept : List ℕ) → amounts ≡ kept → part_at place periods amounts ≡ Part kept
-  part_read amounts kept is =
-      ap (part_at place periods) is
-      ∙ ap (λ (k : ℕ). part_at k periods kept) read.placed.at
-      ∙ ap (λ (n : ℕ). part_at (pair_place A.view x.0) n kept) read.periods_are
-
-  edges_read : edges ≡ edges_at A.view (pair_place A.view x.0)
-  edges_read =
-      read.edges_are
-      ∙ ap (λ (k : ℕ). slice_range I.edges (slice_index I.starts k) (slice_index I.starts (k + 1))) read.placed.at
-      ∙ read.placed.kept.indexes.edges.slices (pair_place A.view x.0) (own_within A.view x read.can.own)
-
+module _ {A : AgentState} {I : Indexes} {x : PairNo} {place : ℕ} {params : PairParams} {came called : List ℕ} {edges : List ParentEdge} {plans : List PlanRows}
+    (read : HasRead A I x place params came called edges plans) where
   -- what is said of the pair's own rows is said of what was read
-  asked : HasDraft (get_or pairs place d).params (part_at place periods came) (part_at place periods called) edges plans
-  asked =
-      subst (λ (z : PairParams). HasDraft z (part_at place periods came) (part_at place periods called) edges plans) (sym params_read)
-      (subst (λ (z : List ℕ). HasDraft (pair_of A.view x).params z (part_at place periods called) edges plans) (sym (part_read came A.came read.came_are))
-      (subst (λ (z : List ℕ). HasDraft (pair_of A.view x).params (Part A.came) z edges plans) (sym (part_read called A.called read.called_are))
-      (subst (λ (z : List ParentEdge). HasDraft (pair_of A.view x).params (Part A.came) (Part A.called) z plans) (sym edges_read)
-      (subst (λ (z : List PlanRows). HasDraft (pair_of A.view x).params (Part A.came) (Part A.called) (edges_at A.view (pair_place A.view x.0)) z) (sym read.plans_are)
-      (has_draft A read.placed.kept.view read.placed.kept.rooms x read.can.own read.can.within)))))
+  of_read : (P : PairParams → List ℕ → List ℕ → List ParentEdge → List PlanRows → Type 0)
+      → P (pair_of A.view x).params (part_at A.view.horizon (pair_place A.view x.0) A.came) (part_at A.view.horizon (pair_place A.view x.0) A.called) (edges_at A.view (pair_place A.view x.0)) A.plans
+      → P params came called edges plans
+  of_read P own =
+      subst (λ (z : PairParams). P z came called edges plans) (sym read.params_are)
+      (subst (λ (z : List ℕ). P (pair_at A.view place).params z called edges plans) (sym read.came_are)
+      (subst (λ (z : List ℕ). P (pair_at A.view place).params (part_at A.view.horizon place A.came) z edges plans) (sym read.called_are)
+      (subst (λ (z : List ParentEdge). P (pair_at A.view place).params (part_at A.view.horizon place A.came) (part_at A.view.horizon place A.called) z plans) (sym read.edges_are)
+      (subst (λ (z : List PlanRows). P (pair_at A.view place).params (part_at A.view.horizon place A.came) (part_at A.view.horizon place A.called) (edges_at A.view place) z) (sym read.plans_are)
+      (subst (λ (k : ℕ). P (pair_at A.view k).params (part_at A.view.horizon k A.came) (part_at A.view.horizon k A.called) (edges_at A.view k) A.plans) (sym read.placed.at) own)))))
 
-  made : one (get_or pairs place d).params (part_at place periods came) (grossed (part_at place periods called) edges plans) ≡ drafted A x
-  made =
-      ap (λ (z : PairParams). one z (part_at place periods came) (grossed (part_at place periods called) edges plans)) params_read
-      ∙ ap (λ (z : List ℕ). one (pair_of A.view x).params z (grossed (part_at place periods called) edges plans)) (part_read came A.came read.came_are)
-      ∙ ap (λ (z : List ℕ). one (pair_of A.view x).params (Part A.came) (grossed z edges plans)) (part_read called A.called read.called_are)
-      ∙ ap (λ (z : List ParentEdge). one (pair_of A.view x).params (Part A.came) (grossed (Part A.called) z plans)) edges_read
-      ∙ ap (λ (z : List PlanRows). one (pair_of A.view x).params (Part A.came) (grossed (Part A.called) (edges_at A.view (pair_place A.view x.0)) z)) read.plans_are
-      ∙ drafted_is A read.placed.kept.view read.placed.kept.rooms x read.can.own
+  pub draft_asked : HasDraft params came called edges plans
+  draft_asked = of_read HasDraft (has_draft A read.placed.kept.view read.placed.kept.rooms x read.can.own read.can.within)
 
--- the same, by the record alone
-pub draft_asked : {A : AgentState} {I : Indexes} {x : PairNo} {place periods : ℕ} {pairs : List PlantPair} {came called : List ℕ} {edges : List ParentEdge} {plans : List PlanRows} (d : PlantPair)
-    → HasRead A I x place periods pairs came called edges plans → HasDraft (get_or pairs place d).params (part_at place periods came) (part_at place periods called) edges plans
-draft_asked {A} {I} {x} {place} {periods} {pairs} {came} {called} {edges} {plans} d read = asked A I x place periods pairs came called edges plans read d
+  pub draft_made : one params came (grossed called edges plans) ≡ drafted A x
+  draft_made =
+      of_read (λ (p : PairParams) (incoming beside : List ℕ) (es : List ParentEdge) (rows : List PlanRows). one p incoming (grossed beside es rows) ≡ drafted A x)
+      (drafted_is A read.placed.kept.view read.placed.kept.rooms x read.can.own)
 
-pub draft_made : {A : AgentState} {I : Indexes} {x : PairNo} {place periods : ℕ} {pairs : List PlantPair} {came called : List ℕ} {edges : List ParentEdge} {plans : List PlanRows} (d : PlantPair)
-    → HasRead A I x place periods pairs came called edges plans
-    → one (get_or pairs place d).params (part_at place periods came) (grossed (part_at place periods called) edges plans) ≡ drafted A x
-draft_made {A} {I} {x} {place} {periods} {pairs} {came} {called} {edges} {plans} d read = made A I x place periods pairs came called edges plans read d
+  pub came_periods : length came ≡ A.view.horizon
+  came_periods =
+      of_read (λ (_ : PairParams) (z _ : List ℕ) (_ : List ParentEdge) (_ : List PlanRows). length z ≡ A.view.horizon)
+      (came_length A read.placed.kept.view read.placed.kept.rooms x read.can.own)
+
+  pub called_periods : length called ≡ A.view.horizon
+  called_periods =
+      of_read (λ (_ : PairParams) (_ z : List ℕ) (_ : List ParentEdge) (_ : List PlanRows). length z ≡ A.view.horizon)
+      (called_length A read.placed.kept.view read.placed.kept.rooms x read.can.own)
 
 -- the place of a pair, as it is given
 pub placed_at : {A S : AgentState} {I : Indexes} {x : PairNo} {place : ℕ} → A ≡ S → IsKept A I → CanDraft S x → place ≡ pair_place S.view x.0 → IsAtPlace A I x place

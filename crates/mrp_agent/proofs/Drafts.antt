@@ -18,6 +18,7 @@ use Rattle.mrp_agent.specs.State.{AgentState, pair_place, pair_of, plans_of, no_
 use Rattle.mrp_agent.specs.Asking.{asked_by, asked_on, CanAsk, HasDraft, grossed}
 use Rattle.mrp_agent.specs.Drafts.{drafted, drafted_incoming, drafted_gross}
 use Rattle.mrp_agent.specs.Kept.{parent_edge, HasRooms}
+use Rattle.mrp_agent.specs.Rows.{edges_at, part_at}
 use Rattle.mrp_agent.proofs.Owning.{own_within}
 
 -- ---- slices
@@ -88,12 +89,9 @@ map_same f g a (suc n) same =
     let later = map_same f g (a + 1) n (λ t h. same t (omega arith)) in
     ap (λ (z : ℕ). z ∷ map f (range_with_len (a + 1) n)) (same a (omega arith)) ∙ ap (λ (z : List ℕ). g a ∷ z) later
 
-abbrev pub edges_at : PlantRows → ℕ → List ParentEdge
-edges_at V place = filter (λ e. e.component == place) (map (parent_edge V) V.edges)
-
 module _ (A : AgentState) (view : IsView A.view) (rooms : HasRooms A) (x : PairNo) (own : IsOwn A.view x) where
   abbrev Part : List ℕ → List ℕ
-  Part amounts = slice_range amounts (pair_place A.view x.0 * A.view.horizon) (pair_place A.view x.0 * A.view.horizon + A.view.horizon)
+  Part = part_at A.view.horizon (pair_place A.view x.0)
 
   bound : pair_place A.view x.0 * A.view.horizon + A.view.horizon ≤ length A.view.pairs * A.view.horizon
   bound = row_within (pair_place A.view x.0) (length A.view.pairs) A.view.horizon (own_within A.view x own)
@@ -101,10 +99,13 @@ module _ (A : AgentState) (view : IsView A.view) (rooms : HasRooms A) (x : PairN
   pub came_is : Part A.came ≡ drafted_incoming A x
   came_is = part_is A.came (pair_place A.view x.0 * A.view.horizon) A.view.horizon (omega (arith, bound, rooms.came))
 
+  pub came_length : length (Part A.came) ≡ A.view.horizon
+  came_length = ap length came_is ∙ length-map-range_with_len (λ (t : ℕ). amount_at A.view A.came x t) 0 A.view.horizon
+
   called_is : Part A.called ≡ map (λ t. slice_index A.called (pair_place A.view x.0 * A.view.horizon + t)) (range_with_len 0 A.view.horizon)
   called_is = part_is A.called (pair_place A.view x.0 * A.view.horizon) A.view.horizon (omega (arith, bound, rooms.called))
 
-  called_length : length (Part A.called) ≡ A.view.horizon
+  pub called_length : length (Part A.called) ≡ A.view.horizon
   called_length =
       ap length called_is
       ∙ length-map-range_with_len (λ (t : ℕ). slice_index A.called (pair_place A.view x.0 * A.view.horizon + t)) 0 A.view.horizon
@@ -127,8 +128,8 @@ module _ (A : AgentState) (view : IsView A.view) (rooms : HasRooms A) (x : PairN
 
   can_ask : (e : PlantEdge) → IsPlantEdge A.view e → CanAsk A.plans (length (Part A.called)) (parent_edge A.view e)
   can_ask e is =
-      let within : pair_place A.view e.parent.0 < length A.plans = omega (arith, own_within A.view e.parent is.parent, rooms.plans) in
-      record { known = within; periods_are = (rooms.periods (pair_place A.view e.parent.0) no_plan within).gross ∙ sym called_length }
+      let within : pair_place A.view e.parent.0 < length A.plans = omega (arith, own_within A.view e.parent is.parent, rooms.plans.count) in
+      record { known = within; periods_are = (rooms.plans.periods (pair_place A.view e.parent.0) no_plan within).gross ∙ sym called_length }
 
   pub has_draft : IsWithin (pair_of A.view x).params (drafted_incoming A x) (drafted_gross A x)
       → HasDraft (pair_of A.view x).params (Part A.came) (Part A.called) (edges_at A.view (pair_place A.view x.0)) A.plans

@@ -31,7 +31,7 @@ free_before {A} {S} {place} same free = subst (λ (a : AgentState). IsFree a.pro
 
 module _ (A : AgentState) (I : Indexes) (kept : IsKept A I) (place : ℕ) (free : IsFree A.progress.waits A.progress.planned place) where
   within : place < length A.view.pairs
-  within = omega (arith, free.known, kept.rooms.waits)
+  within = omega (arith, free.known, kept.rooms.progress.waits)
 
   components_length : length I.components ≡ length A.view.pairs
   components_length = ap length kept.indexes.components ∙ length-map-range_with_len (components_of (joins_of A.view)) 0 (length A.view.pairs)
@@ -50,7 +50,7 @@ module _ (A : AgentState) (I : Indexes) (kept : IsKept A I) (place : ℕ) (free 
   pub components_within : (components : List ℕ) → slice_get I.components place ≡ Some components → All (λ y. y < length A.progress.waits) components
   components_within components found =
       let P : ℕ → Type 0 = λ y. y < length A.progress.waits in
-      let each : (e : PlantEdge) → IsPlantEdge A.view e → P (join_of A.view e).component = λ e edge. omega (arith, own_within A.view e.component edge.component, kept.rooms.waits) in
+      let each : (e : PlantEdge) → IsPlantEdge A.view e → P (join_of A.view e).component = λ e edge. omega (arith, own_within A.view e.component edge.component, kept.rooms.progress.waits) in
       let joins : All (λ (j : Join). P j.component) (joins_of A.view) =
       All-map (λ (j : Join). P j.component) (join_of A.view) A.view.edges (λ k d h. each (get_or A.view.edges k d) (kept.view.edges k d h)) in
       subst (All P) (sym (components_are components found))
@@ -88,16 +88,19 @@ kept_marked A I place item progress outs kept settled queued = record {
     came = kept.rooms.came;
     called = kept.rooms.called;
     plans = kept.rooms.plans;
-    periods = kept.rooms.periods;
-    numbers = settled.numbers ∙ kept.rooms.numbers;
-    waits = settled.size ∙ kept.rooms.waits;
-    planned = ap length settled.planned ∙ length-set A.progress.planned place true ∙ kept.rooms.planned;
-    outs = queued.size ∙ kept.rooms.outs;
-    sizes = λ k low.
-        let lane : OutgoingLane = outgoing_at A.view k in
-        ap (λ (o : OutFigures). o.size) (queued.each k low)
-        ∙ settled_size lane.kind (map (λ i. i.item) lane.items) (out_at A k) item
-        ∙ kept.rooms.sizes k low;
+    progress = record {
+      numbers = settled.numbers ∙ kept.rooms.progress.numbers;
+      waits = settled.size ∙ kept.rooms.progress.waits;
+      planned = ap length settled.planned ∙ length-set A.progress.planned place true ∙ kept.rooms.progress.planned;
+    };
+    cursors = record {
+      count = queued.size ∙ kept.rooms.cursors.count;
+      sizes = λ k low.
+          let lane : OutgoingLane = outgoing_at A.view k in
+          ap (λ (o : OutFigures). o.size) (queued.each k low)
+          ∙ settled_size lane.kind (map (λ i. i.item) lane.items) (out_at A k) item
+          ∙ kept.rooms.cursors.sizes k low;
+    };
   };
   taken = record { taken = kept.taken.taken; books = kept.taken.books; waits = settled.counts (open_blocks (awaited A.view kept.taken.taken)) kept.taken.waits };
 }

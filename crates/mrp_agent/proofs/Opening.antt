@@ -1,6 +1,5 @@
 -- What an agent shows at first: nothing has come, nothing was sent, and no pair is planned.
 use Rattle.std.proofs.Common.{◌≡◌, ℕ, zero, suc, ◌+◌, ◌<◌, ◌≤◌, ◌^◌, ◌==◌, ◌&&◌, eqb, cond, not, Bool, false, List, [], ◌∷◌, ◌↔◌, inl, inr, length, get_or, map, replicate, refl, sym, ap, ◌∙◌, subst, arith}
-use Rattle.std.specs.Prelude.{slice_index}
 use Rattle.std.specs.List.{All, Contains, count_by, flat_map, range_with_len, sum_by}
 use Rattle.std.proofs.Math.Bool.{and-true}
 use Rattle.std.proofs.lemmas.Bool.{cases_lt}
@@ -36,7 +35,7 @@ use Rattle.mrp_local.specs.Local.{amount_at, booked_on, lanes_in}
 use Rattle.mrp_agent.specs.State.{AgentState, incoming_at, outgoing_at, book_at, out_at, no_book, no_incoming, pair_place, plans_of}
 use Rattle.mrp_agent.specs.Shows.{Shows, OutShows, BooksShow, awaited, awaited_on, block_awaited, book_item, form_of, join_of, joins_of, up_to_last}
 use Rattle.mrp_agent.specs.Kept.{parent_edge, HasItemsOnce, HasPeriods, HasRooms, HasSmallItems, HasSmallOpenings, Indexes, AreIndexes, IsKept}
-use Rattle.mrp_agent.specs.Making.{AreFit, AreIdle, IsFirst, IsIdleLane, awaited_places, idle_queue, new_figures, place_awaited}
+use Rattle.mrp_agent.specs.Making.{AreFit, AreIdle, IsFirst, IsIdleLane, idle_queue, new_figures, place_awaited}
 use Rattle.mrp_agent.specs.declared.edges.ParentEdge.{ParentEdge}
 use Rattle.mrp_agent.proofs.Made.{books_once}
 use Rattle.mrp_agent.proofs.Owning.{own_within}
@@ -185,13 +184,16 @@ module _ (V : PlantRows) (progress : Progress) (outs : List OutFigures) (view : 
     books = length-map V.incoming (new_figures V);
     came = view.receipts;
     called = view.demands;
-    plans = length-replicate (length V.pairs) (nothing_planned V.horizon);
-    periods = All-replicate (HasPeriods V) (length V.pairs) (nothing_planned V.horizon) has_periods;
-    numbers = first.numbers;
-    waits = first.size;
-    planned = ap (λ (z : List Bool). length z) first.planned ∙ length-replicate (length V.pairs) false;
-    outs = idle.size;
-    sizes = λ k within. (cursors_open k within).size;
+    plans = record {
+      count = length-replicate (length V.pairs) (nothing_planned V.horizon);
+      periods = All-replicate (HasPeriods V) (length V.pairs) (nothing_planned V.horizon) has_periods;
+    };
+    progress = record {
+      numbers = first.numbers;
+      waits = first.size;
+      planned = ap (λ (z : List Bool). length z) first.planned ∙ length-replicate (length V.pairs) false;
+    };
+    cursors = record { count = idle.size; sizes = λ k within. (cursors_open k within).size };
   }
 
   pub opening_kept : (I : Indexes) → AreIndexes V I → IsKept (opened V progress outs) I

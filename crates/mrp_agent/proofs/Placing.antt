@@ -1,26 +1,15 @@
 -- A pair of the plant stands at a place of an agent.
 use Rattle.std.proofs.Common.{◌≡◌, ℕ, ◌<◌, ◌==◌, Option, Some, length, position, sym, subst, arith}
 use Rattle.std.specs.List.{Contains}
+use Rattle.mrp_lot.specs.One.{IsWithin}
 use Rattle.mrp_rows.specs.declared.numbers.PairNo.{PairNo}
 use Rattle.mrp_view.specs.Seen.{IsOwn}
 use Rattle.mrp_ready.specs.Progress.{IsListed}
-use Rattle.mrp_agent.specs.declared.agent.Agent.TheInside.{Inside}
-use Rattle.mrp_agent.specs.Drafts.{CanDraft, ready_numbers}
+use Rattle.mrp_agent.specs.Drafts.{CanDraft, drafted_gross, drafted_incoming, ready_numbers}
 use Rattle.mrp_agent.specs.Kept.{Indexes, IsKept}
-use Rattle.mrp_agent.specs.State.{AgentState, pair_place}
+use Rattle.mrp_agent.specs.State.{AgentState, pair_of, pair_place}
 use Rattle.mrp_agent.proofs.Owning.{own_found, own_place_is, own_within}
 use Rattle.mrp_agent.proofs.Ready.{ready_place, ready_there}
-
--- the indexes that an agent keeps
-abbrev pub indexes_of : Inside → Indexes
-indexes_of a = record {
-  items = a.items;
-  edges = a.edges.rows.items;
-  starts = a.edges.starts.items;
-  components = a.components;
-  out_items = a.out_items.items;
-  desk = length a.desk.gross;
-}
 
 pub record IsAtPlace (A : AgentState) (I : Indexes) (x : PairNo) (place : ℕ) : Type 0 where
   pub kept : IsKept A I
@@ -66,3 +55,9 @@ ready_at {A} {S} {I} {x} {place} same h listed ready =
 pub ready_from : {A S : AgentState} {I : Indexes} {x : PairNo} {place : ℕ} → A ≡ S → IsAtPlace A I x place → Contains A.progress.ready place → Contains (ready_numbers S) x
 ready_from {A} {S} {I} {x} {place} same h there =
     subst (λ (a : AgentState). Contains (ready_numbers a) x) same (ready_there A h.kept.view h.kept.rooms x h.own (subst (Contains A.progress.ready) h.at there))
+
+pub can_draft : {A S : AgentState} {I : Indexes} {x : PairNo} {place : ℕ} → A ≡ S → IsAtPlace A I x place → IsOwn S.view x → Contains A.progress.ready place
+    → (Contains (ready_numbers S) x → IsWithin (pair_of S.view x).params (drafted_incoming S x) (drafted_gross S x)) → CanDraft S x
+can_draft {A} {S} {I} {x} {place} same h own there within =
+    let ready : Contains (ready_numbers S) x = ready_from same h there in
+    record { own = own; ready = ready; within = within ready }

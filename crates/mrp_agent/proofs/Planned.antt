@@ -29,7 +29,7 @@ pub has_planned : {A S B new : AgentState} {I : Indexes} {x : PairNo} {place : �
 has_planned {A} {S} {B} {new} {I} {x} {place} same placed can listed written marked =
     let here : IsAtPlace S I x place = placed_now same placed in
     let ready = listed_now same listed in
-    let within : place < length S.plans = omega (arith, place_within here, here.kept.rooms.plans) in
+    let within : place < length S.plans = omega (arith, place_within here, here.kept.rooms.plans.count) in
     record {
       view = ap (λ (a : AgentState). a.view) marked.same ∙ ap (λ (a : AgentState). a.view) written;
       kept =

@@ -46,19 +46,15 @@ module _ (V : PlantRows) (view : IsView V) (lane : OutgoingLane) (is_lane : IsOu
   own_of : lane.kind ≡ Schedule → (j : ℕ) → j < length lane.items → IsOwnOf V (load_at lane.items j).customer (load_at lane.items j).item
   own_of kind j within = (schedule kind).customers j no_load within
 
-  customer_item : lane.kind ≡ Schedule → (j : ℕ) → j < length lane.items → (load_at lane.items j).customer.0 ≡ p.number.0 → (load_at lane.items j).item.0 ≡ p.item.0
-  customer_item kind j within same =
+  -- the customer is the pair where the item is the pair's
+  is_its_item : lane.kind ≡ Schedule → (j : ℕ) → j < length lane.items → (load_at lane.items j).customer.0 ≡ p.number.0 ↔ (load_at lane.items j).item.0 ≡ p.item.0
+  is_its_item kind j within =
       let own = own_of kind j within in
-      let q : PlantPair = own.0 in
-      let is : q ≡ p = same_number V view q p own.1 there (ap (λ (n : PairNo). n.0) own.2 ∙ same) in
-      sym (ap (λ (n : ItemNo). n.0) own.3) ∙ ap (λ (r : PlantPair). r.item.0) is
-
-  item_customer : lane.kind ≡ Schedule → (j : ℕ) → j < length lane.items → (load_at lane.items j).item.0 ≡ p.item.0 → (load_at lane.items j).customer.0 ≡ p.number.0
-  item_customer kind j within same =
-      let own = own_of kind j within in
-      let q : PlantPair = own.0 in
-      let is : q ≡ p = same_item V view q p own.1 there (ap (λ (n : ItemNo). n.0) own.3 ∙ same) in
-      sym (ap (λ (n : PairNo). n.0) own.2) ∙ ap (λ (r : PlantPair). r.number.0) is
+      let number : own.0.number.0 ≡ (load_at lane.items j).customer.0 = ap (λ (n : PairNo). n.0) own.2 in
+      let item : own.0.item.0 ≡ (load_at lane.items j).item.0 = ap (λ (n : ItemNo). n.0) own.3 in (
+        λ same. sym item ∙ ap (λ (r : PlantPair). r.item.0) (same_number V view own.0 p own.1 there (number ∙ same)),
+        λ same. sym number ∙ ap (λ (r : PlantPair). r.number.0) (same_item V view own.0 p own.1 there (item ∙ same)),
+      )
 
   -- by the plans as they are now
   now_shows : ShowsSent (goods_of V taken others lane) old sent
@@ -108,7 +104,7 @@ module _ (V : PlantRows) (view : IsView V) (lane : OutgoingLane) (is_lane : IsOu
       (λ j within _ same.
       let test : ItemNo → Bool = λ i. eqb i.0 p.item.0 in
       let item : ItemNo = (load_at lane.items j).item in
-      let passes : test item ≡ true = eq-eqb item.0 p.item.0 (customer_item kind j within same) in
+      let passes : test item ≡ true = eq-eqb item.0 p.item.0 ((is_its_item kind j within).0 same) in
       let among : Contains items item = (j, omega (arith, within, length-map lane.items (λ (i : Load). i.item)), get_or-map (λ (i : Load). i.item) lane.items j no_load item within) in
       let found = place_known test items (place_found test items item among passes) in
       cc (none, found))
@@ -119,7 +115,7 @@ module _ (V : PlantRows) (view : IsView V) (lane : OutgoingLane) (is_lane : IsOu
       let within : place < length lane.items = omega (arith, first.0, length-map lane.items (λ (i : Load). i.item)) in
       let item : (load_at lane.items place).item.0 ≡ p.item.0 =
       sym (ap (λ (i : ItemNo). i.0) (get_or-map (λ (i : Load). i.item) lane.items place no_load none within)) ∙ eqb-true (get_or items place none).0 p.item.0 first.1 in
-      let mine : (load_at lane.items place).customer.0 ≡ p.number.0 = item_customer kind place within item in
+      let mine : (load_at lane.items place).customer.0 ≡ p.number.0 = (is_its_item kind place within).1 item in
       let fresh : Contains old.queue place → ⊥ = λ among. both_ways (planned p.number.0) unplanned (sym (ap planned mine) ∙ ((queue place).0 among).decided kind) in
       let more = queues_show (goods_of V taken others lane) old sent place now_shows (omega (arith, within, size)) fresh in
       record {
@@ -139,7 +135,7 @@ module _ (V : PlantRows) (view : IsView V) (lane : OutgoingLane) (is_lane : IsOu
                 | inl same ↦
                     let here : j ≡ place =
                     only_place (λ (i : Load). eqb i.item.0 p.item.0) lane.items j place no_load (is_lane.once p.item.0) sendable.within within
-                    (eq-eqb (load_at lane.items j).item.0 p.item.0 (customer_item kind j sendable.within same)) (eq-eqb (load_at lane.items place).item.0 p.item.0 item) in
+                    (eq-eqb (load_at lane.items j).item.0 p.item.0 ((is_its_item kind j sendable.within).0 same)) (eq-eqb (load_at lane.items place).item.0 p.item.0 item) in
                     Contains-append_right old.queue (place ∷ []) j (0, omega arith, sym here)
                 | inr other ↦ Contains-append_left old.queue (place ∷ []) j ((queue j).1 (before j sendable (λ _. other)))
               ]),

@@ -127,6 +127,23 @@ only_true false e = absurd (omega (arith, e))
 not_true : (b : Bool) → b ≡ true → not b ≡ false
 not_true b e = ap not e
 
+-- what is kept of each lane is closed exactly where the lane is
+lanes_closed : {Lane Kept : Type 0} (lanes : List Lane) (no_lane : Lane) (all_kept : List Kept) (nothing : Kept) (closes : Lane → Bool) (closed : Kept → Bool)
+    → length all_kept ≡ length lanes → ((k : ℕ) → k < length lanes → closed (get_or all_kept k nothing) ≡ closes (get_or lanes k no_lane))
+    → list_all closed all_kept ≡ true ↔ ((lane : Lane) → Contains lanes lane → closes lane ≡ true)
+lanes_closed {Lane} {Kept} lanes no_lane all_kept nothing closes closed size each = (there, back)
+  where
+    there : list_all closed all_kept ≡ true → (lane : Lane) → Contains lanes lane → closes lane ≡ true
+    there all lane (k, within, is) =
+        let here : closed (get_or all_kept k nothing) ≡ true = AllPass-from_list_all closed all_kept all k nothing (omega (arith, within, size)) in
+        let same : get_or lanes k no_lane ≡ lane = get_or_default lanes k no_lane lane within ∙ is in
+        subst (λ (z : Lane). closes z ≡ true) same (sym (each k within) ∙ here)
+
+    back : ((lane : Lane) → Contains lanes lane → closes lane ≡ true) → list_all closed all_kept ≡ true
+    back all = list_all-from_AllPass closed all_kept (λ k d within.
+        let inside : k < length lanes = omega (arith, within, size) in
+        ap closed (get_or_default all_kept k d nothing within) ∙ each k inside ∙ all (get_or lanes k no_lane) (Contains-get_or lanes k no_lane inside))
+
 module _ (A : AgentState) (I : Indexes) (kept : IsKept A I) (sent taken : ℕ → List Record) (planned : ℕ → Bool) (shows : Shows A sent taken planned) where
   -- the place of the pair at a place
   own_place : (k : ℕ) → k < length A.view.pairs → pair_place A.view (get_or A.view.pairs k no_pair).number.0 ≡ k
@@ -138,12 +155,12 @@ module _ (A : AgentState) (I : Indexes) (kept : IsKept A I) (sent taken : ℕ �
   all_planned none p there =
       let k : ℕ = pair_place A.view p.number.0 in
       let within : k < length A.view.pairs = place_found (λ (q : PlantPair). eqb q.number.0 p.number.0) A.view.pairs p there (eq-eqb p.number.0 p.number.0 refl) in
-      let most = get_or-le-sum_by (λ (b : Bool). cond (not b) 1 0) A.progress.planned k false (omega (arith, within, kept.rooms.planned)) in
+      let most = get_or-le-sum_by (λ (b : Bool). cond (not b) 1 0) A.progress.planned k false (omega (arith, within, kept.rooms.progress.planned)) in
       shows.planned_are p there ∙ only_true (is_planned A.progress.planned k) (omega (arith, most, none))
 
   none_left : ((p : PlantPair) → Contains A.view.pairs p → planned p.number.0 ≡ true) → left_of A.progress.planned ≡ 0
   none_left all = count_none (λ (b : Bool). not b) A.progress.planned (λ k d within.
-      let inside : k < length A.view.pairs = omega (arith, within, kept.rooms.planned) in
+      let inside : k < length A.view.pairs = omega (arith, within, kept.rooms.progress.planned) in
       let p : PlantPair = get_or A.view.pairs k no_pair in
       let there : Contains A.view.pairs p = Contains-get_or A.view.pairs k no_pair inside in
       let here : is_planned A.progress.planned k ≡ true = ap (is_planned A.progress.planned) (sym (own_place k inside)) ∙ sym (shows.planned_are p there) ∙ all p there in
@@ -156,29 +173,13 @@ module _ (A : AgentState) (I : Indexes) (kept : IsKept A I) (sent taken : ℕ �
   out_closed k within =
       closed_is_shown (goods_of A.view taken (plans_of A) (outgoing_at A.view k)) (out_at A k) (sent (outgoing_at A.view k).number.0) (shows.outs k within).shows
 
-  books_taken : list_all (λ b. b.closed) A.books ≡ true → (lane : IncomingLane) → Contains A.view.incoming lane → is_closed (contents (taken lane.number.0)) ≡ true
-  books_taken all lane (k, within, is) =
-      let closed : (book_at A k).closed ≡ true = AllPass-from_list_all (λ (b : Figures). b.closed) A.books all k no_book (omega (arith, within, kept.rooms.books)) in
-      let same : incoming_at A.view k ≡ lane = get_or_default A.view.incoming k no_incoming lane within ∙ is in
-      subst (λ (z : IncomingLane). is_closed (contents (taken z.number.0)) ≡ true) same (sym (book_closed k within) ∙ closed)
+  incoming_closed : list_all (λ b. b.closed) A.books ≡ true ↔ ((lane : IncomingLane) → Contains A.view.incoming lane → is_closed (contents (taken lane.number.0)) ≡ true)
+  incoming_closed =
+      lanes_closed A.view.incoming no_incoming A.books no_book (λ (lane : IncomingLane). is_closed (contents (taken lane.number.0))) (λ (b : Figures). b.closed) kept.rooms.books book_closed
 
-  taken_booked : ((lane : IncomingLane) → Contains A.view.incoming lane → is_closed (contents (taken lane.number.0)) ≡ true) → list_all (λ b. b.closed) A.books ≡ true
-  taken_booked all = list_all-from_AllPass (λ (b : Figures). b.closed) A.books (λ k d within.
-      let inside : k < length A.view.incoming = omega (arith, within, kept.rooms.books) in
-      ap (λ (b : Figures). b.closed) (get_or_default A.books k d no_book within) ∙ book_closed k inside
-      ∙ all (incoming_at A.view k) (Contains-get_or A.view.incoming k no_incoming inside))
-
-  outs_sent : list_all (λ o. o.closed) A.outs ≡ true → (lane : OutgoingLane) → Contains A.view.outgoing lane → is_closed (contents (sent lane.number.0)) ≡ true
-  outs_sent all lane (k, within, is) =
-      let closed : (out_at A k).closed ≡ true = AllPass-from_list_all (λ (o : OutFigures). o.closed) A.outs all k no_out (omega (arith, within, kept.rooms.outs)) in
-      let same : outgoing_at A.view k ≡ lane = get_or_default A.view.outgoing k no_outgoing lane within ∙ is in
-      subst (λ (z : OutgoingLane). is_closed (contents (sent z.number.0)) ≡ true) same (sym (out_closed k within) ∙ closed)
-
-  sent_closed : ((lane : OutgoingLane) → Contains A.view.outgoing lane → is_closed (contents (sent lane.number.0)) ≡ true) → list_all (λ o. o.closed) A.outs ≡ true
-  sent_closed all = list_all-from_AllPass (λ (o : OutFigures). o.closed) A.outs (λ k d within.
-      let inside : k < length A.view.outgoing = omega (arith, within, kept.rooms.outs) in
-      ap (λ (o : OutFigures). o.closed) (get_or_default A.outs k d no_out within) ∙ out_closed k inside
-      ∙ all (outgoing_at A.view k) (Contains-get_or A.view.outgoing k no_outgoing inside))
+  outgoing_closed : list_all (λ o. o.closed) A.outs ≡ true ↔ ((lane : OutgoingLane) → Contains A.view.outgoing lane → is_closed (contents (sent lane.number.0)) ≡ true)
+  outgoing_closed =
+      lanes_closed A.view.outgoing no_outgoing A.outs no_out (λ (lane : OutgoingLane). is_closed (contents (sent lane.number.0))) (λ (o : OutFigures). o.closed) kept.rooms.cursors.count out_closed
 
   pub done_shown : is_done A ≡ true → HasDone A.view sent taken planned
   done_shown done =
@@ -186,15 +187,15 @@ module _ (A : AgentState) (I : Indexes) (kept : IsKept A I) (sent taken : ℕ �
       let parts = and_parts (eqb (left_of A.progress.planned) 0) (list_all (λ (b : Figures). b.closed) A.books) lanes.0 in
       record {
         pairs = all_planned (eqb-true (left_of A.progress.planned) 0 parts.0);
-        incoming = books_taken parts.1;
-        outgoing = outs_sent lanes.1;
+        incoming = incoming_closed.0 parts.1;
+        outgoing = outgoing_closed.0 lanes.1;
       }
 
   pub shown_done : HasDone A.view sent taken planned → is_done A ≡ true
   shown_done h =
       and_from (eqb (left_of A.progress.planned) 0 && list_all (λ (b : Figures). b.closed) A.books) (list_all (λ (o : OutFigures). o.closed) A.outs)
-      (and_from (eqb (left_of A.progress.planned) 0) (list_all (λ (b : Figures). b.closed) A.books) (eq-eqb (left_of A.progress.planned) 0 (none_left h.pairs)) (taken_booked h.incoming))
-      (sent_closed h.outgoing)
+      (and_from (eqb (left_of A.progress.planned) 0) (list_all (λ (b : Figures). b.closed) A.books) (eq-eqb (left_of A.progress.planned) 0 (none_left h.pairs)) (incoming_closed.1 h.incoming))
+      (outgoing_closed.1 h.outgoing)
 
   pub done_exactly : IsTrue (is_done A) ↔ HasDone A.view sent taken planned
   done_exactly = (done_shown, shown_done)
@@ -215,7 +216,7 @@ other_unplanned A I kept x none =
           let known : position (λ (p : PlantPair). eqb p.number.0 x.0) A.view.pairs ≡ Some (pair_place A.view x.0) = place_known (λ (p : PlantPair). eqb p.number.0 x.0) A.view.pairs within in
           let bad : None ≡ Some (pair_place A.view x.0) = sym none ∙ known in
           absurd (cc bad)
-      | inr past ↦ beyond A.progress.planned (pair_place A.view x.0) (omega (arith, past, kept.rooms.planned))
+      | inr past ↦ beyond A.progress.planned (pair_place A.view x.0) (omega (arith, past, kept.rooms.progress.planned))
     ]
   where
     beyond : (flags : List Bool) (k : ℕ) → length flags ≤ k → get_or flags k false ≡ false

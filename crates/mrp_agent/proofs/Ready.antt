@@ -22,7 +22,7 @@ module _ (A : AgentState) (view : IsView A.view) (rooms : HasRooms A) where
   number_there : (k : ℕ) → k < length A.view.pairs → number_at A.progress.numbers k ≡ (get_or A.view.pairs k no_pair).number
   number_there k within =
       let none : PairNo = record { 0 = 0 } in
-      ap (λ (z : List PairNo). get_or z k none) rooms.numbers ∙ get_or-map (λ (p : PlantPair). p.number) A.view.pairs k no_pair none within
+      ap (λ (z : List PairNo). get_or z k none) rooms.progress.numbers ∙ get_or-map (λ (p : PlantPair). p.number) A.view.pairs k no_pair none within
 
   number_of : (x : PairNo) → IsOwn A.view x → number_at A.progress.numbers (pair_place A.view x.0) ≡ x
   number_of x own =
@@ -45,7 +45,7 @@ module _ (A : AgentState) (view : IsView A.view) (rooms : HasRooms A) where
       let low : k < length A.progress.ready = omega (arith, within, length-map A.progress.ready f) in
       let y : ℕ = slice_index A.progress.ready k in
       let there : Contains A.progress.ready y = (k, low, get_or_default A.progress.ready k y 0 low) in
-      let known : y < length A.view.pairs = omega (arith, ((listed.exact y).0 there).known, rooms.waits) in
+      let known : y < length A.view.pairs = omega (arith, ((listed.exact y).0 there).known, rooms.progress.waits) in
       let number : (get_or A.view.pairs y no_pair).number ≡ x =
       sym (number_there y known) ∙ sym (get_or-map f A.progress.ready k 0 x low) ∙ is in
       let same : pair_place A.view x.0 ≡ y =

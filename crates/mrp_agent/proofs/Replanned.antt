@@ -31,7 +31,7 @@ module _ (A : AgentState) (rooms : HasRooms A) (x : PairNo) (own : IsOwn A.view 
   New = after_settled A (pair_place A.view x.0) plan progress outs
 
   pub plan_there : plans_of (after_settled A (pair_place A.view x.0) plan progress outs) x.0 ≡ plan
-  plan_there = get_or-set_same A.plans (pair_place A.view x.0) plan no_plan (omega (arith, own_within A.view x own, rooms.plans))
+  plan_there = get_or-set_same A.plans (pair_place A.view x.0) plan no_plan (omega (arith, own_within A.view x own, rooms.plans.count))
 
   pub plan_elsewhere : (y : PairNo) → IsOwn A.view y → (y.0 ≡ x.0 → ⊥) → plans_of (after_settled A (pair_place A.view x.0) plan progress outs) y.0 ≡ plans_of A y.0
   plan_elsewhere y own_y other =
@@ -86,7 +86,7 @@ planned_after A rooms planned x progress own is before p there =
           let kept : is_planned progress.planned (pair_place A.view p.number.0) ≡ true =
           ap (λ (z : List Bool). is_planned z (pair_place A.view p.number.0)) is
           ∙ ap (λ (n : ℕ). is_planned (set A.progress.planned place true) (pair_place A.view n)) same
-          ∙ get_or-set_same A.progress.planned place true false (omega (arith, own_within A.view x own, rooms.planned)) in
+          ∙ get_or-set_same A.progress.planned place true false (omega (arith, own_within A.view x own, rooms.progress.planned)) in
           mine ∙ sym kept
       | inr other ↦
           changed_elsewhere planned x.0 true p.number.0 other

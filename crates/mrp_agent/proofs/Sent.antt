@@ -23,8 +23,9 @@ use Rattle.mrp_events.specs.State.{changed}
 use Rattle.mrp_local.specs.Goods.{IsSendable}
 use Rattle.mrp_agent.specs.State.{AgentState, outgoing_at, out_at, pair_place, plans_of, no_out, no_outgoing, no_plan}
 use Rattle.mrp_agent.specs.After.{after_sent}
-use Rattle.mrp_agent.specs.Kept.{HasPeriods, HasRooms, HasTaken, Indexes, IsKept}
+use Rattle.mrp_agent.specs.Kept.{AreCursors, HasPeriods, HasRooms, HasTaken, Indexes, IsKept}
 use Rattle.mrp_agent.specs.Sending.{left_at, next_out, goods_at, IsWithin64, Continues, NothingContinues}
+use Rattle.mrp_agent.specs.Sent.{with_sent}
 use Rattle.mrp_agent.specs.Shows.{OutShows, Shows}
 use Rattle.mrp_agent.proofs.Leaving.{left_is_left}
 use Rattle.mrp_agent.proofs.Looking.{place_found, only_place}
@@ -53,7 +54,7 @@ own_place A x (p, there, is) =
 
 pub periods_kept : (A : AgentState) → HasRooms A → (x : PairNo) → IsOwn A.view x → HasPeriods A.view (plans_of A x.0)
 periods_kept A rooms x own =
-    rooms.periods (pair_place A.view x.0) no_plan (omega (arith, own_place A x own, rooms.plans))
+    rooms.plans.periods (pair_place A.view x.0) no_plan (omega (arith, own_place A x own, rooms.plans.count))
 
 pub own_of : (A : AgentState) (lane : OutgoingLane) (j : ℕ) → IsScheduleLane A.view lane → j < length lane.items → IsOwn A.view (load_at lane.items j).customer
 own_of A lane j sched within = by (sched.customers j _ within)
@@ -100,42 +101,36 @@ module _ (A : AgentState) (view : IsView A.view) (rooms : HasRooms A) where
     none_can_be_sent none =
         none_is_left (goods_at A taken k) (out_at A k) (sent (outgoing_at A.view k).number.0) (left_at A k) (shows.outs k within).shows is_left none
 
+    -- a lane's cursor and what was sent on it, as they are afterwards
+    shown_after : (r : Record) (i : ℕ) {o : OutFigures} {list : List Record} → out_at (after_sent A k) i ≡ o → with_sent A sent k r (outgoing_at A.view i).number.0 ≡ list
+        → o.size ≡ length (outgoing_at A.view i).items → ShowsSent (goods_at A taken i) o list → ((j : ℕ) → Contains o.queue j ↔ IsSendable planned (outgoing_at A.view i) j)
+        → OutShows (after_sent A k) (with_sent A sent k r) taken planned i
+    shown_after r i {o} {list} is list_is size shows queued = record {
+      size = ap (λ (z : OutFigures). z.size) is ∙ size;
+      shows =
+          subst (λ (z : List Record). ShowsSent (goods_at A taken i) (out_at (after_sent A k) i) z) (sym list_is)
+          (subst (λ (z : OutFigures). ShowsSent (goods_at A taken i) z list) (sym is) shows);
+      queued = subst (λ (z : OutFigures). (j : ℕ) → Contains z.queue j ↔ IsSendable planned (outgoing_at A.view i) j) (sym is) queued;
+    }
+
     -- the lane itself, and the others
-    here : (r : Record) → IsWithin64 A taken k → next_out A k ≡ Some r
-        → OutShows (after_sent A k) (changed sent (outgoing_at A.view k).number.0 (sent (outgoing_at A.view k).number.0 ++ r ∷ [])) taken planned k
+    here : (r : Record) → IsWithin64 A taken k → next_out A k ≡ Some r → OutShows (after_sent A k) (with_sent A sent k r) taken planned k
     here r bounded given =
         let l : ℕ = (outgoing_at A.view k).number.0 in
         let out = shows.outs k within in
-        let new : OutFigures = stepped (out_at A k) (left_at A k) in
-        let inside : k < length A.outs = omega (arith, within, rooms.outs) in
-        let is : out_at (after_sent A k) k ≡ new = get_or-set_same A.outs k new no_out inside in
-        let steps = steps_show (goods_at A taken k) (out_at A k) (sent l) (left_at A k) r out.shows bounded is_left given in
-        let G : List Record → Type 0 = λ z. ShowsSent (goods_at A taken k) (out_at (after_sent A k) k) z in
-        let Q : List ℕ → Type 0 = λ z. (j : ℕ) → Contains z j ↔ IsSendable planned (outgoing_at A.view k) j in
-        record {
-          size = ap (λ (o : OutFigures). o.size) is ∙ stepped_size (out_at A k) (left_at A k) ∙ out.size;
-          shows = subst G (sym (changed_there sent l (sent l ++ r ∷ []))) (subst (λ (o : OutFigures). ShowsSent (goods_at A taken k) o (sent l ++ r ∷ [])) (sym is) steps);
-          queued = subst Q (sym (ap (λ (o : OutFigures). o.queue) is ∙ stepped_queue (out_at A k) (left_at A k))) out.queued;
-        }
+        shown_after r k (get_or-set_same A.outs k (stepped (out_at A k) (left_at A k)) no_out (omega (arith, within, rooms.cursors.count))) (changed_there sent l (sent l ++ r ∷ []))
+        (stepped_size (out_at A k) (left_at A k) ∙ out.size)
+        (steps_show (goods_at A taken k) (out_at A k) (sent l) (left_at A k) r out.shows bounded is_left given)
+        (subst (λ (z : List ℕ). (j : ℕ) → Contains z j ↔ IsSendable planned (outgoing_at A.view k) j) (sym (stepped_queue (out_at A k) (left_at A k))) out.queued)
 
-    elsewhere : (r : Record) (i : ℕ) → i < length A.view.outgoing → (i ≡ k → ⊥)
-        → OutShows (after_sent A k) (changed sent (outgoing_at A.view k).number.0 (sent (outgoing_at A.view k).number.0 ++ r ∷ [])) taken planned i
+    elsewhere : (r : Record) (i : ℕ) → i < length A.view.outgoing → (i ≡ k → ⊥) → OutShows (after_sent A k) (with_sent A sent k r) taken planned i
     elsewhere r i ini other =
         let l : ℕ = (outgoing_at A.view k).number.0 in
-        let n : ℕ = (outgoing_at A.view i).number.0 in
         let out = shows.outs i ini in
-        let is : out_at (after_sent A k) i ≡ out_at A i = get_or-set_other A.outs k i (stepped (out_at A k) (left_at A k)) no_out other in
-        let kept : changed sent l (sent l ++ r ∷ []) n ≡ sent n = changed_elsewhere sent l (sent l ++ r ∷ []) n (lanes_apart i k ini within other) in
-        let G : List Record → Type 0 = λ z. ShowsSent (goods_at A taken i) (out_at (after_sent A k) i) z in
-        let Q : OutFigures → Type 0 = λ o. (j : ℕ) → Contains o.queue j ↔ IsSendable planned (outgoing_at A.view i) j in
-        record {
-          size = ap (λ (o : OutFigures). o.size) is ∙ out.size;
-          shows = subst G (sym kept) (subst (λ (o : OutFigures). ShowsSent (goods_at A taken i) o (sent n)) (sym is) out.shows);
-          queued = subst Q (sym is) out.queued;
-        }
+        shown_after r i (get_or-set_other A.outs k i (stepped (out_at A k) (left_at A k)) no_out other)
+        (changed_elsewhere sent l (sent l ++ r ∷ []) (outgoing_at A.view i).number.0 (lanes_apart i k ini within other)) out.size out.shows out.queued
 
-    pub sent_shows : (r : Record) → IsWithin64 A taken k → next_out A k ≡ Some r
-        → Shows (after_sent A k) (changed sent (outgoing_at A.view k).number.0 (sent (outgoing_at A.view k).number.0 ++ r ∷ [])) taken planned
+    pub sent_shows : (r : Record) → IsWithin64 A taken k → next_out A k ≡ Some r → Shows (after_sent A k) (with_sent A sent k r) taken planned
     sent_shows r bounded given = record {
       books = shows.books;
       waits = shows.waits;
@@ -144,36 +139,32 @@ module _ (A : AgentState) (view : IsView A.view) (rooms : HasRooms A) where
       planned_are = shows.planned_are;
       local = shows.local;
       outs = λ i ini.
-          elim (cases_eq i k) as (λ _. OutShows (after_sent A k) (changed sent (outgoing_at A.view k).number.0 (sent (outgoing_at A.view k).number.0 ++ r ∷ [])) taken planned i) [
-            | inl e ↦ subst (λ (z : ℕ). OutShows (after_sent A k) (changed sent (outgoing_at A.view k).number.0 (sent (outgoing_at A.view k).number.0 ++ r ∷ [])) taken planned z) (sym e) (here r bounded given)
+          elim (cases_eq i k) as (λ _. OutShows (after_sent A k) (with_sent A sent k r) taken planned i) [
+            | inl e ↦ subst (λ (z : ℕ). OutShows (after_sent A k) (with_sent A sent k r) taken planned z) (sym e) (here r bounded given)
             | inr other ↦ elsewhere r i ini other
           ];
     }
 
 -- ---- what is kept
 
-pub sent_rooms : (A : AgentState) (k : ℕ) → k < length A.view.outgoing → HasRooms A → HasRooms (after_sent A k)
-sent_rooms A k within rooms =
+sent_cursors : (A : AgentState) (k : ℕ) → k < length A.view.outgoing → AreCursors A.view A.outs → AreCursors A.view (after_sent A k).outs
+sent_cursors A k within cursors =
     let new : OutFigures = stepped (out_at A k) (left_at A k) in
-    let inside : k < length A.outs = omega (arith, within, rooms.outs) in
+    let inside : k < length A.outs = omega (arith, within, cursors.count) in
     record {
-      books = rooms.books;
-      came = rooms.came;
-      called = rooms.called;
-      plans = rooms.plans;
-      periods = rooms.periods;
-      numbers = rooms.numbers;
-      waits = rooms.waits;
-      planned = rooms.planned;
-      outs = length-set A.outs k new ∙ rooms.outs;
+      count = length-set A.outs k new ∙ cursors.count;
       sizes = λ i ini.
           elim (cases_eq i k) as (λ _. (out_at (after_sent A k) i).size ≡ length (outgoing_at A.view i).items) [
             | inl e ↦
                 subst (λ (z : ℕ). (out_at (after_sent A k) z).size ≡ length (outgoing_at A.view z).items) (sym e)
-                (ap (λ (o : OutFigures). o.size) (get_or-set_same A.outs k new no_out inside) ∙ stepped_size (out_at A k) (left_at A k) ∙ rooms.sizes k within)
-            | inr other ↦ ap (λ (o : OutFigures). o.size) (get_or-set_other A.outs k i new no_out other) ∙ rooms.sizes i ini
+                (ap (λ (o : OutFigures). o.size) (get_or-set_same A.outs k new no_out inside) ∙ stepped_size (out_at A k) (left_at A k) ∙ cursors.sizes k within)
+            | inr other ↦ ap (λ (o : OutFigures). o.size) (get_or-set_other A.outs k i new no_out other) ∙ cursors.sizes i ini
           ];
     }
+
+sent_rooms : (A : AgentState) (k : ℕ) → k < length A.view.outgoing → HasRooms A → HasRooms (after_sent A k)
+sent_rooms A k within rooms =
+    record { books = rooms.books; came = rooms.came; called = rooms.called; plans = rooms.plans; progress = rooms.progress; cursors = sent_cursors A k within rooms.cursors }
 
 pub sent_taken : (A : AgentState) (k : ℕ) → HasTaken A → HasTaken (after_sent A k)
 sent_taken A k has = record { taken = has.taken; books = has.books; waits = has.waits }

@@ -215,24 +215,24 @@ module _ (A : AgentState) (view : IsView A.view) (rooms : HasRooms A) (listed : 
       → NothingIsOpen (length A.progress.waits) (joins_of A.view) A.progress.planned (awaited A.view taken) (pair_place A.view x.0)
   ready_is taken waits x there =
       (ready_where_nothing_is_open A.progress.waits A.progress.ready (joins_of A.view) A.progress.planned (awaited A.view taken) waits listed (pair_place A.view x.0)).0
-      (ready_place A.view view A.progress.numbers A.progress.waits A.progress.planned A.progress.ready rooms.numbers rooms.waits listed x there).1
+      (ready_place A.view view A.progress.numbers A.progress.waits A.progress.planned A.progress.ready rooms.progress.numbers rooms.progress.waits listed x there).1
 
   pub ready_can_be_planned : (sent taken : ℕ → List Record) (planned : ℕ → Bool) → Shows A sent taken planned → (p : PlantPair) → Contains A.view.pairs p
       → Contains (ready_numbers A) p.number ↔ CanBePlanned A.view taken planned p
   ready_can_be_planned sent taken planned shows p there =
       let law = ready_where_nothing_is_open A.progress.waits A.progress.ready (joins_of A.view) A.progress.planned (awaited A.view taken) shows.waits listed (pair_place A.view p.number.0) in
-      let nothing = open_is A.view view taken planned A.progress.planned shows.planned_are p there (length A.progress.waits) rooms.waits in (
+      let nothing = open_is A.view view taken planned A.progress.planned shows.planned_are p there (length A.progress.waits) rooms.progress.waits in (
         λ has. nothing.0 (ready_is taken shows.waits p.number has),
         λ can.
-            place_ready A.view view A.progress.numbers A.progress.waits A.progress.planned A.progress.ready rooms.numbers rooms.waits listed p.number (p, there, refl)
+            place_ready A.view view A.progress.numbers A.progress.waits A.progress.planned A.progress.ready rooms.progress.numbers rooms.progress.waits listed p.number (p, there, refl)
             (law.1 (nothing.1 can)),
       )
 
   pub ready_own : All (IsOwn A.view) (ready_numbers A)
-  ready_own = ready_are_own A.view view A.progress.numbers A.progress.waits A.progress.planned A.progress.ready rooms.numbers rooms.waits listed
+  ready_own = ready_are_own A.view view A.progress.numbers A.progress.waits A.progress.planned A.progress.ready rooms.progress.numbers rooms.progress.waits listed
 
   pub ready_are_once : AreApart A.progress.ready → AllPairs (λ x y. x ≢ y) (ready_numbers A)
-  ready_are_once apart = ready_once A.view view A.progress.numbers A.progress.waits A.progress.planned A.progress.ready rooms.numbers rooms.waits listed apart
+  ready_are_once apart = ready_once A.view view A.progress.numbers A.progress.waits A.progress.planned A.progress.ready rooms.progress.numbers rooms.progress.waits listed apart
 
   pub ready_at : (x : PairNo) → Contains (ready_numbers A) x → IsOwn A.view x × Contains A.progress.ready (pair_place A.view x.0)
-  ready_at x there = ready_place A.view view A.progress.numbers A.progress.waits A.progress.planned A.progress.ready rooms.numbers rooms.waits listed x there
+  ready_at x there = ready_place A.view view A.progress.numbers A.progress.waits A.progress.planned A.progress.ready rooms.progress.numbers rooms.progress.waits listed x there

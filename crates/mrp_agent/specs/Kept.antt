@@ -1,5 +1,5 @@
 -- What stays true of an agent, and its indexes.
-use Rattle.std.specs.Prelude.{◌≡◌, ℕ, ◌*◌, ◌<◌, ◌≤◌, ◌==◌, List, length, map, count_by, All}
+use Rattle.std.specs.Prelude.{◌≡◌, ℕ, ◌*◌, ◌<◌, ◌≤◌, ◌==◌, List, length, map, count_by, slice_index_or, All}
 use Rattle.std.specs.List.{range_with_len}
 use Rattle.mrp_lot.specs.One.{PlanRows}
 use Rattle.mrp_rows.specs.declared.numbers.ItemNo.{ItemNo}
@@ -14,9 +14,11 @@ use Rattle.mrp_record.specs.declared.record.Record.{Record}
 use Rattle.mrp_record.specs.Form.{LaneForm}
 use Rattle.mrp_book.specs.Figures as book
 use Rattle.mrp_book.specs.Figures.{Figures}
+use Rattle.mrp_cursor.specs.Cursor.{OutFigures}
 use Rattle.mrp_ready.specs.Counts.{components_of}
+use Rattle.mrp_ready.specs.Progress.{Progress}
 use Rattle.mrp_agent.specs.declared.edges.ParentEdge.{ParentEdge}
-use Rattle.mrp_agent.specs.State.{AgentState, outgoing_at, out_at, pair_place}
+use Rattle.mrp_agent.specs.State.{AgentState, no_out, outgoing_at, pair_place}
 use Rattle.mrp_agent.specs.Shows.{BooksShow, Awaits, joins_of}
 
 -- an edge of the plant by places
@@ -46,18 +48,30 @@ pub record HasPeriods (V : PlantRows) (plan : PlanRows) : Type 0 where
   pub gross : length plan.gross ≡ V.horizon
   pub release : length plan.release ≡ V.horizon
 
+-- each pair has a plan
+pub record ArePlans (V : PlantRows) (plans : List PlanRows) : Type 0 where
+  pub count : length plans ≡ length V.pairs
+  pub periods : All (HasPeriods V) plans
+
+-- of each pair it is counted what it waits for, and whether it is planned
+pub record IsOfPairs (V : PlantRows) (progress : Progress) : Type 0 where
+  pub numbers : progress.numbers ≡ map (λ p. p.number) V.pairs
+  pub waits : length progress.waits ≡ length V.pairs
+  pub planned : length progress.planned ≡ length V.pairs
+
+-- each lane that goes out has a cursor over its items
+pub record AreCursors (V : PlantRows) (outs : List OutFigures) : Type 0 where
+  pub count : length outs ≡ length V.outgoing
+  pub sizes : (k : ℕ) → k < length V.outgoing → (slice_index_or outs k no_out).size ≡ length (outgoing_at V k).items
+
 -- it has what it keeps of each lane and pair
 pub record HasRooms (A : AgentState) : Type 0 where
   pub books : length A.books ≡ length A.view.incoming
   pub came : length A.came ≡ length A.view.pairs * A.view.horizon
   pub called : length A.called ≡ length A.view.pairs * A.view.horizon
-  pub plans : length A.plans ≡ length A.view.pairs
-  pub periods : All (HasPeriods A.view) A.plans
-  pub numbers : A.progress.numbers ≡ map (λ p. p.number) A.view.pairs
-  pub waits : length A.progress.waits ≡ length A.view.pairs
-  pub planned : length A.progress.planned ≡ length A.view.pairs
-  pub outs : length A.outs ≡ length A.view.outgoing
-  pub sizes : (k : ℕ) → k < length A.view.outgoing → (out_at A k).size ≡ length (outgoing_at A.view k).items
+  pub plans : ArePlans A.view A.plans
+  pub progress : IsOfPairs A.view A.progress
+  pub cursors : AreCursors A.view A.outs
 
 -- a book shows some list
 pub record IsShowing (b : Figures) : Type 0 where

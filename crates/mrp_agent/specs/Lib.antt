@@ -5,6 +5,8 @@ pub mod Shows
 pub mod Sending
 pub mod After
 pub mod Kept
+pub mod Rows
+pub mod Fields
 pub mod Making
 pub mod Sent
 pub mod Reading

@@ -78,9 +78,12 @@ no_pair = record {
   params = record { rule = LotForLot; lead = 0; on_hand = 0; safety = 0 };
 }
 
--- the pair with a number
+-- the pair at a place, and the pair with a number
+abbrev pub pair_at : PlantRows → ℕ → PlantPair
+pair_at V place = slice_index_or V.pairs place no_pair
+
 abbrev pub pair_of : PlantRows → PairNo → PlantPair
-pair_of V x = slice_index_or V.pairs (pair_place V x.0) no_pair
+pair_of V x = pair_at V (pair_place V x.0)
 
 -- the plan that is kept of the pair with a number
 abbrev pub plans_of : AgentState → ℕ → PlanRows

@@ -41,40 +41,16 @@ pub struct Agent {
 }
 
 impl Model for Agent {
-    ghost use Rattle.std.specs.Prelude.{length};
     ghost use Rattle.mrp_agent.specs.State.{AgentState};
-    ghost use Rattle.mrp_agent.specs.Kept.{IsKept};
 
     ghost Value = { AgentState };
 
-    ghost view = { λ a. record {
-      view = a.view;
-      books = a.books.items;
-      came = a.came.items;
-      called = a.called.items;
-      plans = a.plans.items;
-      progress = a.progress;
-      outs = a.outs.items;
-    } };
+    ghost use Rattle.mrp_agent.specs.Fields.{indexes_of, state_of};
+    ghost use Rattle.mrp_agent.specs.Kept.{IsKept};
 
-    ghost invariant = { λ a.
-        IsKept (record {
-          view = a.view;
-          books = a.books.items;
-          came = a.came.items;
-          called = a.called.items;
-          plans = a.plans.items;
-          progress = a.progress;
-          outs = a.outs.items;
-        })
-        (record {
-          items = a.items;
-          edges = a.edges.rows.items;
-          starts = a.edges.starts.items;
-          components = a.components;
-          out_items = a.out_items.items;
-          desk = length a.desk.gross;
-        }) };
+    ghost view = { state_of };
+
+    ghost invariant = { λ a. IsKept (state_of a) (indexes_of a) };
 }
 
 impl Agent {

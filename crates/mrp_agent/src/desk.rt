@@ -4,9 +4,7 @@ ghost use Rattle.std.specs.Prelude.{◌≡◌, IfOk, length};
 ghost use Rattle.mrp_lot.specs.One.{one};
 ghost use Rattle.mrp_agent.specs.Asking.{HasDraft, grossed};
 
-use crate::drafting::draft_from;
-use crate::edges::ParentEdge;
-use mrp_lot::PairParams;
+use crate::drafting::{PairRows, draft_from};
 use mrp_netting::PairPlan;
 use mrp_qty::{Horizon, Memory, Row};
 use std::alloc::Global;
@@ -52,23 +50,13 @@ impl Desk {
     }
 
     /// Drafts the plan of a pair from what has come, what is called for, and the plans of its parents.
-    pub(crate) fn draft(
-        &mut self,
-        params: &PairParams,
-        came: &[u64],
-        called: &[u64],
-        edges: &[ParentEdge],
-        plans: &[PairPlan],
-    )
-        requires draft { HasDraft params.now came.now called.now edges.now plans.now }
-        requires periods { length self.old.gross ≡ length called.now }
-        ensures { self.new ≡ one params.now came.now (grossed called.now edges.now plans.now) }
+    pub(crate) fn draft(&mut self, rows: &PairRows<'_>, plans: &[PairPlan])
+        requires draft { HasDraft rows.now.params rows.now.came.now rows.now.called.now rows.now.edges.now plans.now }
+        requires periods { length self.old.gross ≡ length rows.now.called.now }
+        ensures { self.new ≡ one rows.now.params rows.now.came.now (grossed rows.now.called.now rows.now.edges.now plans.now) }
     {
         draft_from(
-            params,
-            came,
-            called,
-            edges,
+            rows,
             plans,
             &mut self.incoming,
             &mut self.gross,

@@ -1,16 +1,32 @@
 //! How the plan of a pair is drafted from what has come, what is called for and the plans of its parents.
 
-ghost use Rattle.std.specs.Prelude.{◌≡◌, ◌<◌, ◌≤◌, ◌+◌, ℕ, All, length, slice_index};
+ghost use Rattle.std.specs.Prelude.{◌≡◌, ◌<◌, ◌≤◌, ◌+◌, ◌*◌, ℕ, All, length, map, slice_index};
 ghost use Rattle.mrp_qty.specs.declared.quantity.TheConstants.{MOST};
 ghost use Rattle.mrp_lot.specs.One.{one};
+ghost use Rattle.mrp_group.specs.Groups.{IsGrouped};
 ghost use Rattle.mrp_agent.specs.Asking.{CanAsk, HasDraft, asked_by, asked_on, grossed};
+ghost use Rattle.mrp_agent.specs.Kept.{parent_edge};
+ghost use Rattle.mrp_agent.specs.Rows.{edges_at, part_at};
+ghost use Rattle.mrp_agent.specs.State.{pair_at};
 
 use crate::Agent;
 use crate::edges::ParentEdge;
+use mrp_group::Groups;
 use mrp_lot::PairParams;
 use mrp_net::PairNo;
 use mrp_netting::{PairPlan, plan_pair};
 use mrp_qty::Row;
+use mrp_view::PlantView;
+
+/// What the plan of a pair is drafted from, beside the plans of its parents: what it is planned by, what
+/// has come and what is called for by period, and the edges to its parents.
+#[derive(Clone, Copy)]
+pub(crate) struct PairRows<'a> {
+    params: PairParams,
+    came: &'a [u64],
+    called: &'a [u64],
+    edges: &'a [ParentEdge],
+}
 
 impl Agent {
     ghost use Rattle.mrp_agent.specs.Drafts.{CanDraft, drafted};
@@ -32,48 +48,67 @@ impl Agent {
         let Some(place) = self.view.place(x) else {
             unreachable!()
         };
-        let periods = self.view.horizon().get() as usize;
-        let begin = place * periods;
-        let came = &self.came[begin..begin + periods];
-        let called = &self.called[begin..begin + periods];
-        let params = self.view.pairs()[place].params;
-        let edges = self.edges.get(place);
-        draft_from(
-            &params,
-            came,
-            called,
-            edges,
-            &self.plans,
-            incoming,
-            gross,
-            into,
-        );
+        let rows = pair_rows(&self.view, &self.edges, &self.came, &self.called, place);
+        draft_from(&rows, &self.plans, incoming, gross, into);
     }
+}
+
+/// What the plan of the pair at a place is drafted from.
+pub(crate) fn pair_rows<'a>(
+    view: &'a PlantView,
+    edges: &'a Groups<ParentEdge>,
+    came: &'a [u64],
+    called: &'a [u64],
+    place: usize,
+) -> PairRows<'a>
+    requires place { place < length view.now.pairs }
+    requires edges { IsGrouped (λ e. e.component) (length view.now.pairs) (map (parent_edge view.now) view.now.edges)
+        edges.now.rows.items edges.now.starts.items }
+    requires came { length came.now ≡ length view.now.pairs * view.now.horizon }
+    requires called { length called.now ≡ length view.now.pairs * view.now.horizon }
+    ensures params { result.params ≡ (pair_at view.now place).params }
+    ensures came { result.came.now ≡ part_at view.now.horizon place came.now }
+    ensures called { result.called.now ≡ part_at view.now.horizon place called.now }
+    ensures edges { result.edges.now ≡ edges_at view.now place }
+{
+    let periods = view.horizon().get() as usize;
+    PairRows {
+        params: view.pairs()[place].params,
+        came: part_of(came, periods, place),
+        called: part_of(called, periods, place),
+        edges: edges.get(place),
+    }
+}
+
+/// The amounts of the pair at a place.
+fn part_of(amounts: &[u64], periods: usize, place: usize) -> &[u64]
+    requires { place * periods + periods ≤ length amounts.now }
+    ensures { result.now ≡ part_at periods place amounts.now }
+{
+    let begin = place * periods;
+    &amounts[begin..begin + periods]
 }
 
 /// Writes the plan of a pair from what has come, what is called for, and the plans of its parents.
 pub(crate) fn draft_from(
-    params: &PairParams,
-    came: &[u64],
-    called: &[u64],
-    edges: &[ParentEdge],
+    rows: &PairRows<'_>,
     plans: &[PairPlan],
     incoming: &mut Row,
     gross: &mut Row,
     into: &mut PairPlan,
 )
-    requires draft { HasDraft params.now came.now called.now edges.now plans.now }
-    requires incoming { length incoming.old ≡ length came.now }
-    requires gross { length gross.old ≡ length called.now }
-    requires into { length into.old.gross ≡ length called.now }
-    ensures plan { into.new ≡ one params.now came.now (grossed called.now edges.now plans.now) }
+    requires draft { HasDraft rows.now.params rows.now.came.now rows.now.called.now rows.now.edges.now plans.now }
+    requires incoming { length incoming.old ≡ length rows.now.came.now }
+    requires gross { length gross.old ≡ length rows.now.called.now }
+    requires into { length into.old.gross ≡ length rows.now.called.now }
+    ensures plan { into.new ≡ one rows.now.params rows.now.came.now (grossed rows.now.called.now rows.now.edges.now plans.now) }
     ensures incoming { length incoming.new ≡ length incoming.old }
     ensures gross { length gross.new ≡ length gross.old }
 {
-    incoming.copy_pieces(came);
-    gross.copy_pieces(called);
-    add_asked(edges, plans, gross);
-    plan_pair(params, incoming, gross, into);
+    incoming.copy_pieces(rows.came);
+    gross.copy_pieces(rows.called);
+    add_asked(rows.edges, plans, gross);
+    plan_pair(&rows.params, incoming, gross, into);
 }
 
 /// Adds to `gross` what the releases of a pair's parents ask of it.

@@ -1,6 +1,7 @@
 //! How an agent plans a pair that can be planned.
 
 use crate::Agent;
+use crate::drafting::pair_rows;
 use crate::settling::queue_item;
 use mrp_net::PairNo;
 
@@ -52,13 +53,8 @@ impl Agent {
         requires place { place ≡ pair_place self.old.view x.0 }
         ensures { self.new ≡ record self.old { plans = slice_set self.old.plans place (drafted self.old x) } }
     {
-        let periods = self.view.horizon().get() as usize;
-        let begin = place * periods;
-        let came = &self.came[begin..begin + periods];
-        let called = &self.called[begin..begin + periods];
-        let params = self.view.pairs()[place].params;
-        let edges = self.edges.get(place);
-        self.desk.draft(&params, came, called, edges, &self.plans);
+        let rows = pair_rows(&self.view, &self.edges, &self.came, &self.called, place);
+        self.desk.draft(&rows, &self.plans);
         self.desk.exchange(&mut self.plans[place]);
     }
 

@@ -1,5 +1,5 @@
 -- What an agent does when it stands alone is a step of the run.
-use Rattle.std.proofs.Common.{◌≡◌, ℕ, ◌+◌, ◌<◌, ◌≤◌, ◌==◌, min, List, [], ◌∷◌, ◌++◌, ◌⊎◌, inl, inr, Bool, true, false, length, get_or, set, drop, slice_get, Some, refl, sym, ap, subst, ◌∙◌, arith, length-append}
+use Rattle.std.proofs.Common.{◌≡◌, ℕ, ◌<◌, ◌≤◌, ◌==◌, min, List, [], ◌∷◌, ◌++◌, ◌⊎◌, inl, inr, Bool, true, false, length, get_or, set, drop, slice_get, refl, sym, ap, subst, ◌∙◌, arith, length-append}
 use Rattle.std.specs.Prelude.{map}
 use Rattle.std.specs.List.{range_with_len}
 use Rattle.std.proofs.lemmas.Bool.{cases_Bool, eqb-true, eq-eqb, false≢true}
@@ -11,17 +11,19 @@ use Rattle.mrp_net.specs.Sums.{pair_at}
 use Rattle.mrp_net.specs.Texts.{longest_text}
 use Rattle.mrp_loops.specs.Sized.{IsSized}
 use Rattle.mrp_record.specs.declared.record.Record.{Record}
-use Rattle.mrp_events.specs.State.{State, CanTake, CanPlan, opening_state, after_send, after_take, after_plan}
+use Rattle.mrp_events.specs.declared.event.Event.{Event}
+use Rattle.mrp_events.specs.declared.event.Event.TheVariants.{Plan, Receive, Send}
+use Rattle.mrp_events.specs.State.{CanTake, CanPlan, opening_state, after_send, after_take, after_plan}
 use Rattle.mrp_events.proofs.Keeping.{opening_is_reached}
 use Rattle.mrp_events.proofs.Small.{beginnings_are_no_longer}
 use Rattle.mrp_agent.specs.State.{AgentState}
 use Rattle.mrp_world.specs.AgentStays.{agent_stays}
 use Rattle.mrp_world.specs.Agents.{ShowsAgent}
 use Rattle.mrp_world.specs.Moments.{Moment, IsAt, IsOut, IsIn, IsOwn, IsNext}
-use Rattle.mrp_world.specs.World.{Held, nothing_held, box_at, AreAt, AreSomewhere, PlantsShow}
+use Rattle.mrp_world.specs.World.{Held, nothing_held, box_at, AreSomewhere, Lead}
 use Rattle.mrp_world.proofs.Makes.{boxes_hold}
 use Rattle.mrp_world.proofs.Steps as step
-use Rattle.mrp_agent_cases.specs.Hands.{AreAlone, IsHanded}
+use Rattle.mrp_agent_cases.specs.Hands.{AreAlone, AreInRun, IsHanded}
 
 -- ---- before the first record
 
@@ -59,40 +61,44 @@ pub opened : (N : Table) (agents : List AgentState) → IsSized N → length age
     → ((k : ℕ) (d : AgentState) → k < length agents → ShowsAgent N k opening_state (get_or agents k d)) → AreAlone N agents
 unfolding empty_box
 opened N agents sized all each = record {
-  capacity = 1;
-  holds = omega arith;
   boxes = empty_boxes N;
-  state = opening_state;
-  shown = record {
-    sized = sized;
-    reached = opening_is_reached N 1;
-    shown = record { all = all; each = each };
-    held = boxes_hold N 1 (empty_boxes N) (boxes_count N) (λ l d h. box_is_empty N l d (omega (arith, h, boxes_count N)));
+  run = record {
+    capacity = 1;
+    holds = omega arith;
+    state = opening_state;
+    shown = record {
+      sized = sized;
+      reached = opening_is_reached N 1;
+      shown = record { all = all; each = each };
+      held = boxes_hold N 1 (empty_boxes N) (boxes_count N) (λ l d h. box_is_empty N l d (omega (arith, h, boxes_count N)));
+    };
   };
   empty = records_are_none N;
 }
 
 -- ---- where they are
 
-pub somewhere : (N : Table) (agents : List AgentState) (alone : AreAlone N agents) → AreSomewhere ShowsAgent N agents alone.boxes
-somewhere N agents alone = (alone.capacity, alone.state, alone.shown)
+pub somewhere : {N : Table} {agents : List AgentState} {boxes : List Held} → AreInRun N agents boxes → AreSomewhere ShowsAgent N agents boxes
+somewhere run = (run.capacity, run.state, run.shown)
 
-pub handed_somewhere : (N : Table) (agents : List AgentState) (l : ℕ) (r : Record) (handed : IsHanded N agents l r) → AreSomewhere ShowsAgent N agents handed.boxes
-handed_somewhere N agents l r handed = (handed.capacity, handed.state, handed.shown)
+-- an event leads on
+led : {N : Table} {agents new_agents : List AgentState} {boxes new_boxes : List Held} (event : Event) → AreInRun N agents boxes → Lead ShowsAgent N agents boxes event new_agents new_boxes
+    → AreInRun N new_agents new_boxes
+led event run leads = let after = leads run.capacity run.state run.shown in record { capacity = run.capacity; holds = run.holds; state = after.0; shown = after.2 }
 
 -- ---- sending
 
 -- there is room for a record that is next
-has_room : (N : Table) (agents : List AgentState) (alone : AreAlone N agents) (l : ℕ) (r : Record) → l < length (lanes N) → IsNext (step.moment N alone.capacity alone.state) l r
+has_room : (N : Table) (agents : List AgentState) (alone : AreAlone N agents) (l : ℕ) (r : Record) → l < length (lanes N) → IsNext (step.moment N alone.run.capacity alone.run.state) l r
     → length (box_at alone.boxes l).records < (box_at alone.boxes l).room
 has_room N agents alone l r within next =
     omega (
       arith,
       ap length (alone.empty l),
-      alone.holds,
-      alone.shown.held.room l within,
-      length-append (alone.state.sent l) (r ∷ []),
-      beginnings_are_no_longer N (lane_at N l) (alone.state.sent l ++ r ∷ []) next.legal,
+      alone.run.holds,
+      alone.run.shown.held.room l within,
+      length-append (alone.run.state.sent l) (r ∷ []),
+      beginnings_are_no_longer N (lane_at N l) (alone.run.state.sent l ++ r ∷ []) next.legal,
     )
 
 pub sent : (N : Table) (agents : List AgentState) (l p : ℕ) (d new : AgentState) (r : Record) → l < length (lanes N) → p < length N.plants → (lane_at N l).sender.0 ≡ p
@@ -102,16 +108,12 @@ pub sent : (N : Table) (agents : List AgentState) (l p : ℕ) (d new : AgentStat
 sent N agents l p d new r within known e alone next goes_on =
     let old : Held = box_at alone.boxes l in
     let box : Held = record { records = old.records ++ r ∷ []; room = old.room } in
-    let here = step.plant_is_at ShowsAgent N alone.capacity agents alone.boxes alone.state alone.shown p d known in
-    let room = has_room N agents alone l r within (next (step.moment N alone.capacity alone.state) p here (record { lane = within; plant = e })) in
-    let leads = step.send_leads ShowsAgent agent_stays N agents alone.boxes l p d new old box r within known e refl room refl next goes_on alone.capacity alone.state alone.shown in
+    let here = step.plant_is_at ShowsAgent N alone.run.capacity agents alone.boxes alone.run.state alone.run.shown p d known in
+    let room = has_room N agents alone l r within (next (step.moment N alone.run.capacity alone.run.state) p here (record { lane = within; plant = e })) in
     record {
-      capacity = alone.capacity;
-      holds = alone.holds;
       boxes = set alone.boxes l box;
-      state = leads.0;
-      shown = leads.2;
-      here = ap (λ (b : Held). b.records) (get_or-set_same alone.boxes l box nothing_held (omega (arith, within, alone.shown.held.all))) ∙ ap (λ (rs : List Record). rs ++ r ∷ []) (alone.empty l);
+      run = led (Send (record { 0 = l })) alone.run (step.send_leads ShowsAgent agent_stays N agents alone.boxes l p d new old box r within known e refl room refl next goes_on);
+      here = ap (λ (b : Held). b.records) (get_or-set_same alone.boxes l box nothing_held (omega (arith, within, alone.run.shown.held.all))) ∙ ap (λ (rs : List Record). rs ++ r ∷ []) (alone.empty l);
       elsewhere = λ k other. ap (λ (b : Held). b.records) (get_or-set_other alone.boxes l k box nothing_held other) ∙ alone.empty k;
     }
 
@@ -124,16 +126,13 @@ pub booked : (N : Table) (agents : List AgentState) (l p : ℕ) (d new : AgentSt
 booked N agents l p d new r within known e handed goes_on =
     let old : Held = box_at handed.boxes l in
     let box : Held = record { records = drop 1 old.records; room = old.room } in
-    let leads = step.receive_leads ShowsAgent agent_stays N agents handed.boxes l p d new old box r within known e refl (ap (λ (rs : List Record). slice_get rs 0) handed.here) refl goes_on handed.capacity handed.state handed.shown in
+    let first = ap (λ (rs : List Record). slice_get rs 0) handed.here in
     record {
-      capacity = handed.capacity;
-      holds = handed.holds;
       boxes = set handed.boxes l box;
-      state = leads.0;
-      shown = leads.2;
+      run = led (Receive (record { 0 = l })) handed.run (step.receive_leads ShowsAgent agent_stays N agents handed.boxes l p d new old box r within known e refl first refl goes_on);
       empty = λ k. elim (is_or_not k l) [
         | inl same ↦ subst (λ (z : ℕ). (box_at (set handed.boxes l box) z).records ≡ []) (sym same)
-            (ap (λ (b : Held). b.records) (get_or-set_same handed.boxes l box nothing_held (omega (arith, within, handed.shown.held.all))) ∙ ap (λ (rs : List Record). drop 1 rs) handed.here)
+            (ap (λ (b : Held). b.records) (get_or-set_same handed.boxes l box nothing_held (omega (arith, within, handed.run.shown.held.all))) ∙ ap (λ (rs : List Record). drop 1 rs) handed.here)
         | inr other ↦ ap (λ (b : Held). b.records) (get_or-set_other handed.boxes l k box nothing_held other) ∙ handed.elsewhere k other
       ];
     }
@@ -143,8 +142,8 @@ pub not_refused : (N : Table) (agents : List AgentState) (l p : ℕ) (d : AgentS
     → IsHanded N agents l r
     → ((m : Moment) (q : ℕ) → IsAt ShowsAgent m q (get_or agents p d) → IsIn m.network q l → ¬ CanTake m.network m.state l r) → ⊥
 not_refused N agents l p d r within known e handed refused =
-    refused (step.moment N handed.capacity handed.state) p (step.plant_is_at ShowsAgent N handed.capacity agents handed.boxes handed.state handed.shown p d known)
-    (record { lane = within; plant = e }) (step.first_can N handed.capacity handed.boxes handed.state l r [] handed.shown.held within handed.here)
+    refused (step.moment N handed.run.capacity handed.run.state) p (step.plant_is_at ShowsAgent N handed.run.capacity agents handed.boxes handed.run.state handed.run.shown p d known)
+    (record { lane = within; plant = e }) (step.first_can N handed.run.capacity handed.boxes handed.run.state l r [] handed.run.shown.held within handed.here)
 
 -- ---- planning
 
@@ -153,13 +152,9 @@ pub planned : (N : Table) (agents : List AgentState) (x p : ℕ) (d new : AgentS
     → ((m : Moment) (q : ℕ) → IsAt ShowsAgent m q (get_or agents p d) → IsOwn m.network q x → ShowsAgent m.network q (after_plan m.state x) new)
     → AreAlone N (set agents p new)
 planned N agents x p d new pair known e alone can goes_on =
-    let leads = step.plan_leads ShowsAgent agent_stays N agents alone.boxes x p d new pair known e can goes_on alone.capacity alone.state alone.shown in
     record {
-      capacity = alone.capacity;
-      holds = alone.holds;
       boxes = alone.boxes;
-      state = leads.0;
-      shown = leads.2;
+      run = led (Plan (record { 0 = x })) alone.run (step.plan_leads ShowsAgent agent_stays N agents alone.boxes x p d new pair known e can goes_on);
       empty = alone.empty;
     }
 

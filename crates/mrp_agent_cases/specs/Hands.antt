@@ -7,21 +7,22 @@ use Rattle.mrp_agent.specs.State.{AgentState}
 use Rattle.mrp_world.specs.Agents.{ShowsAgent}
 use Rattle.mrp_world.specs.World.{Held, box_at, AreAt}
 
--- the agents of a network show a state of its runs in which nothing is under way
-pub record AreAlone (N : Table) (agents : List AgentState) : Type 0 where
+-- the agents of a network and these mailboxes show a state of its runs
+pub record AreInRun (N : Table) (agents : List AgentState) (boxes : List Held) : Type 0 where
   pub capacity : ℕ
   pub holds : 1 ≤ capacity
-  pub boxes : List Held
   pub state : State
   pub shown : AreAt ShowsAgent N capacity agents boxes state
+
+-- one in which nothing is under way
+pub record AreAlone (N : Table) (agents : List AgentState) : Type 0 where
+  pub boxes : List Held
+  pub run : AreInRun N agents boxes
   pub empty : (l : ℕ) → (box_at boxes l).records ≡ []
 
 -- or in which one record is under way on one lane
 pub record IsHanded (N : Table) (agents : List AgentState) (lane : ℕ) (entry : Record) : Type 0 where
-  pub capacity : ℕ
-  pub holds : 1 ≤ capacity
   pub boxes : List Held
-  pub state : State
-  pub shown : AreAt ShowsAgent N capacity agents boxes state
+  pub run : AreInRun N agents boxes
   pub here : (box_at boxes lane).records ≡ entry ∷ []
   pub elsewhere : (l : ℕ) → (l ≡ lane → ⊥) → (box_at boxes l).records ≡ []

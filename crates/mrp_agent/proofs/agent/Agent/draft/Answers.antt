@@ -1,38 +1,51 @@
-use Rattle.std.proofs.Common.{ap, ◌∙◌}
+use Rattle.std.proofs.Common.{◌≡◌, sym, ap, ◌∙◌}
 use Rattle.mrp_agent.specs.Drafts.{drafted}
+use Rattle.mrp_agent.specs.Fields.{indexes_of}
 use Rattle.mrp_agent.specs.State.{AgentState}
 use Rattle.mrp_agent.specs.contracts.agent.Agent.{the_view}
-use Rattle.mrp_agent.proofs.DraftReads.{HasRead, draft_asked, draft_made, edges_rise}
-use Rattle.mrp_agent.proofs.Placing.{can_before, indexes_of, own_is_found, place_is_found}
+use Rattle.mrp_agent.proofs.DraftReads.{HasRead, called_periods, came_periods, draft_asked, draft_made, rows_read}
+use Rattle.mrp_agent.proofs.Placing.{IsAtPlace, can_before, own_is_found, place_is_found, place_within}
 use Rattle.mrp_agent.proofs.agent.Agent.draft.Goals as goal
-use Rattle.mrp_agent.proofs.agent.Agent.draft.Goals.{After-deref-3}
+use Rattle.mrp_agent.proofs.agent.Agent.draft.Goals.{After-deref-3, In-Some}
 
 pub unreachable-requires : goal.unreachable-requires
 unreachable-requires c = c.in_default.not-Some _ (c.place.ensures ∙ own_is_found c.args.x c.self.view_is c.requires.can.own)
 
-pub get-edges-requires-clause-rises : goal.get-edges-requires-clause-rises
-get-edges-requires-clause-rises c = (edges_rise (place_is_found {x = c.args.x} c.self.view_is c.self.invariant c.requires.can.own c.place.ensures c.in-Some.is)).0
+placed : (c : In-Some) → IsAtPlace (the_view c.self.inside) (indexes_of c.self.inside) c.args.x c.in-Some.place
+placed c = place_is_found c.self.view_is c.self.invariant c.requires.can.own c.place.ensures c.in-Some.is
 
-pub get-edges-requires-clause-within : goal.get-edges-requires-clause-within
-get-edges-requires-clause-within c = (edges_rise (place_is_found {x = c.args.x} c.self.view_is c.self.invariant c.requires.can.own c.place.ensures c.in-Some.is)).1
+pub pair_rows-rows-requires-clause-place : goal.pair_rows-rows-requires-clause-place
+pair_rows-rows-requires-clause-place c = place_within (placed (goal.at.pair_rows-rows-requires-clause-place c).In-Some)
 
-lists_read : (c : After-deref-3) → HasRead (the_view c.self.inside) (indexes_of c.self.inside) c.args.x c.in-Some.place c.get-periods.result
-    c.pairs.result.now c.deref.result.now c.deref-2.result.now c.get-edges.result.now c.deref-3.result.now
-lists_read c = record {
-  placed = place_is_found c.self.view_is c.self.invariant c.requires.can.own c.place.ensures c.in-Some.is;
-  can = can_before c.self.view_is c.requires.can;
-  periods_are = c.get-periods.ensures.value ∙ c.horizon.ensures;
-  pairs_are = c.pairs.ensures;
-  came_are = c.deref.ensures.value;
-  called_are = c.deref-2.ensures.value;
-  edges_are = c.get-edges.ensures;
-  plans_are = c.deref-3.ensures.value;
-}
+read : (c : After-deref-3) → IsAtPlace (the_view c.self.inside) (indexes_of c.self.inside) c.args.x c.in-Some.place
+    → HasRead (the_view c.self.inside) (indexes_of c.self.inside) c.args.x c.in-Some.place c.pair_rows-rows.result.params c.pair_rows-rows.result.came.now
+    c.pair_rows-rows.result.called.now c.pair_rows-rows.result.edges.now c.deref-3.result.now
+read c at =
+    rows_read at (can_before c.self.view_is c.requires.can) c.deref.ensures.value c.deref-2.ensures.value c.deref-3.ensures.value
+    c.pair_rows-rows.ensures.params c.pair_rows-rows.ensures.came c.pair_rows-rows.ensures.called c.pair_rows-rows.ensures.edges
+
+same_horizon : (c : In-Some) → (the_view c.self.inside).view.horizon ≡ c.args.self.now.view.horizon
+same_horizon c = ap (λ (a : AgentState). a.view.horizon) c.self.view_is
 
 pub draft_from-requires-clause-draft : goal.draft_from-requires-clause-draft
-draft_from-requires-clause-draft c = draft_asked c.index-pairs-place.result (lists_read (goal.at.draft_from-requires-clause-draft c).After-deref-3)
+draft_from-requires-clause-draft c = let at = goal.at.draft_from-requires-clause-draft c in draft_asked (read at.After-deref-3 (placed at.In-Some))
+
+pub draft_from-requires-clause-incoming : goal.draft_from-requires-clause-incoming
+draft_from-requires-clause-incoming c =
+    let at = goal.at.draft_from-requires-clause-incoming c in
+    c.requires.incoming ∙ sym (came_periods (read at.After-deref-3 (placed at.In-Some)) ∙ same_horizon at.In-Some)
+
+pub draft_from-requires-clause-gross : goal.draft_from-requires-clause-gross
+draft_from-requires-clause-gross c =
+    let at = goal.at.draft_from-requires-clause-gross c in
+    c.requires.gross ∙ sym (called_periods (read at.After-deref-3 (placed at.In-Some)) ∙ same_horizon at.In-Some)
+
+pub draft_from-requires-clause-into : goal.draft_from-requires-clause-into
+draft_from-requires-clause-into c =
+    let at = goal.at.draft_from-requires-clause-into c in
+    c.requires.into ∙ sym (called_periods (read at.After-deref-3 (placed at.In-Some)) ∙ same_horizon at.In-Some)
 
 pub returns-clause-plan : goal.returns-clause-plan
 returns-clause-plan c =
-    let made = draft_made c.index-pairs-place.result (lists_read (goal.at.returns-clause-plan c).After-deref-3) in
-    c.draft_from.ensures.plan ∙ made ∙ ap (λ (a : AgentState). drafted a c.args.x) c.self.view_is
+    let at = goal.at.returns-clause-plan c in
+    c.draft_from.ensures.plan ∙ draft_made (read at.After-deref-3 (placed at.In-Some)) ∙ ap (λ (a : AgentState). drafted a c.args.x) c.self.view_is

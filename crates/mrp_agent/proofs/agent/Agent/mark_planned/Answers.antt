@@ -1,10 +1,10 @@
 use Rattle.std.proofs.Common.{◌<◌, length, refl, subst, arith}
+use Rattle.mrp_agent.specs.Fields.{indexes_of}
 use Rattle.mrp_agent.specs.State.{AgentState}
 use Rattle.mrp_agent.specs.Marking.{IsMarked}
 use Rattle.mrp_agent.specs.Shows.{joins_of}
 use Rattle.mrp_agent.specs.contracts.agent.Agent.{the_view}
 use Rattle.mrp_agent.proofs.Marked.{components_known, components_are, components_within, components_are_waiting, free_before, kept_marked, same_queued}
-use Rattle.mrp_agent.proofs.Placing.{indexes_of}
 use Rattle.mrp_agent.proofs.agent.Agent.mark_planned.Goals as goal
 use Rattle.mrp_agent.proofs.agent.Agent.mark_planned.Goals.{After-queue_item}
 
@@ -24,7 +24,7 @@ marked c =
     let A : AgentState = the_view c.self.inside in
     let free = free_before c.self.view_is c.requires.free in
     let components = components_are A (indexes_of c.self.inside) c.self.invariant c.args.place free c.of.result.now c.of.ensures in
-    let within : c.args.place < length A.view.pairs = omega (arith, free.known, c.self.invariant.rooms.waits) in
+    let within : c.args.place < length A.view.pairs = omega (arith, free.known, c.self.invariant.rooms.progress.waits) in
     record {
       same = refl;
       settled = record {

@@ -1,14 +1,14 @@
-use Rattle.std.proofs.Common.{◌≡◌, refl, sym, ap, ◌∙◌, subst, IsTrue}
+use Rattle.std.proofs.Common.{◌≡◌, refl, sym, ap, ◌∙◌, subst}
 use Rattle.std.specs.List.{Contains}
 use Rattle.std.proofs.lemmas.Bool.{false≢true, OnFalse_from, OnTrue_from}
 use Rattle.mrp_ready.specs.Progress.{IsFree, Progress}
-use Rattle.mrp_agent.specs.Drafts.{CanDraft, ready_numbers}
+use Rattle.mrp_agent.specs.Fields.{indexes_of}
 use Rattle.mrp_agent.specs.State.{AgentState, pair_place}
 use Rattle.mrp_agent.specs.contracts.agent.Agent.{the_view}
-use Rattle.mrp_agent.proofs.Placing.{IsAtPlace, indexes_of, own_is_found, place_is_found, ready_at, ready_from}
+use Rattle.mrp_agent.proofs.Placing.{IsAtPlace, can_draft, own_is_found, place_is_found, ready_at, ready_from}
 use Rattle.mrp_agent.proofs.Planned.{HasPlanned, has_planned}
 use Rattle.mrp_agent.proofs.agent.Agent.plan.Goals as goal
-use Rattle.mrp_agent.proofs.agent.Agent.plan.Goals.{After-is_ready-can, After-mark_planned, After-write_plan, In-Some}
+use Rattle.mrp_agent.proofs.agent.Agent.plan.Goals.{After-mark_planned, After-write_plan, In-Some}
 
 pub unreachable-requires : goal.unreachable-requires
 unreachable-requires c = c.in_default.not-Some _ (c.place.ensures ∙ own_is_found c.args.x c.self.view_is c.requires.own)
@@ -16,17 +16,16 @@ unreachable-requires c = c.in_default.not-Some _ (c.place.ensures ∙ own_is_fou
 placed : (c : In-Some) → IsAtPlace (the_view c.self.inside) (indexes_of c.self.inside) c.args.x c.in-Some.place
 placed c = place_is_found c.self.view_is c.self.invariant c.requires.own c.place.ensures c.in-Some.is
 
-can : (c : After-is_ready-can) → IsAtPlace (the_view c.self.inside) (indexes_of c.self.inside) c.args.x c.in-Some.place → IsTrue c.is_ready-can.result → CanDraft c.args.self.now c.args.x
-can c here is =
-    let ready : Contains (ready_numbers c.args.self.now) c.args.x = ready_from c.self.view_is here (c.is_ready-can.ensures.ready.0 is) in
-    record { own = c.requires.own; ready = ready; within = c.requires.within ready }
-
 pub write_plan-requires-clause-can : goal.write_plan-requires-clause-can
-write_plan-requires-clause-can c = let at = goal.at.write_plan-requires-clause-can c in can at.After-is_ready-can (placed at.In-Some) c.if-can.true
+write_plan-requires-clause-can c =
+    let here = placed (goal.at.write_plan-requires-clause-can c).In-Some in
+    can_draft c.self.view_is here c.requires.own (c.is_ready-can.ensures.ready.0 c.if-can.true) c.requires.within
 
-planned : (c : After-mark_planned) → IsAtPlace (the_view c.self.inside) (indexes_of c.self.inside) c.args.x c.in-Some.place → CanDraft c.args.self.now c.args.x
-    → HasPlanned c.args.self.now c.args.x c.mark_planned.new.self
-planned c here can = has_planned c.self.view_is here can c.ready_pairs-ready.ensures.listed c.write_plan.ensures c.mark_planned.ensures
+planned : (c : After-mark_planned) → HasPlanned c.args.self.now c.args.x c.mark_planned.new.self
+planned c =
+    let here = place_is_found {x = c.args.x} c.self.view_is c.self.invariant c.requires.own c.place.ensures c.in-Some.is in
+    let can = can_draft c.self.view_is here c.requires.own (c.is_ready-can.ensures.ready.0 c.if-can.true) c.requires.within in
+    has_planned c.self.view_is here can c.ready_pairs-ready.ensures.listed c.write_plan.ensures c.mark_planned.ensures
 
 still_ready : (c : After-write_plan) → c.self.inside.progress ≡ c.write_plan.new.self.progress
 still_ready c = ap (λ (a : AgentState). a.progress) c.self.view_is ∙ sym (ap (λ (a : AgentState). a.progress) c.write_plan.ensures)
@@ -47,12 +46,11 @@ mark_planned-requires-clause-free c =
 
 pub returns-then-can-clause-can : goal.returns-then-can-clause-can
 returns-then-can-clause-can c =
-    let at = goal.at.returns-then-can-clause-can c in (λ _. (can at.After-is_ready-can (placed at.In-Some) c.if-can.true).ready, λ _. c.if-can.true)
+    let here = placed (goal.at.returns-then-can-clause-can c).In-Some in
+    (λ _. ready_from c.self.view_is here (c.is_ready-can.ensures.ready.0 c.if-can.true), λ _. c.if-can.true)
 
 pub returns-then-can-clause-planned : goal.returns-then-can-clause-planned
-returns-then-can-clause-planned c =
-    let at = goal.at.returns-then-can-clause-planned c in
-    OnTrue_from c.is_ready-can.result _ (λ _. (planned at.After-mark_planned (placed at.In-Some) (can at.After-is_ready-can (placed at.In-Some) c.if-can.true)).shows)
+returns-then-can-clause-planned c = OnTrue_from c.is_ready-can.result _ (λ _. (planned (goal.at.returns-then-can-clause-planned c).After-mark_planned).shows)
 
 pub returns-else-can-clause-can : goal.returns-else-can-clause-can
 returns-else-can-clause-can c =
@@ -60,29 +58,19 @@ returns-else-can-clause-can c =
     (λ h. absurd (false≢true (sym c.if-can.false ∙ h)), λ h. c.is_ready-can.ensures.ready.1 (ready_at c.self.view_is here c.ready_pairs-ready.ensures.listed h))
 
 pub returns-then-can-clause-others : goal.returns-then-can-clause-others
-returns-then-can-clause-others c =
-    let at = goal.at.returns-then-can-clause-others c in
-    OnTrue_from c.is_ready-can.result _ (λ _. (planned at.After-mark_planned (placed at.In-Some) (can at.After-is_ready-can (placed at.In-Some) c.if-can.true)).others)
+returns-then-can-clause-others c = OnTrue_from c.is_ready-can.result _ (λ _. (planned (goal.at.returns-then-can-clause-others c).After-mark_planned).others)
 
 pub returns-then-can-clause-drafts : goal.returns-then-can-clause-drafts
-returns-then-can-clause-drafts c =
-    let at = goal.at.returns-then-can-clause-drafts c in
-    OnTrue_from c.is_ready-can.result _ (λ _. (planned at.After-mark_planned (placed at.In-Some) (can at.After-is_ready-can (placed at.In-Some) c.if-can.true)).drafts)
+returns-then-can-clause-drafts c = OnTrue_from c.is_ready-can.result _ (λ _. (planned (goal.at.returns-then-can-clause-drafts c).After-mark_planned).drafts)
 
 pub returns-then-can-clause-view : goal.returns-then-can-clause-view
-returns-then-can-clause-view c =
-    let at = goal.at.returns-then-can-clause-view c in
-    (planned at.After-mark_planned (placed at.In-Some) (can at.After-is_ready-can (placed at.In-Some) c.if-can.true)).view
+returns-then-can-clause-view c = (planned (goal.at.returns-then-can-clause-view c).After-mark_planned).view
 
 pub returns-then-can-clause-kept : goal.returns-then-can-clause-kept
-returns-then-can-clause-kept c =
-    let at = goal.at.returns-then-can-clause-kept c in
-    OnTrue_from c.is_ready-can.result _ (λ _. (planned at.After-mark_planned (placed at.In-Some) (can at.After-is_ready-can (placed at.In-Some) c.if-can.true)).kept)
+returns-then-can-clause-kept c = OnTrue_from c.is_ready-can.result _ (λ _. (planned (goal.at.returns-then-can-clause-kept c).After-mark_planned).kept)
 
 pub returns-then-can-clause-left : goal.returns-then-can-clause-left
-returns-then-can-clause-left c =
-    let at = goal.at.returns-then-can-clause-left c in
-    OnTrue_from c.is_ready-can.result _ (λ _. (planned at.After-mark_planned (placed at.In-Some) (can at.After-is_ready-can (placed at.In-Some) c.if-can.true)).left)
+returns-then-can-clause-left c = OnTrue_from c.is_ready-can.result _ (λ _. (planned (goal.at.returns-then-can-clause-left c).After-mark_planned).left)
 
 pub returns-then-can-clause-unchanged : goal.returns-then-can-clause-unchanged
 returns-then-can-clause-unchanged c = OnFalse_from c.is_ready-can.result _ (λ e. absurd (false≢true (sym e ∙ c.if-can.true)))

@@ -1,7 +1,7 @@
 use Rattle.std.proofs.Common.{◌≡◌, ℕ, ◌<◌, ◌∙◌, false, get_or, length, sym, ap, subst, arith}
 use Rattle.std.proofs.lemmas.List.{get_or_default}
 use Rattle.mrp_ready.specs.Progress.{is_planned}
-use Rattle.mrp_agent.specs.Kept.{Indexes}
+use Rattle.mrp_agent.specs.Fields.{indexes_of}
 use Rattle.mrp_agent.specs.State.{AgentState, no_plan, pair_place, plans_of}
 use Rattle.mrp_agent.specs.contracts.agent.Agent.{the_view}
 use Rattle.mrp_agent.proofs.Reading.{other_unplanned, place_said, none_there}
@@ -10,17 +10,16 @@ use Rattle.mrp_agent.proofs.agent.Agent.planned.Goals as goal
 pub returns-in_err-place-clause-there : goal.returns-in_err-place-clause-there
 returns-in_err-place-clause-there c =
     let A : AgentState = the_view c.self.inside in
-    let I : Indexes = record { items = c.self.inside.items; edges = c.self.inside.edges.rows.items; starts = c.self.inside.edges.starts.items; components = c.self.inside.components; out_items = c.self.inside.out_items.items; desk = length c.self.inside.desk.gross } in
     let flag : is_planned c.args.self.now.progress.planned (pair_place c.args.self.now.view c.args.x.0) ≡ false =
     subst (λ (a : AgentState). is_planned a.progress.planned (pair_place a.view c.args.x.0) ≡ false) c.self.view_is
-    (other_unplanned A I c.self.invariant c.args.x (sym c.place.ensures ∙ c.in_err-place.was)) in
+    (other_unplanned A (indexes_of c.self.inside) c.self.invariant c.args.x (sym c.place.ensures ∙ c.in_err-place.was)) in
     rw c.from_residual.ensures (none_there _ flag)
 
 pub returns-then-planned-clause-plan : goal.returns-then-planned-clause-plan
 returns-then-planned-clause-plan c =
     let A : AgentState = the_view c.self.inside in
     let at = place_said A c.args.x c.place.result c.in_ok-place.place c.place.ensures c.in_ok-place.was in
-    let inside : c.in_ok-place.place < length A.plans = omega (arith, at.1, c.self.invariant.rooms.plans) in
+    let inside : c.in_ok-place.place < length A.plans = omega (arith, at.1, c.self.invariant.rooms.plans.count) in
     c.index.ensures ∙ get_or_default A.plans c.in_ok-place.place c.index.result.now no_plan inside ∙ ap (λ (n : ℕ). get_or A.plans n no_plan) (sym at.0)
     ∙ ap (λ (a : AgentState). plans_of a c.args.x.0) c.self.view_is
 

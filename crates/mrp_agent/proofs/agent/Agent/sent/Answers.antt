@@ -24,7 +24,7 @@ stepped_there c =
     let A : AgentState = the_view c.self.inside in
     let k : ℕ = outgoing_place A.view c.args.lane.0 in
     let at : c.outgoing_place-k.result ≡ k = c.outgoing_place-k.ensures ∙ ap (λ (z : List OutgoingLane). position_or_len (λ (l : OutgoingLane). l.number.0 == c.args.lane.0) z) c.outgoing.ensures in
-    let inside : k < length A.outs = omega (arith, lane_there c, c.self.invariant.rooms.outs) in
+    let inside : k < length A.outs = omega (arith, lane_there c, c.self.invariant.rooms.cursors.count) in
     stepped_outs A c.outgoing_place-k.result k c.index_mut.result.now c.step.new.self c.left_at-left.result at inside c.index_mut.ensures.value
     (c.left_at-left.ensures ∙ ap (λ (a : AgentState). left_at a c.outgoing_place-k.result) (sym c.self.view_is)) c.step.ensures
 

@@ -1,9 +1,10 @@
 use Rattle.std.proofs.Common.{◌≡◌, sym, ap, ◌∙◌, arith}
+use Rattle.mrp_agent.specs.Fields.{indexes_of}
 use Rattle.mrp_agent.specs.State.{AgentState}
 use Rattle.mrp_agent.specs.Drafts.{drafted}
 use Rattle.mrp_agent.specs.contracts.agent.Agent.{the_view}
 use Rattle.mrp_agent.proofs.Desks.{kept_written, plans_written, same_periods}
-use Rattle.mrp_agent.proofs.Placing.{IsAtPlace, indexes_of, own_is_found, place_is_found, place_within, ready_at}
+use Rattle.mrp_agent.proofs.Placing.{IsAtPlace, own_is_found, place_is_found, place_within, ready_at}
 use Rattle.mrp_agent.proofs.Planned.{HasPlanned, has_planned}
 use Rattle.mrp_agent.proofs.agent.Agent.settle.Goals as goal
 use Rattle.mrp_agent.proofs.agent.Agent.settle.Goals.{After-mark_planned, In-Some}
@@ -19,7 +20,7 @@ is_draft c = c.requires.draft ∙ ap (λ (a : AgentState). drafted a c.args.x) (
 
 pub index_mut-requires : goal.index_mut-requires
 index_mut-requires c =
-    omega (arith, place_within (placed (goal.at.index_mut-requires c).In-Some), c.self.invariant.rooms.plans, c.self.inside.plans.ok.0)
+    omega (arith, place_within (placed (goal.at.index_mut-requires c).In-Some), c.self.invariant.rooms.plans.count, c.self.inside.plans.ok.0)
 
 pub copy_from-requires : goal.copy_from-requires
 copy_from-requires c =

@@ -1,4 +1,4 @@
-use Rattle.std.proofs.Common.{◌≡◌, ◌≤◌, ◌∙◌, ℕ, List, length, map, ap, subst, sym, arith}
+use Rattle.std.proofs.Common.{◌≡◌, ◌≤◌, ◌∙◌, ℕ, List, length, map, ap, subst, sym}
 use Rattle.std.specs.List.{All, range_with_len}
 use Rattle.mrp_view.specs.declared.view.PlantEdge.{PlantEdge}
 use Rattle.mrp_view.specs.declared.view.PlantPair.{PlantPair}

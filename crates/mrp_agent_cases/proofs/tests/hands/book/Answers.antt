@@ -7,7 +7,7 @@ use Rattle.mrp_agent_cases.proofs.tests.hands.book.Goals as goal
 
 pub book-requires : goal.book-requires
 book-requires c = let known = step.receiver_within _ _ c.lane.ensures.plants in
-    record { lane = step.may_receive ShowsAgent _ _ _ _ _ _ (hand.handed_somewhere _ _ _ _ c.requires.handed) c.requires.lane known (ap (λ (lane : Lane). lane.receiver.0) (sym c.lane.ensures.value)) }
+    record { lane = step.may_receive ShowsAgent _ _ _ _ _ _ (hand.somewhere c.requires.handed.run) c.requires.lane known (ap (λ (lane : Lane). lane.receiver.0) (sym c.lane.ensures.value)) }
 
 pub returns-in-Ok-clause-alone : goal.returns-in-Ok-clause-alone
 returns-in-Ok-clause-alone c = let known = step.receiver_within _ _ c.lane.ensures.plants in

@@ -8,6 +8,6 @@ use Rattle.mrp_agent_cases.proofs.tests.hands.next_out.Goals as goal
 
 pub next_out-requires : goal.next_out-requires
 next_out-requires c = record {
-  lane = look.may_ask ShowsAgent _ _ _ _ _ _ (hand.somewhere _ _ c.requires.alone) c.requires.lane (step.sender_within _ _ c.lane.ensures.plants)
+  lane = look.may_ask ShowsAgent _ _ _ _ _ _ (hand.somewhere c.requires.alone.run) c.requires.lane (step.sender_within _ _ c.lane.ensures.plants)
       (ap (λ (lane : Lane). lane.sender.0) (sym c.lane.ensures.value)) c.index-agents-sender.is;
 }

@@ -8,13 +8,13 @@ use Rattle.mrp_agent_cases.proofs.tests.hands.plan.Goals as goal
 pub plan-requires : goal.plan-requires
 plan-requires c =
     let is = ap (λ (row : PairRow). row.plant.0) (sym c.pair.ensures) in
-    let some = hand.somewhere _ _ c.requires.alone in
+    let some = hand.somewhere c.requires.alone.run in
     record { pair = step.may_plan ShowsAgent _ _ _ _ _ _ some c.requires.pair (step.owner_known _ _ _ _ _ _ some c.requires.pair is) is }
 
 pub returns : goal.returns
 returns c =
     let is = ap (λ (row : PairRow). row.plant.0) (sym c.pair.ensures) in
-    let some = hand.somewhere _ _ c.requires.alone in
+    let some = hand.somewhere c.requires.alone.run in
     record {
       alone = hand.planned_or_not c.args.network.now _ _ _ _ _ _ c.requires.pair (step.owner_known _ _ _ _ _ _ some c.requires.pair is) is c.requires.alone c.plan.ensures.can
           c.plan.ensures.planned c.plan.ensures.unchanged;

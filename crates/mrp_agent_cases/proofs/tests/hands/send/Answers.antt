@@ -7,7 +7,7 @@ use Rattle.mrp_agent_cases.proofs.tests.hands.send.Goals as goal
 
 pub send-requires : goal.send-requires
 send-requires c = let known = step.sender_within _ _ c.lane.ensures.plants in
-    record { lane = step.may_send ShowsAgent _ _ _ _ _ _ (hand.somewhere _ _ c.requires.alone) c.requires.lane known (ap (λ (lane : Lane). lane.sender.0) (sym c.lane.ensures.value)) }
+    record { lane = step.may_send ShowsAgent _ _ _ _ _ _ (hand.somewhere c.requires.alone.run) c.requires.lane known (ap (λ (lane : Lane). lane.sender.0) (sym c.lane.ensures.value)) }
 
 pub returns-in-Some-clause-some : goal.returns-in-Some-clause-some
 returns-in-Some-clause-some c = let known = step.sender_within _ _ c.lane.ensures.plants in

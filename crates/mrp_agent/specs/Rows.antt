@@ -1,0 +1,12 @@
+-- The rows of the pair at a place: its part of the amounts by pairs and periods, and its edges.
+use Rattle.std.specs.Prelude.{ℕ, ◌+◌, ◌*◌, ◌==◌, List, map, filter, slice_range}
+use Rattle.mrp_view.specs.View.{PlantRows}
+use Rattle.mrp_agent.specs.declared.edges.ParentEdge.{ParentEdge}
+use Rattle.mrp_agent.specs.Kept.{parent_edge}
+
+abbrev pub part_at : ℕ → ℕ → List ℕ → List ℕ
+part_at periods place amounts = slice_range amounts (place * periods) (place * periods + periods)
+
+-- the edges from the pair to its parents
+abbrev pub edges_at : PlantRows → ℕ → List ParentEdge
+edges_at V place = filter (λ e. e.component == place) (map (parent_edge V) V.edges)
