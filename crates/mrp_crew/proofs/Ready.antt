@@ -1,20 +1,14 @@
 -- A ready pair of a plannable agent can be drafted, and isn't planned yet.
-use Rattle.std.proofs.Common.{◌≡◌, ◌↔◌, ℕ, ◌<◌, Bool, true, false, List, length, get_or, sym, subst, All, Contains}
-use Rattle.std.specs.List.{filter, range_with_len}
-use Rattle.std.proofs.lemmas.Bool.{eqb-true}
-use Rattle.std.proofs.lemmas.List.Elements.{All-contains, All-contains_itself, All-filter, All-map, All-weaker, filter_passes}
+use Rattle.std.proofs.Common.{◌≡◌, ◌↔◌, ℕ, Bool, false, List, sym, subst, All, Contains}
+use Rattle.std.proofs.lemmas.List.Elements.{All-contains, All-contains_itself, All-weaker}
 use Rattle.mrp_rows.specs.declared.numbers.PairNo.{PairNo}
-use Rattle.mrp_rows.specs.Table.{Table}
-use Rattle.mrp_net.specs.Sums.{pair_at}
-use Rattle.mrp_net.proofs.Members.{Contains-from_in}
 use Rattle.mrp_view.specs.declared.view.PlantPair.{PlantPair}
 use Rattle.mrp_view.specs.Seen.{IsOwn}
-use Rattle.mrp_view.specs.View.{PlantRows, is_of_plant, plant_pair, plant_pairs, plant_rows}
-use Rattle.mrp_view.proofs.Seeing.{below}
+use Rattle.mrp_view.specs.View.{PlantRows, plant_pair, plant_rows}
 use Rattle.mrp_record.specs.declared.record.Record.{Record}
 use Rattle.mrp_local.specs.Laws.{IsPairAt}
 use Rattle.mrp_local.specs.Local.{CanBePlanned}
-use Rattle.mrp_local.proofs.Seeing.{sees_pair}
+use Rattle.mrp_local.proofs.Seeing.{own_at, seen_there}
 use Rattle.mrp_agent.specs.Drafts.{CanDraft, ready_numbers}
 use Rattle.mrp_agent.specs.Shows.{Shows}
 use Rattle.mrp_agent.specs.State.{AgentState}
@@ -26,26 +20,6 @@ abbrev pub AreReady : AgentState → List PairNo → Type 0
 AreReady A numbers =
     (sent taken : ℕ → List Record) (planned : ℕ → Bool) → Shows A sent taken planned
     → (p : PlantPair) → Contains A.view.pairs p → Contains numbers p.number ↔ CanBePlanned A.view taken planned p
-
--- ---- pairs that a plant sees are its own
-
-pairs_are_at : (N : Table) (plant : ℕ) → All (λ q. IsPairAt N plant q.number.0) (plant_pairs N plant)
-pairs_are_at N plant =
-    let all : List ℕ = range_with_len 0 (length N.pairs) in
-    All-map (λ (q : PlantPair). IsPairAt N plant q.number.0) (plant_pair N) (filter (is_of_plant N plant) all)
-    (λ k d within. record {
-      pair = All-filter (is_of_plant N plant) (λ (x : ℕ). x < length N.pairs) all (below (length N.pairs)) k d within;
-      at_plant = eqb-true (pair_at N (get_or (filter (is_of_plant N plant) all) k d)).plant.0 plant (filter_passes (is_of_plant N plant) all k d within);
-    })
-
-own_at : (V : PlantRows) (N : Table) (plant : ℕ) (x : PairNo) → V ≡ plant_rows N plant → IsOwn V x → IsPairAt N plant x.0
-own_at V N plant x view (q, there, is) =
-    let all : All (λ z. IsPairAt N plant z.number.0) V.pairs = subst (λ (z : PlantRows). All (λ q. IsPairAt N plant q.number.0) z.pairs) (sym view) (pairs_are_at N plant) in
-    subst (λ (n : PairNo). IsPairAt N plant n.0) is (All-contains (λ (z : PlantPair). IsPairAt N plant z.number.0) V.pairs q all there)
-
-seen_there : (V : PlantRows) (N : Table) (plant x : ℕ) → V ≡ plant_rows N plant → IsPairAt N plant x → Contains V.pairs (plant_pair N x)
-seen_there V N plant x view at =
-    subst (λ (z : PlantRows). Contains z.pairs (plant_pair N x)) (sym view) (Contains-from_in (plant_pairs N plant) (plant_pair N x) (sees_pair N plant x at))
 
 -- ---- ready pairs
 

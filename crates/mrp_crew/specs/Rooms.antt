@@ -1,8 +1,10 @@
 -- What workers draft in, and what they bring back.
-use Rattle.std.specs.Prelude.{◌≡◌, ℕ, ◌++◌, true, List, length, map, reverse, All}
+use Rattle.std.specs.Prelude.{◌≡◌, ℕ, ◌<◌, ◌≤◌, ◌++◌, true, List, [], Vec, length, map, reverse, All, vec_capacity}
+use Rattle.std.specs.Global.{Global}
 use Rattle.mrp_rows.specs.declared.numbers.PairNo.{PairNo}
-use Rattle.mrp_agent.specs.Drafts.{drafted}
+use Rattle.mrp_agent.specs.Drafts.{CanDraft, drafted}
 use Rattle.mrp_agent.specs.State.{AgentState}
+use Rattle.mrp_crew.specs.declared.crew.TheConstants.{MOST_WORKERS}
 use Rattle.mrp_crew.specs.declared.room.Room.{Room}
 use Rattle.mrp_crew.specs.declared.work.Order.{Order}
 use Rattle.mrp_crew.specs.declared.work.Work.{Work}
@@ -14,6 +16,18 @@ pub record IsRoom (horizon : ℕ) (room : Room) : Type 0 where
   pub incoming : length room.incoming ≡ horizon
   pub gross : length room.gross ≡ horizon
   pub plan : length room.plan.gross ≡ horizon
+
+-- What a wave begins with: pairs that can be drafted, fewer than a crew may have workers beside the one that the calling
+-- thread drafts, a room for each, and no thread and no result yet, but room for all.
+pub record IsWave {Thread : Type 0} (A : AgentState) (beside : List PairNo) (here : PairNo) (free : List Room)
+    (threads : Vec Thread Global) (results : Vec Work Global) : Type 0 where
+  pub others : All (CanDraft A) beside
+  pub own : CanDraft A here
+  pub rooms : All (IsRoom A.view.horizon) free
+  pub enough : length beside < length free
+  pub workers : (threads.items ≡ []) × (length beside ≤ vec_capacity threads)
+  pub few : length beside < MOST_WORKERS
+  pub works : (results.items ≡ []) × (length beside < vec_capacity results)
 
 -- a worker's result: where the gate was open, its room has the plan that the agent drafts for its pair
 pub record WorkedFor (A : AgentState) (work : Work) : Type 0 where

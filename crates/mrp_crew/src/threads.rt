@@ -4,7 +4,7 @@ ghost use Rattle.std.specs.Bool.{OnTrue};
 ghost use Rattle.mrp_rows.specs.declared.numbers.PairNo.{PairNo};
 ghost use Rattle.mrp_agent.specs.Drafts.{CanDraft};
 ghost use Rattle.mrp_agent.specs.State.{AgentState};
-ghost use Rattle.mrp_crew.specs.Rooms.{AreDrafts, IsRoom, WorkedFor, pairs_of};
+ghost use Rattle.mrp_crew.specs.Rooms.{AreDrafts, IsRoom, IsWave, WorkedFor, pairs_of};
 ghost use Rattle.mrp_crew.specs.Shut.{AreLetIn, IsLetIn, WasShut};
 ghost use Rattle.mrp_crew.specs.declared.crew.TheConstants.{MOST_WORKERS};
 ghost use Rattle.mrp_crew.specs.Started.{IsAt, IsFor, IsStarted, ordered};
@@ -35,13 +35,7 @@ pub(crate) fn draft_wave<R: Threads + Wait + Sync, G: Gate>(
     workers: Vec<Worker<G>>,
     works: Vec<Work>,
 ) -> Drafts
-    requires others { All (CanDraft agent.now) others.now }
-    requires own { CanDraft agent.now own }
-    requires rooms { All (IsRoom agent.now.view.horizon) rooms.items }
-    requires enough { length others.now < length rooms.items }
-    requires workers { (workers.items ≡ []) × (length others.now ≤ vec_capacity workers) }
-    requires few { length others.now < MOST_WORKERS }
-    requires works { (works.items ≡ []) × (length others.now < vec_capacity works) }
+    requires wave { IsWave agent.now others.now own rooms.items workers works }
     ensures drafts { AreDrafts agent.now (others.now ++ own ∷ []) result }
     ensures shut { AreLetIn (WasShut G.worker_shut plant) result.works.items }
 {
@@ -49,13 +43,7 @@ pub(crate) fn draft_wave<R: Threads + Wait + Sync, G: Gate>(
         thread::scope_env(),
         rt,
         move |scope| -> Drafts
-            requires others { All (CanDraft agent.now) others.now }
-            requires own { CanDraft agent.now own }
-            requires rooms { All (IsRoom agent.now.view.horizon) rooms.items }
-            requires enough { length others.now < length rooms.items }
-            requires workers { (workers.items ≡ []) × (length others.now ≤ vec_capacity workers) }
-            requires few { length others.now < MOST_WORKERS }
-            requires works { (works.items ≡ []) × (length others.now < vec_capacity works) }
+            requires wave { IsWave agent.now others.now own rooms.items workers works }
             ensures drafts { AreDrafts agent.entry.now (others.entry.now ++ own ∷ []) result }
             ensures shut { AreLetIn (WasShut G.worker_shut plant) result.works.items }
         {
@@ -79,13 +67,7 @@ fn draft_beside<'s, E, R: Threads, G: Gate>(
     mut workers: Vec<Worker<G>>,
     mut works: Vec<Work>,
 ) -> Drafts
-    requires others { All (CanDraft agent.now) others.now }
-    requires own { CanDraft agent.now own }
-    requires rooms { All (IsRoom agent.now.view.horizon) rooms.items }
-    requires enough { length others.now < length rooms.items }
-    requires workers { (workers.items ≡ []) × (length others.now ≤ vec_capacity workers) }
-    requires few { length others.now < MOST_WORKERS }
-    requires works { (works.items ≡ []) × (length others.now < vec_capacity works) }
+    requires wave { IsWave agent.now others.now own rooms.items workers works }
     ensures drafts { AreDrafts agent.now (others.now ++ own ∷ []) result }
     ensures shut { AreLetIn (WasShut G.worker_shut plant) result.works.items }
 {

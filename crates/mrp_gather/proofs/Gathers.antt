@@ -80,7 +80,7 @@ none_case : {X : Type 0} (o : Option X) (P : Type 0) (Q : X → Type 0) → Matc
 none_case None P Q h e = h
 none_case (Some x) P Q h e = absurd (cc)
 
-nothing_left : {X Z : Type 0} (v new : Vec X Z) (o : Option X) (Q : X → Type 0) → MatchOption o ((vec_len v ≡ 0) × (vec_len new ≡ 0)) Q → o ≡ None → v.items ≡ []
+pub nothing_left : {X Z : Type 0} (v new : Vec X Z) (o : Option X) (Q : X → Type 0) → MatchOption o ((vec_len v ≡ 0) × (vec_len new ≡ 0)) Q → o ≡ None → v.items ≡ []
 nothing_left v new o Q cases none =
     let size : vec_len v ≡ 0 = (none_case o ((vec_len v ≡ 0) × (vec_len new ≡ 0)) Q cases none).0 in
     empty v.items (omega (arith, size, v.ok.0))

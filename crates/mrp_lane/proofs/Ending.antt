@@ -1,5 +1,5 @@
 -- What an end holds before the first record, after one record more, and at the end.
-use Rattle.std.proofs.Common.{◌≡◌, ℕ, ◌+◌, ◌<◌, ◌≤◌, ◌^◌, true, List, [], ◌∷◌, ◌++◌, length, sym, ap, subst, ◌∙◌, arith, length-append, All, Option}
+use Rattle.std.proofs.Common.{◌≡◌, ℕ, ◌+◌, ◌<◌, ◌≤◌, ◌^◌, Bool, true, List, [], ◌∷◌, ◌++◌, length, refl, sym, ap, subst, ◌∙◌, arith, length-append, All, Option}
 use Rattle.std.proofs.lemmas.List.{length-map}
 use Rattle.crossbeam_queue.specs.declared.array_queue.Doing.{Doing}
 use Rattle.crossbeam_queue.specs.declared.array_queue.Slotted.{Slotted}
@@ -40,21 +40,23 @@ opens box p N l counts ours named is lane sized there counted = record {
   counted = counted ∙ ap (λ (M : Table). counts_of M l []) (sym is);
 }
 
+-- an end may do what the view of its pass says, and has nothing in its list yet
+opens_as : {Q A : Type 0} (box : Box Q A) (p : Pass Record LaneView) (N : Table) (l : ℕ) (counts : Counts) (v : LaneView) (may : LaneView → Bool) (list : LaneView → List Record)
+    → view p ≡ v → may v ≡ true → list v ≡ [] → v.named ≡ true → v.network ≡ N → v.lane ≡ l → IsPassOf box p → IsSized N → l < length (lanes N) → counts ≡ counts_of N l []
+    → (may (view p) ≡ true) × Holds box p l (list (view p)) counts
+opens_as box p N l counts v may list is can none named network lane ours sized there counted = (
+  ap may is ∙ can,
+  subst (λ (z : List Record). Holds box p l z counts) (sym (ap list is ∙ none))
+      (opens box p N l counts ours (ap (λ (w : LaneView). w.named) is ∙ named) (ap (λ (w : LaneView). w.network) is ∙ network) (ap (λ (w : LaneView). w.lane) is ∙ lane) sized there counted),
+)
+
 pub opens_sending : {Q A : Type 0} (box : Box Q A) (p : Pass Record LaneView) (N : Table) (l : ℕ) (counts : Counts) → IsPassOf box p
     → view p ≡ sending N l [] → IsSized N → l < length (lanes N) → counts ≡ counts_of N l [] → ((view p).sends ≡ true) × Holds box p l (view p).sent counts
-opens_sending box p N l counts ours is sized there counted = (
-  ap (λ (v : LaneView). v.sends) is,
-  subst (λ (list : List Record). Holds box p l list counts) (sym (ap (λ (v : LaneView). v.sent) is))
-      (opens box p N l counts ours (ap (λ (v : LaneView). v.named) is) (ap (λ (v : LaneView). v.network) is) (ap (λ (v : LaneView). v.lane) is) sized there counted),
-)
+opens_sending box p N l counts ours is = opens_as box p N l counts (sending N l []) (λ v. v.sends) (λ v. v.sent) is refl refl refl refl refl ours
 
 pub opens_taking : {Q A : Type 0} (box : Box Q A) (p : Pass Record LaneView) (N : Table) (l : ℕ) (counts : Counts) → IsPassOf box p
     → view p ≡ taking N l [] → IsSized N → l < length (lanes N) → counts ≡ counts_of N l [] → ((view p).takes ≡ true) × Holds box p l (view p).taken counts
-opens_taking box p N l counts ours is sized there counted = (
-  ap (λ (v : LaneView). v.takes) is,
-  subst (λ (list : List Record). Holds box p l list counts) (sym (ap (λ (v : LaneView). v.taken) is))
-      (opens box p N l counts ours (ap (λ (v : LaneView). v.named) is) (ap (λ (v : LaneView). v.network) is) (ap (λ (v : LaneView). v.lane) is) sized there counted),
-)
+opens_taking box p N l counts ours is = opens_as box p N l counts (taking N l []) (λ v. v.takes) (λ v. v.taken) is refl refl refl refl refl ours
 
 -- ---- one record more
 

@@ -1,10 +1,9 @@
 -- A cursor over all that a lane carries gives legal records to the lane's end, and shows what it has sent.
-use Rattle.std.proofs.Common.{◌≡◌, ℕ, suc, ◌+◌, ◌-◌, ◌<◌, ◌≤◌, true, Some, Option, List, [], ◌∷◌, ◌++◌, length, get_or, map, drop, refl, sym, ap, subst, ◌∙◌, arith, All, Contains, not}
+use Rattle.std.proofs.Common.{◌≡◌, ℕ, suc, ◌+◌, ◌-◌, ◌<◌, ◌≤◌, true, Some, Option, List, [], ◌∷◌, ◌++◌, length, get_or, map, drop, refl, sym, ap, subst, ◌∙◌, arith, Contains, not}
 use Rattle.std.specs.List.{filter, range_with_len}
 use Rattle.std.proofs.lemmas.Bool.{ne_eqb}
 use Rattle.std.proofs.lemmas.List.{get_or-map, length-map, drop_all}
-use Rattle.std.proofs.lemmas.List.Elements.{All-contains, All-head, All-tail, Contains-get_or}
-use Rattle.std.proofs.lemmas.List.Sums.{sum_by-cons}
+use Rattle.std.proofs.lemmas.List.Elements.{All-contains, Contains-get_or}
 use Rattle.std.proofs.lemmas.Option.{slice_get-get_or}
 use Rattle.mrp_lot.specs.One.{PlanRows}
 use Rattle.mrp_rows.specs.declared.numbers.ItemNo.{ItemNo}
@@ -23,6 +22,7 @@ use Rattle.mrp_loops.specs.Sized.{IsSized}
 use Rattle.mrp_record.specs.declared.record.Record.{Record}
 use Rattle.mrp_record.specs.Entries.{Delivery}
 use Rattle.mrp_record.specs.Text.{Load, total}
+use Rattle.mrp_record.proofs.BlockForm.{length_within}
 use Rattle.mrp_events.specs.Loads.{called_in, delivery_in, delivery_of, has_pieces, lines_by, load_of, loads}
 use Rattle.mrp_events.proofs.Small.{load_is_small}
 use Rattle.mrp_cursor.specs.Cursor as cursor
@@ -117,13 +117,6 @@ module _ (N : Table) (l : ℕ) where
 
   shown_is_legal : (o : OutFigures) (sent : List Record) → IsOver N l o → ShowsSent (goods N l) o sent → IsLegal N l sent
   shown_is_legal o sent over shows = shown_begin (goods N l) o sent shows (loads N (lane_at N l)) (agrees o over)
-
-  length_within : (lines : List Delivery) → All (λ line. 1 ≤ line.quantity) lines → length lines ≤ total lines
-  length_within [] some = omega arith
-  length_within (line ∷ lines) some =
-      let P = λ (d : Delivery). 1 ≤ d.quantity in
-      let first : 1 ≤ line.quantity = All-head P line lines some in
-      omega (arith, sum_by-cons (λ (d : Delivery). d.quantity) line lines, first, length_within lines (All-tail P line lines some))
 
   small : (place : ℕ) → IsSized N → place < length (lane_items N (lane_at N l)) → IsSmall (goods N l place)
   small place sized within =

@@ -3,11 +3,12 @@ use Rattle.std.proofs.Common.{◌≡◌, ℕ, suc, zero, ◌+◌, ◌*◌, ◌<�
 use Rattle.std.specs.List.{filter, flat_map, position_or_len, range_with_len}
 use Rattle.std.proofs.lemmas.Bool.{cases_lt, eqb-true, eq-eqb, both_ways}
 use Rattle.std.proofs.lemmas.List.{get_or_append_left, get_or-append-add, map-id}
-use Rattle.std.proofs.lemmas.List.Elements.{All-filter, All-map, Contains-get_or, filter_passes}
+use Rattle.std.proofs.lemmas.List.Elements.{All-contains, All-map, Contains-get_or}
 use Rattle.std.proofs.lemmas.List.FromFn.{get_or-map-range_with_len, length-map-range_with_len}
 use Rattle.std.proofs.lemmas.List.Sums.{passes_at_first, fails_before_first}
 use Rattle.std.proofs.Math.Nat.{suc-mul}
 use Rattle.mrp_rows.specs.declared.numbers.ItemNo.{ItemNo}
+use Rattle.mrp_rows.specs.declared.numbers.PairNo.{PairNo}
 use Rattle.mrp_rows.specs.Table.{Table, IsTable, horizon}
 use Rattle.mrp_net.specs.declared.edge.Edge.{Edge}
 use Rattle.mrp_net.specs.declared.lane.Lane.{Lane}
@@ -20,8 +21,9 @@ use Rattle.mrp_net.proofs.Routing.{map-map}
 use Rattle.mrp_view.specs.declared.view.IncomingItem.{IncomingItem}
 use Rattle.mrp_view.specs.declared.view.PlantEdge.{PlantEdge}
 use Rattle.mrp_view.specs.declared.view.PlantPair.{PlantPair}
-use Rattle.mrp_view.specs.View.{is_of_plant, plant_pair, plant_pairs, plant_edge, plant_edges, edges_to, plant_amounts, plant_rows, comes_to, lane_numbers, incoming_item, incoming_lane, incoming_lanes}
-use Rattle.mrp_view.proofs.Seeing.{below}
+use Rattle.mrp_view.specs.View.{PlantRows, is_of_plant, plant_pair, plant_pairs, plant_edge, plant_edges, edges_to, plant_amounts, plant_rows, comes_to, lane_numbers, incoming_item, incoming_lane, incoming_lanes}
+use Rattle.mrp_view.specs.Seen.{IsOwn}
+use Rattle.mrp_view.proofs.Seeing.{owned, owned_there}
 use Rattle.mrp_loops.specs.Loop.{HasEdge}
 use Rattle.mrp_loops.proofs.Edges.{demanders_edge, demanders_only, HasEdge-from_in}
 use Rattle.mrp_record.specs.declared.record.Record.{Record}
@@ -34,9 +36,23 @@ use Rattle.mrp_local.specs.Laws.{IsPairAt}
 
 pub sees_pair : (N : Table) (plant x : ℕ) → IsPairAt N plant x → In (plant_pairs N plant) (plant_pair N x)
 sees_pair N plant x at =
-    let pairs : List ℕ = range_with_len 0 (length N.pairs) in
-    In-map (plant_pair N) (filter (is_of_plant N plant) pairs) x
-    (In-filter (is_of_plant N plant) pairs x (In-range 0 (length N.pairs) x (omega arith) (omega (arith, at.pair))) (eq-eqb (pair_at N x).plant.0 plant at.at_plant))
+    In-map (plant_pair N) (filter (is_of_plant N plant) (range_with_len 0 (length N.pairs))) x
+    (owned_there (length N.pairs) (λ y. (pair_at N y).plant.0) plant x at.pair at.at_plant)
+
+pub pairs_are_at : (N : Table) (plant : ℕ) → All (λ q. IsPairAt N plant q.number.0) (plant_pairs N plant)
+pairs_are_at N plant =
+    All-map (λ (q : PlantPair). IsPairAt N plant q.number.0) (plant_pair N) (filter (is_of_plant N plant) (range_with_len 0 (length N.pairs)))
+    (λ k d within. let own = owned (length N.pairs) (λ y. (pair_at N y).plant.0) plant k d within in record { pair = own.0; at_plant = own.1 })
+
+-- the pairs that a view has are those of its plant
+pub own_at : (V : PlantRows) (N : Table) (plant : ℕ) (x : PairNo) → V ≡ plant_rows N plant → IsOwn V x → IsPairAt N plant x.0
+own_at V N plant x view (q, there, is) =
+    let all : All (λ z. IsPairAt N plant z.number.0) V.pairs = subst (λ (z : PlantRows). All (λ q. IsPairAt N plant q.number.0) z.pairs) (sym view) (pairs_are_at N plant) in
+    subst (λ (n : PairNo). IsPairAt N plant n.0) is (All-contains (λ (z : PlantPair). IsPairAt N plant z.number.0) V.pairs q all there)
+
+pub seen_there : (V : PlantRows) (N : Table) (plant x : ℕ) → V ≡ plant_rows N plant → IsPairAt N plant x → Contains V.pairs (plant_pair N x)
+seen_there V N plant x view at =
+    subst (λ (z : PlantRows). Contains z.pairs (plant_pair N x)) (sym view) (Contains-from_in (plant_pairs N plant) (plant_pair N x) (sees_pair N plant x at))
 
 -- the amounts of one piece after the other, all of one length
 piece_at : {X : Type 0} (f : X → List ℕ) (size : ℕ) (xs : List X) → ((x : X) → length (f x) ≡ size) → (k t : ℕ) (d : X) → k < length xs → t < size
@@ -127,10 +143,8 @@ brought_on_view N plant taken item each =
     let numbers : List ℕ = filter (comes_to N plant) (lane_numbers N) in
     All-map (HasBrought taken item) (incoming_lane N) numbers
     (λ k d h carries.
-    let l : ℕ = get_or numbers k d in
-    let within : l < length (lanes N) = All-filter (comes_to N plant) (λ z. z < length (lanes N)) (lane_numbers N) (below (length (lanes N))) k d h in
-    let here = filter_passes (comes_to N plant) (lane_numbers N) k d h in
-    each l within (eqb-true (lane_at N l).receiver.0 plant here) (subst (λ (items : List ItemNo). Contains items item) (items_are N (lane_at N l)) carries))
+    let own = owned (length (lanes N)) (λ l. (lane_at N l).receiver.0) plant k d h in
+    each (get_or numbers k d) own.0 own.1 (subst (λ (items : List ItemNo). Contains items item) (items_are N (lane_at N (get_or numbers k d))) carries))
 
 -- ---- readiness
 

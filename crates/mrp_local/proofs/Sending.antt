@@ -1,10 +1,8 @@
 -- What a plant has to send over its lanes is what they carry in the network.
-use Rattle.std.proofs.Common.{◌≡◌, ℕ, ◌+◌, ◌-◌, ◌^◌, ◌<◌, ◌≤◌, Bool, true, Some, List, [], ◌∷◌, length, get_or, refl, sym, ap, ◌∙◌, subst, arith, All, Contains, slice_index}
+use Rattle.std.proofs.Common.{◌≡◌, ℕ, ◌+◌, ◌-◌, ◌^◌, ◌<◌, ◌≤◌, Bool, true, Some, List, length, get_or, refl, sym, ap, ◌∙◌, subst, arith, All, Contains, slice_index}
 use Rattle.std.specs.List.{filter}
-use Rattle.std.proofs.lemmas.Bool.{eqb-true}
 use Rattle.std.proofs.lemmas.List.{get_or-map, length-map}
-use Rattle.std.proofs.lemmas.List.Elements.{All-head, All-tail, All-filter, All-map, Contains-get_or, filter_passes}
-use Rattle.std.proofs.lemmas.List.Sums.{sum_by-cons}
+use Rattle.std.proofs.lemmas.List.Elements.{All-map, Contains-get_or}
 use Rattle.std.proofs.lemmas.Option.{slice_get-get_or}
 use Rattle.mrp_lot.specs.One.{PlanRows}
 use Rattle.mrp_rows.specs.declared.numbers.ItemNo.{ItemNo}
@@ -21,13 +19,14 @@ use Rattle.mrp_net.proofs.Lengths.{block_is_short, lane_items_are_few}
 use Rattle.mrp_view.specs.declared.view.OutgoingLane.{OutgoingLane}
 use Rattle.mrp_view.specs.Loads as view
 use Rattle.mrp_view.specs.View.{goes_from, lane_numbers, outgoing_item, outgoing_lane, outgoing_lanes, plant_rows}
-use Rattle.mrp_view.proofs.Seeing.{below}
+use Rattle.mrp_view.proofs.Seeing.{owned}
 use Rattle.mrp_loops.specs.Loop.{IsLoopFree}
 use Rattle.mrp_loops.specs.Sized.{IsSized}
 use Rattle.mrp_loops.specs.Within.{plan_at}
 use Rattle.mrp_record.specs.declared.record.Record.{Record}
 use Rattle.mrp_record.specs.Entries.{Delivery, contents, cum}
 use Rattle.mrp_record.specs.Text.{Load, total, block_length}
+use Rattle.mrp_record.proofs.BlockForm.{length_within}
 use Rattle.mrp_events.specs.Loads.{delivery_of, called_in, lines_by, load_of, loads}
 use Rattle.mrp_events.specs.Local as network
 use Rattle.mrp_events.specs.Seen.{schedule_load}
@@ -117,9 +116,7 @@ each_lane : (N : Table) (plant : ℕ) (P : OutgoingLane → Type 0) → ((l : �
 each_lane N plant P each =
     let numbers : List ℕ = filter (goes_from N plant) (lane_numbers N) in
     All-map P (outgoing_lane N) numbers
-    (λ k d h. let l : ℕ = get_or numbers k d in
-    each l (All-filter (goes_from N plant) (λ z. z < length (lanes N)) (lane_numbers N) (below (length (lanes N))) k d h)
-    (eqb-true (lane_at N l).sender.0 plant (filter_passes (goes_from N plant) (lane_numbers N) k d h)))
+    (λ k d h. let own = owned (length (lanes N)) (λ l. (lane_at N l).sender.0) plant k d h in each (get_or numbers k d) own.0 own.1)
 
 pub local_goods_are_the_loads : LocalGoodsAreTheLoads
 local_goods_are_the_loads N is free plant taken planned plans works =
@@ -131,13 +128,6 @@ local_goods_agree N planned lane goods has o queue =
     record { size = has.size ∙ sym queue.size; queued = λ place there. has.each place (queue.each place there) }
 
 -- ---- in a sized network
-
-length_within : (lines : List Delivery) → All (λ line. 1 ≤ line.quantity) lines → length lines ≤ total lines
-length_within [] some = omega arith
-length_within (line ∷ lines) some =
-    let P = λ (d : Delivery). 1 ≤ d.quantity in
-    let first : 1 ≤ line.quantity = All-head P line lines some in
-    omega (arith, sum_by-cons (λ (d : Delivery). d.quantity) line lines, first, length_within lines (All-tail P line lines some))
 
 lines_are_few : (N : Table) (lane : Lane) (item : ItemNo) (kind : LaneKind) → lane.kind ≡ kind → length (lines_by N kind lane item) ≤ most_lines N lane item
 lines_are_few N lane item Despatch e =

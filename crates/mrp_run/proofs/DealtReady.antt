@@ -1,5 +1,5 @@
 -- With the ends of all lanes dealt each plant is at work.
-use Rattle.std.proofs.Common.{◌≡◌, ℕ, zero, suc, List, [], ◌∷◌, ◌++◌, length, map, sym, ap, subst, ◌∙◌, All}
+use Rattle.std.proofs.Common.{◌≡◌, ℕ, zero, suc, Bool, List, [], ◌∷◌, ◌++◌, length, map, sym, ap, subst, ◌∙◌, All}
 use Rattle.std.specs.List.{filter, range_with_len}
 use Rattle.std.proofs.lemmas.List.{map-append}
 use Rattle.std.proofs.lemmas.List.Elements.{All-filter, All-nil, All-push, All-same}
@@ -33,23 +33,15 @@ network_named N (suc l) ns (before, n, is, lane, network, first) =
 
 -- ---- the ends of a plant
 
-sends_are_ends : (N : Table) (ns : List Name) (p : ℕ) (ends : List End) → AreNames N (length (lanes N)) ns → names ends ≡ filter (is_from N p) ns → All IsEmpty ends
-    → AreEnds N (filter (goes_from N p) (lane_numbers N)) (λ _. []) ends
-sends_are_ends N ns p ends all are empty = record {
+-- the ends of the lanes that pass a test of their numbers
+tested_are_ends : (N : Table) (test : ℕ → Bool) (ns : List Name) (ends : List End) → AreNames N (length (lanes N)) ns → names ends ≡ filter (λ n. test n.lane) ns → All IsEmpty ends
+    → AreEnds N (filter test (lane_numbers N)) (λ _. []) ends
+tested_are_ends N test ns ends all are empty = record {
   network = all_before_map (λ (e : End). e.name) (λ (n : Name). n.network ≡ N) ends
-      (All-same (λ (n : Name). n.network ≡ N) (names ends) (filter (is_from N p) ns) are (All-filter (is_from N p) (λ (n : Name). n.network ≡ N) ns (network_named N (length (lanes N)) ns all)));
+      (All-same (λ (n : Name). n.network ≡ N) (names ends) (filter (λ n. test n.lane) ns) are
+      (All-filter (λ n. test n.lane) (λ (n : Name). n.network ≡ N) ns (network_named N (length (lanes N)) ns all)));
   lanes = sym (map-map (λ (n : Name). n.lane) (λ (e : End). e.name) ends) ∙ ap (map (λ (n : Name). n.lane)) are
-      ∙ filter_through (λ (n : Name). n.lane) (goes_from N p) ns ∙ ap (filter (goes_from N p)) (lanes_named N (length (lanes N)) ns all);
-  lists = empty;
-}
-
-takes_are_ends : (N : Table) (ns : List Name) (p : ℕ) (ends : List End) → AreNames N (length (lanes N)) ns → names ends ≡ filter (is_to N p) ns → All IsEmpty ends
-    → AreEnds N (filter (comes_to N p) (lane_numbers N)) (λ _. []) ends
-takes_are_ends N ns p ends all are empty = record {
-  network = all_before_map (λ (e : End). e.name) (λ (n : Name). n.network ≡ N) ends
-      (All-same (λ (n : Name). n.network ≡ N) (names ends) (filter (is_to N p) ns) are (All-filter (is_to N p) (λ (n : Name). n.network ≡ N) ns (network_named N (length (lanes N)) ns all)));
-  lanes = sym (map-map (λ (n : Name). n.lane) (λ (e : End). e.name) ends) ∙ ap (map (λ (n : Name). n.lane)) are
-      ∙ filter_through (λ (n : Name). n.lane) (comes_to N p) ns ∙ ap (filter (comes_to N p)) (lanes_named N (length (lanes N)) ns all);
+      ∙ filter_through (λ (n : Name). n.lane) test ns ∙ ap (filter test) (lanes_named N (length (lanes N)) ns all);
   lists = empty;
 }
 
@@ -68,8 +60,8 @@ is_ready N ns p P sized all idle = record {
       legal = λ l within receiver. empty_is_a_beginning (loads N (lane_at N l));
       shows = idle.opens;
     };
-    sends_are = sends_are_ends N ns p P.sends.items all idle.dealt.sends_are idle.sent;
-    takes_are = takes_are_ends N ns p P.takes.items all idle.dealt.takes_are idle.taken;
+    sends_are = tested_are_ends N (goes_from N p) ns P.sends.items all idle.dealt.sends_are idle.sent;
+    takes_are = tested_are_ends N (comes_to N p) ns P.takes.items all idle.dealt.takes_are idle.taken;
   };
 }
 

@@ -1,19 +1,17 @@
 -- What the plants give to the plan of the network.
 use Rattle.std.proofs.Common.{◌≡◌, ◌⊎◌, inl, inr, ℕ, zero, suc, ◌+◌, ◌-◌, ◌<◌, ◌≤◌, ◌==◌, List, [], ◌∷◌, ◌++◌, length, get_or, map, Vec, Global, refl, sym, ap, subst, ◌∙◌, arith, length-append}
 use Rattle.std.specs.List.{All, range_with_len, filter}
-use Rattle.std.proofs.lemmas.Bool.{eqb-true, eq-eqb}
+use Rattle.std.proofs.lemmas.Bool.{eq-eqb}
 use Rattle.std.proofs.lemmas.List.{ext_get_or, get_or_append_left, get_or_at, get_or-map, length-map}
-use Rattle.std.proofs.lemmas.List.Elements.{filter_passes, All-filter, All-map}
 use Rattle.mrp_netting.specs.declared.plan.PairPlan.{PairPlan}
 use Rattle.mrp_rows.specs.Table.{Table}
-use Rattle.mrp_net.specs.Sums.{pair_at}
 use Rattle.mrp_view.specs.Seen.{pairs_of_number}
-use Rattle.mrp_view.specs.View.{PlantRows, is_of_plant, plant_pair, plant_pairs}
+use Rattle.mrp_view.specs.View.{PlantRows, is_of_plant, plant_pair}
 use Rattle.mrp_view.specs.declared.view.PlantPair.{PlantPair}
-use Rattle.mrp_view.proofs.Seeing.{below}
 use Rattle.mrp_view.proofs.Seeing.{numbers_stand_once}
 use Rattle.mrp_loops.specs.Within.{plan_at}
 use Rattle.mrp_local.specs.Laws.{IsPairAt}
+use Rattle.mrp_local.proofs.Seeing.{pairs_are_at}
 use Rattle.mrp_agent.specs.State.{AgentState, no_pair, no_plan, pair_place}
 use Rattle.mrp_agent.proofs.Looking.{place_is_only}
 use Rattle.mrp_run.specs.declared.plant.Plant.{Plant}
@@ -22,20 +20,11 @@ use Rattle.mrp_gather.specs.Given.{plans_below}
 
 -- ---- what an agent gives
 
-own_numbers : (N : Table) (p : ℕ) → All (λ q. IsPairAt N p q.number.0) (plant_pairs N p)
-own_numbers N p =
-    let all : List ℕ = range_with_len 0 (length N.pairs) in
-    All-map (λ (q : PlantPair). IsPairAt N p q.number.0) (plant_pair N) (filter (is_of_plant N p) all)
-    (λ k d within. record {
-      pair = All-filter (is_of_plant N p) (λ (x : ℕ). x < length N.pairs) all (below (length N.pairs)) k d within;
-      at_plant = eqb-true (pair_at N (get_or (filter (is_of_plant N p) all) k d)).plant.0 p (filter_passes (is_of_plant N p) all k d within);
-    })
-
 -- the plan at a place is the network's plan of the pair there
 plan_given : (N : Table) (p : ℕ) (A : AgentState) → HasPlans N p A → (k : ℕ) → k < length A.view.pairs → get_or A.plans k no_plan ≡ plan_at N (get_or A.view.pairs k no_pair).number.0
 plan_given N p A has k within =
     let x : ℕ = (get_or A.view.pairs k no_pair).number.0 in
-    let own : All (λ q. IsPairAt N p q.number.0) A.view.pairs = subst (λ (V : PlantRows). All (λ q. IsPairAt N p q.number.0) V.pairs) (sym has.view) (own_numbers N p) in
+    let own : All (λ q. IsPairAt N p q.number.0) A.view.pairs = subst (λ (V : PlantRows). All (λ q. IsPairAt N p q.number.0) V.pairs) (sym has.view) (pairs_are_at N p) in
     let once : pairs_of_number x A.view.pairs ≤ 1 = subst (λ (V : PlantRows). pairs_of_number x V.pairs ≤ 1) (sym has.view) (numbers_stand_once N p x) in
     let place : pair_place A.view x ≡ k = place_is_only (λ (q : PlantPair). q.number.0 == x) A.view.pairs k no_pair once within (eq-eqb x x refl) in
     sym (ap (λ (n : ℕ). get_or A.plans n no_plan) place) ∙ has.plans x (own k no_pair within)

@@ -1,35 +1,22 @@
 -- The two ends of the last lane taken from their plants.
-use Rattle.std.proofs.Common.{◌≡◌, ◌≢◌, ℕ, suc, ◌+◌, ◌-◌, ◌<◌, List, [], ◌∷◌, ◌++◌, length, get_or, set, Option, None, Some, Vec, Global, All, refl, sym, ap, subst, ◌∙◌, arith, add-one}
+use Rattle.std.proofs.Common.{◌≡◌, ◌≢◌, ℕ, suc, ◌+◌, ◌-◌, ◌<◌, List, [], ◌∷◌, ◌++◌, length, get_or, set, Option, None, Vec, Global, All, refl, sym, ap, subst, ◌∙◌, arith, add-one}
 use Rattle.std.specs.List.{filter}
-use Rattle.std.specs.Option.{option_to_list, IsSomeAnd, MatchOption}
-use Rattle.std.specs.Vec.{vec_len}
+use Rattle.std.specs.Option.{option_to_list, IsSomeAnd}
 use Rattle.std.proofs.lemmas.Bool.{eq-eqb}
 use Rattle.std.proofs.lemmas.List.{length-set}
 use Rattle.mrp_rows.specs.Table.{Table}
+use Rattle.mrp_net.specs.declared.lane.Lane.{Lane}
 use Rattle.mrp_net.specs.Lanes.{lanes, lane_at}
 use Rattle.mrp_lane.specs.Ends.{End, Name}
 use Rattle.mrp_run.specs.declared.plant.Plant.{Plant}
 use Rattle.mrp_run.specs.Ends.{AreNames, is_from, is_to, IsDealt, HasEnded, HasNoEnds, HaveEnded, HaveLeft, HavePlans}
 use Rattle.mrp_run.specs.Plant.{IsClosed, names}
-use Rattle.mrp_run.proofs.Dealt.{filter_own, filter_other, apart}
+use Rattle.mrp_run.proofs.Dealt.{filter_own, filter_other, apart, lane_is}
 use Rattle.mrp_run.proofs.DealtLists.{each_set, popped}
 
 -- the end that is taken is the one of the name, and its lane is closed
 abbrev pub IsTheLast : Name → Option End → Type 0
 IsTheLast n o = IsSomeAnd o (λ e. (e.name ≡ n) × IsClosed e)
-
-empty : {X : Type 0} (xs : List X) → length xs ≡ 0 → xs ≡ []
-empty [] e = refl
-empty (x ∷ xs) e = absurd (omega (arith, e))
-
-at_none : {X : Type 0} (o : Option X) (P : Type 0) (Q : X → Type 0) → MatchOption o P Q → o ≡ None → P
-at_none None P Q h e = h
-at_none (Some x) P Q h e = absurd (cc)
-
-pub nothing_left : {X Z : Type 0} (v new : Vec X Z) (o : Option X) (Q : X → Type 0) → MatchOption o ((vec_len v ≡ 0) × (vec_len new ≡ 0)) Q → o ≡ None → v.items ≡ []
-nothing_left v new o Q cases none =
-    let size : vec_len v ≡ 0 = (at_none o ((vec_len v ≡ 0) × (vec_len new ≡ 0)) Q cases none).0 in
-    empty v.items (omega (arith, size, v.ok.0))
 
 -- ---- the sender's end
 
@@ -162,3 +149,36 @@ none_named N ns p P none dealt = record {
 
 pub no_ends : (N : Table) (plants : List Plant) (count : ℕ) → count ≡ 0 → HaveLeft N count plants → All HasNoEnds plants
 no_ends N plants count done left = λ k d h. none_named N left.names k _ (subst (λ (n : ℕ). AreNames N n left.names) done left.first_lanes) (left.ended.each k d h).dealt
+
+-- both ends of the last lane, taken from its plants one after the other
+pub record HaveBoth (N : Table) (l : ℕ) (send take : End) (rest : List Plant) : Type 0 where
+  pub before : List Name
+  pub last : Name
+  pub lane : last.lane ≡ l
+  pub network : last.network ≡ N
+  pub first_lanes : AreNames N l before
+  pub sent : send.name ≡ last
+  pub took : (take.name ≡ last) × IsClosed take
+  pub ended : HaveEnded N before before rest
+
+pub have_both : (N : Table) (l : ℕ) (plants middle rest : List Plant) (between : Lane) (send take : End) → HaveLeft N (l + 1) plants → between ≡ lane_at N l
+    → ((M : Table) (ns ts : List Name) (n : Name) → (lane_at M n.lane).sender.0 ≡ between.sender.0 → HaveEnded M (ns ++ n ∷ []) ts plants
+    → ((send.name ≡ n) × IsClosed send) × HaveEnded M ns ts middle)
+    → ((M : Table) (ns ts : List Name) (n : Name) → (lane_at M n.lane).receiver.0 ≡ between.receiver.0 → HaveEnded M ns (ts ++ n ∷ []) middle
+    → ((take.name ≡ n) × IsClosed take) × HaveEnded M ns ts rest)
+    → HaveBoth N l send take rest
+have_both N l plants middle rest between send take left is sends takes =
+    let have = have_last N l plants left in
+    let same = lane_is N N have.last.lane l between refl have.lane is in
+    let sent = sends N have.before (have.before ++ have.last ∷ []) have.last (ap (λ (lane : Lane). lane.sender.0) same) have.ended in
+    let took = takes N have.before have.before have.last (ap (λ (lane : Lane). lane.receiver.0) same) sent.1 in
+    record {
+      before = have.before;
+      last = have.last;
+      lane = have.lane;
+      network = have.network;
+      first_lanes = have.first_lanes;
+      sent = sent.0.0;
+      took = took.0;
+      ended = took.1;
+    }

@@ -69,16 +69,20 @@ pub record HaveFirst (N : Table) (capacity count : ℕ) (plants : List Plant) : 
 
 -- ---- all plants of a network
 
+-- there are names for the ends of all lanes, and with them each plant is as is said
+pub record AreEach (Is : List Name → ℕ → Plant → Type 0) (N : Table) (plants : List Plant) : Type 0 where
+  pub names : List Name
+  pub all_lanes : AreNames N (length (lanes N)) names
+  pub all_plants : length plants ≡ length N.plants
+  pub each : EachAt (Is names) plants
+
 -- before the first turn: the ends of all lanes are dealt, and each plant is at work
 pub record IsReady (N : Table) (ns : List Name) (p : ℕ) (P : Plant) : Type 0 where
   pub dealt : IsDealt N ns ns p P
   pub works : AtWork N p P
 
-pub record AreReady (N : Table) (plants : List Plant) : Type 0 where
-  pub names : List Name
-  pub all_lanes : AreNames N (length (lanes N)) names
-  pub all_plants : length plants ≡ length N.plants
-  pub each : EachAt (IsReady N names) plants
+abbrev pub AreReady : Table → List Plant → Type 0
+AreReady N plants = AreEach (IsReady N) N plants
 
 -- the mailboxes of a plant's lanes have their rooms
 pub record HasRooms (N : Table) (capacity : ℕ) (P : Plant) : Type 0 where
@@ -91,11 +95,8 @@ pub record IsThrough (N : Table) (ns : List Name) (p : ℕ) (P : Plant) : Type 0
   pub works : AtWork N p P
   pub finished : IsFinished N p P
 
-pub record AreThrough (N : Table) (plants : List Plant) : Type 0 where
-  pub names : List Name
-  pub all_lanes : AreNames N (length (lanes N)) names
-  pub all_plants : length plants ≡ length N.plants
-  pub each : EachAt (IsThrough N names) plants
+abbrev pub AreThrough : Table → List Plant → Type 0
+AreThrough N plants = AreEach (IsThrough N) N plants
 
 -- ---- pairing
 

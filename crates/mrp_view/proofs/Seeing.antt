@@ -1,5 +1,5 @@
 -- What a plant sees of an accepted table: its pairs and edges.
-use Rattle.std.proofs.Common.{◌≡◌, ℕ, zero, suc, ◌+◌, ◌*◌, ◌<◌, ◌≤◌, true, eqb, List, [], ◌∷◌, length, get_or, refl, sym, ap, ◌∙◌, arith}
+use Rattle.std.proofs.Common.{◌≡◌, ℕ, zero, suc, ◌+◌, ◌*◌, ◌<◌, ◌≤◌, ◌==◌, Bool, true, eqb, List, [], ◌∷◌, length, get_or, refl, sym, ap, ◌∙◌, arith}
 use Rattle.std.specs.List.{All, Contains, filter, flat_map, range_with_len}
 use Rattle.std.proofs.lemmas.Bool.{eq-eqb, eqb-true}
 use Rattle.std.proofs.lemmas.List.{length-append, length-map}
@@ -18,7 +18,7 @@ use Rattle.mrp_view.specs.Seen.{IsOwn, IsOwnOf, IsPlantPair, IsPlantEdge, pairs_
 use Rattle.mrp_net.specs.Sums.{pair_at, no_pair, row_of}
 use Rattle.mrp_view.specs.View.{is_of_plant, plant_pair, plant_pairs, plant_edge, edges_to, plant_edges, plant_amounts, plant_rows}
 use Rattle.mrp_net.proofs.Joining.{edges_join, demanders_join}
-use Rattle.mrp_net.proofs.Members.{In-from_contains, Contains-from_in, In-filter, In-map, In-range, range_only}
+use Rattle.mrp_net.proofs.Members.{In, In-from_contains, Contains-from_in, In-filter, In-map, In-range, range_only}
 use Rattle.mrp_view.proofs.Once.{count-map, count-filter, count_range, count_within}
 use Rattle.mrp_net.proofs.Sharing.{pairs_are_found}
 use Rattle.mrp_group.proofs.Sorting.{All-sorted_by}
@@ -28,16 +28,29 @@ use Rattle.mrp_group.proofs.Sorting.{All-sorted_by}
 pub below : (n : ℕ) → All (λ x. x < n) (range_with_len 0 n)
 below n = λ k d h. let within = range_only 0 n (get_or (range_with_len 0 n) k d) (In-from_contains (range_with_len 0 n) (get_or (range_with_len 0 n) k d) (Contains-get_or (range_with_len 0 n) k d h)) in omega (arith, within.1)
 
+-- of the numbers below a bound those that a plant owns: each is below it and owned by the plant
+pub owned : (n : ℕ) (owner : ℕ → ℕ) (plant : ℕ) → All (λ x. (x < n) × (owner x ≡ plant)) (filter (λ x. owner x == plant) (range_with_len 0 n))
+owned n owner plant = λ k d h.
+    let own : ℕ → Bool = λ x. owner x == plant in
+    let x : ℕ = get_or (filter own (range_with_len 0 n)) k d in (
+      All-filter own (λ (y : ℕ). y < n) (range_with_len 0 n) (below n) k d h,
+      eqb-true (owner x) plant (filter_passes own (range_with_len 0 n) k d h),
+    )
+
+-- and each such number is there
+pub owned_there : (n : ℕ) (owner : ℕ → ℕ) (plant x : ℕ) → x < n → owner x ≡ plant → In (filter (λ y. owner y == plant) (range_with_len 0 n)) x
+owned_there n owner plant x within is =
+    In-filter (λ (y : ℕ). owner y == plant) (range_with_len 0 n) x (In-range 0 n x (omega arith) (omega (arith, within))) (eq-eqb (owner x) plant is)
+
 -- the numbers of the plant's pairs
 abbrev own : Table → ℕ → List ℕ
 own N plant = filter (is_of_plant N plant) (range_with_len 0 (length N.pairs))
 
 own_are_pairs : (N : Table) (plant : ℕ) → All (IsPair N) (own N plant)
-own_are_pairs N plant = All-filter (is_of_plant N plant) (IsPair N) (range_with_len 0 (length N.pairs)) (below (length N.pairs))
+own_are_pairs N plant = λ k d h. (owned (length N.pairs) (λ x. (pair_at N x).plant.0) plant k d h).0
 
 own_are_of_plant : (N : Table) (plant : ℕ) → All (λ x. (pair_at N x).plant.0 ≡ plant) (own N plant)
-own_are_of_plant N plant = λ k d h.
-    eqb-true (pair_at N (get_or (own N plant) k d)).plant.0 plant (filter_passes (is_of_plant N plant) (range_with_len 0 (length N.pairs)) k d h)
+own_are_of_plant N plant = λ k d h. (owned (length N.pairs) (λ x. (pair_at N x).plant.0) plant k d h).1
 
 pub pairs_are_pairs : (N : Table) (plant : ℕ) → All (λ p. IsPair N p.number.0) (plant_pairs N plant)
 pairs_are_pairs N plant = All-map (λ (p : PlantPair). IsPair N p.number.0) (plant_pair N) (own N plant) (own_are_pairs N plant)
@@ -75,8 +88,7 @@ pairs_are_planned N plant is =
 own_pair : (N : Table) (plant x : ℕ) → IsPair N x → (pair_at N x).plant.0 ≡ plant → Contains (plant_pairs N plant) (plant_pair N x)
 own_pair N plant x pair e =
     Contains-from_in (plant_pairs N plant) (plant_pair N x)
-    (In-map (plant_pair N) (own N plant) x
-    (In-filter (is_of_plant N plant) (range_with_len 0 (length N.pairs)) x (In-range 0 (length N.pairs) x (omega arith) (omega arith)) (eq-eqb (pair_at N x).plant.0 plant e)))
+    (In-map (plant_pair N) (own N plant) x (owned_there (length N.pairs) (λ y. (pair_at N y).plant.0) plant x pair e))
 
 pub is_own : (N : Table) (plant : ℕ) (x : PairNo) → IsPair N x.0 → (pair_at N x.0).plant.0 ≡ plant → IsOwn (plant_rows N plant) x
 is_own N plant x pair e = (plant_pair N x.0, own_pair N plant x.0 pair e, refl)

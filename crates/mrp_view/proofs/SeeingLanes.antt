@@ -28,7 +28,7 @@ use Rattle.mrp_net.proofs.Covering.{lane_items_stand_once}
 use Rattle.mrp_net.proofs.Members.{Contains-from_in, In-filter, In-map, In-range}
 use Rattle.mrp_view.proofs.Once.{count-map, count-filter, count_range, count_within, count_distinct}
 use Rattle.mrp_net.proofs.Routing.{map-map}
-use Rattle.mrp_view.proofs.Seeing.{below, is_own_of}
+use Rattle.mrp_view.proofs.Seeing.{owned, is_own_of}
 use Rattle.mrp_net.proofs.Sourcing.{item_is_taken, source_within}
 use Rattle.mrp_net.proofs.Summing.{figure_within}
 use Rattle.mrp_net.proofs.Twos.{lanes_come_in_twos}
@@ -240,6 +240,5 @@ schedule_lane_is N plant l is within here kind =
 pub schedules_are : (N : Table) (plant : ℕ) → IsTable N → All (λ lane. lane.kind ≡ Schedule → IsScheduleLane (plant_rows N plant) lane) (outgoing_lanes N plant)
 schedules_are N plant is =
     All-map (λ (lane : OutgoingLane). lane.kind ≡ Schedule → IsScheduleLane (plant_rows N plant) lane) (outgoing_lane N) (filter (goes_from N plant) (lane_numbers N))
-    (λ k d h kind. let l : ℕ = get_or (filter (goes_from N plant) (lane_numbers N)) k d in
-    schedule_lane_is N plant l is (All-filter (goes_from N plant) (λ z. z < length (lanes N)) (lane_numbers N) (below (length (lanes N))) k d h)
-    (eqb-true (lane_at N l).sender.0 plant (filter_passes (goes_from N plant) (lane_numbers N) k d h)) kind)
+    (λ k d h kind. let own = owned (length (lanes N)) (λ l. (lane_at N l).sender.0) plant k d h in
+    schedule_lane_is N plant (get_or (filter (goes_from N plant) (lane_numbers N)) k d) is own.0 own.1 kind)

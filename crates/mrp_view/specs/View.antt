@@ -7,6 +7,8 @@ use Rattle.mrp_net.specs.declared.edge.Edge.{Edge}
 use Rattle.mrp_net.specs.declared.lane.Lane.{Lane}
 use Rattle.mrp_net.specs.declared.lane.LaneKind.TheVariants.{Despatch, Schedule}
 use Rattle.mrp_net.specs.declared.lane.Shipment.{Shipment}
+use Rattle.mrp_view.specs.declared.amounts.Amounts.{Amounts}
+use Rattle.mrp_view.specs.declared.amounts.Amounts.TheVariants.{Demands, Receipts}
 use Rattle.mrp_view.specs.declared.view.IncomingItem.{IncomingItem}
 use Rattle.mrp_view.specs.declared.view.IncomingLane.{IncomingLane}
 use Rattle.mrp_view.specs.declared.view.OutgoingLane.{OutgoingLane}
@@ -56,6 +58,11 @@ edges_to N x = map plant_edge (filter (is_local N) (demanders N x))
 -- those of all its pairs, by component
 abbrev pub plant_edges : Table → ℕ → List PlantEdge
 plant_edges N plant = flat_map (λ p. edges_to N p.number.0) (plant_pairs N plant)
+
+-- what the rows of a pair add up to in a period
+abbrev pub amount_of : Amounts → Table → ℕ → ℕ → ℕ
+amount_of Demands N = demand N
+amount_of Receipts N = received N
 
 -- an amount of each of its pairs and each period, pair by pair
 abbrev pub plant_amounts : Table → (ℕ → ℕ → ℕ) → ℕ → List ℕ

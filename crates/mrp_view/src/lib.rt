@@ -2,6 +2,7 @@
 //! A plant is planned from this alone.
 #![tactic(auto)]
 
+mod amounts;
 pub mod laws;
 mod view;
 mod viewing;

@@ -7,9 +7,9 @@ ghost use Rattle.mrp_net.specs.Edges.{IsEdge};
 ghost use Rattle.mrp_net.specs.Lanes.{lanes, lane_at, lane_items};
 ghost use Rattle.mrp_net.specs.EdgeLaws.{is_local};
 ghost use Rattle.mrp_view.specs.Loads.{bare};
-ghost use Rattle.mrp_net.specs.Sums.{row_of, demand, received};
 ghost use Rattle.mrp_view.specs.View.{plant_pairs, plant_edge, edges_to, plant_rows, incoming_item, incoming_lanes, sent_on, outgoing_item, outgoing_lanes};
 
+use crate::amounts::{Amounts, plant_amounts};
 use crate::view::{
     IncomingItem, IncomingItems, IncomingLane, OutgoingItem, OutgoingItems, OutgoingLane,
     PlantEdge, PlantPair, PlantView,
@@ -30,8 +30,8 @@ impl PlantView {
     {
         let pairs = plant_pairs(alloc, network, plant)?;
         let edges = plant_edges(alloc, network, pairs.as_slice())?;
-        let demands = plant_demands(alloc, network, pairs.as_slice())?;
-        let receipts = plant_receipts(alloc, network, pairs.as_slice())?;
+        let demands = plant_amounts(alloc, network, pairs.as_slice(), Amounts::Demands)?;
+        let receipts = plant_amounts(alloc, network, pairs.as_slice(), Amounts::Receipts)?;
         let incoming = incoming_lanes(alloc, network, plant)?;
         let outgoing = outgoing_lanes(alloc, network, plant)?;
         Ok(PlantView {
@@ -105,36 +105,6 @@ fn plant_edges(
         add_edges(&mut edges, network, pair.number)?;
     }
     Ok(edges)
-}
-
-/// What the demand rows add up to, pair by pair.
-fn plant_demands(alloc: Global, network: &Network, pairs: &[PlantPair]) -> Result<Vec<u64>, Memory>
-    requires pairs { All (λ p. IsPair network.now p.number.0) pairs.now }
-    requires few { length pairs.now ≤ length network.now.pairs }
-    ensures { IfOk result (λ v. v.items ≡ flat_map (λ p. row_of network.now (demand network.now p.number.0)) pairs.now) }
-{
-    let _pairs = network.pairs();
-    let periods = network.horizon().get() as usize;
-    let mut amounts = Vec::with_capacity(alloc, pairs.len() * periods)?;
-    for pair in pairs {
-        amounts.extend_from_slice(network.demand_row(pair.number))?;
-    }
-    Ok(amounts)
-}
-
-/// What the receipt rows add up to, pair by pair.
-fn plant_receipts(alloc: Global, network: &Network, pairs: &[PlantPair]) -> Result<Vec<u64>, Memory>
-    requires pairs { All (λ p. IsPair network.now p.number.0) pairs.now }
-    requires few { length pairs.now ≤ length network.now.pairs }
-    ensures { IfOk result (λ v. v.items ≡ flat_map (λ p. row_of network.now (received network.now p.number.0)) pairs.now) }
-{
-    let _pairs = network.pairs();
-    let periods = network.horizon().get() as usize;
-    let mut amounts = Vec::with_capacity(alloc, pairs.len() * periods)?;
-    for pair in pairs {
-        amounts.extend_from_slice(network.received_row(pair.number))?;
-    }
-    Ok(amounts)
 }
 
 /// An item of a lane, as its receiver sees it.

@@ -3,7 +3,6 @@ use Rattle.std.proofs.Common.{◌≡◌, ℕ, ◌<◌, ◌==◌, List, length, g
 use Rattle.std.specs.List.{All, filter, range_with_len}
 use Rattle.std.proofs.lemmas.Bool.{eq-eqb}
 use Rattle.std.proofs.lemmas.List.{ext_get_or, get_or-map, length-map}
-use Rattle.mrp_lot.specs.One.{PlanRows}
 use Rattle.mrp_rows.specs.Table.{Table}
 use Rattle.mrp_net.specs.Plan.{plan_of, rows_at}
 use Rattle.mrp_view.specs.declared.view.PlantPair.{PlantPair}
@@ -13,9 +12,8 @@ use Rattle.mrp_agent.proofs.Looking.{place_is_only}
 use Rattle.mrp_agent.proofs.Network.{planned_pairs_have_the_plan}
 use Rattle.mrp_world.specs.Agents.{ShowsAgent}
 use Rattle.mrp_world.specs.Gathering.{HasPlannedAll, own_plans}
+use Rattle.mrp_local.proofs.Seeing.{pairs_are_at}
 use Rattle.mrp_world.specs.Moments.{Moment, IsAt, IsOwn}
-use Rattle.mrp_world.specs.Owned.{pairs_are_own}
-use Rattle.mrp_world.proofs.AgentPlaces.{pair_at_plant}
 use Rattle.mrp_world.proofs.AgentWorks.{works_in}
 
 -- the plan at a place is the network's plan of the pair there
@@ -24,11 +22,11 @@ plan_given : (A : AgentState) (m : Moment) (p : ℕ) → IsAt ShowsAgent m p A �
 plan_given A m p at done k within =
     let N : Table = m.network in
     let x : ℕ = (get_or A.view.pairs k no_pair).number.0 in
-    let own : All (λ z. IsOwn N p z.number.0) A.view.pairs = subst (λ (V : PlantRows). All (λ z. IsOwn N p z.number.0) V.pairs) (sym at.shown.view) (pairs_are_own N p) in
+    let own : All (λ z. IsOwn N p z.number.0) A.view.pairs = subst (λ (V : PlantRows). All (λ z. IsOwn N p z.number.0) V.pairs) (sym at.shown.view) (pairs_are_at N p) in
     let mine : IsOwn N p x = own k no_pair within in
     let place : pair_place A.view x ≡ k = place_is_only (λ (z : PlantPair). z.number.0 == x) A.view.pairs k no_pair (at.shown.enough.numbers_once x) within (eq-eqb x x refl) in
     let is : plans_of A x ≡ rows_at (plan_of N) x =
-    planned_pairs_have_the_plan N at.sized.table at.sized.loop_free p A m.state.sent m.state.taken m.state.planned (works_in A m p at) x (pair_at_plant N p x mine) (done x mine) in
+    planned_pairs_have_the_plan N at.sized.table at.sized.loop_free p A m.state.sent m.state.taken m.state.planned (works_in A m p at) x mine (done x mine) in
     sym (ap (λ (n : ℕ). get_or A.plans n no_plan) place) ∙ is
 
 pub gives : (A : AgentState) (m : Moment) (p : ℕ) → IsAt ShowsAgent m p A → HasPlannedAll m p → length A.plans ≡ length A.view.pairs → A.plans ≡ own_plans m.network p

@@ -12,13 +12,14 @@ use Rattle.mrp_record.specs.declared.record.Record.{Record}
 use Rattle.mrp_events.specs.State.{CanPlan, after_plan, changed}
 use Rattle.mrp_local.specs.Local.{CanBePlanned}
 use Rattle.mrp_local.proofs.Planned.{plannable_is_local}
+use Rattle.mrp_local.proofs.Seeing.{own_at, seen_there}
 use Rattle.mrp_agent.specs.Drafts.{drafted_gross, drafted_incoming}
 use Rattle.mrp_agent.specs.Shows.{Shows}
 use Rattle.mrp_agent.specs.State.{AgentState, pair_of}
 use Rattle.mrp_agent.proofs.DraftLaws.{drafts_are_within}
 use Rattle.mrp_world.specs.Agents.{ShowsAgent}
 use Rattle.mrp_world.specs.Moments.{Moment, IsAt, IsOwn, Has}
-use Rattle.mrp_world.proofs.AgentPlaces.{pair_at_plant, pair_there, own_seen, seen_own}
+use Rattle.mrp_world.proofs.AgentPlaces.{own_seen}
 use Rattle.mrp_world.proofs.AgentWorks.{works_in}
 
 -- the numbers are those of the pairs that can be planned
@@ -32,20 +33,20 @@ module _ (A : AgentState) (numbers : List PairNo) (exact : AreReady A numbers) w
     listed_can_be : Contains numbers x → CanBePlanned (plant_rows m.network p) m.state.taken m.state.planned (plant_pair m.network x.0)
     listed_can_be listed =
         subst (λ (V : PlantRows). CanBePlanned V m.state.taken m.state.planned (plant_pair m.network x.0)) at.shown.view
-        ((exact m.state.sent m.state.taken m.state.planned at.shown.history (plant_pair m.network x.0) (pair_there A.view m.network p x.0 at.shown.view own)).0 listed)
+        ((exact m.state.sent m.state.taken m.state.planned at.shown.history (plant_pair m.network x.0) (seen_there A.view m.network p x.0 at.shown.view own)).0 listed)
 
     pub listed_can : Contains numbers x → CanPlan m.network m.state x.0
-    listed_can listed = (plannable_is_local m.network at.sized.table p m.state x.0 (pair_at_plant m.network p x.0 own)).1 (listed_can_be listed)
+    listed_can listed = (plannable_is_local m.network at.sized.table p m.state x.0 own).1 (listed_can_be listed)
 
     pub can_listed : CanPlan m.network m.state x.0 → Contains numbers x
     can_listed can =
-        (exact m.state.sent m.state.taken m.state.planned at.shown.history (plant_pair m.network x.0) (pair_there A.view m.network p x.0 at.shown.view own)).1
+        (exact m.state.sent m.state.taken m.state.planned at.shown.history (plant_pair m.network x.0) (seen_there A.view m.network p x.0 at.shown.view own)).1
         (subst (λ (V : PlantRows). CanBePlanned V m.state.taken m.state.planned (plant_pair m.network x.0)) (sym at.shown.view)
-        ((plannable_is_local m.network at.sized.table p m.state x.0 (pair_at_plant m.network p x.0 own)).0 can))
+        ((plannable_is_local m.network at.sized.table p m.state x.0 own).0 can))
 
     draft_at : Contains numbers x → IsWithin (pair_of A.view x).params (drafted_incoming A x) (drafted_gross A x)
     draft_at listed =
-        drafts_are_within m.network at.sized p A m.state.sent m.state.taken m.state.planned (works_in A m p at) x.0 (pair_at_plant m.network p x.0 own) (listed_can_be listed).ready
+        drafts_are_within m.network at.sized p A m.state.sent m.state.taken m.state.planned (works_in A m p at) x.0 own (listed_can_be listed).ready
 
   pub draft_within : (x : PairNo) → Has ShowsAgent A x.0 → Contains numbers x → IsWithin (pair_of A.view x).params (drafted_incoming A x) (drafted_gross A x)
   draft_within x (m, p, at, own) listed = draft_at m p x at own listed
@@ -89,7 +90,7 @@ first_own A [] own (Some x) is = absurd (cc is)
 first_own A (y ∷ ys) own None is = tt
 first_own A (y ∷ ys) own (Some x) is = λ m p at.
     let same : x ≡ y = cc is in
-    seen_own A.view m.network p x at.shown.view (subst (seen.IsOwn A.view) (sym same) (own 0 y (omega arith)))
+    own_at A.view m.network p x at.shown.view (subst (seen.IsOwn A.view) (sym same) (own 0 y (omega arith)))
 
 pub first_can : (A : AgentState) (numbers : List PairNo) → AreReady A numbers → All (seen.IsOwn A.view) numbers → (o : Option PairNo) → o ≡ slice_get numbers 0
     → IfSome o (λ x. (m : Moment) (p : ℕ) → IsAt ShowsAgent m p A → CanPlan m.network m.state x.0)
@@ -98,7 +99,7 @@ first_can A [] exact own (Some x) is = absurd (cc is)
 first_can A (y ∷ ys) exact own None is = tt
 first_can A (y ∷ ys) exact own (Some x) is = λ m p at.
     let same : x ≡ y = cc is in
-    let its : IsOwn m.network p y.0 = seen_own A.view m.network p y at.shown.view (own 0 y (omega arith)) in
+    let its : IsOwn m.network p y.0 = own_at A.view m.network p y at.shown.view (own 0 y (omega arith)) in
     subst (λ (z : PairNo). CanPlan m.network m.state z.0) (sym same) (listed_can A (y ∷ ys) exact m p y at its (0, omega arith, refl))
 
 pub none_can : (A : AgentState) (numbers : List PairNo) → AreReady A numbers → (o : Option PairNo) → o ≡ slice_get numbers 0

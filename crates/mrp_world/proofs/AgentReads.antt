@@ -20,14 +20,15 @@ use Rattle.mrp_agent.proofs.Network.{planned_pairs_have_the_plan}
 use Rattle.mrp_agent.proofs.Reading.{received_figures_are_cumulative}
 use Rattle.mrp_world.specs.Agents.{ShowsAgent}
 use Rattle.mrp_world.specs.Moments.{Moment, IsAt, IsIn, IsOwn}
-use Rattle.mrp_world.proofs.AgentPlaces.{in_there, pair_at_plant, pair_there}
+use Rattle.mrp_local.proofs.Seeing.{seen_there}
+use Rattle.mrp_world.proofs.AgentPlaces.{in_there}
 use Rattle.mrp_world.proofs.AgentWorks.{works_in}
 
 -- ---- plans
 
 planned_is : (A : AgentState) (m : Moment) (p : ℕ) (x : PairNo) → IsAt ShowsAgent m p A → IsOwn m.network p x.0
     → m.state.planned x.0 ≡ is_planned A.progress.planned (pair_place A.view x.0)
-planned_is A m p x at own = at.shown.history.planned_are (plant_pair m.network x.0) (pair_there A.view m.network p x.0 at.shown.view own)
+planned_is A m p x at own = at.shown.history.planned_are (plant_pair m.network x.0) (seen_there A.view m.network p x.0 at.shown.view own)
 
 -- a pair is planned where its plan is given
 abbrev pub IsGiven : {X : Type 0} → AgentState → PairNo → Option X → Type 0
@@ -52,7 +53,7 @@ none_planned A x None there = λ m p at own. planned_is A m p x at own ∙ unpla
 plan_is : (A : AgentState) (x : PairNo) (plan : PlanRows) → plan ≡ plans_of A x.0
     → (m : Moment) (p : ℕ) → IsAt ShowsAgent m p A → IsOwn m.network p x.0 → m.state.planned x.0 ≡ true → plan ≡ rows_at (plan_of m.network) x.0
 plan_is A x plan is m p at own done =
-    is ∙ planned_pairs_have_the_plan m.network at.sized.table at.sized.loop_free p A m.state.sent m.state.taken m.state.planned (works_in A m p at) x.0 (pair_at_plant m.network p x.0 own) done
+    is ∙ planned_pairs_have_the_plan m.network at.sized.table at.sized.loop_free p A m.state.sent m.state.taken m.state.planned (works_in A m p at) x.0 own done
 
 pub given_plan : {X : Type 0} (now : X → PlanRows) (A : AgentState) (x : PairNo) (o : Option X) → IsGiven A x o
     → IfSome o (λ plan. now plan ≡ plans_of A x.0)

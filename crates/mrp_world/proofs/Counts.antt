@@ -1,5 +1,5 @@
 -- How the records of a network's lanes are counted.
-use Rattle.std.proofs.Common.{◌≡◌, inl, inr, ℕ, ◌+◌, ◌*◌, ◌<◌, ◌≤◌, ◌==◌, not, Bool, true, false, cond, List, [], ◌∷◌, ◌++◌, length, ap, subst, ◌∙◌, arith, length-append, Contains, slice_index}
+use Rattle.std.proofs.Common.{◌^◌, ◌≡◌, inl, inr, ℕ, ◌+◌, ◌*◌, ◌<◌, ◌≤◌, ◌==◌, not, Bool, true, false, cond, List, [], ◌∷◌, ◌++◌, length, ap, subst, ◌∙◌, arith, length-append, Contains, slice_index}
 use Rattle.std.proofs.lemmas.Bool.{cases_Bool, eqb-true, eq-eqb}
 use Rattle.std.proofs.lemmas.List.FromFn.{filter_of_map_range_with_len_more, length-map-range_with_len}
 use Rattle.std.proofs.lemmas.List.Sums.{get_or-le-sum_by, sum_by-cons}
@@ -113,15 +113,14 @@ block_is_short N table l within item there =
 abbrev new_start : Bool → ℕ
 new_start starts = if starts then 1 else 0
 
-pub block_anew : (load : Load) (lines : ℕ) → lines ≡ length load.lines → is_some load.reset ≡ true → block_length load ≡ lines + 2
-block_anew load lines size anew =
-    let e : new_start (is_some load.reset) ≡ 1 = ap new_start anew in
-    omega (arith, e, size)
+pub block_is : (load : Load) (lines : ℕ) (starts : Bool) → lines ≡ length load.lines → is_some load.reset ≡ starts → block_length load ≡ lines + (new_start starts + 1)
+block_is load lines starts size is = omega (arith, ap new_start is, size)
 
-pub block_as_ever : (load : Load) (lines : ℕ) → lines ≡ length load.lines → is_some load.reset ≡ false → block_length load ≡ lines + 1
-block_as_ever load lines size none =
-    let e : new_start (is_some load.reset) ≡ 0 = ap new_start none in
-    omega (arith, e, size)
+pub block_fits : (N : Table) → IsTable N → (l : ℕ) → l < length (lanes N) → (item : ItemNo) → Contains (lane_items N (lane_at N l)) item
+    → (lines : ℕ) (starts : Bool) → lines ≡ length (load_of N (lane_at N l) item).lines → is_some (load_of N (lane_at N l) item).reset ≡ starts
+    → lines + (new_start starts + 1) < 2 ^ 64
+block_fits N table l within item there lines starts size is =
+    omega (arith, block_is_short N table l within item there, block_is (load_of N (lane_at N l) item) lines starts size is)
 
 -- ---- sums so far
 

@@ -116,7 +116,7 @@ all_rests shows N plants boxes from high low each (Receive l) capacity s at enab
     (lane_among shows N plants boxes from l.0 high low enabled.1.1.lane).receives_nothing capacity s at enabled
 all_rests shows N plants boxes from high low each (Plan x) capacity s at enabled =
     let within = owner_within N at.sized x.0 enabled.1.0.pair in
-    each (pair_at N x.0).plant.0 (omega arith) (omega (arith, within, at.shown.all)) x.0 (record { pair = enabled.1.0.pair; plant = refl }) capacity s at enabled
+    each (pair_at N x.0).plant.0 (omega arith) (omega (arith, within, at.shown.all)) x.0 (record { pair = enabled.1.0.pair; at_plant = refl }) capacity s at enabled
 
 -- ---- whether an event has happened
 

@@ -118,7 +118,7 @@ planned_elsewhere : (N : Table) (s : State) (x : ℕ) (p : ℕ) → (p ≡ (pair
 planned_elsewhere N s x p other = record {
   sent = λ k out. refl;
   taken = λ k within. refl;
-  planned = λ y own. sym (changed_else s.planned x true y (λ e. other (sym (own.plant) ∙ ap (λ (z : ℕ). (pair_at N z).plant.0) e)));
+  planned = λ y own. sym (changed_else s.planned x true y (λ e. other (sym own.at_plant ∙ ap (λ (z : ℕ). (pair_at N z).plant.0) e)));
 }
 
 -- ---- one mailbox changed
@@ -352,7 +352,7 @@ pub plan_leads : {A : Type 0} (shows : Showing A) → Stays shows → (N : Table
     → Lead shows N plants boxes (Plan (record { 0 = x })) (set plants p new) boxes
 plan_leads {A} shows stays N plants boxes x p d new pair known e can planned capacity s at =
     let here = plant_is_at shows N capacity plants boxes s at p d known in
-    let own : IsOwn N p x = record { pair = pair; plant = e } in
+    let own : IsOwn N p x = record { pair = pair; at_plant = e } in
     let may = can (moment N capacity s) p here own in (
       after_plan s x,
       (may, refl),
@@ -366,7 +366,7 @@ pub cannot_leads_nowhere : {A : Type 0} (shows : Showing A) (N : Table) (plants 
     → ((m : Moment) (q : ℕ) → IsAt shows m q (get_or plants p d) → IsOwn m.network q x → ¬ CanPlan m.network m.state x)
     → LeadNowhere shows N plants boxes (Plan (record { 0 = x }))
 cannot_leads_nowhere shows N plants boxes x p d pair known e cannot capacity s at enabled =
-    cannot (moment N capacity s) p (plant_is_at shows N capacity plants boxes s at p d known) (record { pair = pair; plant = e }) enabled.1.0
+    cannot (moment N capacity s) p (plant_is_at shows N capacity plants boxes s at p d known) (record { pair = pair; at_plant = e }) enabled.1.0
 
 -- ---- each plant may be called
 
@@ -383,7 +383,7 @@ may_receive shows N plants boxes l p d some within known e =
 pub may_plan : {A : Type 0} (shows : Showing A) (N : Table) (plants : List A) (boxes : List Held) (x p : ℕ) (d : A) → AreSomewhere shows N plants boxes
     → IsPair N x → p < length N.plants → (pair_at N x).plant.0 ≡ p → Has shows (get_or plants p d) x
 may_plan shows N plants boxes x p d some pair known e =
-    (moment N some.0 some.1, p, plant_is_at shows N some.0 plants boxes some.1 some.2 p d known, record { pair = pair; plant = e })
+    (moment N some.0 some.1, p, plant_is_at shows N some.0 plants boxes some.1 some.2 p d known, record { pair = pair; at_plant = e })
 
 pub owner_known : {A : Type 0} (shows : Showing A) (N : Table) (plants : List A) (boxes : List Held) (x p : ℕ) → AreSomewhere shows N plants boxes
     → IsPair N x → (pair_at N x).plant.0 ≡ p → p < length N.plants

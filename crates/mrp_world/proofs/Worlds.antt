@@ -220,7 +220,7 @@ asked_has shows N capacity plants boxes left w x p plant asked = (
   moment N capacity asked.is.state,
   p,
   asked_plant_at shows N capacity plants boxes left w x p plant asked asked.is.state asked.is.shown,
-  record { pair = own_pair shows N capacity plants boxes left w x p plant asked; plant = asked.owner },
+  record { pair = own_pair shows N capacity plants boxes left w x p plant asked; at_plant = asked.owner },
 )
 
 -- what its plant says of the pair in each moment holds in each state that the world shows
@@ -232,7 +232,7 @@ pub asked_says : {A : Type 0} (shows : Showing A) (N : Table) (capacity : ℕ) (
 asked_says {A} shows N capacity plants boxes left w x p plant Says asked says =
     subst (λ (v : WorldState A). (s : State) → WorldShows shows v s → Says v.network s) asked.same
     (λ s shown. says (moment N capacity s) p (asked_plant_at shows N capacity plants boxes left w x p plant asked s shown)
-    (record { pair = own_pair shows N capacity plants boxes left w x p plant asked; plant = asked.owner }))
+    (record { pair = own_pair shows N capacity plants boxes left w x p plant asked; at_plant = asked.owner }))
 
 -- also what doesn't depend on the state
 pub asked_always : {A : Type 0} (shows : Showing A) (N : Table) (capacity : ℕ) (plants : List A) (boxes : List Held) (left : ℕ) (w : WorldState A) (x p : ℕ) (plant : A) (Says : Table → Type 0)

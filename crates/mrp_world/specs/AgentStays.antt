@@ -23,6 +23,7 @@ use Rattle.mrp_events.specs.State.{State}
 use Rattle.mrp_cursor.specs.Cursor.{Goods}
 use Rattle.mrp_cursor.specs.Shows.{ShowsSent}
 use Rattle.mrp_ready.specs.Counts.{Awaited, AreCounts, open_blocks}
+use Rattle.mrp_local.proofs.Seeing.{pairs_are_at}
 use Rattle.mrp_local.specs.Goods.{goods_by, goods_of, schedule_goods, IsSendable}
 use Rattle.mrp_local.specs.Local.{amount_at, asked_within, booked_on, is_of_kind, lanes_in, local_gross, local_incoming}
 use Rattle.mrp_local.specs.Local.{local_plan, local_row, pieces_in, AwaitsNothing, IsLocal, IsPlannedLocally}
@@ -31,7 +32,7 @@ use Rattle.mrp_agent.specs.State.{AgentState, book_at, incoming_at, out_at, outg
 use Rattle.mrp_agent.proofs.Owning.{own_of_item}
 use Rattle.mrp_world.specs.Agents.{ShowsAgent}
 use Rattle.mrp_world.specs.Moments.{AgreeAt}
-use Rattle.mrp_world.specs.Owned.{incoming_are_in, outgoing_are_out, pairs_are_own}
+use Rattle.mrp_world.specs.Owned.{incoming_are_in, outgoing_are_out}
 
 -- ---- maps and joined lists, element by element
 
@@ -56,7 +57,7 @@ agree_on : (N : Table) (p : ℕ) (s t : State) → AgreeAt N p s t → AgreeOn (
 agree_on N p s t agree = record {
   outs = λ k d within. agree.sent (get_or (plant_rows N p).outgoing k d).number.0 (outgoing_are_out N p k d within);
   ins = λ k d within. agree.taken (get_or (plant_rows N p).incoming k d).number.0 (incoming_are_in N p k d within);
-  pairs = λ k d within. agree.planned (get_or (plant_rows N p).pairs k d).number.0 (pairs_are_own N p k d within);
+  pairs = λ k d within. agree.planned (get_or (plant_rows N p).pairs k d).number.0 (pairs_are_at N p k d within);
 }
 
 -- ---- what has come

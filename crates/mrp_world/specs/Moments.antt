@@ -1,13 +1,13 @@
 -- What a plant shows of a run over a network, and what it can do at a moment of the run.
 use Rattle.std.specs.Prelude.{◌≡◌, ℕ, ◌<◌, [], ◌∷◌, ◌++◌, length}
-use Rattle.mrp_rows.specs.Table.{Table, IsPair}
+use Rattle.mrp_rows.specs.Table.{Table}
 use Rattle.mrp_net.specs.Lanes.{lanes, lane_at}
-use Rattle.mrp_net.specs.Sums.{pair_at}
 use Rattle.mrp_view.specs.View.{PlantRows, plant_rows}
 use Rattle.mrp_loops.specs.Sized.{IsSized}
 use Rattle.mrp_record.specs.declared.record.Record.{Record}
 use Rattle.mrp_record.specs.Entries.{content}
 use Rattle.mrp_record.specs.Text.{IsBeginning}
+use Rattle.mrp_local.specs.Laws.{IsPairAt}
 use Rattle.mrp_events.specs.Loads.{loads}
 use Rattle.mrp_events.specs.State.{State, IsDecided, IsReached}
 
@@ -41,9 +41,8 @@ pub record IsIn (N : Table) (p l : ℕ) : Type 0 where
   pub plant : (lane_at N l).receiver.0 ≡ p
 
 -- the pair is its own
-pub record IsOwn (N : Table) (p x : ℕ) : Type 0 where
-  pub pair : IsPair N x
-  pub plant : (pair_at N x).plant.0 ≡ p
+abbrev pub IsOwn : Table → ℕ → ℕ → Type 0
+IsOwn N p x = IsPairAt N p x
 
 -- the plant is at some moment at which it sends the lane, receives it, or has the pair
 abbrev pub Sends : {A : Type 0} → Showing A → A → ℕ → Type 0

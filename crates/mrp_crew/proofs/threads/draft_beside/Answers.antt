@@ -15,16 +15,16 @@ returns-then-not-all-clause-drafts g c =
     let A : AgentState = c.args.agent.now in
     let workers = c.start_all-all.new.workers.items in
     let started = c.start_all-all.ensures.started in
-    let room : IsRoom A.view.horizon c.in-Some.room = (All-pop (IsRoom A.view.horizon) c.args.rooms.items c.pop.new.self.items (Some c.in-Some.room) c.in-Some.ensures.items c.requires.rooms).1 in
-    let nothing : All (WorkedFor A) c.args.works.items = subst (All (WorkedFor A)) (sym c.requires.works.0) (All-nil (WorkedFor A)) in
+    let room : IsRoom A.view.horizon c.in-Some.room = (All-pop (IsRoom A.view.horizon) c.args.rooms.items c.pop.new.self.items (Some c.in-Some.room) c.in-Some.ensures.items c.requires.wave.rooms).1 in
+    let nothing : All (WorkedFor A) c.args.works.items = subst (All (WorkedFor A)) (sym c.requires.wave.works.0) (All-nil (WorkedFor A)) in
     refused_drafts A c.args.others.now c.args.own workers started.0 (record { works = c.join_all.new.works; all = c.start_all-all.result; rooms = c.put_back.new.rooms })
-    c.if-not-all.true started.1 (c.join_all.ensures.pairs ∙ ap (λ (z : List Work). ordered workers ++ pairs_of (reverse z)) c.requires.works.0)
+    c.if-not-all.true started.1 (c.join_all.ensures.pairs ∙ ap (λ (z : List Work). ordered workers ++ pairs_of (reverse z)) c.requires.wave.works.0)
     (c.join_all.ensures.worked A c.start_all-all.ensures.agent nothing) (c.put_back.ensures A.view.horizon c.start_all-all.ensures.rooms room)
 
 pub draft_pair-drafted-requires-clause-room : goal.draft_pair-drafted-requires-clause-room
 draft_pair-drafted-requires-clause-room g c κs within =
     let h = c.args.agent.now.view.horizon in
-    (All-pop (IsRoom h) c.args.rooms.items c.pop.new.self.items (Some c.in-Some.room) c.in-Some.ensures.items c.requires.rooms).1
+    (All-pop (IsRoom h) c.args.rooms.items c.pop.new.self.items (Some c.in-Some.room) c.in-Some.ensures.items c.requires.wave.rooms).1
 
 pub returns-clause-drafts : goal.returns-clause-drafts
 returns-clause-drafts g c =
@@ -32,22 +32,22 @@ returns-clause-drafts g c =
     let workers = c.start_all-all.new.workers.items in
     let started = c.start_all-all.ensures.started in
     let w : Work = c.draft_pair-drafted.result in
-    let nothing : All (WorkedFor A) c.args.works.items = subst (All (WorkedFor A)) (sym c.requires.works.0) (All-nil (WorkedFor A)) in
+    let nothing : All (WorkedFor A) c.args.works.items = subst (All (WorkedFor A)) (sym c.requires.wave.works.0) (All-nil (WorkedFor A)) in
     let one : All (WorkedFor A) c.push.new.self.items = subst (All (WorkedFor A)) (sym c.in-Ok.ensures.items) (All-push (WorkedFor A) c.args.works.items w nothing c.draft_pair-drafted.ensures.worked) in
     whole_drafts A c.args.others.now c.args.own workers started.0 (record { works = c.join_all-2.new.works; all = c.start_all-all.result; rooms = c.start_all-all.new.rooms })
     (when_true c.start_all-all.result (started.0 ≡ []) started.2 c.if-not-all.false) started.1
     (c.join_all-2.ensures.pairs
-    ∙ ap (λ (z : List PairNo). ordered workers ++ z) (only_pair c.args.works.items c.push.new.self.items w c.args.own c.requires.works.0 c.in-Ok.ensures.items c.draft_pair-drafted.ensures.pair))
+    ∙ ap (λ (z : List PairNo). ordered workers ++ z) (only_pair c.args.works.items c.push.new.self.items w c.args.own c.requires.wave.works.0 c.in-Ok.ensures.items c.draft_pair-drafted.ensures.pair))
     (c.join_all-2.ensures.worked A c.start_all-all.ensures.agent one) c.start_all-all.ensures.rooms
 
 pub returns-then-not-all-clause-shut : goal.returns-then-not-all-clause-shut
 returns-then-not-all-clause-shut g c =
     let Shut : Type 0 = WasShut g.G.Gate.worker_shut c.args.plant in
-    c.join_all.ensures.shut c.args.plant c.start_all-all.ensures.plant (subst (AreLetIn Shut) (sym c.requires.works.0) (All-nil (IsLetIn Shut)))
+    c.join_all.ensures.shut c.args.plant c.start_all-all.ensures.plant (subst (AreLetIn Shut) (sym c.requires.wave.works.0) (All-nil (IsLetIn Shut)))
 
 pub returns-clause-shut : goal.returns-clause-shut
 returns-clause-shut g c =
     let Shut : Type 0 = WasShut g.G.Gate.worker_shut c.args.plant in
-    let nothing : AreLetIn Shut c.args.works.items = subst (AreLetIn Shut) (sym c.requires.works.0) (All-nil (IsLetIn Shut)) in
+    let nothing : AreLetIn Shut c.args.works.items = subst (AreLetIn Shut) (sym c.requires.wave.works.0) (All-nil (IsLetIn Shut)) in
     c.join_all-2.ensures.shut c.args.plant c.start_all-all.ensures.plant
     (subst (AreLetIn Shut) (sym c.in-Ok.ensures.items) (All-push (IsLetIn Shut) c.args.works.items c.draft_pair-drafted.result nothing c.draft_pair-drafted.ensures.shut))

@@ -1,6 +1,7 @@
 use Rattle.std.proofs.Common.{get_or}
 use Rattle.std.proofs.lemmas.List.{get_or_default}
-use Rattle.mrp_run.proofs.Paired.{takes_popped, nothing_left}
+use Rattle.mrp_gather.proofs.Gathers.{nothing_left}
+use Rattle.mrp_run.proofs.Paired.{takes_popped}
 use Rattle.mrp_run.proofs.pairing.last_take.Goals as goal
 
 pub returns : goal.returns

@@ -1,5 +1,6 @@
-use Rattle.std.proofs.Common.{[], ◌∷◌, ◌++◌, List, take, get_or, refl, subst, arith, All}
+use Rattle.std.proofs.Common.{[], ◌∷◌, ◌++◌, List, take, get_or, refl, arith, All}
 use Rattle.std.proofs.lemmas.List.Elements.{All-take, All-get_or}
+use Rattle.std.proofs.lemmas.Grind.{common_steps}
 use Rattle.std.proofs.lemmas.Result.{err_from_is_err_and}
 use Rattle.mrp_rows.specs.declared.numbers.PairNo.{PairNo}
 use Rattle.mrp_agent.specs.Drafts.{CanDraft}
@@ -27,18 +28,20 @@ returns-in_err-workers-clause-planned g c =
     let p = err_from_is_err_and c.from_residual-in_err-workers.result c.from_residual-in_err-workers.ensures.1 in
     rw p.1 ([], plans_none c.args.agent.now, tt)
 
-pub draft_wave-drafts-requires-clause-others : goal.draft_wave-drafts-requires-clause-others
-draft_wave-drafts-requires-clause-others g c = λ κs met.
+pub draft_wave-drafts-requires-clause-wave : goal.draft_wave-drafts-requires-clause-wave
+draft_wave-drafts-requires-clause-wave g c = λ κs met.
     let A : AgentState = c.args.agent.now in
     let ready = c.ready_pairs-pairs in
-    All-take (CanDraft A) (c.others_of-others.result) ready.result.now (all_can_draft A c.requires.plannable ready.result.now ready.ensures.numbers ready.ensures.own ready.ensures.exact)
-
-pub draft_wave-drafts-requires-clause-own : goal.draft_wave-drafts-requires-clause-own
-draft_wave-drafts-requires-clause-own g c = λ κs met.
-    let A : AgentState = c.args.agent.now in
-    let ready = c.ready_pairs-pairs in
-    All-get_or (CanDraft A) ready.result.now (c.others_of-others.result) (record { 0 = 0 }) (omega arith)
-    (all_can_draft A c.requires.plannable ready.result.now ready.ensures.numbers ready.ensures.own ready.ensures.exact)
+    let can = all_can_draft A c.requires.plannable ready.result.now ready.ensures.numbers ready.ensures.own ready.ensures.exact in
+    record {
+      others = All-take (CanDraft A) c.others_of-others.result ready.result.now can;
+      own = All-get_or (CanDraft A) ready.result.now c.others_of-others.result (record { 0 = 0 }) (omega arith) can;
+      rooms = grind (arith, common_steps);
+      enough = grind (arith, common_steps);
+      workers = grind (arith, common_steps);
+      few = grind (arith, common_steps);
+      works = grind (arith, common_steps);
+    }
 
 pub settle_all-open-requires-clause-drafts : goal.settle_all-open-requires-clause-drafts
 settle_all-open-requires-clause-drafts g c =

@@ -1,7 +1,0 @@
-use Rattle.std.proofs.Common.{◌≡◌, take}
-use Rattle.std.specs.List.{flat_map}
-use Rattle.mrp_net.specs.Sums.{row_of, demand}
-use Rattle.mrp_view.proofs.viewing.plant_demands.Given as goal
-
-abbrev pub invariant-loop-pair : goal.invariant-loop-pair
-invariant-loop-pair l = l.amounts.items ≡ flat_map (λ p. row_of l.network (demand l.network p.number.0)) (take l.pair-index l.pairs)
