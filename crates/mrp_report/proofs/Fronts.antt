@@ -1,9 +1,9 @@
 -- Fronts of a text that is sent piece by piece.
-use Rattle.std.proofs.Common.{◌≡◌, ℕ, ◌+◌, ◌≤◌, ◌<◌, List, ◌++◌, Option, length, length-append, take, subst, sym, ap, ◌∙◌, arith}
+use Rattle.std.proofs.Common.{ℕ, ◌+◌, List, ◌++◌, Option, length, length-append, subst, sym, ◌∙◌, arith}
 use Rattle.std.proofs.lemmas.List.{take-append-le, take_all}
 use Rattle.std.proofs.Math.Seq.{take-append-add}
 use Rattle.std.specs.Io.KnownBytes.{Appends}
-use Rattle.csv.proofs.WriteFacts.{appends-more, appends-none}
+use Rattle.csv.proofs.WriteFacts.{appends-more}
 use Rattle.mrp_report.specs.Sending.{AppendsFront, AppendsSome}
 
 -- a whole text is some of it

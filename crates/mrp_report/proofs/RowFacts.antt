@@ -121,7 +121,7 @@ fits_has N table x fits pair =
     (length-map-range_with_len (incoming N x) 0 (horizon N)) (length-map-range_with_len (gross N table x) 0 (horizon N)))
 
 -- the rows of all, where none was written before
-pub whole_text : (before now text : List ℕ) → before ≡ [] → now ≡ before ++ text → now ≡ text
+whole_text : (before now text : List ℕ) → before ≡ [] → now ≡ before ++ text → now ≡ text
 whole_text before now text none so_far = so_far ∙ ap (λ xs. xs ++ text) none
 
 pub all_rows : {E : Type 0} (r : Result (Vec ℕ Global) E) (before now text : List ℕ) → IfOk r (λ v. v.items ≡ now) → now ≡ before ++ text → before ≡ []

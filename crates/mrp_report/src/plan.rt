@@ -1,6 +1,6 @@
 //! The plan rows: the record of each pair, period by period.
 
-ghost use Rattle.std.specs.Prelude.{◌≡◌, ◌+◌, ◌-◌, ◌*◌, ◌++◌, ◌∷◌, [], ◌≤◌, drop, length, decimal, vec_len, vec_capacity, Err};
+ghost use Rattle.std.specs.Prelude.{◌≡◌, ◌+◌, ◌-◌, ◌*◌, ◌++◌, ◌∷◌, [], ◌≤◌, drop, take, length, decimal, Err};
 ghost use Rattle.std.specs.Prelude.{IfOk, OnOk, IfErr, OnErr};
 ghost use Rattle.csv.specs.Writing.{comma};
 ghost use Rattle.mrp_rows.specs.Table.{IsTable};
@@ -65,9 +65,10 @@ struct PlanReport<'a> {
 /// # Errors
 ///
 /// - [`ReportFault::WriteFault`] where a write fails or takes nothing; a front of the report is
-///   written. The rows go by pieces of some pairs, and no piece outgrows the room that is taken for
-///   it, so it is never for want of memory.
-/// - [`ReportFault::Memory`] where the room for a piece is refused; nothing is written.
+///   written. The rows go by pieces of some pairs, and what builds and sends a piece is handed enough
+///   room for it and no allocator, so it is never for want of memory.
+/// - [`ReportFault::Memory`] where the room for the dates or for a piece is refused; nothing is
+///   written.
 pub fn plan_rows<W: Write>(
     alloc: Global,
     net: &SizedNet<'_>,
@@ -81,28 +82,25 @@ pub fn plan_rows<W: Write>(
     let network = net.network();
     let calendar = network.calendar();
     let dates = date_texts(alloc, calendar)?;
-    let mut names = Vec::with_capacity(alloc, LONGEST_PAIR)?;
     let periods = calendar.horizon().get() as usize;
-    let mut text = Vec::with_capacity(alloc, PAIRS_AT_ONCE * (periods * LONGEST_ROW))?;
+    let mut room = vec![in alloc; 0; PAIRS_AT_ONCE * (periods * LONGEST_ROW)]?;
     let report = PlanReport {
         network,
         plan,
         dates: dates.as_slice(),
     };
-    send_pieces(&mut text, &mut names, &report, out)
+    send_pieces(room.as_mut_slice(), &report, out)
 }
 
-/// Sends the plan rows by pieces, each built in the room that `text` has.
+/// Sends the plan rows by pieces, each built in the room.
 fn send_pieces<W: Write>(
-    text: &mut Vec<u8>,
-    names: &mut Vec<u8>,
+    room: &mut [u8],
     report: &PlanReport<'_>,
     out: &mut W,
 ) -> Result<(), ReportFault>
     requires fits { Fits report.now.network.now report.now.plan.now }
     requires dates { report.now.dates.now ≡ dates_of report.now.network.now.calendar }
-    requires room { PAIRS_AT_ONCE * (length report.now.dates.now * LONGEST_ROW) ≤ vec_capacity text.old }
-    requires names { LONGEST_PAIR ≤ vec_capacity names.old }
+    requires room { PAIRS_AT_ONCE * (length report.now.dates.now * LONGEST_ROW) ≤ length room.old }
     ensures text { Sends (W.contents out.old) (W.contents out.new) result (plan_text report.now.network.now report.now.plan.now) }
     ensures fault { IfErr result (λ fault. fault ≡ ReportFault.WriteFault) }
 {
@@ -110,7 +108,7 @@ fn send_pieces<W: Write>(
     let mut sent = 0;
     'pieces: while sent < pairs {
         let end = pairs.min(sent + PAIRS_AT_ONCE);
-        send_piece(text, names, report, sent, end, out)?;
+        send_piece(room, report, sent, end, out)?;
         sent = end;
     }
     Ok(())
@@ -118,8 +116,7 @@ fn send_pieces<W: Write>(
 
 /// Sends the rows of the pairs from `first` on and before `end`, at most so many as go at once.
 fn send_piece<W: Write>(
-    text: &mut Vec<u8>,
-    names: &mut Vec<u8>,
+    room: &mut [u8],
     report: &PlanReport<'_>,
     first: usize,
     end: usize,
@@ -131,46 +128,40 @@ fn send_piece<W: Write>(
     requires order { first ≤ end }
     requires pairs { end ≤ length report.now.network.now.pairs }
     requires few { end ≤ first + PAIRS_AT_ONCE }
-    requires room { PAIRS_AT_ONCE * (length report.now.dates.now * LONGEST_ROW) ≤ vec_capacity text.old }
-    requires names { LONGEST_PAIR ≤ vec_capacity names.old }
+    requires room { PAIRS_AT_ONCE * (length report.now.dates.now * LONGEST_ROW) ≤ length room.old }
     ensures whole { OnOk result (Appends (W.contents out.old) (W.contents out.new)
         (pairs_text report.now.network.now report.now.plan.now first (end - first))) }
     ensures front { OnErr result (AppendsFront (W.contents out.old) (W.contents out.new)
         (pairs_text report.now.network.now report.now.plan.now first (end - first))) }
     ensures fault { IfErr result (λ fault. fault ≡ ReportFault.WriteFault) }
-    ensures room { vec_capacity text.old ≤ vec_capacity text.new }
-    ensures names { vec_capacity names.old ≤ vec_capacity names.new }
+    ensures room { length room.new ≡ length room.old }
 {
-    pairs_text(text, names, report, first, end);
-    send(text.as_slice(), out)
+    let used = pairs_text(room, report, first, end);
+    send(&room[..used], out)
 }
 
-/// Makes the text the rows of the pairs from `first` on and before `end`, in the room that it has.
-fn pairs_text(
-    text: &mut Vec<u8>,
-    names: &mut Vec<u8>,
-    report: &PlanReport<'_>,
-    first: usize,
-    end: usize,
-)
+/// Writes the rows of the pairs from `first` on and before `end` at the beginning of the room, and
+/// returns how much of it they take.
+fn pairs_text(room: &mut [u8], report: &PlanReport<'_>, first: usize, end: usize) -> usize
     requires table { IsTable report.now.network.now }
     requires fits { Fits report.now.network.now report.now.plan.now }
     requires dates { report.now.dates.now ≡ dates_of report.now.network.now.calendar }
     requires order { first ≤ end }
     requires pairs { end ≤ length report.now.network.now.pairs }
-    requires room { (end - first) * (length report.now.dates.now * LONGEST_ROW) ≤ vec_capacity text.old }
-    requires names { LONGEST_PAIR ≤ vec_capacity names.old }
-    ensures text { text.new.items ≡ pairs_text report.now.network.now report.now.plan.now first (end - first) }
-    ensures room { vec_capacity text.old ≤ vec_capacity text.new }
-    ensures names { vec_capacity names.old ≤ vec_capacity names.new }
+    requires room { (end - first) * (length report.now.dates.now * LONGEST_ROW) ≤ length room.old }
+    ensures within { result ≤ length room.new }
+    ensures text { take result room.new ≡ pairs_text report.now.network.now report.now.plan.now first (end - first) }
+    ensures room { length room.new ≡ length room.old }
 {
-    text.clear();
+    let mut names = [0; LONGEST_PAIR];
+    let mut used = 0;
     'pairs: for x in first..end {
         let (plant, item) = report.network.pair_name(PairNo(x));
-        name_pair(names, plant, item);
+        let named = name_pair(&mut names, plant, item);
         let plan = report.plan.pair(PairNo(x));
-        put_pair(text, names.as_slice(), report.dates, plan);
+        used = put_pair(room, used, &names[..named], report.dates, plan);
     }
+    used
 }
 
 /// The text of each period's date.
@@ -186,61 +177,62 @@ fn date_texts(alloc: Global, calendar: &Calendar) -> Result<Vec<[u8; 10]>, Repor
     Ok(dates)
 }
 
-/// Makes the names what all rows of a pair begin with, in the room that they have.
-fn name_pair(names: &mut Vec<u8>, plant: &str, item: &str)
+/// Writes what all rows of a pair begin with at the beginning of the names, and returns how much of
+/// them it takes.
+fn name_pair(names: &mut [u8; LONGEST_PAIR], plant: &str, item: &str) -> usize
     requires plant { length plant.now ≤ 20 }
     requires item { length item.now ≤ 20 }
-    requires room { LONGEST_PAIR ≤ vec_capacity names.old }
-    ensures part { names.new.items ≡ pair_part plant.now item.now }
-    ensures longest { vec_len names.new ≤ LONGEST_PAIR }
-    ensures room { vec_capacity names.old ≤ vec_capacity names.new }
+    ensures within { result ≤ LONGEST_PAIR }
+    ensures part { take result names.new ≡ pair_part plant.now item.now }
 {
-    names.clear();
-    put(names, b"plan,");
-    put(names, plant.as_bytes());
-    put(names, b",");
-    put(names, item.as_bytes());
+    let word = put(names, 0, b"plan,");
+    let place = put(names, word, plant.as_bytes());
+    let comma = put(names, place, b",");
+    put(names, comma, item.as_bytes())
 }
 
-/// Adds the rows of a pair, which begin with `pair`, in the room that the text has.
-fn put_pair(text: &mut Vec<u8>, pair: &[u8], dates: &[[u8; 10]], plan: &PairPlan)
+/// Adds the rows of a pair, which begin with `pair`, to the used front of the room, and returns how
+/// much is used then.
+fn put_pair(room: &mut [u8], used: usize, pair: &[u8], dates: &[[u8; 10]], plan: &PairPlan) -> usize
     requires periods { HasPeriods plan.now (length dates.now) }
     requires pair { length pair.now ≤ LONGEST_PAIR }
-    requires room { vec_len text.old + length dates.now * LONGEST_ROW ≤ vec_capacity text.old }
-    ensures rows { text.new.items ≡ text.old.items ++ parts_text pair.now dates.now plan.now }
-    ensures longest { vec_len text.new ≤ vec_len text.old + length dates.now * LONGEST_ROW }
-    ensures room { vec_capacity text.old ≤ vec_capacity text.new }
+    requires room { used + length dates.now * LONGEST_ROW ≤ length room.old }
+    ensures rows { take result room.new ≡ take used room.old ++ parts_text pair.now dates.now plan.now }
+    ensures longest { result ≤ used + length dates.now * LONGEST_ROW }
+    ensures room { length room.new ≡ length room.old }
 {
     let mut period = [0; LONGEST_PERIOD];
+    let mut after = used;
     'periods: for t in 0..dates.len() {
         let start = put_period(&mut period, &dates[t], period_at(plan, t));
-        put_parts(text, pair, &period[start..]);
+        after = put_parts(room, after, pair, &period[start..]);
     }
+    after
 }
 
-/// Adds a row of two parts, in the room that the text has.
-fn put_parts(text: &mut Vec<u8>, pair: &[u8], period: &[u8])
-    requires room { vec_len text.old + length pair.now + length period.now + 2 ≤ vec_capacity text.old }
-    ensures row { text.new.items ≡ text.old.items ++ row (pair.now ∷ period.now ∷ []) }
-    ensures length { vec_len text.new ≡ vec_len text.old + length pair.now + length period.now + 2 }
-    ensures room { vec_capacity text.old ≤ vec_capacity text.new }
+/// Adds a row of two parts to the used front of the room, and returns how much is used then.
+fn put_parts(room: &mut [u8], used: usize, pair: &[u8], period: &[u8]) -> usize
+    requires room { used + length pair.now + length period.now + 2 ≤ length room.old }
+    ensures row { take result room.new ≡ take used room.old ++ row (pair.now ∷ period.now ∷ []) }
+    ensures length { result ≡ used + length pair.now + length period.now + 2 }
+    ensures room { length room.new ≡ length room.old }
 {
-    put(text, pair);
-    put(text, b",");
-    put(text, period);
-    put(text, b"\n");
+    let first = put(room, used, pair);
+    let comma = put(room, first, b",");
+    let second = put(room, comma, period);
+    put(room, second, b"\n")
 }
 
-/// Adds bytes for which the text has room.
-fn put(text: &mut Vec<u8>, bytes: &[u8])
-    requires room { vec_len text.old + length bytes.now ≤ vec_capacity text.old }
-    ensures bytes { text.new.items ≡ text.old.items ++ bytes.now }
-    ensures length { vec_len text.new ≡ vec_len text.old + length bytes.now }
-    ensures room { vec_capacity text.old ≤ vec_capacity text.new }
+/// Adds bytes to the used front of the room, and returns how much is used then.
+fn put(room: &mut [u8], used: usize, bytes: &[u8]) -> usize
+    requires room { used + length bytes.now ≤ length room.old }
+    ensures bytes { take result room.new ≡ take used room.old ++ bytes.now }
+    ensures length { result ≡ used + length bytes.now }
+    ensures room { length room.new ≡ length room.old }
 {
-    let Ok(()) = text.extend_from_slice(bytes) else {
-        unreachable!()
-    };
+    let after = used + bytes.len();
+    room[used..after].copy_from_slice(bytes);
+    after
 }
 
 /// The figures of period `t`.

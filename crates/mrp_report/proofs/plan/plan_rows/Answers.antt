@@ -8,4 +8,4 @@ send_pieces-requires-clause-room g c =
     let calendar = c.calendar-calendar.result.now in
     let periods : length c.as_slice.result.now ≡ calendar.periods =
     ap length (c.as_slice.ensures.value ∙ c.in_ok-dates.ensures.dates) ∙ length-map-range_with_len (period_date calendar) 0 calendar.periods in
-    omega (arith, periods, c.horizon.ensures.value, c.get-periods.ensures.value, c.in_ok-text.ensures.exact)
+    omega (arith, periods, c.horizon.ensures.value, c.get-periods.ensures.value, c.in_ok-room.ensures.len, c.as_mut_slice.ensures.len)

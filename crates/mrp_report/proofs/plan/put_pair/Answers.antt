@@ -15,11 +15,11 @@ periods-preserved c =
     let size : length (take (116 - start) (drop start text)) ≤ 116 =
     omega (arith, length-take-le (116 - start) (drop start text) (omega (arith, length-drop start text))) in
     record {
-      longest = omega (arith, c.periods.invariant.longest, c.put_parts.ensures.length, c.requires.pair, size);
-      kept = omega (arith, c.periods.invariant.kept, c.put_parts.ensures.room);
+      longest = omega (arith, c.periods.invariant.longest, c.put_parts-after.ensures.length, c.requires.pair, size);
+      kept = c.put_parts-after.ensures.room ∙ c.periods.invariant.kept;
       so_far = rows-more (λ t. parts_row c.args.pair.now (date_at c.args.dates.now t) (period_at c.args.plan.now t))
           _ _ _ c.periods.t c.periods.invariant.so_far
-          (rw part at c.put_parts.ensures.row);
+          (rw part at c.put_parts-after.ensures.row);
     }
 
 pub returns-clause-rows : goal.returns-clause-rows

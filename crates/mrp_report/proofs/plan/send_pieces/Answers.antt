@@ -7,7 +7,6 @@ pub pieces-init : goal.pieces-init
 pieces-init g c = record {
   within = omega arith;
   room = c.requires.room;
-  names = c.requires.names;
   sent = pieces_none c.args.report.now.network.now c.args.report.now.plan.now _;
 }
 
@@ -15,7 +14,6 @@ pub pieces-preserved : goal.pieces-preserved
 pieces-preserved g c = record {
   within = omega (arith);
   room = omega (arith, c.pieces.invariant.room, c.in_ok-send_piece.ensures.room);
-  names = omega (arith, c.pieces.invariant.names, c.in_ok-send_piece.ensures.names);
   sent = pieces_more c.args.report.now.network.now c.args.report.now.plan.now _ _ _ c.pieces.sent (c.min-end.result - c.pieces.sent) c.min-end.result (omega arith) c.pieces.invariant.sent c.in_ok-send_piece.ensures.whole;
 }
 

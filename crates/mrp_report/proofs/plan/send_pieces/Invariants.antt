@@ -1,4 +1,4 @@
-use Rattle.std.proofs.Common.{length, ◌-◌, ◌*◌, ◌≤◌, vec_capacity}
+use Rattle.std.proofs.Common.{length, ◌-◌, ◌*◌, ◌≤◌}
 use Rattle.std.specs.Io.KnownBytes.{Appends}
 use Rattle.mrp_report.specs.Report.{pairs_text}
 use Rattle.mrp_report.proofs.plan.send_pieces.Given as goal
@@ -7,8 +7,7 @@ use Rattle.mrp_report.proofs.plan.send_pieces.Given as goal
 abbrev pub invariant-pieces : goal.invariant-pieces
 invariant-pieces g l = record {
   within : l.sent ≤ length l.report.network.now.pairs;
-  room : 16 * (length l.report.dates.now * 164) ≤ vec_capacity l.text;
-  names : 46 ≤ vec_capacity l.names;
+  room : 16 * (length l.report.dates.now * 164) ≤ length l.room;
   sent : Appends (g.W.Write.contents l.initial.out) (g.W.Write.contents l.out) (pairs_text l.report.network.now l.report.plan.now 0 l.sent);
 }
 
