@@ -12,7 +12,7 @@ use crate::fault::{PairName, TextFault};
 use mrp_loops::{BoundFault, Levels, LoopFault, SizedNet, bound, check};
 use mrp_net::{Network, PairNo};
 use mrp_rows::Tables;
-use mrp_tables::read_tables_uncounted;
+use mrp_tables::{TableFault, read_tables_uncounted};
 use std::alloc::{AllocError, Global};
 use std::io::Read;
 
@@ -36,8 +36,15 @@ fn tables_of<R: Read + Drop>(alloc: Global, reader: R) -> Result<Tables, TextFau
 {
     match read_tables_uncounted(alloc, reader) {
         Ok(tables) => Ok(tables),
-        Err(fault) => Err(TextFault::Table(fault)),
+        Err(fault) => Err(table_fault(fault)),
     }
+}
+
+/// The fault of a text that a fault of its table is.
+fn table_fault(fault: TableFault) -> TextFault
+    ensures { result ≡ TextFault.Table fault }
+{
+    TextFault::Table(fault)
 }
 
 /// The low-level codes of a network without loops.
