@@ -96,3 +96,15 @@ fn words_that_can_not_be_read_are_reported(rt: HostRuntime) {
         && ends_unread(rt.alloc(), ErrorKind::OutOfMemory, 3, "mrp: Memory\n");
     assert!(rt; is_told);
 }
+
+/// Whether the end after work that went well is so: nothing is reported.
+fn ends_well(alloc: Global) -> bool {
+    let mut written = Vec::new(alloc);
+    let end = ended(&Ok(()), &mut written);
+    end.printed.is_ok() && is_end(end, 0, written.as_slice(), "")
+}
+
+#[test]
+fn work_that_went_well_is_not_reported(rt: HostRuntime) {
+    assert!(rt; ends_well(rt.alloc()));
+}

@@ -1,18 +1,20 @@
 //! Readers and writers that give little, fail or end early.
 
-use super::figures::{FIRM_OF_TWO, FIRM_OF_TWO_CUMS};
-use super::{BICYCLE, BICYCLE_PLAN};
+use super::is_report;
 use mrp_tables::TableFaultKind;
 use mrp_text::{
     NoGate, Settings, TextFault, answer, check_text, cums_text, drive_text, peg_text, plan_text,
     status,
 };
+use mrp_text_cases::outcome;
+use mrp_text_cases::tables::{BICYCLE, BICYCLE_PLAN, FIRM_OF_TWO, FIRM_OF_TWO_CUMS};
 use mrp_words::choose;
-use std::alloc::Global;
+use std::alloc::{AllocError, Global};
 use std::io;
 use std::io::{ErrorKind, Read, Write};
 use std::process::Abort;
 use std::sync::Wait;
+use std::sync::atomic::{AtomicU64, Ordering};
 use std::test::Fail;
 use std::thread::Threads;
 
@@ -23,7 +25,8 @@ const LATE: &str =
 const LATE_PLAN: &str =
     "plan,A,X,0,2026-01-05,0,0,0,7,0\nplan,A,X,1,2026-01-12,7,0,7,0,0\nlate,A,X,1,7,2\n";
 
-/// A reader of a text, `step` bytes a call, whose call number `fails` fails.
+/// A reader of a text, `step` bytes a call, whose call number `fails` fails. Asked again it goes on, so that
+/// a read which is tried again shows.
 #[derive(Drop)]
 struct Source<'t> {
     left: &'t [u8],
@@ -34,10 +37,11 @@ struct Source<'t> {
 
 impl Read for Source<'_> {
     fn read(&mut self, buf: &mut [u8]) -> io::Result<usize> {
-        if self.call == self.fails {
+        let call = self.call;
+        self.call = call.saturating_add(1);
+        if call == self.fails {
             return Err(io::Error::from(ErrorKind::Other));
         }
-        self.call = self.call.saturating_add(1);
         let count = self.step.min(buf.len()).min(self.left.len());
         buf[..count].copy_from_slice(&self.left[..count]);
         self.left = &self.left[count..];
@@ -45,7 +49,8 @@ impl Read for Source<'_> {
     }
 }
 
-/// A writer that takes `step` bytes a call; its call number `ends` fails, or takes nothing.
+/// A writer that takes `step` bytes a call; its call number `ends` fails, or takes nothing. Asked again it
+/// goes on, so that a write which is tried again shows.
 #[derive(Drop)]
 struct Sink {
     taken: Vec<u8>,
@@ -57,14 +62,15 @@ struct Sink {
 
 impl Write for Sink {
     fn write(&mut self, buf: &[u8]) -> io::Result<usize> {
-        if self.call == self.ends {
+        let call = self.call;
+        self.call = call.saturating_add(1);
+        if call == self.ends {
             return if self.takes_nothing {
                 Ok(0)
             } else {
                 Err(io::Error::from(ErrorKind::Other))
             };
         }
-        self.call = self.call.saturating_add(1);
         let count = self.step.min(buf.len());
         self.taken.extend_from_slice(&buf[..count])?;
         Ok(count)
@@ -371,4 +377,50 @@ fn plans_byte_by_byte(alloc: Global) -> bool {
 #[test]
 fn a_writer_of_single_bytes(rt: HostRuntime) {
     assert!(rt; plans_byte_by_byte(rt.alloc()));
+}
+
+/// The bicycle with its first two rows exchanged.
+const EXCHANGED: &str = "plant,P1,,,,,,\nrun,2026-01-05,7,4,,,,\npair,P1,BIKE,make,lot,1,0,0\n\
+pair,P1,WHEEL,buy,lot,1,0,0\nbill,P1,BIKE,WHEEL,2,,,\ndemand,P1,BIKE,3,10,,,\n";
+
+/// A reader of a text, 15 bytes a call, which counts the calls.
+#[derive(Drop)]
+struct Counted<'t> {
+    left: &'t [u8],
+    calls: &'t AtomicU64,
+}
+
+impl Read for Counted<'_> {
+    fn read(&mut self, buf: &mut [u8]) -> io::Result<usize> {
+        self.calls.fetch_add(1, Ordering::SeqCst);
+        let count = buf.len().min(15).min(self.left.len());
+        buf[..count].copy_from_slice(&self.left[..count]);
+        self.left = &self.left[count..];
+        Ok(count)
+    }
+}
+
+/// The refusal of the first row, 15 bytes long, where no call follows the one after its end.
+fn refusal_at_once(alloc: Global) -> Result<String, AllocError> {
+    let calls = AtomicU64::new(0);
+    let reader = Counted {
+        left: EXCHANGED.as_bytes(),
+        calls: &calls,
+    };
+    let mut written = Vec::new(alloc);
+    let answer = check_text(alloc, reader, &mut written);
+    if calls.load(Ordering::SeqCst) > 3 {
+        return String::from_str(alloc, "read on");
+    }
+    outcome(alloc, written, answer)
+}
+
+#[test]
+fn the_first_fault_ends_the_reading(rt: HostRuntime) -> Result<(), Fail> {
+    is_report(
+        &rt,
+        refusal_at_once(rt.alloc())?,
+        "1 mrp: row 1: KindOrder\n",
+    );
+    Ok(())
 }

@@ -1,26 +1,12 @@
 //! Tables that are refused: the fault, its line and its status.
 
 use super::{has_codes, has_plan};
+use crate::tables::{NEED_TOO_LARGE, OWN_LOOP, SUPPLY_TOO_LARGE};
 use std::test::Fail;
 
 /// A make with a million pieces to one, at the bound.
 const AT_THE_BOUND: &str = "run,2026-01-05,7,1,,,,\nplant,A,,,,,,\npair,A,Y,make,lot,0,0,0\n\
 pair,A,X,buy,lot,0,0,0\nbill,A,Y,X,1000000,,,\ndemand,A,Y,0,1000000000,,,\n";
-
-/// One piece more: A/X needs more than the bound.
-pub(super) const NEED_TOO_LARGE: &str =
-    "run,2026-01-05,7,1,,,,\nplant,A,,,,,,\npair,A,Y,make,lot,0,0,0\n\
-pair,A,X,buy,lot,0,0,0\nbill,A,Y,X,1000000,,,\ndemand,A,Y,0,1000000000,,,\ndemand,A,X,0,1,,,\n";
-
-/// The same, and A/Z has more than the bound.
-pub(super) const SUPPLY_TOO_LARGE: &str = "run,2026-01-05,7,1,,,,\nplant,A,,,,,,\nplant,B,,,,,,\n\
-pair,A,Y,make,lot,0,0,0\npair,A,X,buy,lot,0,0,0\npair,A,Z,from:B,lot,0,1,0\n\
-pair,B,Z,buy,lot,0,0,0\nbill,A,Y,X,1000000,,,\ndemand,A,Y,0,1000000000,,,\n\
-demand,A,X,0,1,,,\ncum,B,A,Z,1000000000000000,,,\n";
-
-/// A pair that is its own component.
-pub(super) const OWN_LOOP: &str =
-    "run,2026-01-05,7,1,,,,\nplant,A,,,,,,\npair,A,X,make,lot,0,0,0\nbill,A,X,X,1,,,\n";
 
 #[test]
 fn loops_are_named(rt: HostRuntime) -> Result<(), Fail> {

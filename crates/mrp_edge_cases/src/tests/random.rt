@@ -3,8 +3,8 @@
 //! Items of even number are taken from a plant with a lower number and the others from one with a higher,
 //! and a bill goes from an item to a later one: so plants take from each other, and there is no loop.
 
-use super::{plan, threaded};
 use mrp_text::{NoGate, Settings};
+use mrp_text_cases::{plan, threaded};
 use std::alloc::{AllocError, Global};
 use std::sync::Wait;
 use std::test::Fail;

@@ -1,28 +1,8 @@
 //! The cumulative figures of lanes: two plants, a split source, figures that start anew, and refusals.
 
-use super::plans::FIRM_OF_TWO_PLAN;
-use super::{BICYCLE, has_figures, has_plan};
+use super::{has_figures, has_plan};
+use crate::tables::{ANEW, BICYCLE, FIRM_OF_TWO, FIRM_OF_TWO_CUMS, FIRM_OF_TWO_PLAN, SPLIT};
 use std::test::Fail;
-
-/// Two plants, A takes X from B: the table of `examples/firm_of_two.csv`.
-pub(crate) const FIRM_OF_TWO: &str = "run,2026-01-05,7,4,,,,\nplant,A,,,,,,\nplant,B,,,,,,\n\
-pair,A,X,from:B,lot,1,0,0\npair,B,X,buy,lot,0,0,0\ndemand,A,X,2,30,,,\nship,B,A,X,2,8,,\n\
-cum,B,A,X,100,,,\n";
-
-/// Its figures: `examples/firm_of_two.cums.csv`.
-pub(crate) const FIRM_OF_TWO_CUMS: &str =
-    "lane,despatch,B,A,X,100,108,108,0\nlane,schedule,A,B,X,108,130,130,0\n";
-
-/// The same where the figures start anew in period 2.
-pub(super) const ANEW: &str = "run,2026-01-05,7,4,,,,\nplant,A,,,,,,\nplant,B,,,,,,\n\
-pair,A,X,from:B,lot,1,0,0\npair,B,X,buy,lot,0,0,0\ndemand,A,X,2,30,,,\nship,B,A,X,2,8,,\n\
-cum,B,A,X,100,,,\nreset,B,A,X,2,,,\n";
-
-/// A takes X from B and C, 600 and 400 thousandths of each release, and C has shipped five.
-pub(super) const SPLIT: &str =
-    "run,2026-01-05,7,1,,,,\nplant,A,,,,,,\nplant,B,,,,,,\nplant,C,,,,,,\n\
-pair,A,X,from:B:600:C:400,lot,0,0,0\npair,B,X,buy,lot,0,0,0\npair,C,X,buy,lot,0,0,0\n\
-demand,A,X,0,7,,,\nship,C,A,X,0,5,,\n";
 
 #[test]
 fn figures_of_two_plants(rt: HostRuntime) -> Result<(), Fail> {

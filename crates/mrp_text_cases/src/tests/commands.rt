@@ -1,9 +1,10 @@
 //! Each command from its words to its report: the choice, and what is done for it.
 
-use super::figures::{FIRM_OF_TWO, FIRM_OF_TWO_CUMS};
-use super::refusals::{NEED_TOO_LARGE, OWN_LOOP, SUPPLY_TOO_LARGE};
-use super::{BICYCLE, BICYCLE_PLAN, outcome};
-use crate::named_words;
+use crate::outcome;
+use crate::tables::{
+    BICYCLE, BICYCLE_PLAN, FIRM_OF_TWO, FIRM_OF_TWO_CUMS, NEED_TOO_LARGE, OWN_LOOP,
+    SUPPLY_TOO_LARGE,
+};
 use mrp_text::answer;
 use mrp_words::choose;
 use std::alloc::Global;
@@ -153,21 +154,5 @@ fn what_is_not_there_is_not_pegged(rt: HostRuntime) -> Result<(), Fail> {
     assert!(&rt; writes(&rt, rt.alloc(), &pair, BICYCLE, "1 mrp: no pair\n")?);
     let period = ["mrp", "peg", "P1", "WHEEL", "4"];
     assert!(&rt; writes(&rt, rt.alloc(), &period, BICYCLE, "1 mrp: no period\n")?);
-    Ok(())
-}
-
-/// Whether the words behind the program's own name are the arguments, which are four.
-fn names_four<R: AllocGlobal>(rt: &R, arguments: &[String]) -> Result<bool, Fail> {
-    let words = named_words(rt, arguments)?;
-    Ok(words.len() == 5 && words[0] == "mrp" && words[1] == "peg" && words[4] == "2")
-}
-
-#[test]
-fn the_program_is_named_mrp_wherever_it_lies(rt: HostRuntime) -> Result<(), Fail> {
-    let mut arguments = Vec::with_capacity(rt.alloc(), 4)?;
-    for word in ["peg", "P1", "WHEEL", "2"] {
-        arguments.push(String::from_str(rt.alloc(), word)?)?;
-    }
-    assert!(&rt; names_four(&rt, arguments.as_slice())?);
     Ok(())
 }

@@ -1,10 +1,11 @@
 //! Plans of threads: the bytes that one thread writes, whatever the workers and the capacity.
 
-use super::figures::{ANEW, FIRM_OF_TWO, SPLIT};
-use super::firms::THREE_PLANTS;
-use super::plans::{FIRM_OF_TWO_PLAN, RING, SUPPLIER};
-use super::{BICYCLE, is_report, plan, threaded};
+use super::is_report;
 use mrp_text::{Gate, NoGate, Settings};
+use mrp_text_cases::tables::{
+    ANEW, BICYCLE, FIRM_OF_TWO, FIRM_OF_TWO_PLAN, RING, SPLIT, SUPPLIER, THREE_PLANTS,
+};
+use mrp_text_cases::{plan, threaded};
 use std::alloc::Global;
 use std::sync::Wait;
 use std::sync::atomic::{AtomicBool, Ordering};

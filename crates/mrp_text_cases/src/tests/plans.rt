@@ -1,28 +1,8 @@
 //! Plans of worked tables, byte for byte.
 
-use super::figures::FIRM_OF_TWO;
-use super::{BICYCLE, BICYCLE_PLAN, has_codes, has_pegs, has_plan};
+use super::{has_codes, has_pegs, has_plan};
+use crate::tables::{BICYCLE, BICYCLE_PLAN, FIRM_OF_TWO, FIRM_OF_TWO_PLAN, RING, SUPPLIER};
 use std::test::Fail;
-
-/// The plan of two plants, eight pieces under way between them: `examples/firm_of_two.plan.csv`.
-pub(crate) const FIRM_OF_TWO_PLAN: &str = "plan,A,X,0,2026-01-05,0,0,0,0,0\n\
-plan,A,X,1,2026-01-12,0,0,0,22,0\nplan,A,X,2,2026-01-19,30,8,22,0,0\n\
-plan,A,X,3,2026-01-26,0,0,0,0,0\nplan,B,X,0,2026-01-05,0,0,0,0,0\n\
-plan,B,X,1,2026-01-12,22,0,22,22,0\nplan,B,X,2,2026-01-19,0,0,0,0,0\n\
-plan,B,X,3,2026-01-26,0,0,0,0,0\n";
-
-/// Two plants that take from each other, and no loop.
-pub(super) const RING: &str = "run,2026-01-05,7,1,,,,\nplant,A,,,,,,\nplant,B,,,,,,\n\
-pair,B,X,from:A,lot,0,0,0\npair,A,X,make,lot,0,0,0\npair,A,Y,from:B,lot,0,0,0\n\
-pair,B,Y,make,lot,0,0,0\npair,B,W,from:A,lot,0,0,0\npair,A,W,buy,lot,0,0,0\nbill,A,X,Y,2,,,\n\
-bill,B,Y,W,3,,,\ndemand,B,X,0,5,,,\n";
-
-/// A supplier with two parents of its own and two customers.
-pub(super) const SUPPLIER: &str =
-    "run,2026-01-05,7,1,,,,\nplant,S,,,,,,\nplant,C1,,,,,,\nplant,C2,,,,,,\n\
-pair,S,P1,make,lot,0,0,0\npair,S,P2,make,lot,0,0,0\npair,S,Z,buy,fixed:50,0,0,0\n\
-pair,C1,Z,from:S,lot,0,0,0\npair,C2,Z,from:S,lot,0,0,0\nbill,S,P1,Z,1,,,\nbill,S,P2,Z,2,,,\n\
-demand,S,P1,0,10,,,\ndemand,S,P2,0,10,,,\ndemand,C1,Z,0,15,,,\ndemand,C2,Z,0,25,,,\n";
 
 #[test]
 fn the_bicycle(rt: HostRuntime) -> Result<(), Fail> {

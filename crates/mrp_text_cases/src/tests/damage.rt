@@ -1,6 +1,7 @@
 //! A table cut, exchanged, repeated or written by another program.
 
-use super::{cums, has_plan, is_report, plan};
+use super::{has_plan, is_report};
+use crate::{cums, plan};
 use std::alloc::{AllocError, Global};
 use std::process::Abort;
 use std::test::Fail;

@@ -1,21 +1,8 @@
 //! Firms of three plants: sources in both directions, and split sources.
 
 use super::{has_codes, has_pegs, has_plan};
+use crate::tables::THREE_PLANTS;
 use std::test::Fail;
-
-/// A firm of three plants with sources in both directions: the table of `examples/three_plants.csv`.
-pub(super) const THREE_PLANTS: &str =
-    "run,2026-01-05,7,6,,,,\nplant,NORTH,,,,,,\nplant,SOUTH,,,,,,\nplant,EAST,,,,,,\n\
-pair,NORTH,BIKE,make,lot,1,4,0\npair,NORTH,FRAME,from:SOUTH,lot,1,10,0\n\
-pair,NORTH,WHEEL,make,fixed:50,1,40,10\npair,NORTH,RIM,buy,min:100:20,1,60,0\n\
-pair,SOUTH,FRAME,make,lot,1,4,0\npair,SOUTH,TUBE,buy,periods:3,2,12,0\n\
-pair,SOUTH,WHEEL,from:NORTH,lot,1,8,0\npair,EAST,BIKE,from:NORTH,periods:2,1,6,2\n\
-pair,EAST,WHEEL,from:NORTH:600:SOUTH:400,lot,1,0,0\nbill,NORTH,BIKE,FRAME,1,,,\n\
-bill,NORTH,BIKE,WHEEL,2,,,\nbill,NORTH,WHEEL,RIM,1,,,\nbill,SOUTH,FRAME,TUBE,3,,,\n\
-demand,EAST,BIKE,2,9,,,\ndemand,EAST,BIKE,3,7,,,\ndemand,EAST,BIKE,5,12,,,\n\
-demand,EAST,WHEEL,4,25,,,\ndemand,NORTH,BIKE,3,10,,,\ndemand,SOUTH,WHEEL,3,6,,,\n\
-receipt,NORTH,RIM,1,20,,,\nship,SOUTH,NORTH,FRAME,1,5,,\nship,NORTH,EAST,BIKE,1,4,,\n\
-cum,SOUTH,NORTH,FRAME,340,,,\ncum,NORTH,EAST,BIKE,120,,,\ncum,NORTH,SOUTH,WHEEL,75,,,\n";
 
 /// Its plan, worked by a program of its own: `examples/three_plants.plan.csv`.
 const THREE_PLANTS_PLAN: &str =

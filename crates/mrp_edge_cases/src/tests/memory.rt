@@ -1,9 +1,8 @@
 //! Texts where memory is refused: what is written is the right text, or a front of it.
 
-use super::figures::{FIRM_OF_TWO, FIRM_OF_TWO_CUMS};
-use super::plans::FIRM_OF_TWO_PLAN;
 use mrp_tables::TableFaultKind;
 use mrp_text::{TextFault, cums_text, drive_text};
+use mrp_text_cases::tables::{FIRM_OF_TWO, FIRM_OF_TWO_CUMS, FIRM_OF_TWO_PLAN};
 use std::alloc::Global;
 use std::test::Fail;
 

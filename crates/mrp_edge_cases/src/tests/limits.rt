@@ -1,7 +1,8 @@
 //! Firms of many plants and pairs: what is answered doesn't depend on how many there are.
 
 use super::threads::writes_the_same;
-use super::{codes, cums, has_codes, has_plan};
+use super::{has_codes, has_plan};
+use mrp_text_cases::{codes, cums};
 use std::alloc::{AllocError, Global};
 use std::test::Fail;
 
