@@ -1,6 +1,7 @@
 //! What is read of a table, and the first fault of a bad one.
 
 use mrp_cal::CalFault;
+use mrp_lot::Rule;
 use mrp_rows::{PairNo, PlantNo, Supply, Tables};
 use mrp_tables::{TableFaultKind, read_tables_uncounted};
 use mrp_worked::{BICYCLE, RESET_AT_RELEASE};
@@ -245,6 +246,14 @@ fn pair_rows_are_tested_against_the_rows_before_them(rt: HostRuntime) -> Result<
         ("pair,C,X,buy,lot,0,0,0", TableFaultKind::UnknownPlant),
         ("pair,A,Z,from:C,lot,0,0,0", TableFaultKind::UnknownPlant),
         (
+            "pair,A,Z,from:C:600:B:400,lot,0,0,0",
+            TableFaultKind::UnknownPlant,
+        ),
+        (
+            "pair,A,Z,from:B:600:C:400,lot,0,0,0",
+            TableFaultKind::UnknownPlant,
+        ),
+        (
             "pair,A,Z,from:B:600:A:400,lot,0,0,0",
             TableFaultKind::SelfSource,
         ),
@@ -261,7 +270,6 @@ fn other_rows_are_tested_against_the_rows_before_them(rt: HostRuntime) -> Result
     let refused = [
         ("plant,C,,,,,,", TableFaultKind::KindOrder),
         ("bill,A,Y,X,1,,,", TableFaultKind::NotMade),
-        ("bill,A,X,Z,1,,,", TableFaultKind::UnknownPair),
         ("demand,A,X,02,30,,,", TableFaultKind::BadNumber),
         ("demand,A,X,4,30,,,", TableFaultKind::BadNumber),
         ("ship,A,B,Y,0,1,,", TableFaultKind::NotSourced),
@@ -270,29 +278,6 @@ fn other_rows_are_tested_against_the_rows_before_them(rt: HostRuntime) -> Result
     for (row, kind) in refused {
         are_refused(&rt, row, 7, kind)?;
     }
-    Ok(())
-}
-
-#[test]
-fn each_kind_of_row_has_names_and_numbers(rt: HostRuntime) -> Result<(), Fail> {
-    let refused = [
-        ("bill,A,X Z,Y,1,,,", TableFaultKind::BadName),
-        ("demand,A,X!,0,1,,,", TableFaultKind::BadName),
-        ("receipt,A,,0,1,,,", TableFaultKind::BadName),
-        ("ship,B,A,Y Y,0,1,,", TableFaultKind::BadName),
-        ("cum,B,A Z,Y,1,,,", TableFaultKind::BadName),
-        ("reset,B,A,Y?,1,,,", TableFaultKind::BadName),
-        ("bill,A,X,Y,0,,,", TableFaultKind::BadNumber),
-        ("receipt,A,X,4,30,,,", TableFaultKind::BadNumber),
-        ("ship,B,A,Y,4,1,,", TableFaultKind::BadNumber),
-        ("cum,B,A,Y,1000000000000001,,,", TableFaultKind::BadNumber),
-        ("reset,B,A,Y,4,,,", TableFaultKind::BadNumber),
-    ];
-    for (row, kind) in refused {
-        are_refused(&rt, row, 7, kind)?;
-    }
-    let no_name: &[u8] = b"run,2026-01-05,7,4,,,,\nplant,A B,,,,,,\n";
-    is_refused(&rt, no_name, 2, TableFaultKind::BadName);
     Ok(())
 }
 
@@ -327,42 +312,145 @@ fn each_field_of_a_run_is_tested(rt: HostRuntime) {
 }
 
 #[test]
-fn each_field_of_a_pair_is_tested(rt: HostRuntime) -> Result<(), Fail> {
-    let refused = [
-        ("pair,A B,Z,buy,lot,0,0,0", TableFaultKind::BadName),
-        ("pair,,Z,buy,lot,0,0,0", TableFaultKind::BadName),
-        ("pair,A,,buy,lot,0,0,0", TableFaultKind::BadName),
-        (
-            "pair,A,NAME-OF-21-CHARACTERS,buy,lot,0,0,0",
-            TableFaultKind::BadName,
-        ),
-        ("pair,A,Z,,lot,0,0,0", TableFaultKind::BadSupply),
-        ("pair,A,Z,make:3,lot,0,0,0", TableFaultKind::BadSupply),
-        ("pair,A,Z,form:B,lot,0,0,0", TableFaultKind::BadSupply),
-        ("pair,A,Z,From:B,lot,0,0,0", TableFaultKind::BadSupply),
-        ("pair,A,Z,from:,lot,0,0,0", TableFaultKind::BadSupply),
-        ("pair,A,Z,buy,,0,0,0", TableFaultKind::BadRule),
-        ("pair,A,Z,buy,lots,0,0,0", TableFaultKind::BadRule),
-        ("pair,A,Z,buy,periods:105,0,0,0", TableFaultKind::BadRule),
-        ("pair,A,Z,buy,min:1,0,0,0", TableFaultKind::BadRule),
-        ("pair,A,Z,buy,lot,105,0,0", TableFaultKind::BadNumber),
-        ("pair,A,Z,buy,lot,1.5,0,0", TableFaultKind::BadNumber),
-        ("pair,A,Z,buy,lot,,0,0", TableFaultKind::BadNumber),
-        (
-            "pair,A,Z,buy,lot,0,1000000000001,0",
-            TableFaultKind::BadNumber,
-        ),
-        ("pair,A,Z,buy,lot,0,-1,0", TableFaultKind::BadNumber),
-        ("pair,A,Z,buy,lot,0,,0", TableFaultKind::BadNumber),
-        (
-            "pair,A,Z,buy,lot,0,0,1000000000001",
-            TableFaultKind::BadNumber,
-        ),
-        ("pair,A,Z,buy,lot,0,0,1.5", TableFaultKind::BadNumber),
-        ("pair,A,Z,buy,lot,0,0,", TableFaultKind::BadNumber),
+fn each_number_of_a_pair_is_tested(rt: HostRuntime) -> Result<(), Fail> {
+    let misspelt = [
+        "pair,A,Z,buy,lot,105,0,0",
+        "pair,A,Z,buy,lot,1.5,0,0",
+        "pair,A,Z,buy,lot,,0,0",
+        "pair,A,Z,buy,lot,0,1000000000001,0",
+        "pair,A,Z,buy,lot,0,-1,0",
+        "pair,A,Z,buy,lot,0,,0",
+        "pair,A,Z,buy,lot,0,0,1000000000001",
+        "pair,A,Z,buy,lot,0,0,1.5",
+        "pair,A,Z,buy,lot,0,0,",
     ];
-    for (row, kind) in refused {
-        are_refused(&rt, row, 7, kind)?;
+    for row in misspelt {
+        are_refused(&rt, row, 7, TableFaultKind::BadNumber)?;
+    }
+    Ok(())
+}
+
+#[test]
+fn each_part_of_a_rule_is_tested(rt: HostRuntime) -> Result<(), Fail> {
+    let misspelt = [
+        "",
+        "lots",
+        "Lot",
+        "lot:",
+        "lot:1",
+        "fixed",
+        "fixed:",
+        "fixed:0",
+        "fixed:01",
+        "fixed:1.5",
+        "fixed:1000000000001",
+        "fixed:1:1",
+        "periods",
+        "periods:",
+        "periods:0",
+        "periods:1.5",
+        "periods:105",
+        "min",
+        "min:1",
+        "min::1",
+        "min:1:",
+        "min:0:1",
+        "min:1:0",
+        "min:1000000000001:1",
+        "min:1:1000000000001",
+        "min:1:1:1",
+        "max:1:1",
+    ];
+    for rule in misspelt {
+        let row = format!(in rt.alloc(); "pair,A,Z,buy,{rule},0,0,0")?;
+        are_refused(&rt, row.as_str(), 7, TableFaultKind::BadRule)?;
+    }
+    Ok(())
+}
+
+/// Whether a pair row with a rule of that text is read, and as that rule.
+fn has_rule(alloc: Global, text: &str, rule: Rule) -> Result<bool, Fail> {
+    let head = "run,2026-01-05,7,1,,,,\nplant,A,,,,,,\n";
+    let rows = format!(in alloc; "{head}pair,A,X,buy,{text},0,0,0\n")?;
+    let table = read_tables_uncounted(alloc, rows.as_bytes())?;
+    let is_so = table.pairs().len() == 1 && table.pairs()[0].rule == rule;
+    drop(table);
+    Ok(is_so)
+}
+
+#[test]
+fn a_rule_has_the_least_and_the_greatest_numbers(rt: HostRuntime) -> Result<(), Fail> {
+    let most = 1_000_000_000_000;
+    let spelled = [
+        ("lot", Rule::LotForLot),
+        ("fixed:1", Rule::Fixed(1)),
+        ("fixed:1000000000000", Rule::Fixed(most)),
+        ("periods:1", Rule::Periods(1)),
+        ("periods:104", Rule::Periods(104)),
+        ("min:1:1", Rule::MinMultiple(1, 1)),
+        ("min:1:1000000000000", Rule::MinMultiple(1, most)),
+        ("min:1000000000000:1", Rule::MinMultiple(most, 1)),
+    ];
+    for (text, rule) in spelled {
+        assert!(rt; has_rule(rt.alloc(), text, rule)?);
+    }
+    Ok(())
+}
+
+#[test]
+fn each_part_of_a_supply_is_tested(rt: HostRuntime) -> Result<(), Fail> {
+    let misspelt = [
+        "",
+        "make:3",
+        "form:B",
+        "From:B",
+        "from:",
+        "from:B/C",
+        "from:NAME-OF-21-CHARACTERS",
+        "from:B/C:600:D:400",
+        "from:NAME-OF-21-CHARACTERS:600:D:400",
+        "from:B:600:C/D:400",
+        "from:B:600:NAME-OF-21-CHARACTERS:400",
+        "from:B:600::400",
+        "from:B:0:C:1000",
+        "from:B:1000:C:0",
+    ];
+    for supply in misspelt {
+        let row = format!(in rt.alloc(); "pair,A,Z,{supply},lot,0,0,0")?;
+        are_refused(&rt, row.as_str(), 7, TableFaultKind::BadSupply)?;
+    }
+    Ok(())
+}
+
+/// What stands before a name and what behind it, for each field of a row after the plants' that holds one.
+const AROUND_NAMES: [(&str, &str); 18] = [
+    ("pair,", ",Z,buy,lot,0,0,0"),
+    ("pair,A,", ",buy,lot,0,0,0"),
+    ("bill,", ",X,Y,1,,,"),
+    ("bill,A,", ",Y,1,,,"),
+    ("bill,A,X,", ",1,,,"),
+    ("demand,", ",X,0,1,,,"),
+    ("demand,A,", ",0,1,,,"),
+    ("receipt,", ",X,0,1,,,"),
+    ("receipt,A,", ",0,1,,,"),
+    ("ship,", ",A,Y,0,1,,"),
+    ("ship,B,", ",Y,0,1,,"),
+    ("ship,B,A,", ",0,1,,"),
+    ("cum,", ",A,Y,1,,,"),
+    ("cum,B,", ",Y,1,,,"),
+    ("cum,B,A,", ",1,,,"),
+    ("reset,", ",A,Y,1,,,"),
+    ("reset,B,", ",Y,1,,,"),
+    ("reset,B,A,", ",1,,,"),
+];
+
+/// Asserts that a text is refused as a name in each field that holds one.
+fn is_no_name<R: Abort + AllocGlobal>(rt: &R, name: &str) -> Result<(), AllocError> {
+    let plant = format!(in rt.alloc(); "run,2026-01-05,7,4,,,,\nplant,{name},,,,,,\n")?;
+    is_refused(rt, plant.as_bytes(), 2, TableFaultKind::BadName);
+    for (before, behind) in AROUND_NAMES {
+        let row = format!(in rt.alloc(); "{before}{name}{behind}")?;
+        are_refused(rt, row.as_str(), 7, TableFaultKind::BadName)?;
     }
     Ok(())
 }
@@ -370,20 +458,42 @@ fn each_field_of_a_pair_is_tested(rt: HostRuntime) -> Result<(), Fail> {
 #[test]
 fn each_name_of_a_row_is_tested(rt: HostRuntime) -> Result<(), Fail> {
     let misspelt = [
-        "bill,A B,X,Y,1,,,",
-        "bill,A,X,Y Z,1,,,",
-        "demand,A B,X,0,1,,,",
-        "receipt,,X,0,1,,,",
-        "ship,B B,A,Y,0,1,,",
-        "ship,B,A A,Y,0,1,,",
-        "cum,B B,A,Y,1,,,",
-        "cum,B,A,Y Y,1,,,",
-        "reset,B B,A,Y,1,,,",
-        "reset,B,A A,Y,1,,,",
+        "",
+        "A/B",
+        "A:B",
+        "A B",
+        "X!",
+        "?",
+        "@A",
+        "A[",
+        "A`B",
+        "{A",
+        "\"A,B\"",
+        "Ü",
+        "NAME-OF-21-CHARACTERS",
     ];
-    for row in misspelt {
-        are_refused(&rt, row, 7, TableFaultKind::BadName)?;
+    for name in misspelt {
+        is_no_name(&rt, name)?;
     }
+    Ok(())
+}
+
+#[test]
+fn each_name_has_20_characters_at_most(rt: HostRuntime) -> Result<(), Fail> {
+    let rows = "run,2026-01-05,7,4,,,,
+plant,Plant-of-20.letters1,,,,,,
+plant,Plant-of-20.letters2,,,,,,
+pair,Plant-of-20.letters1,ITEM_OF_MORE_LETTERS,from:Plant-of-20.letters2,lot,1,0,0
+pair,Plant-of-20.letters1,ITEM_OF_20_LETTERS.Z,make,lot,1,0,0
+pair,Plant-of-20.letters2,ITEM_OF_MORE_LETTERS,buy,lot,0,0,0
+bill,Plant-of-20.letters1,ITEM_OF_20_LETTERS.Z,ITEM_OF_MORE_LETTERS,1,,,
+demand,Plant-of-20.letters1,ITEM_OF_20_LETTERS.Z,0,1,,,
+receipt,Plant-of-20.letters1,ITEM_OF_20_LETTERS.Z,0,1,,,
+ship,Plant-of-20.letters2,Plant-of-20.letters1,ITEM_OF_MORE_LETTERS,0,1,,
+cum,Plant-of-20.letters2,Plant-of-20.letters1,ITEM_OF_MORE_LETTERS,1,,,
+reset,Plant-of-20.letters2,Plant-of-20.letters1,ITEM_OF_MORE_LETTERS,1,,,
+";
+    assert!(rt; fault_of(rt.alloc(), rows.as_bytes()).is_none());
     Ok(())
 }
 
@@ -391,6 +501,7 @@ fn each_name_of_a_row_is_tested(rt: HostRuntime) -> Result<(), Fail> {
 fn each_number_of_a_row_is_tested(rt: HostRuntime) -> Result<(), Fail> {
     let misspelt = [
         "bill,A,X,Y,,,,",
+        "bill,A,X,Y,0,,,",
         "bill,A,X,Y,1.5,,,",
         "bill,A,X,Y,1000001,,,",
         "demand,A,X,,1,,,",
@@ -399,19 +510,23 @@ fn each_number_of_a_row_is_tested(rt: HostRuntime) -> Result<(), Fail> {
         "demand,A,X,0,,,,",
         "demand,A,X,0,1000000000001,,,",
         "receipt,A,X,,1,,,",
+        "receipt,A,X,4,30,,,",
         "receipt,A,X,0,0,,,",
         "receipt,A,X,0,1.5,,,",
         "receipt,A,X,0,,,,",
         "receipt,A,X,0,1000000000001,,,",
         "ship,B,A,Y,,1,,",
+        "ship,B,A,Y,4,1,,",
         "ship,B,A,Y,0,0,,",
         "ship,B,A,Y,0,1.5,,",
         "ship,B,A,Y,0,,,",
         "ship,B,A,Y,0,1000000000001,,",
         "cum,B,A,Y,,,,",
         "cum,B,A,Y,1.5,,,",
+        "cum,B,A,Y,1000000000000001,,,",
         "reset,B,A,Y,,,,",
         "reset,B,A,Y,1.5,,,",
+        "reset,B,A,Y,4,,,",
     ];
     for row in misspelt {
         are_refused(&rt, row, 7, TableFaultKind::BadNumber)?;
@@ -426,8 +541,13 @@ fn each_kind_of_row_names_what_is_there(rt: HostRuntime) -> Result<(), Fail> {
         ("demand,C,X,0,1,,,", TableFaultKind::UnknownPlant),
         ("receipt,C,X,0,1,,,", TableFaultKind::UnknownPlant),
         ("ship,C,A,Y,0,1,,", TableFaultKind::UnknownPlant),
+        ("ship,B,C,Y,0,1,,", TableFaultKind::UnknownPlant),
+        ("cum,C,A,Y,1,,,", TableFaultKind::UnknownPlant),
         ("cum,B,C,Y,1,,,", TableFaultKind::UnknownPlant),
         ("reset,C,A,Y,1,,,", TableFaultKind::UnknownPlant),
+        ("reset,B,C,Y,1,,,", TableFaultKind::UnknownPlant),
+        ("bill,A,Z,Y,1,,,", TableFaultKind::UnknownPair),
+        ("bill,A,X,Z,1,,,", TableFaultKind::UnknownPair),
         ("demand,A,Z,0,1,,,", TableFaultKind::UnknownPair),
         ("receipt,B,X,0,1,,,", TableFaultKind::UnknownPair),
         ("ship,A,B,X,0,1,,", TableFaultKind::UnknownPair),
