@@ -3,8 +3,8 @@ use Rattle.std.proofs.Common.{◌≡◌, ℕ, ◌+◌, ◌<◌, List, length, ge
 use Rattle.std.proofs.lemmas.List.{length-set}
 use Rattle.std.proofs.lemmas.List.Elements.{All-set}
 use Rattle.std.proofs.lemmas.List.FromFn.{length-map-range_with_len}
-use Rattle.mrp_lot.specs.One.{PlanRows, release_at}
-use Rattle.mrp_lot.proofs.OneLaws.{one-gross, one-release}
+use Rattle.mrp_lot.specs.One.{PlanRows}
+use Rattle.mrp_lot.proofs.OneLaws.{release_at, one-gross, one-release}
 use Rattle.mrp_lot.specs.declared.params.PairParams.{PairParams}
 use Rattle.mrp_rows.specs.declared.numbers.PairNo.{PairNo}
 use Rattle.mrp_local.specs.Local.{amount_at, asked_within}

@@ -11,4 +11,6 @@ mod laws;
 
 pub use calendar::Calendar;
 pub use fault::CalFault;
-pub use laws::{a_text_spells_one_day, limits_are_numbers, the_text_of_a_day_spells_it};
+pub use laws::{
+    a_day_has_one_text, a_text_spells_one_day, limits_are_numbers, the_text_of_a_day_spells_it,
+};

@@ -13,7 +13,7 @@ use Rattle.mrp_lot.specs.declared.params.PairParams.{PairParams}
 use Rattle.mrp_lot.specs.Lot.{IsRule, rule_quantities, periods_covered, lot_of}
 use Rattle.mrp_lot.proofs.LotLaws.{least_multiple-le, least_multiple-lt}
 use Rattle.mrp_lot.proofs.RangeLaws.{sum_take-suc, sum_drop_take-one, sum_by-range-suc, sum_by-range-same, moved_sum}
-use Rattle.mrp_lot.specs.One.{need_over, greatest_need, net_after, order_after, available_after, balance_before, order_at, order_row, release_at, one}
+use Rattle.mrp_lot.specs.One.{need_over, greatest_need, net_after, order_after, available_after, balance_before, order_at, order_row, released, one}
 use Rattle.mrp_lot.specs.One.{IsWithin}
 use Rattle.mrp_lot.specs.Rules.{OrdersAreReleased, ReleasesAreBounded, AvailableCoversSafety, RowsStayWithin}
 
@@ -175,6 +175,10 @@ length-order_row pair incoming gross = length-map-range_with_len (order_at pair 
 pub order_row-at : (pair : PairParams) (incoming gross : List ℕ) (t : ℕ) → t < length gross
     → slice_index (order_row pair incoming gross) t ≡ order_at pair incoming gross t
 order_row-at pair incoming gross t h = get_or-map-range_with_len (order_at pair incoming gross) 0 (length gross) t t 0 h (omega arith)
+
+-- planned order release of period u in the plan
+unfoldable pub release_at : PairParams → List ℕ → List ℕ → ℕ → ℕ
+release_at pair incoming gross u = released pair.lead (order_row pair incoming gross) (length (order_row pair incoming gross)) u
 
 -- a release of the plan: its orders that are due a lead time later, or before
 pub release_at-is : (pair : PairParams) (incoming gross : List ℕ) (u : ℕ) → release_at pair incoming gross u

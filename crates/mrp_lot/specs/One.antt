@@ -102,10 +102,6 @@ late_order lead order t = record { period = t; quantity = slice_index order t; b
 abbrev pub late_orders : ℕ → List ℕ → List Late
 late_orders lead order = map (late_order lead order) (late_periods lead order (length order))
 
--- planned order release of period u in the plan
-unfoldable pub release_at : PairParams → List ℕ → List ℕ → ℕ → ℕ
-release_at pair incoming gross u = released pair.lead (order_row pair incoming gross) (length (order_row pair incoming gross)) u
-
 -- the plan of one pair
 unfoldable pub one : PairParams → List ℕ → List ℕ → PlanRows
 one pair incoming gross =

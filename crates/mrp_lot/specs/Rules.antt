@@ -81,6 +81,11 @@ NothingIsOrderedWithoutANeed = (pair : PairParams) (incoming gross : List ℕ) (
 abbrev pub LotCovers : Type 0
 LotCovers = (rule : Rule) (net span : ℕ) → IsRule rule → net ≤ span → net ≤ lot_of rule net span
 
+-- and so does that of each period, whose span is of the pair's own needs
+abbrev pub OrderCoversTheNeed : Type 0
+OrderCoversTheNeed = (pair : PairParams) (incoming gross : List ℕ) (before t : ℕ) → IsRule pair.rule → t < length gross
+    → net_after pair incoming gross before t ≤ order_after pair incoming gross before t
+
 -- projected available is never below safety stock; with safety stock 0 this says nothing, and `FollowsRules.available` does
 abbrev pub AvailableCoversSafety : Type 0
 AvailableCoversSafety = (pair : PairParams) (incoming gross : List ℕ) → IsWithin pair incoming gross

@@ -6,7 +6,8 @@ ghost use Rattle.mrp_lot.specs.Lot.{IsRule};
 ghost use Rattle.mrp_lot.specs.declared.rule.Rule.TheVariants.{Fixed, Periods, MinMultiple};
 ghost use Rattle.mrp_lot.specs.Rules.{LotForLotIsExact, LotForLotOrdersTheNeed};
 ghost use Rattle.mrp_lot.specs.Rules.{FixedIsLeast, MinMultipleIsLeast, FixedIsSmall, MinMultipleIsSmall, PeriodsIsGreatest};
-ghost use Rattle.mrp_lot.specs.Rules.{NothingIsOrderedWithoutANeed, LotCovers, AvailableCoversSafety, OrdersAreReleased, ReleasesAreBounded};
+ghost use Rattle.mrp_lot.specs.Rules.{NothingIsOrderedWithoutANeed, LotCovers, OrderCoversTheNeed};
+ghost use Rattle.mrp_lot.specs.Rules.{AvailableCoversSafety, OrdersAreReleased, ReleasesAreBounded};
 ghost use Rattle.mrp_lot.specs.Rules.{RowsStayWithin, PlanFollowsRules, RulesHaveOnePlan};
 
 use crate::{LONGEST_LEAD, MOST_IN_RULE};
@@ -42,12 +43,15 @@ pub fn nothing_is_ordered_without_a_need()
     ensures { NothingIsOrderedWithoutANeed }
 {}
 
-/// Whatever the rule, an order covers the net requirement.
+/// Whatever the rule, an order covers the net requirement: of any need that is at most the span it is
+/// given, and so of each period, whose span is the greatest of the pair's own needs.
 pub fn lot_covers()
-    ensures { LotCovers }
+    ensures lot { LotCovers }
+    ensures order { OrderCoversTheNeed }
 {}
 
-/// The projected available of a plan is never below safety stock, in pieces.
+/// The projected available of a plan is never below safety stock, in pieces, where the quantities
+/// that it is made of together are at most 10^15 (`IsWithin`).
 ///
 /// With a safety stock of 0 this says nothing. That nothing is cut off at 0 is said by
 /// [`rules_have_one_plan`]: what was there, comes in and is ordered is what is required or stays.
@@ -61,17 +65,19 @@ pub fn orders_are_released()
 {}
 
 /// All releases of a plan together are at most safety stock, the rule's quantities and all gross
-/// requirements.
+/// requirements, where the quantities that it is made of together are at most 10^15 (`IsWithin`).
 pub fn releases_are_bounded()
     ensures { ReleasesAreBounded }
 {}
 
-/// No order, release or projected available of a plan is above 10^15 pieces.
+/// No order, release or projected available of a plan is above 10^15 pieces, where the quantities
+/// that it is made of together aren't (`IsWithin`).
 pub fn rows_stay_within()
     ensures { RowsStayWithin }
 {}
 
-/// The plan follows the rules period by period, and rows that follow them are the plan.
+/// The plan follows the rules period by period, and rows that follow them are the plan, where the
+/// quantities that it is made of together are at most 10^15 (`IsWithin`).
 pub fn rules_have_one_plan()
     ensures follows { PlanFollowsRules }
     ensures only { RulesHaveOnePlan }
