@@ -7,7 +7,7 @@ use Rattle.std.proofs.lemmas.List.{length_push}
 use Rattle.mrp_cal.specs.Calendar.{CalendarTerms, IsCalendar}
 use Rattle.mrp_rows.specs.declared.rows.TheConstants.{MOST_BILLS, MOST_OF_A_KIND, MOST_PAIRS, MOST_PLANTS, MOST_SOURCES}
 use Rattle.mrp_rows.specs.Table.{Table, IsName, IsRead, horizon, IsPairRow, IsSourceRow, IsBillRow, IsDemandRow, IsReceiptRow, IsShipRow, IsCumRow, IsResetRow}
-use Rattle.mrp_rows.specs.Growing.{add_item, with_plant, with_item, with_bill, with_demand, with_receipt, with_ship, with_cum, with_reset}
+use Rattle.mrp_rows.specs.Growing.{add_item, with_plant, with_item, with_pair, with_source, with_bill, with_demand, with_receipt, with_ship, with_cum, with_reset}
 use Rattle.mrp_rows.specs.declared.rows.PairRow.{PairRow}
 use Rattle.mrp_rows.specs.declared.rows.SourceRow.{SourceRow}
 use Rattle.mrp_rows.specs.declared.rows.BillRow.{BillRow}
@@ -113,6 +113,16 @@ pub read-with_plant : (N : Table) (x : List ℕ) → IsRead N → IsName x → l
 read-with_plant N x read named room =
     let g : Grows N (with_plant N x) = record { calendar = refl; plants = omega (arith, length_push N.plants x); items = omega arith; pairs = omega arith } in
     read_grows N (with_plant N x) read g (one_more x named room) same_rows same_rows same_rows same_rows same_rows same_rows same_rows same_rows same_rows
+
+pub read-with_pair : (N : Table) (x : PairRow) → IsRead N → IsPairRow N x → length N.pairs < MOST_PAIRS → IsRead (with_pair N x)
+read-with_pair N x read row room =
+    let g : Grows N (with_pair N x) = record { calendar = refl; plants = omega arith; items = omega arith; pairs = omega (arith, length_push N.pairs x) } in
+    read_grows N (with_pair N x) read g same_rows same_rows (one_more x (pair_grows g x row) room) same_rows same_rows same_rows same_rows same_rows same_rows same_rows
+
+pub read-with_source : (N : Table) (x : SourceRow) → IsRead N → IsSourceRow N x → length N.sources < MOST_SOURCES → IsRead (with_source N x)
+read-with_source N x read row room =
+    let g = same_names N (with_source N x) refl refl refl refl in
+    read_grows N (with_source N x) read g same_rows same_rows same_rows (one_more x (source_grows g x row) room) same_rows same_rows same_rows same_rows same_rows same_rows
 
 pub read-with_bill : (N : Table) (x : BillRow) → IsRead N → IsBillRow N x → length N.bills < MOST_BILLS → IsRead (with_bill N x)
 read-with_bill N x read row room =
