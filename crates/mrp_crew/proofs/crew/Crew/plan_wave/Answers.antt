@@ -78,3 +78,8 @@ returns-clause-shut g c = λ is.
           c.settle_all-open.ensures.let_in w.if-open.false
       | else-all-via-else-all w ↦ absurd (refusal_is_no_gate c.wave_fault.result (c.wave_fault.ensures.refused w.if-all.false) is)
     ]
+
+pub returns-clause-planned : goal.returns-clause-planned
+returns-clause-planned g c =
+    let p = c.settle_all-open.ensures.planned in
+    (p.0, p.1, tt)
