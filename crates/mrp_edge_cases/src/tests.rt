@@ -6,32 +6,10 @@ mod random;
 mod streams;
 mod threads;
 
-use mrp_text_cases::{codes, plan};
-use std::alloc::AllocError;
 use std::process::Abort;
 
 /// Asserts that this is the report, or the line of the fault. A test calls it, and has no assertion of
 /// its own for each report: what an assertion lets go where it fails is proved once.
 pub(crate) fn is_report<R: Abort>(rt: &R, written: String, report: &str) {
     assert_eq!(rt; written.as_str(), report);
-}
-
-/// Asserts what `mrp plan --single` writes for the table.
-pub(crate) fn has_plan<R: Abort + AllocGlobal>(
-    rt: &R,
-    table: &str,
-    report: &str,
-) -> Result<(), AllocError> {
-    is_report(rt, plan(rt.alloc(), table)?, report);
-    Ok(())
-}
-
-/// Asserts what `mrp check` writes for the table.
-pub(crate) fn has_codes<R: Abort + AllocGlobal>(
-    rt: &R,
-    table: &str,
-    report: &str,
-) -> Result<(), AllocError> {
-    is_report(rt, codes(rt.alloc(), table)?, report);
-    Ok(())
 }

@@ -12,19 +12,24 @@ use std::thread::Threads;
 /// with a leading `!` where bytes were written before it, and a `?` behind it where it wasn't written whole.
 pub fn outcome(
     alloc: Global,
-    written: Vec<u8>,
-    answer: Result<(), TextFault>,
+    written: &[u8],
+    answer: &Result<(), TextFault>,
 ) -> Result<String, AllocError> {
-    let Err(fault) = answer else {
-        return text_of(alloc, written.as_slice());
-    };
+    match answer {
+        Ok(()) => text_of(alloc, written),
+        Err(fault) => line_of(alloc, written, fault),
+    }
+}
+
+/// The status of a fault and its line.
+fn line_of(alloc: Global, written: &[u8], fault: &TextFault) -> Result<String, AllocError> {
     let mut line = Vec::new(alloc);
     if !written.is_empty() {
         line.push(b'!')?;
     }
-    line.push(b'0' + status(&fault).min(9))?;
+    line.push(b'0' + status(fault).min(9))?;
     line.push(b' ')?;
-    if write_fault(&fault, &mut line).is_err() {
+    if write_fault(fault, &mut line).is_err() {
         line.push(b'?')?;
     }
     text_of(alloc, line.as_slice())
@@ -39,7 +44,7 @@ fn text_of(alloc: Global, bytes: &[u8]) -> Result<String, AllocError> {
 pub fn plan(alloc: Global, table: &str) -> Result<String, AllocError> {
     let mut written = Vec::new(alloc);
     let answer = drive_text(alloc, table.as_bytes(), &mut written, 64);
-    outcome(alloc, written, answer)
+    outcome(alloc, written.as_slice(), &answer)
 }
 
 /// What `mrp plan` writes for the table, or its fault.
@@ -52,14 +57,14 @@ pub fn threaded<T: Threads + Wait + Sync, G: Gate>(
 ) -> Result<String, AllocError> {
     let mut written = Vec::new(alloc);
     let answer = plan_text(rt, alloc, table.as_bytes(), &mut written, settings, gate);
-    outcome(alloc, written, answer)
+    outcome(alloc, written.as_slice(), &answer)
 }
 
 /// What `mrp check` writes for the table, or its fault.
 pub fn codes(alloc: Global, table: &str) -> Result<String, AllocError> {
     let mut written = Vec::new(alloc);
     let answer = check_text(alloc, table.as_bytes(), &mut written);
-    outcome(alloc, written, answer)
+    outcome(alloc, written.as_slice(), &answer)
 }
 
 /// What `mrp peg` writes for the table, or its fault.
@@ -72,12 +77,12 @@ pub fn pegs(
 ) -> Result<String, AllocError> {
     let mut written = Vec::new(alloc);
     let answer = peg_text(alloc, table.as_bytes(), &mut written, plant, item, period);
-    outcome(alloc, written, answer)
+    outcome(alloc, written.as_slice(), &answer)
 }
 
 /// What `mrp cums` writes for the table, or its fault.
 pub fn cums(alloc: Global, table: &str) -> Result<String, AllocError> {
     let mut written = Vec::new(alloc);
     let answer = cums_text(alloc, table.as_bytes(), &mut written);
-    outcome(alloc, written, answer)
+    outcome(alloc, written.as_slice(), &answer)
 }

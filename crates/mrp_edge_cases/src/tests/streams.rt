@@ -412,7 +412,7 @@ fn refusal_at_once(alloc: Global) -> Result<String, AllocError> {
     if calls.load(Ordering::SeqCst) > 3 {
         return String::from_str(alloc, "read on");
     }
-    outcome(alloc, written, answer)
+    outcome(alloc, written.as_slice(), &answer)
 }
 
 #[test]

@@ -1,5 +1,6 @@
 //! Each command from its words to its report: the choice, and what is done for it.
 
+use super::is_report;
 use crate::outcome;
 use crate::tables::{
     BICYCLE, BICYCLE_PLAN, FIRM_OF_TWO, FIRM_OF_TWO_CUMS, NEED_TOO_LARGE, OWN_LOOP,
@@ -22,77 +23,46 @@ fn done<T: Threads + Wait + Sync>(
     let choice = choose(alloc, words)?;
     let mut written = Vec::new(alloc);
     let answer = answer(rt, alloc, choice, table.as_bytes(), &mut written);
-    Ok(outcome(alloc, written, answer)?)
+    Ok(outcome(alloc, written.as_slice(), &answer)?)
 }
 
-/// Whether this report is written.
-fn writes<T: Threads + Wait + Sync>(
-    rt: &T,
-    alloc: Global,
-    words: &[&str],
-    table: &str,
-    report: &str,
-) -> Result<bool, Fail> {
-    let text = done(rt, alloc, words, table)?;
-    Ok(text.as_str() == report)
-}
+/// Each command with its table and its report: a plan by threads and one on one thread, codes, terms, figures.
+const DONE: [(&[&str], &str, &str); 5] = [
+    (
+        &["mrp", "plan", "--workers", "2", "--capacity", "1"],
+        BICYCLE,
+        BICYCLE_PLAN,
+    ),
+    (&["mrp", "plan", "--single"], BICYCLE, BICYCLE_PLAN),
+    (
+        &["mrp", "check"],
+        BICYCLE,
+        "code,P1,BIKE,0\ncode,P1,WHEEL,1\n",
+    ),
+    (
+        &["mrp", "peg", "P1", "WHEEL", "2"],
+        BICYCLE,
+        "peg,bill,P1,BIKE,10,2,20\n",
+    ),
+    (&["mrp", "cums"], FIRM_OF_TWO, FIRM_OF_TWO_CUMS),
+];
 
 #[test]
-fn plan_is_done_by_threads(rt: HostRuntime) -> Result<(), Fail> {
-    let words = ["mrp", "plan", "--workers", "2", "--capacity", "1"];
-    assert!(&rt; writes(&rt, rt.alloc(), &words, BICYCLE, BICYCLE_PLAN)?);
+fn each_command_is_done(rt: HostRuntime) -> Result<(), Fail> {
+    for (words, table, report) in &DONE {
+        is_report(&rt, done(&rt, rt.alloc(), words, table)?, report);
+    }
     Ok(())
 }
 
-#[test]
-fn plan_is_done_on_one_thread(rt: HostRuntime) -> Result<(), Fail> {
-    assert!(&rt;
-        writes(
-            &rt,
-            rt.alloc(),
-            &["mrp", "plan", "--single"],
-            BICYCLE,
-            BICYCLE_PLAN
-        )?
-    );
-    Ok(())
-}
-
-#[test]
-fn check_is_done(rt: HostRuntime) -> Result<(), Fail> {
-    let report = "code,P1,BIKE,0\ncode,P1,WHEEL,1\n";
-    assert!(&rt; writes(&rt, rt.alloc(), &["mrp", "check"], BICYCLE, report)?);
-    Ok(())
-}
-
-#[test]
-fn peg_is_done(rt: HostRuntime) -> Result<(), Fail> {
-    let words = ["mrp", "peg", "P1", "WHEEL", "2"];
-    assert!(&rt;
-        writes(
-            &rt,
-            rt.alloc(),
-            &words,
-            BICYCLE,
-            "peg,bill,P1,BIKE,10,2,20\n"
-        )?
-    );
-    Ok(())
-}
-
-#[test]
-fn cums_is_done(rt: HostRuntime) -> Result<(), Fail> {
-    assert!(&rt;
-        writes(
-            &rt,
-            rt.alloc(),
-            &["mrp", "cums"],
-            FIRM_OF_TWO,
-            FIRM_OF_TWO_CUMS
-        )?
-    );
-    Ok(())
-}
+/// The words of each command.
+const COMMANDS: [&[&str]; 5] = [
+    &["mrp", "plan"],
+    &["mrp", "plan", "--single"],
+    &["mrp", "check"],
+    &["mrp", "peg", "A", "X", "0"],
+    &["mrp", "cums"],
+];
 
 /// Tables that are refused whatever is asked of them, with the status and the line.
 const REFUSED: [(&str, &str); 5] = [
@@ -109,50 +79,29 @@ const REFUSED: [(&str, &str); 5] = [
     (NEED_TOO_LARGE, "1 mrp: NeedTooLarge A/X\n"),
 ];
 
-/// Whether each of them is refused.
-fn refuses<T: Threads + Wait + Sync>(rt: &T, alloc: Global, words: &[&str]) -> Result<bool, Fail> {
-    let mut all = true;
-    for (table, line) in REFUSED {
-        all = writes(rt, alloc, words, table, line)? && all;
+#[test]
+fn each_command_refuses(rt: HostRuntime) -> Result<(), Fail> {
+    for words in &COMMANDS {
+        for (table, line) in &REFUSED {
+            is_report(&rt, done(&rt, rt.alloc(), words, table)?, line);
+        }
     }
-    Ok(all)
-}
-
-#[test]
-fn plan_by_threads_refuses(rt: HostRuntime) -> Result<(), Fail> {
-    assert!(&rt; refuses(&rt, rt.alloc(), &["mrp", "plan"])?);
-    Ok(())
-}
-
-#[test]
-fn plan_on_one_thread_refuses(rt: HostRuntime) -> Result<(), Fail> {
-    assert!(&rt; refuses(&rt, rt.alloc(), &["mrp", "plan", "--single"])?);
-    Ok(())
-}
-
-#[test]
-fn check_refuses(rt: HostRuntime) -> Result<(), Fail> {
-    assert!(&rt; refuses(&rt, rt.alloc(), &["mrp", "check"])?);
-    Ok(())
-}
-
-#[test]
-fn peg_refuses(rt: HostRuntime) -> Result<(), Fail> {
-    assert!(&rt; refuses(&rt, rt.alloc(), &["mrp", "peg", "A", "X", "0"])?);
-    Ok(())
-}
-
-#[test]
-fn cums_refuses(rt: HostRuntime) -> Result<(), Fail> {
-    assert!(&rt; refuses(&rt, rt.alloc(), &["mrp", "cums"])?);
     Ok(())
 }
 
 #[test]
 fn what_is_not_there_is_not_pegged(rt: HostRuntime) -> Result<(), Fail> {
     let pair = ["mrp", "peg", "P1", "CAR", "2"];
-    assert!(&rt; writes(&rt, rt.alloc(), &pair, BICYCLE, "1 mrp: no pair\n")?);
+    is_report(
+        &rt,
+        done(&rt, rt.alloc(), &pair, BICYCLE)?,
+        "1 mrp: no pair\n",
+    );
     let period = ["mrp", "peg", "P1", "WHEEL", "4"];
-    assert!(&rt; writes(&rt, rt.alloc(), &period, BICYCLE, "1 mrp: no period\n")?);
+    is_report(
+        &rt,
+        done(&rt, rt.alloc(), &period, BICYCLE)?,
+        "1 mrp: no period\n",
+    );
     Ok(())
 }
