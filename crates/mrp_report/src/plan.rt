@@ -66,7 +66,7 @@ struct PlanReport<'a> {
 ///
 /// - [`ReportFault::WriteFault`] where a write fails or takes nothing; a front of the report is
 ///   written. The rows go by pieces of some pairs, and what builds and sends a piece is handed enough
-///   room for it and no allocator, so it is never for want of memory.
+///   room for it, no allocator, and nothing that gives one, so it is never for want of memory.
 /// - [`ReportFault::Memory`] where the room for the dates or for a piece is refused; nothing is
 ///   written.
 pub fn plan_rows<W: Write>(

@@ -12,7 +12,8 @@ use mrp_report::{ReportFault, send};
 use mrp_tables::{TableFault, TableFaultKind};
 use std::io::Write;
 
-/// Writes the line that reports the fault, as far as the writer takes it, and takes no memory.
+/// Writes the line that reports the fault, as far as the writer takes it. It takes no memory, which is
+/// built and tested: no clause says it.
 ///
 /// # Errors
 ///

@@ -188,6 +188,11 @@ fn the_form_of_a_row_is_tested_first(rt: HostRuntime) {
             2,
             TableFaultKind::UnknownKind,
         ),
+        (
+            "kind,plant,item,period,quantity,,,\n",
+            1,
+            TableFaultKind::UnknownKind,
+        ),
         ("plant,A,,,,,,\n", 1, TableFaultKind::KindOrder),
         (
             "run,2026-02-30,7,4,,,,\n",

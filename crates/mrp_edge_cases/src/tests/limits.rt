@@ -3,7 +3,7 @@
 use super::is_report;
 use super::threads::writes_the_same;
 use itoa::Buffer;
-use mrp_text_cases::{codes, cums, plan};
+use mrp_text_cases::{codes, cums, pegs, plan};
 use std::alloc::{AllocError, Global};
 use std::test::Fail;
 
@@ -72,12 +72,18 @@ fn lines_that_begin(text: &str, with: &str) -> usize {
     text.lines().filter(|line| line.starts_with(with)).count()
 }
 
-#[test]
-fn a_part_goes_into_all_others(rt: HostRuntime) -> Result<(), Fail> {
-    let mut table = String::from_str(rt.alloc(), ONE_PLANT)?;
-    add_numbers(&mut table, 19_999, "pair,A,X", ",make,lot,0,0,0\n")?;
+/// A table of a part that goes into 19,999 others, of which each is made for its safety stock.
+fn of_one_part(alloc: Global) -> Result<String, AllocError> {
+    let mut table = String::from_str(alloc, ONE_PLANT)?;
+    add_numbers(&mut table, 19_999, "pair,A,X", ",make,lot,0,0,1\n")?;
     table.push_str("pair,A,F,buy,lot,0,0,0\n")?;
     add_numbers(&mut table, 19_999, "bill,A,X", ",F,1,,,\n")?;
+    Ok(table)
+}
+
+#[test]
+fn a_part_goes_into_all_others(rt: HostRuntime) -> Result<(), Fail> {
+    let table = of_one_part(rt.alloc())?;
     let low_level = codes(rt.alloc(), table.as_str())?;
     assert!(rt; lines_that_begin(low_level.as_str(), "code,A,X") == 19_999);
     assert!(rt;
@@ -85,6 +91,71 @@ fn a_part_goes_into_all_others(rt: HostRuntime) -> Result<(), Fail> {
             .as_str()
             .ends_with("\ncode,A,X19998,0\ncode,A,F,1\n")
     );
+    Ok(())
+}
+
+#[test]
+fn a_part_is_pegged_to_all_others(rt: HostRuntime) -> Result<(), Fail> {
+    let table = of_one_part(rt.alloc())?;
+    let terms = pegs(rt.alloc(), table.as_str(), "A", "F", 0)?;
+    assert!(rt; lines_that_begin(terms.as_str(), "peg,bill,A,X") == 19_999);
+    assert!(rt; terms.as_str().ends_with("\npeg,bill,A,X19998,1,1,1\n"));
+    Ok(())
+}
+
+/// Whether that is the plan of 20,000 pairs that each order a piece too late.
+fn is_late_plan(written: &str) -> bool {
+    lines_that_begin(written, "plan,A,F") == 20_000
+        && lines_that_begin(written, "late,A,F") == 20_000
+        && written.starts_with("plan,A,F0,0,2026-01-05,0,0,1,1,1\n")
+        && written.ends_with("\nlate,A,F19998,0,1,1\nlate,A,F19999,0,1,1\n")
+}
+
+#[test]
+fn each_of_20000_pairs_has_a_late_order(rt: HostRuntime) -> Result<(), Fail> {
+    let mut table = String::from_str(rt.alloc(), ONE_PLANT)?;
+    add_numbers(&mut table, 20_000, "pair,A,F", ",buy,lot,1,0,1\n")?;
+    assert!(rt; is_late_plan(plan(rt.alloc(), table.as_str())?.as_str()));
+    assert!(rt; writes_the_same(&rt, rt.alloc(), table.as_str(), 1, 64)?);
+    Ok(())
+}
+
+/// Adds the pairs of an item that one of so many plants buys and the others take from it.
+fn add_taken_by_all(text: &mut String, plants: u64, item: u64) -> Result<(), AllocError> {
+    let (mut digits, mut item_digits) = (Buffer::new(), Buffer::new());
+    let number = item_digits.format(item);
+    for plant in 0..plants {
+        text.push_str("pair,P")?;
+        text.push_str(digits.format(plant))?;
+        text.push_str(",I")?;
+        text.push_str(number)?;
+        if plant == item {
+            text.push_str(",buy,lot,0,0,0\n")?;
+        } else {
+            text.push_str(",from:P")?;
+            text.push_str(number)?;
+            text.push_str(",lot,0,0,1\n")?;
+        }
+    }
+    Ok(())
+}
+
+/// The table of so many plants of which each takes an item from each other.
+fn taken_by_all(alloc: Global, plants: u64) -> Result<String, AllocError> {
+    let mut table = String::from_str(alloc, "run,2026-01-05,7,1,,,,\n")?;
+    add_numbers(&mut table, plants, "plant,P", ",,,,,,\n")?;
+    for item in 0..plants {
+        add_taken_by_all(&mut table, plants, item)?;
+    }
+    Ok(table)
+}
+
+#[test]
+fn each_of_64_plants_takes_from_each_other(rt: HostRuntime) -> Result<(), Fail> {
+    let table = taken_by_all(rt.alloc(), 64)?;
+    let figures = cums(rt.alloc(), table.as_str())?;
+    assert!(rt; lines_that_begin(figures.as_str(), "lane,") == 8_064);
+    assert!(rt; writes_the_same(&rt, rt.alloc(), table.as_str(), 1, 64)?);
     Ok(())
 }
 

@@ -50,7 +50,7 @@ impl Read for Source<'_> {
 }
 
 /// A writer that takes `step` bytes a call; its call number `ends` fails, or takes nothing. Asked again it
-/// goes on, so that a write which is tried again shows.
+/// goes on, so that a write which is tried again shows, and so does a flush behind that call.
 #[derive(Drop)]
 struct Sink {
     taken: Vec<u8>,
@@ -77,6 +77,9 @@ impl Write for Sink {
     }
 
     fn flush(&mut self) -> io::Result<()> {
+        if self.call > self.ends {
+            self.taken.extend_from_slice(b" flushed")?;
+        }
         Ok(())
     }
 }
