@@ -1,10 +1,12 @@
 -- The end of calendars in day numbers, and that a text spells one day.
 use Rattle.std.proofs.Common.{◌≡◌, ℕ, ◌+◌, ◌*◌, ◌<◌, ◌≤◌, ℤ, pos, ◌+ℤ◌, ◌-ℤ◌, ◌<ℤ◌, ◌≤ℤ◌, refl, arith}
 use Rattle.std.proofs.Math.Nat.{mul-le-mul_right}
-use Rattle.jiff.specs.Words.{epoch_day, IsEpochDay}
+use Rattle.jiff.specs.Types.{Date}
+use Rattle.jiff.specs.Words.{IsYmd, epoch_day, IsEpochDay}
 use Rattle.jiff.proofs.OnLiterals.{jiff_on_literals}
 use Rattle.jiff.proofs.SpanFacts.{signed_arith}
 use Rattle.mrp_cal.specs.Calendar.{last_date}
+use Rattle.mrp_cal.proofs.Digits.{day_zero, epoch_day-day_zero}
 
 pub epoch_day-last_date : epoch_day last_date ≡ pos 84005
 unfolding jiff_on_literals last_date
@@ -22,14 +24,24 @@ pub not_before : (first : ℤ) (number : ℕ) → first ≡ pos number → pos 0
 not_before first number e = rw e (omega (arith, signed_arith))
 
 -- each period begins on a day of the calendar
-pub begins_within : (first : ℤ) (t days periods : ℕ) → pos 0 ≤ℤ first → (first +ℤ pos (periods * days) -ℤ pos 1) ≤ℤ epoch_day last_date → 1 ≤ days → t < periods → (pos 0 ≤ℤ (first +ℤ pos (t * days))) × ((first +ℤ pos (t * days)) ≤ℤ epoch_day last_date)
-begins_within first t days periods since until some h =
+pub begins_within : (first t days periods : ℕ) → (pos first +ℤ pos (periods * days) -ℤ pos 1) ≤ℤ epoch_day last_date → 1 ≤ days → t < periods → first + t * days ≤ 84005
+begins_within first t days periods until some h =
     let more : t + 1 ≤ periods = omega arith in
     let up = mul-le-mul_right days more in
-    (omega (arith, signed_arith, since), omega (arith, signed_arith, until, up, some))
+    let last = rw epoch_day-last_date at until in
+    omega (arith, signed_arith, last, up, some)
 
--- which is one that the library has
-pub has_day : (day : ℤ) → (pos 0 ≤ℤ day) × (day ≤ℤ epoch_day last_date) → IsEpochDay day
-has_day day h =
-    let last = rw epoch_day-last_date at h.1 in
-    (omega (arith, signed_arith, h.0), omega (arith, signed_arith, last))
+pub not_after : (day : ℤ) (number : ℕ) → day ≡ pos number → number ≤ 84005 → day ≤ℤ epoch_day last_date
+not_after day number e h = rw (epoch_day-last_date, e) (omega (arith, signed_arith))
+
+-- so many days after day 0 is a day that the library has
+pub has_day : (first : ℤ) (number : ℕ) → first ≡ pos 0 → number ≤ 84005 → IsEpochDay (first +ℤ pos number)
+has_day first number e h = rw e (omega (arith, signed_arith), omega (arith, signed_arith))
+
+-- what 1970-01-01 is, is day 0
+pub is_day_0 : (date : Date) → IsYmd (pos 1970) (pos 1) (pos 1) date → epoch_day date ≡ pos 0
+unfolding day_zero
+is_day_0 date parts =
+    let month : date.month ≡ 1 = omega (arith, signed_arith, parts.1) in
+    let day : date.day ≡ 1 = omega (arith, signed_arith, parts.2) in
+    rw (parts.0, month, day) epoch_day-day_zero

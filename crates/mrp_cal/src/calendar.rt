@@ -1,13 +1,13 @@
 //! The planning calendar: a first day, days a period, and periods.
 
-ghost use Rattle.std.specs.Prelude.{◌≡◌, ◌<◌, ◌^◌, pos, ◌+ℤ◌, ◌<ℤ◌, ◌≤ℤ◌, IfOk, IfErr, IfSome, MatchOption};
+ghost use Rattle.std.specs.Prelude.{◌≡◌, ◌<◌, ◌≤◌, ◌^◌, pos, ◌+ℤ◌, ◌<ℤ◌, IfOk, IfErr, IfSome, MatchOption};
 ghost use Rattle.jiff.specs.Words.{epoch_day, IsEpochDay};
 ghost use Rattle.mrp_cal.specs.DateText.{SpellsDay};
 ghost use Rattle.mrp_cal.specs.Days.{day_text};
-ghost use Rattle.mrp_cal.specs.Calendar.{IsCalendar, IsCalendarFrom, IsRefused, first_day, last_date};
+ghost use Rattle.mrp_cal.specs.Calendar.{IsCalendar, IsCalendarFrom, IsRefused, first_day};
 
 use crate::{CalFault, date_text};
-use jiff::civil::Date;
+use jiff::civil::{Date, date};
 use mrp_qty::Horizon;
 use std::marker::Model;
 
@@ -17,21 +17,20 @@ const ALL_DAYS: u64 = 84_006;
 /// The days of a plan: a first day, and periods of as many days each.
 #[derive(Debug, Drop)]
 pub struct Calendar {
-    first: Date,
+    first: u64,
     days: u64,
     horizon: Horizon,
 }
 
 impl Model for Calendar {
-    ghost use Rattle.std.specs.Prelude.{ℕ, ℤ, ◌≤◌};
-    ghost use Rattle.jiff.specs.Words.{epoch_day};
+    ghost use Rattle.std.specs.Prelude.{pos};
     ghost use Rattle.mrp_cal.specs.Calendar.{CalendarTerms, IsCalendar};
 
     ghost Value = { CalendarTerms };
 
-    ghost view = { λ c. record { first = epoch_day c.first; days = c.days; periods = c.horizon } };
+    ghost view = { λ c. record { first = pos c.first; days = c.days; periods = c.horizon } };
 
-    ghost invariant = { λ c. IsCalendar (record { first = epoch_day c.first; days = c.days; periods = c.horizon }) };
+    ghost invariant = { λ c. IsCalendar (record { first = pos c.first; days = c.days; periods = c.horizon }) };
 }
 
 /// How many days a date is after 1970-01-01, or `None` before it.
@@ -53,6 +52,14 @@ fn date_after(date: Date, days: u64) -> Date
     ensures { epoch_day result ≡ epoch_day date +ℤ pos days }
 {
     Date::from_plain(date.to_plain().checked_add(days as i64).unwrap())
+}
+
+/// The date that many days after 1970-01-01.
+fn date_of_day(day: u64) -> Date
+    requires { day ≤ 84005 }
+    ensures { epoch_day result ≡ pos day }
+{
+    date_after(date(1970, 1, 1), day)
 }
 
 impl Calendar {
@@ -84,20 +91,20 @@ impl Calendar {
             return Err(CalFault::PastEnd);
         }
         Ok(Calendar {
-            first,
+            first: number,
             days,
             horizon,
         })
     }
 
-    /// The date on which period `t` begins, `t` being below the number of periods.
-    pub fn date(&self, t: usize) -> Date
+    /// How many days after 1970-01-01 period `t` begins, 0 to 84,005, `t` being below the number of
+    /// periods.
+    pub fn day(&self, t: usize) -> u64
         requires { t < self.now.periods }
-        ensures value { epoch_day result ≡ first_day self.now t }
-        ensures since { pos 0 ≤ℤ epoch_day result }
-        ensures until { epoch_day result ≤ℤ epoch_day last_date }
+        ensures value { pos result ≡ first_day self.now t }
+        ensures until { result ≤ 84005 }
     {
-        date_after(self.first, t as u64 * self.days)
+        self.first + t as u64 * self.days
     }
 
     /// The text `yyyy-mm-dd` of the date on which period `t` begins, `t` being below the number of
@@ -107,7 +114,7 @@ impl Calendar {
         ensures value { result ≡ day_text (first_day self.now t) }
         ensures spells { SpellsDay result (first_day self.now t) }
     {
-        date_text::text_of_date(self.date(t))
+        date_text::text_of_date(date_of_day(self.day(t)))
     }
 
     /// The days of a period, 1 to 31.

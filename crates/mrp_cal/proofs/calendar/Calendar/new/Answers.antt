@@ -36,19 +36,17 @@ returns-then-number-get-gt-ALL_DAYS-clause-fault c =
     )
 
 pub invariant_of-result : goal.invariant_of-result
-invariant_of-result c =
-    let number = c.in-Some-day_number.ensures.number in
-    record {
-      length = (c.if-days-lt1.false, c.if-days-gt31.false);
-      periods = rw (← c.get.ensures.value) (c.get.ensures.some, c.get.ensures.within);
-      since = not_before _ _ number;
-      until = ends_by _ _ _ number (rw (← c.get.ensures.value) c.if-number-get-gt-ALL_DAYS.false);
-    }
+invariant_of-result c = record {
+  length = (c.if-days-lt1.false, c.if-days-gt31.false);
+  periods = rw (← c.get.ensures.value) (c.get.ensures.some, c.get.ensures.within);
+  since = not_before _ c.in-Some-day_number.number refl;
+  until = ends_by _ c.in-Some-day_number.number _ refl (rw (← c.get.ensures.value) c.if-number-get-gt-ALL_DAYS.false);
+}
 
 pub returns-clause-value : goal.returns-clause-value
 returns-clause-value c =
     let text = spelled _ _ _ c.as_bytes.ensures.value c.in-Some.ensures in
-    record { first = (c.in-Some.first, text, refl); days = refl; periods = refl }
+    record { first = (c.in-Some.first, text, c.in-Some-day_number.ensures.number); days = refl; periods = refl }
 
 pub returns-clause-calendar : goal.returns-clause-calendar
 returns-clause-calendar c = invariant_of-result c
