@@ -112,7 +112,24 @@ fn call_twice<R: Threads + Wait + Sync, G: Gate>(
     })
 }
 
-/// The same for the first plant of a network.
+/// The same for the agent of the first plant of a network.
+fn agent_plans<R: Threads + Wait + Sync, G: Gate>(
+    rt: &R,
+    alloc: Global,
+    net: &SizedNet,
+    whole: &Plan,
+    workers: u64,
+    gate: &G,
+) -> Result<Calls, Fail>
+    requires pairs { length whole.now ≡ length net.now.network.pairs }
+{
+    let mut agent = new_agent(alloc, net, 0)?;
+    let answer = call_twice(rt, alloc, &mut agent, net.network(), whole, workers, gate);
+    drop(agent);
+    answer
+}
+
+/// The same for the first plant of a network, which is planned as a whole before.
 fn plant_plans<R: Threads + Wait + Sync, G: Gate>(
     rt: &R,
     alloc: Global,
@@ -121,8 +138,9 @@ fn plant_plans<R: Threads + Wait + Sync, G: Gate>(
     gate: &G,
 ) -> Result<Calls, Fail> {
     let whole = plan_all(alloc, net)?;
-    let mut agent = new_agent(alloc, net, 0)?;
-    call_twice(rt, alloc, &mut agent, net.network(), &whole, workers, gate)
+    let answer = agent_plans(rt, alloc, net, &whole, workers, gate);
+    drop(whole);
+    answer
 }
 
 /// The same, once the network is checked.
