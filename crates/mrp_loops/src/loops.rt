@@ -82,7 +82,7 @@ impl Levels {
 /// The loop check: the low-level codes of a network without loops.
 ///
 /// Pairs without demanders are taken away, again and again, until none is left or each that is left
-/// has a demander left. It takes time in proportion to the pairs and edges.
+/// has a demander left. It is built to take time in proportion to the pairs and edges; no clause counts it.
 ///
 /// # Errors
 ///

@@ -44,10 +44,11 @@ pub struct Outcome {
 ///
 /// # Errors
 ///
-/// The lowest fault met, and of shut gates that of the lowest plant: [`RunFault::Memory`] where a growth is
-/// refused, [`RunFault::ThreadRefused`] where no thread could be made, [`RunFault::GateShut`] with the plant
-/// of the network for which, or for a worker of which, the gate was shut, [`RunFault::Stopped`] where a plant
-/// isn't done after [`MOST_TURNS`].
+/// A fault that a plant met: [`RunFault::Memory`] where a growth is refused, [`RunFault::ThreadRefused`] where no
+/// thread could be made, [`RunFault::GateShut`] with the plant of the network for which, or for a worker of
+/// which, the gate was shut, [`RunFault::Stopped`] where a plant isn't done after [`MOST_TURNS`]. Where several
+/// are met it is built to answer the first of these, and of shut gates that of the lowest plant; no clause of
+/// this call says which.
 pub fn run_network<R: Threads + Wait + Sync, G: Gate>(
     rt: &R,
     alloc: Global,

@@ -82,7 +82,8 @@ pub fn rows_have_listed_faults()
     ensures { (row : List (List ℕ)) → HasListedFaults row }
 {}
 
-/// A row is refused for the first test of its list that it fails, and taken where it passes all of them.
+/// A row is refused for the first test of its list that it fails, and taken where it passes all of them; a
+/// first row that passes them may still make no calendar.
 pub fn rows_have_their_first_fault()
     ensures { (row : List (List ℕ)) → HasFirstFault row }
 {}

@@ -24,7 +24,7 @@ pub const MAX_TURNS: u64 = 4_300_066;
 
 /// Reads a table. Each turn of reading is one step: one a row, and one for the end of the table. At a
 /// fault there was a step for each row up to the one that it names, and one at least; where the pair of a
-/// source is missing, which is told after the last row, one for each row and one for the end.
+/// source is missing, which is told after the last row, at most one for each row and one for the end.
 ///
 /// # Errors
 ///

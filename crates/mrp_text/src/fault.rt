@@ -18,8 +18,9 @@ pub struct PairName {
     pub item: String,
 }
 
-/// Why a text was not written whole. The first that holds, in this order, is answered; a refused
-/// growth ends the work where it happens.
+/// Why a text was not written whole. Of the table, its loops and quantities and the question the first fault
+/// that holds, in this order, is answered; what plants that run in threads meet comes behind all of these, and
+/// of several such faults any may be answered. A refused growth ends the work where it happens.
 #[derive(Debug, Drop, Error)]
 pub enum TextFault {
     /// The table is refused: the first fault of the first row that has one.

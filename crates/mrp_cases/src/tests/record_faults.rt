@@ -8,6 +8,7 @@ use mrp_worked::TWO_PLANTS;
 use std::alloc::Global;
 use std::io;
 use std::io::{ErrorKind, Read};
+use std::sync::atomic::{AtomicU64, Ordering};
 
 /// Whether what is read of a reader is refused at that row for that fault.
 fn is_refused<R: Read + Drop>(
@@ -78,20 +79,20 @@ fn a_row_that_is_no_text(rt: HostRuntime) {
     assert!(rt; no_text_is_refused(rt.alloc()));
 }
 
-/// A reader of a text, seven bytes a call, whose call number `fails` fails.
+/// A reader of a text, seven bytes a call, which counts its calls and whose call number `fails` fails. Asked
+/// again it goes on.
 #[derive(Drop)]
 struct Failing<'t> {
     left: &'t [u8],
-    call: usize,
-    fails: usize,
+    calls: &'t AtomicU64,
+    fails: u64,
 }
 
 impl Read for Failing<'_> {
     fn read(&mut self, buf: &mut [u8]) -> io::Result<usize> {
-        if self.call == self.fails {
+        if self.calls.fetch_add(1, Ordering::SeqCst) == self.fails {
             return Err(io::Error::from(ErrorKind::Other));
         }
-        self.call = self.call.saturating_add(1);
         let count = 7usize.min(buf.len()).min(self.left.len());
         buf[..count].copy_from_slice(&self.left[..count]);
         self.left = &self.left[count..];
@@ -99,24 +100,39 @@ impl Read for Failing<'_> {
     }
 }
 
-/// Whether the reading of what B has sent fails in that row where that call of the reader fails.
-fn fails_in(alloc: Global, network: &Network, fails: usize, row: u64) -> bool {
+/// How often a reader of a text is called, whose call number `fails` fails, where what is read is refused at
+/// that row for that fault.
+fn calls_of(
+    alloc: Global,
+    network: &Network,
+    text: &str,
+    fails: u64,
+    row: u64,
+    kind: RecordFaultKind,
+) -> Option<u64> {
+    let calls = AtomicU64::new(0);
     let reader = Failing {
-        left: DESPATCHES.as_bytes(),
-        call: 0,
+        left: text.as_bytes(),
+        calls: &calls,
         fails,
     };
-    is_refused(alloc, network, reader, row, RecordFaultKind::ReadFault)
+    if is_refused(alloc, network, reader, row, kind) {
+        Some(calls.load(Ordering::SeqCst))
+    } else {
+        None
+    }
 }
 
-/// Whether the reading of what B has sent fails in each of those rows where that call fails.
-fn all_fail_in(alloc: Global, rows: &[(usize, u64)]) -> bool {
+/// Whether the reading of what B has sent fails in each of those rows where that call fails, and isn't tried again.
+fn all_fail_in(alloc: Global, rows: &[(u64, u64)]) -> bool {
     let Some(network) = network_of(alloc, TWO_PLANTS) else {
         return false;
     };
     let mut all = true;
     for (fails, row) in rows {
-        all = fails_in(alloc, &network, *fails, *row) && all;
+        let kind = RecordFaultKind::ReadFault;
+        let calls = calls_of(alloc, &network, DESPATCHES, *fails, *row, kind);
+        all = calls == Some(fails.saturating_add(1)) && all;
     }
     drop(network);
     all
@@ -137,6 +153,23 @@ fn a_reader_that_fails(rt: HostRuntime) {
         (7, 3),
     ];
     assert!(rt; all_fail_in(rt.alloc(), &rows));
+}
+
+/// Whether nothing is read behind the read that hands out a bad row, though two more rows come.
+fn fault_ends_the_reading(alloc: Global) -> bool {
+    let Some(network) = network_of(alloc, TWO_PLANTS) else {
+        return false;
+    };
+    // the first row ends in the second read, and the third hands it out
+    let text = "clos,3,,,,\nline,1,X,2,8,108\nend,2,X,1,108,\n";
+    let calls = calls_of(alloc, &network, text, 20, 1, RecordFaultKind::UnknownKind);
+    drop(network);
+    calls == Some(3)
+}
+
+#[test]
+fn the_first_fault_ends_the_reading(rt: HostRuntime) {
+    assert!(rt; fault_ends_the_reading(rt.alloc()));
 }
 
 /// Whether of so many rows, more than may be read, the last is refused.

@@ -364,6 +364,90 @@ fn a_writer_that_ends_in_figures(rt: HostRuntime) {
     }
 }
 
+/// What the choice of these words writes of that table.
+struct Written {
+    words: &'static [&'static str],
+    table: &'static str,
+    report: &'static str,
+}
+
+/// A report of each choice, of three writes at least.
+const REPORTS: [Written; 5] = [
+    Written {
+        words: &["mrp", "plan"],
+        table: BICYCLE,
+        report: BICYCLE_PLAN,
+    },
+    Written {
+        words: &["mrp", "plan", "--single"],
+        table: BICYCLE,
+        report: BICYCLE_PLAN,
+    },
+    Written {
+        words: &["mrp", "check"],
+        table: BICYCLE,
+        report: "code,P1,BIKE,0\ncode,P1,WHEEL,1\n",
+    },
+    Written {
+        words: &["mrp", "peg", "P1", "WHEEL", "2"],
+        table: BICYCLE,
+        report: "peg,bill,P1,BIKE,10,2,20\n",
+    },
+    Written {
+        words: &["mrp", "cums"],
+        table: FIRM_OF_TWO,
+        report: FIRM_OF_TWO_CUMS,
+    },
+];
+
+/// Whether the choice of these words ends there.
+fn choice_ends<T: Threads + Wait + Sync>(
+    rt: &T,
+    alloc: Global,
+    written: &Written,
+    ends: usize,
+) -> Result<bool, Fail> {
+    let choice = choose(alloc, written.words)?;
+    let mut sink = ending(alloc, ends, false);
+    let answer = answer(rt, alloc, choice, written.table.as_bytes(), &mut sink);
+    Ok(ended_in_front(&answer, &sink, written.report.as_bytes()))
+}
+
+/// Whether each choice does.
+fn choices_end<T: Threads + Wait + Sync>(rt: &T, alloc: Global, ends: usize) -> Result<bool, Fail> {
+    for written in &REPORTS {
+        if !choice_ends(rt, alloc, written, ends)? {
+            return Ok(false);
+        }
+    }
+    Ok(true)
+}
+
+#[test]
+fn a_writer_that_ends_in_each_choice(rt: HostRuntime) -> Result<(), Fail> {
+    for ends in 0..3usize {
+        is_so_at(&rt, choices_end(&rt, rt.alloc(), ends)?, ends);
+    }
+    Ok(())
+}
+
+/// Whether a plan by threads ends there.
+fn threads_end<T: Threads + Wait + Sync>(rt: &T, alloc: Global, ends: usize) -> bool {
+    let Some(settings) = Settings::new(1, 64) else {
+        return false;
+    };
+    let mut sink = ending(alloc, ends, false);
+    let answer = plan_text(rt, alloc, BICYCLE.as_bytes(), &mut sink, settings, &NoGate);
+    ended_in_front(&answer, &sink, BICYCLE_PLAN.as_bytes())
+}
+
+#[test]
+fn a_writer_that_ends_in_a_plan_by_threads(rt: HostRuntime) {
+    for ends in 0..30usize {
+        is_so_at(&rt, threads_end(&rt, rt.alloc(), ends), ends);
+    }
+}
+
 /// Whether the bicycle is planned to a writer that takes one byte a call.
 fn plans_byte_by_byte(alloc: Global) -> bool {
     let mut sink = Sink {
