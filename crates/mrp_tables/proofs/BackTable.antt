@@ -6,7 +6,6 @@ use Rattle.csv.specs.Records.{field_at}
 use Rattle.mrp_cal.specs.Calendar.{CalendarTerms, IsCalendar, IsCalendarFrom}
 use Rattle.mrp_cal.specs.DateText.{SpellsDay}
 use Rattle.mrp_cal.specs.Days.{day_text}
-use Rattle.mrp_cal.proofs.Calendars.{begins_within}
 use Rattle.mrp_cal.proofs.Days.{spells_day}
 use Rattle.mrp_qty.specs.declared.horizon.TheConstants.{LONGEST}
 use Rattle.mrp_rows.specs.declared.rows.TheConstants.{MOST_PLANTS}
@@ -27,7 +26,7 @@ use Rattle.mrp_tables.proofs.BackRows.{bills_end, Ends, from_bills, has_room, ki
 use Rattle.mrp_tables.proofs.BackTexts.{date_is_text, name_is_text, number_is_text, word_is_text}
 use Rattle.mrp_tables.proofs.KeepingLists.{any_agree, bytes_flip}
 use Rattle.mrp_tables.proofs.Missing.{missing_told}
-use Rattle.mrp_tables.proofs.WrittenDay.{no_days}
+use Rattle.mrp_tables.proofs.WrittenDay.{first_within}
 use Rattle.mrp_tables.proofs.WrittenTable.{items_numbered, written_out}
 
 -- ---- the run
@@ -42,10 +41,7 @@ run_fields_read a b c days periods named days_are periods_are = rw (named, days_
 
 -- the text of a calendar's first day spells it
 first_spelled : (c : CalendarTerms) → IsCalendar c → SpellsDay (day_text c.first) c.first
-first_spelled c is =
-    let some : 0 < c.periods = omega (arith, is.periods.0) in
-    let begins = begins_within c.first 0 c.days c.periods is.since is.until is.length.0 some in
-    spells_day c.first is.since (rw (no_days c.first (0 * c.days) (omega arith)) at begins.1)
+first_spelled c is = spells_day c.first is.since (first_within c.first _ c.days c.periods is.until is.length.0 is.periods.0)
 
 run_read : (c : CalendarTerms) → IsCalendar c → first_terms (run_fields c) ≡ Ok (record { first = day_text c.first; days = c.days; periods = c.periods })
 unfolding field_at
