@@ -1,11 +1,14 @@
 //! Firms of many plants and pairs: what is answered doesn't depend on how many there are.
 
 use super::is_report;
-use super::threads::writes_the_same;
+use super::threads::{NoWorkersFor, ShutFor, writes_the_same};
 use itoa::Buffer;
-use mrp_text_cases::{codes, cums, pegs, plan};
+use mrp_text::{Gate, Settings};
+use mrp_text_cases::{codes, cums, pegs, plan, threaded};
 use std::alloc::{AllocError, Global};
+use std::sync::Wait;
 use std::test::Fail;
+use std::thread::Threads;
 
 /// The run row and a plant.
 const ONE_PLANT: &str = "run,2026-01-05,7,1,,,,\nplant,A,,,,,,\n";
@@ -200,12 +203,55 @@ fn a_report_may_have_a_million_bytes(rt: HostRuntime) -> Result<(), Fail> {
     Ok(())
 }
 
-#[test]
-fn threads_plan_a_chain_of_64_plants(rt: HostRuntime) -> Result<(), Fail> {
-    let mut table = String::from_str(rt.alloc(), "run,2026-01-05,7,4,,,,\n")?;
+/// The table of a chain of 64 plants: each takes an item from the next, and the last buys it.
+fn chain_of_64_plants(alloc: Global) -> Result<String, AllocError> {
+    let mut table = String::from_str(alloc, "run,2026-01-05,7,4,,,,\n")?;
     add_numbers(&mut table, 64, "plant,P", ",,,,,,\n")?;
     add_links(&mut table, 64, "pair,P", ",X,from:P", ",lot,0,0,0\n")?;
     table.push_str("pair,P63,X,buy,lot,0,0,0\ndemand,P0,X,3,5,,,\n")?;
+    Ok(table)
+}
+
+#[test]
+fn threads_plan_a_chain_of_64_plants(rt: HostRuntime) -> Result<(), Fail> {
+    let table = chain_of_64_plants(rt.alloc())?;
     assert!(rt; writes_the_same(&rt, rt.alloc(), table.as_str(), 1, 64)?);
+    Ok(())
+}
+
+/// Whether threads answer of the table that the gate is shut, and name the plant of that number.
+fn names_plant<T: Threads + Wait + Sync, G: Gate>(
+    rt: &T,
+    alloc: Global,
+    table: &str,
+    gate: &G,
+    plant: usize,
+) -> Result<bool, Fail> {
+    let Some(settings) = Settings::new(1, 64) else {
+        return Ok(false);
+    };
+    let written = threaded(rt, alloc, table, settings, gate)?;
+    let mut digits = Buffer::new();
+    let mut wanted = String::from_str(alloc, "3 mrp: GateShut P")?;
+    wanted.push_str(digits.format(plant as u64))?;
+    wanted.push_str("\n")?;
+    Ok(written.as_str() == wanted.as_str())
+}
+
+#[test]
+fn a_gate_is_asked_for_each_of_64_plants_by_its_number(rt: HostRuntime) -> Result<(), Fail> {
+    let table = chain_of_64_plants(rt.alloc())?;
+    for plant in 0..64 {
+        let turns = names_plant(&rt, rt.alloc(), table.as_str(), &ShutFor { plant }, plant)?;
+        assert!(&rt; turns, "turns of plant {plant}");
+        let workers = names_plant(
+            &rt,
+            rt.alloc(),
+            table.as_str(),
+            &NoWorkersFor { plant },
+            plant,
+        )?;
+        assert!(&rt; workers, "workers of plant {plant}");
+    }
     Ok(())
 }

@@ -31,9 +31,10 @@ pair,B,X,from:A,lot,0,0,0\n",
 /// How long a gate looks for the other plant, in looks.
 const LOOKS: u64 = 1_000_000;
 
-/// Shut for the first turn of the plant with this number.
-struct ShutFor {
-    plant: usize,
+/// Shut for the turns of the plant with this number.
+#[derive(Drop)]
+pub(super) struct ShutFor {
+    pub(super) plant: usize,
 }
 
 impl Gate for ShutFor {
@@ -46,16 +47,19 @@ impl Gate for ShutFor {
     }
 }
 
-/// Shut for all workers.
-struct NoWorkers;
+/// Shut for the workers of the plant with this number.
+#[derive(Drop)]
+pub(super) struct NoWorkersFor {
+    pub(super) plant: usize,
+}
 
-impl Gate for NoWorkers {
+impl Gate for NoWorkersFor {
     fn turn(&self, _plant: usize, _turn: u64) -> bool {
         true
     }
 
-    fn worker(&self, _plant: usize, _worker: u64) -> bool {
-        false
+    fn worker(&self, plant: usize, _worker: u64) -> bool {
+        plant != self.plant
     }
 }
 
@@ -158,8 +162,10 @@ fn a_shut_gate_is_named(rt: HostRuntime) -> Result<(), Fail> {
 
 #[test]
 fn workers_are_asked_for(rt: HostRuntime) -> Result<(), Fail> {
-    let rows = gated(&rt, rt.alloc(), &NoWorkers)?;
-    assert!(rt; rows.as_str().starts_with("3 mrp: GateShut "));
+    let first = gated(&rt, rt.alloc(), &NoWorkersFor { plant: 0 })?;
+    is_report(&rt, first, "3 mrp: GateShut A\n");
+    let second = gated(&rt, rt.alloc(), &NoWorkersFor { plant: 1 })?;
+    is_report(&rt, second, "3 mrp: GateShut B\n");
     Ok(())
 }
 
