@@ -28,6 +28,9 @@ pair,B,X,from:A,lot,0,0,0\n",
     "run,2026-01-05,7,4,,,,\nplant,A\n",
 ];
 
+/// With how many workers and records a mailbox gates are asked here.
+const SETTINGS: [(u64, u64); 6] = [(1, 1), (1, 65_536), (2, 1), (3, 64), (64, 1), (64, 65_536)];
+
 /// How long a gate looks for the other plant, in looks.
 const LOOKS: u64 = 1_000_000;
 
@@ -118,13 +121,14 @@ fn all_are_the_same<T: Threads + Wait + Sync>(
     Ok(all)
 }
 
-/// What is written of two plants with one worker each, a record a mailbox and this gate.
+/// What is written of two plants with these settings under a gate.
 fn gated<T: Threads + Wait + Sync, G: Gate>(
     rt: &T,
     alloc: Global,
+    (workers, capacity): (u64, u64),
     gate: &G,
 ) -> Result<String, Fail> {
-    let Some(settings) = Settings::new(1, 1) else {
+    let Some(settings) = Settings::new(workers, capacity) else {
         return Ok(String::new(alloc));
     };
     Ok(threaded(rt, alloc, FIRM_OF_TWO, settings, gate)?)
@@ -153,27 +157,34 @@ fn all_workers(rt: HostRuntime) -> Result<(), Fail> {
 
 #[test]
 fn a_shut_gate_is_named(rt: HostRuntime) -> Result<(), Fail> {
-    let first = gated(&rt, rt.alloc(), &ShutFor { plant: 0 })?;
-    is_report(&rt, first, "3 mrp: GateShut A\n");
-    let second = gated(&rt, rt.alloc(), &ShutFor { plant: 1 })?;
-    is_report(&rt, second, "3 mrp: GateShut B\n");
+    for settings in SETTINGS {
+        let first = gated(&rt, rt.alloc(), settings, &ShutFor { plant: 0 })?;
+        is_report(&rt, first, "3 mrp: GateShut A\n");
+        let second = gated(&rt, rt.alloc(), settings, &ShutFor { plant: 1 })?;
+        is_report(&rt, second, "3 mrp: GateShut B\n");
+    }
     Ok(())
 }
 
 #[test]
 fn workers_are_asked_for(rt: HostRuntime) -> Result<(), Fail> {
-    let first = gated(&rt, rt.alloc(), &NoWorkersFor { plant: 0 })?;
-    is_report(&rt, first, "3 mrp: GateShut A\n");
-    let second = gated(&rt, rt.alloc(), &NoWorkersFor { plant: 1 })?;
-    is_report(&rt, second, "3 mrp: GateShut B\n");
+    for settings in SETTINGS {
+        let first = gated(&rt, rt.alloc(), settings, &NoWorkersFor { plant: 0 })?;
+        is_report(&rt, first, "3 mrp: GateShut A\n");
+        let second = gated(&rt, rt.alloc(), settings, &NoWorkersFor { plant: 1 })?;
+        is_report(&rt, second, "3 mrp: GateShut B\n");
+    }
     Ok(())
 }
 
 #[test]
 fn plants_take_their_turns_together(rt: HostRuntime) -> Result<(), Fail> {
-    let together = Together {
-        asked: [AtomicBool::new(false), AtomicBool::new(false)],
-    };
-    is_report(&rt, gated(&rt, rt.alloc(), &together)?, FIRM_OF_TWO_PLAN);
+    for settings in SETTINGS {
+        let together = Together {
+            asked: [AtomicBool::new(false), AtomicBool::new(false)],
+        };
+        let written = gated(&rt, rt.alloc(), settings, &together)?;
+        is_report(&rt, written, FIRM_OF_TWO_PLAN);
+    }
     Ok(())
 }
