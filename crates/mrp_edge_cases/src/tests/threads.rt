@@ -8,7 +8,7 @@ use mrp_text_cases::tables::{
 use mrp_text_cases::{plan, threaded};
 use std::alloc::Global;
 use std::sync::Wait;
-use std::sync::atomic::{AtomicBool, Ordering};
+use std::sync::atomic::{AtomicBool, AtomicU64, Ordering};
 use std::test::Fail;
 use std::thread;
 use std::thread::Threads;
@@ -85,6 +85,26 @@ impl Gate for Together {
             thread::yield_now();
         }
         false
+    }
+
+    fn worker(&self, _plant: usize, _worker: u64) -> bool {
+        true
+    }
+}
+
+/// Open to the next turn of each of two plants, once each.
+#[derive(Drop)]
+struct OneByOne {
+    begun: [AtomicU64; 2],
+}
+
+impl Gate for OneByOne {
+    fn turn(&self, plant: usize, turn: u64) -> bool {
+        plant < 2
+            && self.begun[plant]
+                .swap(turn, Ordering::SeqCst)
+                .wrapping_add(1)
+                == turn
     }
 
     fn worker(&self, _plant: usize, _worker: u64) -> bool {
@@ -184,6 +204,18 @@ fn plants_take_their_turns_together(rt: HostRuntime) -> Result<(), Fail> {
             asked: [AtomicBool::new(false), AtomicBool::new(false)],
         };
         let written = gated(&rt, rt.alloc(), settings, &together)?;
+        is_report(&rt, written, FIRM_OF_TWO_PLAN);
+    }
+    Ok(())
+}
+
+#[test]
+fn each_turn_is_asked_for_once(rt: HostRuntime) -> Result<(), Fail> {
+    for settings in SETTINGS {
+        let one_by_one = OneByOne {
+            begun: [AtomicU64::new(0), AtomicU64::new(0)],
+        };
+        let written = gated(&rt, rt.alloc(), settings, &one_by_one)?;
         is_report(&rt, written, FIRM_OF_TWO_PLAN);
     }
     Ok(())
