@@ -7,6 +7,7 @@ use mrp_text_cases::tables::{
 };
 use mrp_text_cases::{plan, threaded};
 use std::alloc::Global;
+use std::process::Abort;
 use std::sync::Wait;
 use std::sync::atomic::{AtomicBool, AtomicU64, Ordering};
 use std::test::Fail;
@@ -175,26 +176,32 @@ fn all_workers(rt: HostRuntime) -> Result<(), Fail> {
     Ok(())
 }
 
-#[test]
-fn a_shut_gate_is_named(rt: HostRuntime) -> Result<(), Fail> {
+/// Two gates that are each shut for one of two plants are named with that plant.
+fn name_their_plants<T: Threads + Wait + Sync + Abort, G: Gate>(
+    rt: &T,
+    alloc: Global,
+    first: &G,
+    second: &G,
+) -> Result<(), Fail> {
     for settings in SETTINGS {
-        let first = gated(&rt, rt.alloc(), settings, &ShutFor { plant: 0 })?;
-        is_report(&rt, first, "3 mrp: GateShut A\n");
-        let second = gated(&rt, rt.alloc(), settings, &ShutFor { plant: 1 })?;
-        is_report(&rt, second, "3 mrp: GateShut B\n");
+        let written = gated(rt, alloc, settings, first)?;
+        is_report(rt, written, "3 mrp: GateShut A\n");
+        let written = gated(rt, alloc, settings, second)?;
+        is_report(rt, written, "3 mrp: GateShut B\n");
     }
     Ok(())
 }
 
 #[test]
+fn a_shut_gate_is_named(rt: HostRuntime) -> Result<(), Fail> {
+    let (first, second) = (ShutFor { plant: 0 }, ShutFor { plant: 1 });
+    name_their_plants(&rt, rt.alloc(), &first, &second)
+}
+
+#[test]
 fn workers_are_asked_for(rt: HostRuntime) -> Result<(), Fail> {
-    for settings in SETTINGS {
-        let first = gated(&rt, rt.alloc(), settings, &NoWorkersFor { plant: 0 })?;
-        is_report(&rt, first, "3 mrp: GateShut A\n");
-        let second = gated(&rt, rt.alloc(), settings, &NoWorkersFor { plant: 1 })?;
-        is_report(&rt, second, "3 mrp: GateShut B\n");
-    }
-    Ok(())
+    let (first, second) = (NoWorkersFor { plant: 0 }, NoWorkersFor { plant: 1 });
+    name_their_plants(&rt, rt.alloc(), &first, &second)
 }
 
 #[test]
