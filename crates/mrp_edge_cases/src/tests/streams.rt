@@ -210,15 +210,6 @@ fn a_reader_that_fails_before_figures(rt: HostRuntime) {
     }
 }
 
-/// The words of each choice.
-const CHOICES: [&[&str]; 5] = [
-    &["mrp", "plan"],
-    &["mrp", "plan", "--single"],
-    &["mrp", "check"],
-    &["mrp", "peg", "P1", "WHEEL", "2"],
-    &["mrp", "cums"],
-];
-
 /// Whether the choice of these words tells the failed read.
 fn choice_tells<T: Threads + Wait + Sync>(
     rt: &T,
@@ -238,8 +229,8 @@ fn choices_tell<T: Threads + Wait + Sync>(
     alloc: Global,
     fails: usize,
 ) -> Result<bool, Fail> {
-    for words in CHOICES {
-        if !choice_tells(rt, alloc, words, fails)? {
+    for written in &REPORTS {
+        if !choice_tells(rt, alloc, written.words, fails)? {
             return Ok(false);
         }
     }
