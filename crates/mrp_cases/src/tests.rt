@@ -1,10 +1,11 @@
-//! Each call once on a case that was worked by hand, from quantities to the texts of records.
+//! Each call once on a case that was worked by hand, from quantities to plans and the texts of records.
 
 mod commands;
 mod dates;
 mod lane_reports;
 mod limits;
 mod lots;
+mod plans;
 mod quantities;
 mod reading;
 mod record_faults;
@@ -13,9 +14,16 @@ mod records;
 use mrp_net::Network;
 use mrp_tables::read_tables_uncounted;
 use std::alloc::Global;
+use std::test::Fail;
 
-/// The network of a table.
-fn network_of(alloc: Global, table: &str) -> Option<Network> {
-    let tables = read_tables_uncounted(alloc, table.as_bytes()).ok()?;
+/// The network of a table's text.
+fn network(alloc: Global, text: &str) -> Result<Network, Fail> {
+    let tables = read_tables_uncounted(alloc, text.as_bytes())?;
+    Ok(Network::of(alloc, tables)?)
+}
+
+/// The same, where why there is none doesn't matter.
+fn network_of(alloc: Global, text: &str) -> Option<Network> {
+    let tables = read_tables_uncounted(alloc, text.as_bytes()).ok()?;
     Network::of(alloc, tables).ok()
 }

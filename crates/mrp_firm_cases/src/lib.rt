@@ -1,4 +1,4 @@
-//! Worked cases of firms: all plants and the mailboxes between them, event by event.
+//! Worked cases of firms: all plants and the mailboxes between them, event by event, agents alone, and crews.
 #![tactic(auto)]
 
 #[cfg(test)]

@@ -1,3 +1,0 @@
-//! Lanes as their callers use them.
-
-mod lanes;
