@@ -1,6 +1,30 @@
-use Rattle.std.proofs.Common.{◌≡◌, ℕ, ◌+◌, ◌*◌, ◌-◌, ◌^◌, ◌<◌, min, get_or, sym, ap, ◌∙◌, subst}
+use Rattle.std.proofs.Common.{◌≡◌, ℕ, ◌+◌, ◌*◌, ◌-◌, ◌^◌, ◌<◌, length, min, get_or, sym, ap, ◌∙◌, subst, arith}
 use Rattle.mrp_group.proofs.Adding.{AddsAmounts-more}
+use Rattle.mrp_group.proofs.sums.add_amounts.Given.{Over}
 use Rattle.mrp_group.proofs.sums.add_amounts.Goals as goal
+use Rattle.mrp_group.proofs.sums.add_amounts.Goals.{After-key, After-key-in-loop-row}
+
+-- the place of a row's amount is one of the amounts
+lies : (g : Over) (c : After-key g) → c.key.result * c.args.width + g.L.KeyOf.key_of c.args.second.now c.row-item.result < length c.args.amounts.now
+lies g c =
+    let key = g.K.KeyOf.key_of c.args.by.now in
+    let second = g.L.KeyOf.key_of c.args.second.now in
+    let r = c.row-item.result in
+    let there = subst (λ z. key z * c.args.width + second z < length c.args.amounts.now) (sym c.row-item.is) (c.requires.places c.loop-row.row-index r c.loop-row-test.true) in
+    subst (λ (z : ℕ). z * c.args.width + second r < length c.args.amounts.now) (sym c.key.ensures) there
+
+lies_at : (g : Over) (c : After-key-in-loop-row g) → c.key.result * c.args.width + c.key-in-loop-row.result < length c.args.amounts.now
+lies_at g c =
+    subst (λ (z : ℕ). c.key.result * c.args.width + z < length c.args.amounts.now) (sym c.key-in-loop-row.ensures) (lies g (goal.at.overflow_add-at g c).After-key)
+
+pub overflow_mul-at : goal.overflow_mul-at
+overflow_mul-at g c = omega (arith, lies g c)
+
+pub overflow_add-at : goal.overflow_add-at
+overflow_add-at g c = omega (arith, lies_at g c)
+
+pub bounds-amounts-at : goal.bounds-amounts-at
+bounds-amounts-at g c = omega (arith, lies_at g (goal.at.bounds-amounts-at g c).After-key-in-loop-row, c.loop-row.auto.amounts)
 
 pub loop-row-preserved : goal.loop-row-preserved
 loop-row-preserved g c =
