@@ -45,6 +45,15 @@ shipped_within N is x t = some_within (λ s. eqb s.pair.0 x && eqb s.period t) (
 place_within : (N : Table) (amounts : List ℕ) (x t : ℕ) → length amounts ≡ length N.pairs * horizon N → IsPair N x → t < horizon N → x * horizon N + t < length amounts
 place_within N amounts x t size h g = omega (arith, size, mul-add-lt x (horizon N) t (length N.pairs) h g, mul_comm (horizon N) (length N.pairs))
 
+-- and so has each row of a pair and a period, in a slice of zeros
+pub places_within : {R : Type 0} (pair period : R → ℕ) (N : Table) (periods : ℕ) (rows : List R) (first slice : List ℕ) → first ≡ replicate (length N.pairs * horizon N) 0 → periods ≡ horizon N → slice ≡ first
+    → All (λ r. IsPair N (pair r)) rows → All (λ r. period r < horizon N) rows → All (λ r. pair r * periods + period r < length slice) rows
+places_within pair period N periods rows first slice zeros width same pairs small k d h =
+    let x : ℕ = pair (get_or rows k d) in
+    let t : ℕ = period (get_or rows k d) in
+    let room : length slice ≡ length N.pairs * horizon N = ap length same ∙ ap length zeros ∙ length-replicate (length N.pairs * horizon N) 0 in
+    subst (λ (z : ℕ). x * z + t < length slice) (sym width) (place_within N slice x t room (pairs k d h) (small k d h))
+
 -- the amounts of a pair are its row
 row_in_periods : (N : Table) (amount : ℕ → ℕ → ℕ) (amounts : List ℕ) (x : ℕ) → ArePeriods N amount amounts → IsPair N x → take (horizon N) (drop (x * horizon N) amounts) ≡ row_of N (amount x)
 row_in_periods N amount amounts x are h =
