@@ -11,7 +11,7 @@ use Rattle.mrp_rows.specs.declared.rows.PairRow.{PairRow}
 use Rattle.mrp_rows.specs.declared.rows.ShipRow.{ShipRow}
 use Rattle.mrp_rows.specs.declared.rows.SourceRow.{SourceRow}
 use Rattle.mrp_rows.specs.declared.rows.TheConstants.{MOST_PLANTS}
-use Rattle.mrp_rows.specs.Table.{Table, IsTable, IsPair, item_at, source_pair}
+use Rattle.mrp_rows.specs.Table.{Table, IsTable, IsPair, IsPairRow, item_at, source_pair}
 use Rattle.mrp_group.specs.Added.{AddsTotals, sum_of}
 use Rattle.mrp_net.specs.declared.edge.Edge.{Edge}
 use Rattle.mrp_net.specs.declared.lanes.Taken.{Taken}
@@ -50,6 +50,11 @@ read_within {X} P read rows e all = subst (λ (z : List X). All P z) (sym e) all
 
 pub pair_read : (N : Table) (read : List PairRow) (x : ℕ) (p : PairRow) → IsPair N x → read ≡ N.pairs → p ≡ get_or read x p → p ≡ pair_at N x
 pair_read N read x p h e is = get_or_read read x p (omega (arith, ap length e)) is no_pair ∙ ap (λ (z : List PairRow). get_or z x no_pair) e
+
+pub pair_row : (N M : Table) (x : ℕ) (p : PairRow) → N ≡ M → IsTable N → IsPair M x → p ≡ pair_at M x → IsPairRow N p
+pair_row N M x p e is pair here =
+    let row : IsPairRow M (pair_at M x) = (subst IsTable e is).read.pairs x no_pair pair in
+    subst (λ (z : Table). IsPairRow z p) (sym e) (subst (IsPairRow M) (sym here) row)
 
 pub item_read : (N : Table) (read : List PairRow) (x : ℕ) (d : PairRow) → IsPair N x → read ≡ N.pairs → (get_or read x d).item.0 ≡ item_at N x
 item_read N read x d h e =
