@@ -11,12 +11,6 @@ plant_name-requires c = record { known = (pair_row _ c.args.self.now c.args.x.0 
 pub item_name-requires : goal.item_name-requires
 item_name-requires c = record { known = (pair_row _ c.args.self.now c.args.x.0 c.pair-pair.result c.self.view_is c.self.invariant.table c.requires c.pair-pair.ensures).item }
 
-pub fact_in-result : goal.fact_in-result
-fact_in-result c = c.plant_name.utf8
-
-pub fact_in-result-2 : goal.fact_in-result-2
-fact_in-result-2 c = c.item_name.utf8
-
 pub returns : goal.returns
 returns c =
     let M = c.args.self.now in
