@@ -15,8 +15,11 @@ offset_bounds-deref-x c = omega (arith, place_fits c.args.self.now c.args.x.0 c.
 
 pub slice_bounds-result-end : goal.slice_bounds-result-end
 slice_bounds-result-end c =
-    omega (arith, ap length c.deref.ensures.value,
-    row_ends _ c.args.self.now demand c.self.inside.amounts.demand.items c.args.x.0 c.get-periods.result c.self.view_is c.self.invariant.amounts.demanded (c.get-periods.ensures.value ∙ c.horizon.ensures) c.requires)
+    omega (
+      arith,
+      ap length c.deref.ensures.value,
+      row_ends _ c.args.self.now demand c.self.inside.amounts.demand.items c.args.x.0 c.get-periods.result c.self.view_is c.self.invariant.amounts.demanded (c.get-periods.ensures.value ∙ c.horizon.ensures) c.requires,
+    )
 
 pub returns : goal.returns
 returns c =

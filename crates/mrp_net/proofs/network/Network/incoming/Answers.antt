@@ -14,8 +14,11 @@ overflow_add-x c =
 
 pub index-requires : goal.index-requires
 index-requires c =
-    omega (arith, c.self.inside.amounts.incoming.ok.0,
-    amount_within _ c.args.self.now incoming c.self.inside.amounts.incoming.items c.args.x.0 c.args.t c.get-periods.result c.self.view_is c.self.invariant.amounts.coming (c.get-periods.ensures.value ∙ c.horizon.ensures) c.requires.pair c.requires.period)
+    omega (
+      arith,
+      c.self.inside.amounts.incoming.ok.0,
+      amount_within _ c.args.self.now incoming c.self.inside.amounts.incoming.items c.args.x.0 c.args.t c.get-periods.result c.self.view_is c.self.invariant.amounts.coming (c.get-periods.ensures.value ∙ c.horizon.ensures) c.requires.pair c.requires.period,
+    )
 
 pub returns : goal.returns
 returns c =
