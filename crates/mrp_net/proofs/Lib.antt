@@ -18,3 +18,4 @@ pub mod EdgesOnce
 pub mod Arriving
 pub mod Lengths
 pub mod Ends
+pub mod Growing

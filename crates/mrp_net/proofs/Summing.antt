@@ -11,7 +11,7 @@ use Rattle.std.proofs.lemmas.Map.Keys.{IsDistinct-head, IsDistinct-tail}
 use Rattle.std.proofs.lemmas.Nat.{mul-add-lt}
 use Rattle.std.proofs.Math.Nat.{mul_comm, mul-le-mul_left}
 use Rattle.mrp_qty.specs.declared.quantity.TheConstants.{MOST}
-use Rattle.mrp_rows.specs.declared.rows.TheConstants.{MOST_IN_ROW, MOST_OF_A_KIND}
+use Rattle.mrp_rows.specs.declared.rows.TheConstants.{MOST_IN_ROW, MOST_OF_A_KIND, MOST_PAIRS}
 use Rattle.mrp_rows.specs.declared.rows.DemandRow.{DemandRow}
 use Rattle.mrp_rows.specs.declared.rows.ReceiptRow.{ReceiptRow}
 use Rattle.mrp_rows.specs.declared.rows.ShipRow.{ShipRow}
@@ -45,6 +45,20 @@ shipped_within N is x t = some_within (λ s. eqb s.pair.0 x && eqb s.period t) (
 place_within : (N : Table) (amounts : List ℕ) (x t : ℕ) → length amounts ≡ length N.pairs * horizon N → IsPair N x → t < horizon N → x * horizon N + t < length amounts
 place_within N amounts x t size h g = omega (arith, size, mul-add-lt x (horizon N) t (length N.pairs) h g, mul_comm (horizon N) (length N.pairs))
 
+-- and so has each row of a pair and a period
+pub places_within : {R : Type 0} (pair period : R → ℕ) (N : Table) (periods : ℕ) (rows : List R) (amounts : List ℕ) → length amounts ≡ length N.pairs * horizon N → periods ≡ horizon N
+    → All (λ r. IsPair N (pair r)) rows → All (λ r. period r < horizon N) rows → All (λ r. pair r * periods + period r < length amounts) rows
+places_within pair period N periods rows amounts size width pairs small k d h =
+    let x : ℕ = pair (get_or rows k d) in
+    let t : ℕ = period (get_or rows k d) in
+    subst (λ (z : ℕ). x * z + t < length amounts) (sym width) (place_within N amounts x t size (pairs k d h) (small k d h))
+
+-- places are few
+pub place_fits : (N : Table) (x n : ℕ) → IsTable N → IsPair N x → n ≡ horizon N → (x + 1) * n < 2 ^ 32
+place_fits N x n is pair width =
+    let few : x + 1 ≤ MOST_PAIRS = omega (arith, is.read.limits.pairs) in
+    omega (arith, mul-le-mul_left n few, width, is.read.limits.periods)
+
 -- the amounts of a pair are its row
 row_in_periods : (N : Table) (amount : ℕ → ℕ → ℕ) (amounts : List ℕ) (x : ℕ) → ArePeriods N amount amounts → IsPair N x → take (horizon N) (drop (x * horizon N) amounts) ≡ row_of N (amount x)
 row_in_periods N amount amounts x are h =
@@ -58,6 +72,11 @@ row_in_periods N amount amounts x are h =
     ∙ sym (get_or-map-range_with_len (amount x) 0 (horizon N) t t 0 g (omega arith)))
 
 -- a row of a list that was read, and one amount
+pub row_ends : (N M : Table) (sums : Table → ℕ → ℕ → ℕ) (amounts : List ℕ) (x n : ℕ) → N ≡ M → ArePeriods N (sums N) amounts → n ≡ horizon M → IsPair M x → (x + 1) * n ≤ length amounts
+row_ends N M sums amounts x n is are periods pair =
+    let there : ArePeriods M (sums M) amounts = subst (λ (z : Table). ArePeriods z (sums z) amounts) is are in
+    subst (λ (z : ℕ). (x + 1) * z ≤ length amounts) (sym periods) (omega (arith, there.size, mul-le-mul_left (horizon M) pair))
+
 pub row_read : (N M : Table) (sums : Table → ℕ → ℕ → ℕ) (amounts read : List ℕ) (x n : ℕ) → N ≡ M → ArePeriods N (sums N) amounts → n ≡ horizon M → IsPair M x → read ≡ amounts
     → take ((x + 1) * n - x * n) (drop (x * n) read) ≡ row_of M (sums M x)
 row_read N M sums amounts read x n is are periods pair same =
@@ -68,11 +87,16 @@ row_read N M sums amounts read x n is are periods pair same =
     ∙ ap (λ (z : ℕ). take z (drop (x * z) amounts)) periods
     ∙ row_in_periods M (sums M) amounts x there pair
 
+pub amount_within : (N M : Table) (sums : Table → ℕ → ℕ → ℕ) (amounts : List ℕ) (x t n : ℕ) → N ≡ M → ArePeriods N (sums N) amounts → n ≡ horizon M → IsPair M x → t < horizon M → x * n + t < length amounts
+amount_within N M sums amounts x t n is are periods pair period =
+    let there : ArePeriods M (sums M) amounts = subst (λ (z : Table). ArePeriods z (sums z) amounts) is are in
+    subst (λ (z : ℕ). x * z + t < length amounts) (sym periods) (place_within M amounts x t there.size pair period)
+
 pub amount_read : (N M : Table) (sums : Table → ℕ → ℕ → ℕ) (amounts : List ℕ) (x t n v : ℕ) → N ≡ M → ArePeriods N (sums N) amounts → n ≡ horizon M → IsPair M x → t < horizon M
     → v ≡ get_or amounts (x * n + t) v → v ≡ sums M x t
 amount_read N M sums amounts x t n v is are periods pair period read =
     let there : ArePeriods M (sums M) amounts = subst (λ (z : Table). ArePeriods z (sums z) amounts) is are in
-    let within : x * n + t < length amounts = subst (λ (z : ℕ). x * z + t < length amounts) (sym periods) (place_within M amounts x t there.size pair period) in
+    let within = amount_within N M sums amounts x t n is are periods pair period in
     get_or_read amounts (x * n + t) v within read 0
     ∙ ap (λ (z : ℕ). get_or amounts (x * z + t) 0) periods
     ∙ there.each x t pair period

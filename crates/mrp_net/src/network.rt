@@ -20,6 +20,7 @@ use mrp_qty::{Horizon, Memory};
 use mrp_rows::{ItemNo, PairNo, PairRow, PlantNo, SourceRow, Tables};
 use std::alloc::Global;
 use std::marker::Model;
+use std::mem;
 
 /// The network.
 ///
@@ -71,6 +72,22 @@ impl Parts {
             lanes,
         })
     }
+
+    /// The network of the table that they were built of.
+    fn join(self, tables: Tables) -> Network
+        requires table { IsTable tables }
+        requires edges { AreEdges tables self.edges }
+        requires amounts { AreAmounts tables self.amounts }
+        requires lanes { AreLaneLists tables self.lanes }
+        ensures { result ≡ tables }
+    {
+        Network {
+            tables,
+            edges: self.edges,
+            amounts: self.amounts,
+            lanes: self.lanes,
+        }
+    }
 }
 
 impl Network {
@@ -83,13 +100,13 @@ impl Network {
         ensures { IfOk result (λ n. n ≡ tables) }
     {
         let _pairs = tables.pairs();
-        let parts = Parts::of(alloc, &tables)?;
-        Ok(Network {
-            tables,
-            edges: parts.edges,
-            amounts: parts.amounts,
-            lanes: parts.lanes,
-        })
+        match Parts::of(alloc, &tables) {
+            Ok(parts) => Ok(parts.join(tables)),
+            Err(memory) => {
+                mem::drop(tables);
+                Err(memory)
+            }
+        }
     }
 
     /// The number of plants.

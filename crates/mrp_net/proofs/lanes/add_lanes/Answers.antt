@@ -1,12 +1,45 @@
-use Rattle.std.proofs.Common.{◌≡◌, ℕ, ◌+◌, ◌*◌, ◌<◌, ◌≤◌, List, [], ◌++◌, length, get_or, slice_index, arith, sym, ap, ◌∙◌, subst}
+use Rattle.std.proofs.Common.{◌≡◌, ℕ, ◌+◌, ◌*◌, ◌<◌, List, ◌++◌, length, get_or, arith, sym, ap, ◌∙◌}
 use Rattle.std.proofs.lemmas.List.{append-nil, get_or_read}
 use Rattle.std.specs.List.{flat_map, range_with_len}
 use Rattle.mrp_net.specs.declared.lane.Lane.{Lane}
-use Rattle.mrp_net.specs.Lanes.{lanes_between, taken_over}
+use Rattle.mrp_net.specs.Lanes.{lanes_between}
 use Rattle.mrp_net.specs.Routes.{route_no}
 use Rattle.mrp_net.proofs.Routing.{lanes_more, no_lanes, some_lanes, items_length, route_within}
+use Rattle.mrp_net.proofs.Growing.{route_fits}
 use Rattle.mrp_net.proofs.lanes.add_lanes.Goals as goal
 use Rattle.mrp_net.proofs.lanes.add_lanes.Goals.{then-index+in_ok-add_both, else-index}
+
+pub loop-supplier-init : goal.loop-supplier-init
+loop-supplier-init c = sym (append-nil c.args.lanes.now.items)
+
+pub overflow_mul-route : goal.overflow_mul-route
+overflow_mul-route c =
+    let N = c.args.tables.now in
+    omega (arith, route_fits N c.args.customer c.loop-supplier.supplier c.plants-plants.result c.pairs-pairs.ensures.table c.requires.plant (omega (arith, c.loop-supplier-test.true, c.plants-plants.ensures.value)) c.plants-plants.ensures.value)
+
+pub overflow_add-route : goal.overflow_add-route
+overflow_add-route c =
+    let N = c.args.tables.now in
+    omega (arith, route_fits N c.args.customer c.loop-supplier.supplier c.plants-plants.result c.pairs-pairs.ensures.table c.requires.plant (omega (arith, c.loop-supplier-test.true, c.plants-plants.ensures.value)) c.plants-plants.ensures.value)
+
+pub overflow_add-route-in-loop-supplier : goal.overflow_add-route-in-loop-supplier
+overflow_add-route-in-loop-supplier c =
+    let N = c.args.tables.now in
+    omega (arith, route_fits N c.args.customer c.loop-supplier.supplier c.plants-plants.result c.pairs-pairs.ensures.table c.requires.plant (omega (arith, c.loop-supplier-test.true, c.plants-plants.ensures.value)) c.plants-plants.ensures.value)
+
+pub index-requires : goal.index-requires
+index-requires c =
+    let N = c.args.tables.now in
+    let small : c.loop-supplier.supplier < length N.plants = omega (arith, c.loop-supplier-test.true, c.plants-plants.ensures.value) in
+    let place : c.args.customer * c.plants-plants.result + c.loop-supplier.supplier ≡ route_no N c.args.customer c.loop-supplier.supplier = ap (λ (z : ℕ). c.args.customer * z + c.loop-supplier.supplier) c.plants-plants.ensures.value in
+    omega (arith, place, route_within N c.args.customer c.loop-supplier.supplier c.requires.plant small, c.requires.items.size, c.args.items.now.starts.ok.0)
+
+pub index-requires-in-loop-supplier : goal.index-requires-in-loop-supplier
+index-requires-in-loop-supplier c =
+    let N = c.args.tables.now in
+    let small : c.loop-supplier.supplier < length N.plants = omega (arith, c.loop-supplier-test.true, c.plants-plants.ensures.value) in
+    let place : c.args.customer * c.plants-plants.result + c.loop-supplier.supplier ≡ route_no N c.args.customer c.loop-supplier.supplier = ap (λ (z : ℕ). c.args.customer * z + c.loop-supplier.supplier) c.plants-plants.ensures.value in
+    omega (arith, place, route_within N c.args.customer c.loop-supplier.supplier c.requires.plant small, c.requires.items.size, c.args.items.now.starts.ok.0)
 
 pub loop-supplier-preserved : goal.loop-supplier-preserved
 loop-supplier-preserved c =
@@ -28,3 +61,9 @@ loop-supplier-preserved c =
           lanes_more N c.args.lanes.now.items c.loop-supplier.lanes.items c.if-index.lanes.items customer supplier c.loop-supplier.invariant
           (ap (λ z. z.items) w.lanes-is ∙ sym (append-nil c.loop-supplier.lanes.items) ∙ ap (λ (z : List Lane). c.loop-supplier.lanes.items ++ z) (sym (no_lanes N customer supplier (omega (arith, here, next, long, w.if-index.false)))))
     ]
+
+pub returns : goal.returns
+returns c =
+    let N = c.args.tables.now in
+    let all : c.loop-supplier.supplier ≡ c.plants-plants.result = omega (arith, c.loop-supplier-test.false, c.loop-supplier.auto.supplier-end) in
+    c.loop-supplier.invariant ∙ ap (λ (z : ℕ). c.args.lanes.now.items ++ flat_map (lanes_between N c.args.customer) (range_with_len 0 z)) (all ∙ c.plants-plants.ensures.value)
