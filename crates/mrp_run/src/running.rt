@@ -59,21 +59,16 @@ pub fn run_plant<R: Threads + Wait + Sync, G: Gate, S: StopRule>(
     ensures finished { IfOk result (λ r. at.HasFinished agent sends.items takes.items r.0 r.1.items r.2.items) }
     ensures fault { IfErr result S.holds }
 {
-    let mut owned = Plant {
+    let owned = Plant {
         agent,
         sends,
         takes,
     };
-    if let Err(fault) = work(rt, alloc, plant, &mut owned, crew, gate, stop, turns) {
-        stop.tell(fault);
-        drop(owned);
-        return Err(fault);
-    }
     let Plant {
         agent,
         sends,
         takes,
-    } = owned;
+    } = run_owned(rt, alloc, plant, owned, crew, gate, stop, turns)?;
     Ok((agent, sends, takes))
 }
 
@@ -82,7 +77,7 @@ pub(crate) fn run_owned<R: Threads + Wait + Sync, G: Gate, S: StopRule>(
     rt: &R,
     alloc: Global,
     number: PlantNo,
-    plant: Plant,
+    mut plant: Plant,
     crew: &mut Crew,
     gate: &G,
     stop: &Stop<S>,
@@ -95,19 +90,12 @@ pub(crate) fn run_owned<R: Threads + Wait + Sync, G: Gate, S: StopRule>(
     ensures finishes { IfOk result (λ after. Finishes plant after) }
     ensures fault { IfErr result S.holds }
 {
-    let Plant {
-        agent,
-        sends,
-        takes,
-    } = plant;
-    let (agent, sends, takes) = run_plant(
-        rt, alloc, number, agent, sends, takes, crew, gate, stop, turns,
-    )?;
-    Ok(Plant {
-        agent,
-        sends,
-        takes,
-    })
+    if let Err(fault) = work(rt, alloc, number, &mut plant, crew, gate, stop, turns) {
+        stop.tell(fault);
+        drop(plant);
+        return Err(fault);
+    }
+    Ok(plant)
 }
 
 /// Turn by turn, until the plant is done.
@@ -179,7 +167,7 @@ fn take_turn<R: Threads + Wait + Sync, G: Gate>(
     let came = move_all(rt, plant, Lanes::Incoming);
     let planned = plan_all(rt, alloc, number, plant, crew, gate)?;
     let sent = move_all(rt, plant, Lanes::Outgoing);
-    Ok(came || planned || sent)
+    Ok(came | planned | sent)
 }
 
 /// Plans all pairs that can be planned, and answers whether there were any.

@@ -1,5 +1,5 @@
-use Rattle.std.proofs.Common.{ℕ, length, sym, subst, arith}
-use Rattle.std.proofs.lemmas.Result.{IfOk-from_err}
+use Rattle.std.proofs.Common.{◌≡◌, ℕ, length, sym, subst, arith, IfOk}
+use Rattle.std.proofs.lemmas.Result.{IfErr-weaker, IfOk-from_err}
 use Rattle.mrp_rows.specs.Table.{Table}
 use Rattle.mrp_loops.specs.Sized.{IsSized}
 use Rattle.mrp_run.specs.declared.fault.RunFault.TheVariants.{Memory}
@@ -53,13 +53,11 @@ outcome_of-requires-clause-through g c =
     subst (λ (N : Table). AreThrough N c.in_ok-through.through.items) (sym c.network.ensures.value)
     (are_through c.args.net.now.network c.in_ok-ready.ready.items c.in_ok-through.through.items c.in_ok-ready.ensures.ready c.in_ok-through.ensures.all c.in_ok-through.ensures.each)
 
-pub returns-in_err-outcome_of-clause-outcome : goal.returns-in_err-outcome_of-clause-outcome
-returns-in_err-outcome_of-clause-outcome g c = IfOk-from_err c.from_residual-in_err-outcome_of.result (λ o. IsOutcome c.args.net.now.network o) c.from_residual-in_err-outcome_of.ensures.0
-
-pub returns-in_err-outcome_of-clause-fault : goal.returns-in_err-outcome_of-clause-fault
-returns-in_err-outcome_of-clause-fault g c =
-    let Shut = WasShut g.G.Gate.turn_open g.G.Gate.turn_shut g.G.Gate.worker_shut c.args.turns in
-    handed_on (IsFaultIn Shut (WasSpent g.G.Gate.turn_open c.args.turns) c.args.net.now.network) c.from_residual-in_err-outcome_of.result Memory c.from_residual-in_err-outcome_of.ensures.1 tt
-
 pub returns-clause-outcome : goal.returns-clause-outcome
-returns-clause-outcome g c = subst (λ (N : Table). IsOutcome N c.in_ok-outcome_of.field-0) c.network.ensures.value c.in_ok-outcome_of.ensures
+returns-clause-outcome g c = subst (λ (N : Table). IfOk c.outcome_of.result (λ o. IsOutcome N o)) c.network.ensures.value c.outcome_of.ensures.outcome
+
+pub returns-clause-fault : goal.returns-clause-fault
+returns-clause-fault g c =
+    let Shut = WasShut g.G.Gate.turn_open g.G.Gate.turn_shut g.G.Gate.worker_shut c.args.turns in
+    let Fault = IsFaultIn Shut (WasSpent g.G.Gate.turn_open c.args.turns) c.args.net.now.network in
+    IfErr-weaker c.outcome_of.result (λ fault. fault ≡ Memory) Fault (λ fault is. subst Fault (sym is) tt) c.outcome_of.ensures.fault

@@ -30,18 +30,10 @@ move_all-sent-requires g c = record {
   work = works_on c.move_all-came.new.plant c.plan_all.new.plant c.plan_all.ensures.kept (works_on c.args.plant.now c.move_all-came.new.plant c.move_all-came.ensures.kept c.requires.work);
 }
 
-pub returns-then-planned-clause-crew : goal.returns-then-planned-clause-crew
-returns-then-planned-clause-crew g c = c.plan_all.ensures.crew
+pub returns-clause-crew : goal.returns-clause-crew
+returns-clause-crew g c = c.plan_all.ensures.crew
 
-pub returns-then-planned-clause-kept : goal.returns-then-planned-clause-kept
-returns-then-planned-clause-kept g c =
-    let planned = keeps_on c.args.plant.now c.move_all-came.new.plant c.plan_all.new.plant c.move_all-came.ensures.kept c.plan_all.ensures.kept in
-    keeps_on c.args.plant.now c.plan_all.new.plant c.move_all-sent.new.plant planned c.move_all-sent.ensures.kept
-
-pub returns-else-planned-clause-crew : goal.returns-else-planned-clause-crew
-returns-else-planned-clause-crew g c = c.plan_all.ensures.crew
-
-pub returns-else-planned-clause-kept : goal.returns-else-planned-clause-kept
-returns-else-planned-clause-kept g c =
+pub returns-clause-kept : goal.returns-clause-kept
+returns-clause-kept g c =
     let planned = keeps_on c.args.plant.now c.move_all-came.new.plant c.plan_all.new.plant c.move_all-came.ensures.kept c.plan_all.ensures.kept in
     keeps_on c.args.plant.now c.plan_all.new.plant c.move_all-sent.new.plant planned c.move_all-sent.ensures.kept

@@ -4,6 +4,7 @@ use Rattle.std.proofs.lemmas.List.Elements.{All-push}
 use Rattle.std.specs.List.{AllZip}
 use Rattle.std.specs.Vec.Iter.{into_iter_items}
 use Rattle.mrp_run.specs.Joined.{AreByRule, Back, Finished, started}
+use Rattle.mrp_run.proofs.DealtLists.{pushed}
 use Rattle.mrp_run.proofs.JoinedThreads.{pairs_more, started_more, whole_next}
 use Rattle.mrp_run.proofs.threads.join_all.Goals as goal
 
@@ -12,13 +13,12 @@ loop-thread-preserved g c =
     let at = c.loop-thread in
     let thread = c.in-Some.thread in
     let ok = ap is_ok c.unwrap.ensures in
-    let pushed : c.push.new.self.items ≡ at.backs.items ++ c.join.result ∷ [] =
-    c.push.ensures.items ∙ cond-true _ (at.backs.items ++ c.join.result ∷ []) at.backs.items ok in record {
+    let grown : c.push.new.self.items ≡ at.backs.items ++ c.join.result ∷ [] = pushed at.backs.items c.push.new.self.items c.join.result _ c.push.ensures.items ok in record {
       whole = whole_next at.yielded (into_iter_items at.thread-iterator) _ c.args.threads.items thread at.invariant.whole c.in-Some.ensures.steps.0;
       count = omega (arith, at.invariant.count, c.push.ensures.len ∙ cond-true _ (vec_len at.backs + 1) (vec_len at.backs) ok, length-append at.yielded (thread ∷ []));
       room = omega (arith, at.invariant.room, c.push.ensures.capacity);
-      finished = subst (λ (z : List Back). AllZip Finished (started (at.yielded ++ thread ∷ [])) z) (sym pushed)
+      finished = subst (λ (z : List Back). AllZip Finished (started (at.yielded ++ thread ∷ [])) z) (sym grown)
           (subst (λ z. AllZip Finished z (at.backs.items ++ c.join.result ∷ [])) (sym (started_more at.yielded thread))
           (pairs_more Finished (started at.yielded) at.backs.items thread.promise.plant.value c.join.result at.invariant.finished c.join.ensures.finished));
-      rule = subst (AreByRule g.S.StopRule.holds) (sym pushed) (All-push (λ (back : Back). IfErr back g.S.StopRule.holds) at.backs.items c.join.result at.invariant.rule c.join.ensures.fault);
+      rule = subst (AreByRule g.S.StopRule.holds) (sym grown) (All-push (λ (back : Back). IfErr back g.S.StopRule.holds) at.backs.items c.join.result at.invariant.rule c.join.ensures.fault);
     }

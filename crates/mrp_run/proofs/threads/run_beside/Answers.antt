@@ -7,13 +7,15 @@ use Rattle.mrp_run.proofs.threads.run_beside.Goals as goal
 pub all_of-requires : goal.all_of-requires
 all_of-requires g c = record {
   room = (
-    c.requires.rooms.no_plants,
+    c.in_ok-rooms.ensures.no_plants,
     omega (
       arith,
       pairs_length Finished (started c.start_all-refused.new.threads.items) c.join_all.new.backs.items c.join_all.ensures.finished,
       ap length c.start_all-refused.ensures.started.1,
       length-append (started c.start_all-refused.new.threads.items) c.start_all-refused.ensures.started.0,
-      c.requires.rooms.again,
+      c.in_ok-rooms.ensures.again,
+      c.len-2.ensures,
+      c.args.plants.ok.0,
     ),
   );
 }

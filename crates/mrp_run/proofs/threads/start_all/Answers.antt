@@ -1,11 +1,11 @@
 use Rattle.std.proofs.Common.{◌≡◌, ◌<◌, ◌++◌, ◌∷◌, [], List, is_ok, length, vec_len, vec_capacity, sym, ap, subst, ◌∙◌, arith}
-use Rattle.std.proofs.lemmas.Bool.{cond-true}
 use Rattle.std.proofs.lemmas.List.{length-map}
 use Rattle.std.specs.Vec.Iter.{into_iter_items}
 use Rattle.mrp_run.specs.declared.plant.Plant.{Plant}
 use Rattle.mrp_run.specs.Joined.{started}
 use Rattle.mrp_run.specs.Faults.{WasShut, WasSpent}
 use Rattle.mrp_run.specs.Steps.{IsAtWork}
+use Rattle.mrp_run.proofs.DealtLists.{pushed}
 use Rattle.mrp_run.proofs.JoinedThreads.{holds_next, started_more, whole_next, one_left}
 use Rattle.mrp_run.proofs.StopRules.{allows_each}
 use Rattle.mrp_run.proofs.threads.start_all.Goals as goal
@@ -35,10 +35,9 @@ loop-plant-preserved g c =
     let at = c.loop-plant in
     let plant = c.in-Some.plant in
     let thread = c.in-Some-start.thread in
-    let pushed : c.push.new.self.items ≡ at.threads.items ++ thread ∷ [] =
-    c.push.ensures.items ∙ cond-true _ (at.threads.items ++ thread ∷ []) at.threads.items (ap is_ok c.unwrap.ensures) in record {
+    let grown : c.push.new.self.items ≡ at.threads.items ++ thread ∷ [] = pushed at.threads.items c.push.new.self.items thread _ c.push.ensures.items (ap is_ok c.unwrap.ensures) in record {
       whole = whole_next at.yielded (into_iter_items at.plant-iterator) _ c.args.plants.items plant at.invariant.whole c.in-Some.ensures.steps.0;
-      started_so_far = ap started pushed ∙ started_more at.threads.items thread ∙ ap (λ (z : List Plant). z ++ thread.promise.plant.value ∷ []) at.invariant.started_so_far
+      started_so_far = ap started grown ∙ started_more at.threads.items thread ∙ ap (λ (z : List Plant). z ++ thread.promise.plant.value ∷ []) at.invariant.started_so_far
           ∙ ap (λ (z : Plant). at.yielded ++ z ∷ []) c.in-Some-start.ensures.plant;
       room = omega (arith, at.invariant.room, c.push.ensures.capacity);
     }
