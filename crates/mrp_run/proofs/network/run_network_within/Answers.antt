@@ -1,11 +1,12 @@
-use Rattle.std.proofs.Common.{◌≡◌, ℕ, length, sym, subst, arith, IfOk}
-use Rattle.std.proofs.lemmas.Result.{IfErr-weaker, IfOk-from_err}
+use Rattle.std.proofs.Common.{◌≡◌, ℕ, length, sym, subst, arith, IfOk, slice_index_or}
+use Rattle.std.proofs.lemmas.Result.{IfErr-at_err, IfErr-weaker, IfOk-at_ok, IfOk-from_err}
 use Rattle.mrp_rows.specs.Table.{Table}
 use Rattle.mrp_loops.specs.Sized.{IsSized}
 use Rattle.mrp_run.specs.declared.fault.RunFault.TheVariants.{Memory}
-use Rattle.mrp_run.specs.Ends.{AreThrough}
+use Rattle.mrp_run.specs.Ends.{AreThrough, EachAt}
 use Rattle.mrp_run.specs.Faults.{WasShut, WasSpent}
 use Rattle.mrp_run.specs.Outcome.{IsOutcome}
+use Rattle.mrp_run.specs.Steps.{Finishes}
 use Rattle.mrp_run.specs.Worst.{IsFaultIn, IsOfFirst}
 use Rattle.mrp_run.proofs.JoinedNetwork.{are_through, ready_work}
 use Rattle.mrp_run.proofs.StopRules.{handed_on}
@@ -43,7 +44,8 @@ returns-in_err-through-clause-fault g c =
     let Shut = WasShut g.G.Gate.turn_open g.G.Gate.turn_shut g.G.Gate.worker_shut c.args.turns in
     let Spent = WasSpent g.G.Gate.turn_open c.args.turns in
     handed_on (IsFaultIn Shut Spent c.args.net.now.network) c.from_residual-in_err-through.result _ c.from_residual-in_err-through.ensures.1
-    (subst (λ (plants : ℕ). IsOfFirst Shut Spent plants c.in_err-through.field-0.0) c.in_ok-ready.ensures.ready.all_plants c.in_err-through.ensures.fault)
+    (subst (λ (plants : ℕ). IsOfFirst Shut Spent plants c.in_err-through.field-0.0) c.in_ok-ready.ensures.ready.all_plants
+    (IfErr-at_err (IsOfFirst Shut Spent (length c.in_ok-ready.ready.items)) c.in_err-through.was c.run_plants.ensures.fault))
 
 pub outcome_of-requires-clause-sized : goal.outcome_of-requires-clause-sized
 outcome_of-requires-clause-sized g c = subst IsSized (sym c.network.ensures.value) c.network.ensures.sized
@@ -51,7 +53,9 @@ outcome_of-requires-clause-sized g c = subst IsSized (sym c.network.ensures.valu
 pub outcome_of-requires-clause-through : goal.outcome_of-requires-clause-through
 outcome_of-requires-clause-through g c =
     subst (λ (N : Table). AreThrough N c.in_ok-through.through.items) (sym c.network.ensures.value)
-    (are_through c.args.net.now.network c.in_ok-ready.ready.items c.in_ok-through.through.items c.in_ok-ready.ensures.ready c.in_ok-through.ensures.all c.in_ok-through.ensures.each)
+    (are_through c.args.net.now.network c.in_ok-ready.ready.items c.in_ok-through.through.items c.in_ok-ready.ensures.ready
+    (IfOk-at_ok (λ after. length after.items ≡ length c.in_ok-ready.ready.items) c.in_ok-through.was c.run_plants.ensures.all)
+    (IfOk-at_ok (λ after. EachAt (λ p P. Finishes (slice_index_or c.in_ok-ready.ready.items p P) P) after.items) c.in_ok-through.was c.run_plants.ensures.each))
 
 pub returns-clause-outcome : goal.returns-clause-outcome
 returns-clause-outcome g c = subst (λ (N : Table). IfOk c.outcome_of.result (λ o. IsOutcome N o)) c.network.ensures.value c.outcome_of.ensures.outcome

@@ -1,4 +1,5 @@
 use Rattle.std.proofs.Common.{sym, ap, ◌∙◌}
+use Rattle.std.proofs.lemmas.Result.{IfErr-at_err}
 use Rattle.mrp_view.specs.View.{PlantRows}
 use Rattle.mrp_crew.specs.Shut.{WasShut as WasWorkerShut}
 use Rattle.mrp_run.specs.Faults.{IsOf, never_spent}
@@ -23,7 +24,8 @@ returns-in_err-planned-clause-kept g c = keeps_on c.args.plant.now c.move_all-ca
 
 pub returns-in_err-planned-clause-fault : goal.returns-in_err-planned-clause-fault
 returns-in_err-planned-clause-fault g c =
-    handed_on (IsOf (WasWorkerShut g.G.Gate.worker_shut) never_spent c.args.number) c.from_residual.result _ c.from_residual.ensures.1 c.in_err-planned.ensures.fault
+    let Fault = IsOf (WasWorkerShut g.G.Gate.worker_shut) never_spent c.args.number in
+    handed_on Fault c.from_residual.result _ c.from_residual.ensures.1 (IfErr-at_err Fault c.in_err-planned.was c.plan_all.ensures.fault)
 
 pub move_all-sent-requires : goal.move_all-sent-requires
 move_all-sent-requires g c = record {

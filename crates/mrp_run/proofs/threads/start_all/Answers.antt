@@ -1,4 +1,4 @@
-use Rattle.std.proofs.Common.{◌≡◌, ◌<◌, ◌++◌, ◌∷◌, [], List, is_ok, length, vec_len, vec_capacity, sym, ap, subst, ◌∙◌, arith}
+use Rattle.std.proofs.Common.{◌≡◌, ◌<◌, ◌++◌, ◌∷◌, [], List, is_ok, length, vec_len, vec_capacity, refl, sym, ap, subst, ◌∙◌, append-nil, arith}
 use Rattle.std.proofs.lemmas.List.{length-map}
 use Rattle.std.specs.Vec.Iter.{into_iter_items}
 use Rattle.mrp_run.specs.declared.plant.Plant.{Plant}
@@ -6,8 +6,9 @@ use Rattle.mrp_run.specs.Joined.{started}
 use Rattle.mrp_run.specs.Faults.{WasShut, WasSpent}
 use Rattle.mrp_run.specs.Steps.{IsAtWork}
 use Rattle.mrp_run.proofs.DealtLists.{pushed}
-use Rattle.mrp_run.proofs.JoinedThreads.{holds_next, started_more, whole_next, one_left}
+use Rattle.mrp_run.proofs.JoinedThreads.{holds_next, none_left, started_more, whole_next, one_left}
 use Rattle.mrp_run.proofs.StopRules.{allows_each}
+use Rattle.mrp_run.specs.declared.fault.RunFault.TheVariants.{ThreadRefused}
 use Rattle.mrp_run.proofs.threads.start_all.Goals as goal
 
 pub start-requires-clause-work : goal.start-requires-clause-work
@@ -41,3 +42,24 @@ loop-plant-preserved g c =
           ∙ ap (λ (z : Plant). at.yielded ++ z ∷ []) c.in-Some-start.ensures.plant;
       room = omega (arith, at.invariant.room, c.push.ensures.capacity);
     }
+
+pub start-requires-clause-workers : goal.start-requires-clause-workers
+start-requires-clause-workers g c = λ κs met. c.requires.workers
+
+pub tell-requires : goal.tell-requires
+tell-requires g c = record { by_rule = c.requires.rule ThreadRefused tt }
+
+pub returns-in_default-clause-started : goal.returns-in_default-clause-started
+returns-in_default-clause-started g c =
+    let at = c.loop-plant in
+    let rest = into_iter_items at.plant-iterator in
+    (rest, sym at.invariant.whole ∙ ap (λ (front : List Plant). front ++ rest) (sym at.invariant.started_so_far), tt)
+
+pub returns-in_default-clause-refused : goal.returns-in_default-clause-refused
+returns-in_default-clause-refused g c = refl
+
+pub returns-clause-started : goal.returns-clause-started
+returns-clause-started g c =
+    let at = c.loop-plant in
+    let all : at.yielded ≡ c.args.plants.items = none_left at.yielded (into_iter_items at.plant-iterator) c.args.plants.items at.invariant.whole (omega (arith, c.in-None.ensures.steps.0, at.plant-iterator.rest.ok.0)) in
+    ([], sym all ∙ sym at.invariant.started_so_far ∙ sym (append-nil (started at.threads.items)), refl)
