@@ -1,5 +1,4 @@
-use Rattle.std.proofs.Common.{◌≡◌, ◌<◌, ◌+◌, ◌++◌, ◌∷◌, ◌∙◌, [], List, IfErr, is_ok, length-append, vec_len, vec_capacity, ap, sym, subst, arith}
-use Rattle.std.proofs.lemmas.Bool.{cond-true}
+use Rattle.std.proofs.Common.{◌≡◌, ◌<◌, ◌+◌, ◌++◌, ◌∷◌, ◌∙◌, [], List, IfErr, is_ok, length, length-append, vec_len, vec_capacity, ap, sym, subst, arith}
 use Rattle.std.proofs.lemmas.List.Elements.{All-push}
 use Rattle.std.specs.List.{AllZip}
 use Rattle.std.specs.Vec.Iter.{into_iter_items}
@@ -15,7 +14,7 @@ loop-thread-preserved g c =
     let ok = ap is_ok c.unwrap.ensures in
     let grown : c.push.new.self.items ≡ at.backs.items ++ c.join.result ∷ [] = pushed at.backs.items c.push.new.self.items c.join.result _ c.push.ensures.items ok in record {
       whole = whole_next at.yielded (into_iter_items at.thread-iterator) _ c.args.threads.items thread at.invariant.whole c.in-Some.ensures.steps.0;
-      count = omega (arith, at.invariant.count, c.push.ensures.len ∙ cond-true _ (vec_len at.backs + 1) (vec_len at.backs) ok, length-append at.yielded (thread ∷ []));
+      count = omega (arith, at.invariant.count, ap length grown, length-append at.backs.items (c.join.result ∷ []), c.push.new.self.ok.0, at.backs.ok.0, length-append at.yielded (thread ∷ []));
       room = omega (arith, at.invariant.room, c.push.ensures.capacity);
       finished = subst (λ (z : List Back). AllZip Finished (started (at.yielded ++ thread ∷ [])) z) (sym grown)
           (subst (λ z. AllZip Finished z (at.backs.items ++ c.join.result ∷ [])) (sym (started_more at.yielded thread))
