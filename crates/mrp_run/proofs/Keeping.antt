@@ -1,14 +1,13 @@
 -- What work keeps: nothing done keeps it, one step after another keeps it, and so does planning.
-use Rattle.std.proofs.Common.{◌≡◌, ℕ, List, refl, ◌∙◌}
+use Rattle.std.proofs.Common.{◌≡◌, List, refl, ◌∙◌}
 use Rattle.mrp_rows.specs.declared.numbers.PairNo.{PairNo}
-use Rattle.mrp_rows.specs.Table.{Table}
 use Rattle.mrp_lane.specs.Ends.{End}
 use Rattle.mrp_agent.specs.State.{AgentState}
 use Rattle.mrp_crew.specs.Planning.{IsPlannable, PlansAll, all_planned}
 use Rattle.mrp_run.specs.declared.moving.Lanes.{Lanes}
 use Rattle.mrp_run.specs.declared.moving.Lanes.TheVariants.{Incoming, Outgoing}
 use Rattle.mrp_run.specs.declared.plant.Plant.{Plant}
-use Rattle.mrp_run.specs.Plant.{AtWork, IsAtWork, Kept}
+use Rattle.mrp_run.specs.Plant.{IsAtWork, Kept}
 use Rattle.mrp_run.specs.Steps.{Keeps, lane_count}
 use Rattle.mrp_run.specs.Steps as steps
 use Rattle.mrp_run.proofs.Held.{same_length}

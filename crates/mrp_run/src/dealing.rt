@@ -46,7 +46,9 @@ fn idle_plants(alloc: Global, network: &Network) -> Result<Vec<Plant>, Memory>
 {
     let mut plants = Vec::with_capacity(alloc, network.plants())?;
     for p in 0..network.plants() {
-        plants.push(idle_plant(alloc, network, PlantNo(p))?).unwrap();
+        plants
+            .push(idle_plant(alloc, network, PlantNo(p))?)
+            .unwrap();
     }
     Ok(plants)
 }
