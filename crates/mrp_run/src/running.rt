@@ -59,16 +59,21 @@ pub fn run_plant<R: Threads + Wait + Sync, G: Gate, S: StopRule>(
     ensures finished { IfOk result (λ r. at.HasFinished agent sends.items takes.items r.0 r.1.items r.2.items) }
     ensures fault { IfErr result S.holds }
 {
-    let owned = Plant {
+    let mut owned = Plant {
         agent,
         sends,
         takes,
     };
+    if let Err(fault) = work(rt, alloc, plant, &mut owned, crew, gate, stop, turns) {
+        stop.tell(fault);
+        drop(owned);
+        return Err(fault);
+    }
     let Plant {
         agent,
         sends,
         takes,
-    } = run_owned(rt, alloc, plant, owned, crew, gate, stop, turns)?;
+    } = owned;
     Ok((agent, sends, takes))
 }
 
@@ -77,7 +82,7 @@ pub(crate) fn run_owned<R: Threads + Wait + Sync, G: Gate, S: StopRule>(
     rt: &R,
     alloc: Global,
     number: PlantNo,
-    mut plant: Plant,
+    plant: Plant,
     crew: &mut Crew,
     gate: &G,
     stop: &Stop<S>,
@@ -90,12 +95,19 @@ pub(crate) fn run_owned<R: Threads + Wait + Sync, G: Gate, S: StopRule>(
     ensures finishes { IfOk result (λ after. Finishes plant after) }
     ensures fault { IfErr result S.holds }
 {
-    if let Err(fault) = work(rt, alloc, number, &mut plant, crew, gate, stop, turns) {
-        stop.tell(fault);
-        drop(plant);
-        return Err(fault);
-    }
-    Ok(plant)
+    let Plant {
+        agent,
+        sends,
+        takes,
+    } = plant;
+    let (agent, sends, takes) = run_plant(
+        rt, alloc, number, agent, sends, takes, crew, gate, stop, turns,
+    )?;
+    Ok(Plant {
+        agent,
+        sends,
+        takes,
+    })
 }
 
 /// Turn by turn, until the plant is done.
