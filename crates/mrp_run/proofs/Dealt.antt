@@ -124,11 +124,13 @@ pub have_none : (N : Table) (capacity : ℕ) (plants : List Plant) → AreIdle N
 have_none N capacity plants idle = record { names = []; first_lanes = refl; rooms = All-nil (HasRoom N capacity); idle = idle }
 
 -- the plants in place
+pub in_place : (old new : List Plant) (len : ℕ) → len ≡ length old → length new ≡ length old → take len (new ++ drop (length new) old) ≡ new
+in_place old new len size same = take_at new (drop (length new) old) len (same ∙ sym size)
+
 pub first_in_place : (N : Table) (capacity before count : ℕ) (old new : List Plant) (len : ℕ) → HaveFirst N capacity before old → len ≡ length old → HaveFirst N capacity count new
     → HaveFirst N capacity count (take len (new ++ drop (length new) old))
 first_in_place N capacity before count old new len had size first =
-    let long : length new ≡ len = first.idle.all_plants ∙ sym had.idle.all_plants ∙ sym size in
-    subst (HaveFirst N capacity count) (sym (take_at new (drop (length new) old) len long)) first
+    subst (HaveFirst N capacity count) (sym (in_place old new len size (first.idle.all_plants ∙ sym had.idle.all_plants))) first
 
 -- ---- plants with no ends yet
 

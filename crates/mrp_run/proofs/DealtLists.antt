@@ -2,7 +2,7 @@
 use Rattle.std.proofs.Common.{◌≡◌, ◌≢◌, ◌⊎◌, inl, inr, ℕ, ◌-◌, ◌<◌, ◌==◌, Bool, true, false, cond, List, [], ◌∷◌, ◌++◌, length, get_or, set, map, reverse, Option, None, Some, refl, sym, ap, subst, ◌∙◌, arith, length-append, All}
 use Rattle.std.specs.List.{filter}
 use Rattle.std.specs.Option.{option_to_list, IsSomeAnd}
-use Rattle.std.proofs.lemmas.Bool.{cases_Bool, eqb-true, eq-eqb, false≢true}
+use Rattle.std.proofs.lemmas.Bool.{cases_Bool, cond-true, eqb-true, eq-eqb, false≢true}
 use Rattle.std.proofs.lemmas.List.{map-append, length-set, length-reverse, reverse-append, reverse-reverse, get_or-set_same, get_or-set_other, get_or-reverse, get_or_append_left, get_or_at, length_push}
 use Rattle.std.proofs.lemmas.List.Elements.{All-pop, All-head, All-tail, All-cons, All-nil}
 use Rattle.mrp_run.specs.Ends.{EachAt}
@@ -34,6 +34,10 @@ each_push P xs x n size each here k d h =
           let inside : k < length xs = omega (arith, h, length_push xs x, other, size) in
           subst (P k) (sym (get_or_append_left xs (x ∷ []) d k inside)) (each k d inside)
     ]
+
+-- what a push that succeeded leaves
+pub pushed : {X : Type 0} (now new : List X) (x : X) (ok : Bool) → new ≡ cond ok (now ++ x ∷ []) now → ok ≡ true → new ≡ now ++ x ∷ []
+pushed now new x ok is done = is ∙ cond-true ok (now ++ x ∷ []) now done
 
 -- from the last to the first
 pub each_turned : {X : Type 0} (P : ℕ → X → Type 0) (xs : List X) (n : ℕ) → length xs ≡ n → EachAt (λ k. P (n - 1 - k)) xs → EachAt P (reverse xs)

@@ -1,15 +1,15 @@
 -- What work keeps: nothing done keeps it, one step after another keeps it, and so does planning.
-use Rattle.std.proofs.Common.{◌≡◌, ℕ, List, refl, ◌∙◌}
+use Rattle.std.proofs.Common.{◌≡◌, List, refl, ◌∙◌}
 use Rattle.mrp_rows.specs.declared.numbers.PairNo.{PairNo}
-use Rattle.mrp_rows.specs.Table.{Table}
 use Rattle.mrp_lane.specs.Ends.{End}
 use Rattle.mrp_agent.specs.State.{AgentState}
 use Rattle.mrp_crew.specs.Planning.{IsPlannable, PlansAll, all_planned}
 use Rattle.mrp_run.specs.declared.moving.Lanes.{Lanes}
 use Rattle.mrp_run.specs.declared.moving.Lanes.TheVariants.{Incoming, Outgoing}
 use Rattle.mrp_run.specs.declared.plant.Plant.{Plant}
-use Rattle.mrp_run.specs.Plant.{AtWork, IsAtWork, Kept}
+use Rattle.mrp_run.specs.Plant.{IsAtWork, Kept}
 use Rattle.mrp_run.specs.Steps.{Keeps, lane_count}
+use Rattle.mrp_run.specs.Steps as steps
 use Rattle.mrp_run.proofs.Held.{same_length}
 
 pub nothing_done : (A : AgentState) (s t : List End) → Kept A s t A s t
@@ -27,6 +27,13 @@ one_after_another A s t B s2 t2 C s3 t3 first second = record {
 -- the plant is still at work after it
 pub still_works : (A : AgentState) (s t : List End) (B : AgentState) (s2 t2 : List End) → Kept A s t B s2 t2 → IsAtWork A s t → IsAtWork B s2 t2
 still_works A s t B s2 t2 kept (N, p, work) = (N, p, kept.works N p work)
+
+-- the same in the words of a plant of the code
+pub keeps_on : (P Q R : Plant) → Keeps P Q → Keeps Q R → Keeps P R
+keeps_on P Q R = one_after_another P.agent P.sends.items P.takes.items Q.agent Q.sends.items Q.takes.items R.agent R.sends.items R.takes.items
+
+pub works_on : (P Q : Plant) → Keeps P Q → steps.IsAtWork P → steps.IsAtWork Q
+works_on P Q = still_works P.agent P.sends.items P.takes.items Q.agent Q.sends.items Q.takes.items
 
 -- with as many lanes
 pub same_lanes : (lanes : Lanes) (P Q : Plant) → Keeps P Q → lane_count lanes Q ≡ lane_count lanes P

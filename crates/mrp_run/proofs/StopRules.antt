@@ -1,11 +1,21 @@
 -- The faults that plants meet, and the rule of a run's stop.
-use Rattle.std.proofs.Common.{◌≡◌, ◌⊎◌, ℕ, ◌+◌, ◌≤◌, ◌<◌, inl, inr, ⊎_elim, sym, subst, arith}
+use Rattle.std.proofs.Common.{◌≡◌, ℕ, ◌+◌, ◌≤◌, ◌<◌, Result, Ok, Err, inl, inr, ⊎_elim, sym, subst, arith}
+use Rattle.std.specs.Result.{IfErr, IsErrAnd}
 use Rattle.std.proofs.lemmas.Bool.{cases_lt}
 use Rattle.mrp_rows.specs.declared.numbers.PlantNo.{PlantNo}
 use Rattle.mrp_run.specs.declared.fault.RunFault.{RunFault}
 use Rattle.mrp_run.specs.declared.fault.RunFault.TheVariants.{Memory, ThreadRefused, GateShut, Stopped}
 use Rattle.mrp_run.specs.Faults.{AllowsOf, IsOf, IsToldOrOf, WasSpent, never_spent}
 use Rattle.mrp_run.specs.Worst.{AllowsOfFirst, IsOfFirst}
+
+-- what holds of an error holds of the one that is handed on
+pub handed_on : {T E : Type 0} (P : E → Type 0) (r : Result T E) (e : E) → IsErrAnd r (λ x. x ≡ e) → P e → IfErr r P
+handed_on P (Ok x) e same holds = absurd same
+handed_on P (Err f) e same holds = subst P (sym same) holds
+
+-- a fault of a turn isn't that the plant has used its turns
+pub not_stopped : {T : Type 0} (Shut : ℕ → Type 0) (plant : PlantNo) (r : Result T RunFault) → IfErr r (IsOf Shut never_spent plant) → r ≡ Err Stopped → ⊥
+not_stopped Shut plant r met stopped = subst (λ z. IfErr z (IsOf Shut never_spent plant)) stopped met
 
 -- what a plant meets that hasn't used its turns, it may meet
 may_meet : (Shut Wider Spent : ℕ → Type 0) (plant : PlantNo) (fault : RunFault) → (Shut plant.0 → Wider plant.0) → IsOf Shut never_spent plant fault → IsOf Wider Spent plant fault

@@ -11,8 +11,9 @@ pub(crate) fn book_next<R: Wait>(rt: &R, plant: &mut Plant, k: usize) -> bool
     requires lane { k < length plant.old.takes.items }
     ensures kept { Keeps plant.old plant.new }
 {
-    let lane = plant.takes[k].lane();
-    let Some(entry) = plant.takes[k].take(rt) else {
+    let end = &mut plant.takes[k];
+    let lane = end.lane();
+    let Some(entry) = end.take(rt) else {
         return false;
     };
     if let Err(_fault) = plant.agent.book(lane, &entry) {

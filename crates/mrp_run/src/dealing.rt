@@ -46,7 +46,9 @@ fn idle_plants(alloc: Global, network: &Network) -> Result<Vec<Plant>, Memory>
 {
     let mut plants = Vec::with_capacity(alloc, network.plants())?;
     for p in 0..network.plants() {
-        plants.push(idle_plant(alloc, network, PlantNo(p))?)?;
+        plants
+            .push(idle_plant(alloc, network, PlantNo(p))?)
+            .unwrap();
     }
     Ok(plants)
 }
@@ -80,8 +82,7 @@ fn deal(
     let between = net.network().lane(number);
     let (send, take) = lane(alloc, net, number, capacity)?;
     deal_send(plants, between.sender, send)?;
-    deal_take(plants, between.receiver, take)?;
-    Ok(())
+    deal_take(plants, between.receiver, take)
 }
 
 /// Deals the sender's end of a new lane.

@@ -37,7 +37,7 @@ fn given_plans(alloc: Global, plants: Vec<Plant>) -> Result<Vec<Vec<PairPlan>>, 
     let mut given = Vec::with_capacity(alloc, plants.len())?;
     for plant in plants {
         let Plant { agent, .. } = plant;
-        given.push(agent.into_plans())?;
+        given.push(agent.into_plans()).unwrap();
     }
     Ok(given)
 }

@@ -21,9 +21,7 @@ pub(crate) fn move_all<R: Wait>(rt: &R, plant: &mut Plant, lanes: Lanes) -> bool
 {
     let mut any = false;
     for k in 0..lane_count(plant, lanes) {
-        if move_lane(rt, plant, lanes, k) {
-            any = true;
-        }
+        any |= move_lane(rt, plant, lanes, k);
     }
     any
 }

@@ -1,7 +1,8 @@
 //! A whole network, run by a thread for each plant.
-ghost use Rattle.std.specs.Prelude.{IfErr, IfOk};
+ghost use Rattle.std.specs.Prelude.{◌≡◌, IfErr, IfOk};
 ghost use Rattle.mrp_loops.specs.Sized.{IsSized};
 ghost use Rattle.mrp_run.specs.Ends.{AreThrough};
+ghost use Rattle.mrp_run.specs.declared.fault.RunFault.{RunFault};
 ghost use Rattle.mrp_run.specs.declared.network.TheConstants.{MOST_TURNS};
 ghost use Rattle.mrp_run.specs.Faults.{WasShut, WasSpent};
 ghost use Rattle.mrp_run.specs.Outcome.{IsOutcome};
@@ -19,7 +20,6 @@ use mrp_lane::Reconciled;
 use mrp_loops::SizedNet;
 use mrp_net::Network;
 use mrp_netting::PairPlan;
-use mrp_qty::Memory;
 use std::alloc::Global;
 use std::marker::Brand;
 use std::sync::Wait;
@@ -80,7 +80,7 @@ pub fn run_network_within<R: Threads + Wait + Sync, G: Gate>(
 {
     let ready = ready_plants(alloc, net, settings.capacity())?;
     let through = run_plants::<R, G, Brand>(rt, alloc, ready, settings.workers(), gate, turns)?;
-    Ok(outcome_of(rt, alloc, net.network(), through)?)
+    outcome_of(rt, alloc, net.network(), through)
 }
 
 /// What plants that have finished come to.
@@ -89,10 +89,11 @@ fn outcome_of<R: Wait>(
     alloc: Global,
     network: &Network,
     mut plants: Vec<Plant>,
-) -> Result<Outcome, Memory>
+) -> Result<Outcome, RunFault>
     requires sized { IsSized network.now }
     requires through { AreThrough network.now plants.items }
-    ensures { IfOk result (λ o. IsOutcome network.now o) }
+    ensures outcome { IfOk result (λ o. IsOutcome network.now o) }
+    ensures fault { IfErr result (λ fault. fault ≡ RunFault.Memory) }
 {
     let lanes = reconcile_all(rt, alloc, network, plants.as_mut_slice())?;
     let plans = gather(alloc, network, plants)?;

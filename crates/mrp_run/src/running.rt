@@ -179,7 +179,7 @@ fn take_turn<R: Threads + Wait + Sync, G: Gate>(
     let came = move_all(rt, plant, Lanes::Incoming);
     let planned = plan_all(rt, alloc, number, plant, crew, gate)?;
     let sent = move_all(rt, plant, Lanes::Outgoing);
-    Ok(came || planned || sent)
+    Ok(came | planned | sent)
 }
 
 /// Plans all pairs that can be planned, and answers whether there were any.

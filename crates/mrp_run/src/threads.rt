@@ -77,24 +77,16 @@ fn run_until<R: Threads + Wait + Sync, G: Gate, S: StopRule + Send + Sync>(
     ensures each { IfOk result (λ after. AllZip Finishes plants.items after.items) }
     ensures fault { IfErr result S.holds }
 {
-    let threads = new_threads(alloc, plants.len())?;
-    let rooms = new_rooms(alloc, plants.len())?;
     thread::scope(
         thread::scope_env(),
         rt,
         move |scope| -> Result<Vec<Plant>, RunFault>
             requires work { All IsAtWork plants.items }
             requires workers { (1 ≤ workers) × (workers ≤ MOST_WORKERS) }
-            requires threads { (threads.items ≡ []) × (length plants.items ≤ vec_capacity threads) }
-            requires rooms { AreRooms (length plants.items) rooms }
             requires rule { AllowsOfFirst S.holds (WasShut G.turn_open G.turn_shut G.worker_shut turns) (WasSpent G.turn_open turns) (length plants.items) }
             ensures each { IfOk result (λ after. AllZip Finishes plants.items after.items) }
             ensures fault { IfErr result S.holds }
-        {
-            run_beside(
-                scope, rt, alloc, plants, workers, gate, stop, turns, threads, rooms,
-            )
-        },
+        { run_beside(scope, rt, alloc, plants, workers, gate, stop, turns) },
     )
 }
 
@@ -125,17 +117,15 @@ fn run_beside<'s, E, R: Threads + Wait + Sync, G: Gate, S: StopRule + Send + Syn
     gate: &'s G,
     stop: &'s Stop<S>,
     turns: u64,
-    mut threads: Vec<Running<S>>,
-    rooms: Rooms,
 ) -> Result<Vec<Plant>, RunFault>
     requires work { All IsAtWork plants.items }
     requires workers { (1 ≤ workers) × (workers ≤ MOST_WORKERS) }
     requires rule { AllowsOfFirst S.holds (WasShut G.turn_open G.turn_shut G.worker_shut turns) (WasSpent G.turn_open turns) (length plants.items) }
-    requires threads { (threads.items ≡ []) × (length plants.items ≤ vec_capacity threads) }
-    requires rooms { AreRooms (length plants.items) rooms }
     ensures each { IfOk result (λ after. AllZip Finishes plants.items after.items) }
     ensures fault { IfErr result S.holds }
 {
+    let mut threads = new_threads(alloc, plants.len())?;
+    let rooms = new_rooms(alloc, plants.len())?;
     let Rooms {
         mut backs,
         plants: all,

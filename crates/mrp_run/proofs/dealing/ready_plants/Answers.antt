@@ -1,8 +1,10 @@
 use Rattle.std.proofs.Common.{◌≡◌, ◌+◌, [], length, ap, subst, sym, ◌∙◌, arith}
+use Rattle.std.specs.List.{All}
+use Rattle.std.proofs.lemmas.Result.{IfOk-from_err}
 use Rattle.mrp_rows.specs.Table.{Table}
 use Rattle.mrp_net.specs.Lanes.{lanes}
 use Rattle.mrp_loops.specs.Sized.{IsSized}
-use Rattle.mrp_run.specs.Ends.{AreIdle, HaveFirst}
+use Rattle.mrp_run.specs.Ends.{AreIdle, AreReady, HasRooms, HaveFirst}
 use Rattle.mrp_run.proofs.Dealt.{first_in_place, have_none}
 use Rattle.mrp_run.proofs.DealtReady.{are_ready, have_rooms}
 use Rattle.mrp_run.proofs.dealing.ready_plants.Goals as goal
@@ -27,3 +29,23 @@ returns-clause-ready c =
 
 pub returns-clause-rooms : goal.returns-clause-rooms
 returns-clause-rooms c = have_rooms c.args.net.now.network c.args.capacity c.loop-l.l c.loop-l.plants.items c.loop-l.invariant
+
+pub deal-requires-clause-lane : goal.deal-requires-clause-lane
+deal-requires-clause-lane c =
+    let all : c.lanes-l-end.result ≡ length (lanes c.args.net.now.network) = c.lanes-l-end.ensures ∙ ap (λ (N : Table). length (lanes N)) c.network-network.ensures.value in
+    omega (arith, all, c.loop-l-test.true)
+
+pub deal-requires-clause-capacity : goal.deal-requires-clause-capacity
+deal-requires-clause-capacity c = c.requires.capacity
+
+pub returns-in_err-plants-clause-ready : goal.returns-in_err-plants-clause-ready
+returns-in_err-plants-clause-ready c = IfOk-from_err c.from_residual.result (λ plants. AreReady c.args.net.now.network plants.items) c.from_residual.ensures.0
+
+pub returns-in_err-plants-clause-rooms : goal.returns-in_err-plants-clause-rooms
+returns-in_err-plants-clause-rooms c = IfOk-from_err c.from_residual.result (λ plants. All (HasRooms c.args.net.now.network c.args.capacity) plants.items) c.from_residual.ensures.0
+
+pub returns-in_err-deal-clause-ready : goal.returns-in_err-deal-clause-ready
+returns-in_err-deal-clause-ready c = IfOk-from_err c.from_residual-in_err-deal.result (λ plants. AreReady c.args.net.now.network plants.items) c.from_residual-in_err-deal.ensures.0
+
+pub returns-in_err-deal-clause-rooms : goal.returns-in_err-deal-clause-rooms
+returns-in_err-deal-clause-rooms c = IfOk-from_err c.from_residual-in_err-deal.result (λ plants. All (HasRooms c.args.net.now.network c.args.capacity) plants.items) c.from_residual-in_err-deal.ensures.0

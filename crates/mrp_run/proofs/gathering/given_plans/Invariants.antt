@@ -1,4 +1,4 @@
-use Rattle.std.proofs.Common.{◌≡◌, ◌++◌, length}
+use Rattle.std.proofs.Common.{◌≡◌, ◌++◌, ◌≤◌, length, vec_capacity}
 use Rattle.std.specs.Vec.Iter.{into_iter_items}
 use Rattle.mrp_rows.specs.Table.{Table}
 use Rattle.mrp_run.specs.Ends.{HavePlans}
@@ -10,5 +10,6 @@ abbrev pub invariant-loop-plant : goal.invariant-loop-plant
 invariant-loop-plant l = record {
   whole : l.yielded ++ into_iter_items l.plant-iterator ≡ l.fn.plants.items;
   size : length l.given.items ≡ length l.yielded;
+  room : length l.fn.plants.items ≤ vec_capacity l.given;
   own : (N : Table) → HavePlans N l.fn.plants.items → AreOwn N l.given.items;
 }

@@ -1,5 +1,67 @@
-use Rattle.mrp_run.proofs.JoinedNetwork.{ready_work}
+use Rattle.std.proofs.Common.{◌≡◌, ℕ, length, sym, subst, arith, IfOk, slice_index_or}
+use Rattle.std.proofs.lemmas.Result.{IfErr-at_err, IfErr-weaker, IfOk-at_ok, IfOk-from_err}
+use Rattle.mrp_rows.specs.Table.{Table}
+use Rattle.mrp_loops.specs.Sized.{IsSized}
+use Rattle.mrp_run.specs.declared.fault.RunFault.TheVariants.{Memory}
+use Rattle.mrp_run.specs.Ends.{AreThrough, EachAt}
+use Rattle.mrp_run.specs.Faults.{WasShut, WasSpent}
+use Rattle.mrp_run.specs.Outcome.{IsOutcome}
+use Rattle.mrp_run.specs.Steps.{Finishes}
+use Rattle.mrp_run.specs.Worst.{IsFaultIn, IsOfFirst}
+use Rattle.mrp_run.proofs.JoinedNetwork.{are_through, ready_work}
+use Rattle.mrp_run.proofs.StopRules.{handed_on}
 use Rattle.mrp_run.proofs.network.run_network_within.Goals as goal
 
 pub run_plants-requires-clause-work : goal.run_plants-requires-clause-work
 run_plants-requires-clause-work g c κs within = ready_work c.args.net.now.network c.in_ok-ready.ready.items c.in_ok-ready.ensures.ready
+
+pub ready_plants-requires : goal.ready_plants-requires
+ready_plants-requires g c = record {
+  capacity = (omega (arith, c.capacity.ensures.value, c.capacity.ensures.limits.some_room), omega (arith, c.capacity.ensures.value, c.capacity.ensures.limits.little_room));
+}
+
+pub returns-in_err-ready-clause-outcome : goal.returns-in_err-ready-clause-outcome
+returns-in_err-ready-clause-outcome g c = IfOk-from_err c.from_residual.result (λ o. IsOutcome c.args.net.now.network o) c.from_residual.ensures.0
+
+pub returns-in_err-ready-clause-fault : goal.returns-in_err-ready-clause-fault
+returns-in_err-ready-clause-fault g c =
+    let Shut = WasShut g.G.Gate.turn_open g.G.Gate.turn_shut g.G.Gate.worker_shut c.args.turns in
+    handed_on (IsFaultIn Shut (WasSpent g.G.Gate.turn_open c.args.turns) c.args.net.now.network) c.from_residual.result Memory c.from_residual.ensures.1 tt
+
+pub run_plants-requires-clause-workers : goal.run_plants-requires-clause-workers
+run_plants-requires-clause-workers g c κs within =
+    (omega (arith, c.workers.ensures.value, c.workers.ensures.limits.some_workers), omega (arith, c.workers.ensures.value, c.workers.ensures.limits.few_workers))
+
+pub run_plants-requires-clause-rule : goal.run_plants-requires-clause-rule
+run_plants-requires-clause-rule g c κs within = λ fault met. met
+
+pub returns-in_err-through-clause-outcome : goal.returns-in_err-through-clause-outcome
+returns-in_err-through-clause-outcome g c = IfOk-from_err c.from_residual-in_err-through.result (λ o. IsOutcome c.args.net.now.network o) c.from_residual-in_err-through.ensures.0
+
+-- there are as many plants as the network has
+pub returns-in_err-through-clause-fault : goal.returns-in_err-through-clause-fault
+returns-in_err-through-clause-fault g c =
+    let Shut = WasShut g.G.Gate.turn_open g.G.Gate.turn_shut g.G.Gate.worker_shut c.args.turns in
+    let Spent = WasSpent g.G.Gate.turn_open c.args.turns in
+    handed_on (IsFaultIn Shut Spent c.args.net.now.network) c.from_residual-in_err-through.result _ c.from_residual-in_err-through.ensures.1
+    (subst (λ (plants : ℕ). IsOfFirst Shut Spent plants c.in_err-through.field-0.0) c.in_ok-ready.ensures.ready.all_plants
+    (IfErr-at_err (IsOfFirst Shut Spent (length c.in_ok-ready.ready.items)) c.in_err-through.was c.run_plants.ensures.fault))
+
+pub outcome_of-requires-clause-sized : goal.outcome_of-requires-clause-sized
+outcome_of-requires-clause-sized g c = subst IsSized (sym c.network.ensures.value) c.network.ensures.sized
+
+pub outcome_of-requires-clause-through : goal.outcome_of-requires-clause-through
+outcome_of-requires-clause-through g c =
+    subst (λ (N : Table). AreThrough N c.in_ok-through.through.items) (sym c.network.ensures.value)
+    (are_through c.args.net.now.network c.in_ok-ready.ready.items c.in_ok-through.through.items c.in_ok-ready.ensures.ready
+    (IfOk-at_ok (λ after. length after.items ≡ length c.in_ok-ready.ready.items) c.in_ok-through.was c.run_plants.ensures.all)
+    (IfOk-at_ok (λ after. EachAt (λ p P. Finishes (slice_index_or c.in_ok-ready.ready.items p P) P) after.items) c.in_ok-through.was c.run_plants.ensures.each))
+
+pub returns-clause-outcome : goal.returns-clause-outcome
+returns-clause-outcome g c = subst (λ (N : Table). IfOk c.outcome_of.result (λ o. IsOutcome N o)) c.network.ensures.value c.outcome_of.ensures.outcome
+
+pub returns-clause-fault : goal.returns-clause-fault
+returns-clause-fault g c =
+    let Shut = WasShut g.G.Gate.turn_open g.G.Gate.turn_shut g.G.Gate.worker_shut c.args.turns in
+    let Fault = IsFaultIn Shut (WasSpent g.G.Gate.turn_open c.args.turns) c.args.net.now.network in
+    IfErr-weaker c.outcome_of.result (λ fault. fault ≡ Memory) Fault (λ fault is. subst Fault (sym is) tt) c.outcome_of.ensures.fault

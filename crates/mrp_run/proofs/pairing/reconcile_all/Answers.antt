@@ -1,5 +1,10 @@
-use Rattle.std.proofs.Common.{◌-◌, length, arith}
+use Rattle.std.proofs.Common.{◌-◌, ◌<◌, length, ap, is_ok, vec_len, vec_capacity, arith}
+use Rattle.std.proofs.lemmas.Result.{IfOk-from_err}
 use Rattle.mrp_net.specs.Lanes.{lanes}
+use Rattle.mrp_run.specs.Ends.{HasNoEnds, HavePlans}
+use Rattle.mrp_run.specs.Outcome.{AreSettled}
+use Rattle.std.specs.List.{All}
+use Rattle.mrp_run.proofs.DealtLists.{pushed}
 use Rattle.mrp_run.proofs.Paired as pair
 use Rattle.mrp_run.proofs.PairedSettled as settle
 use Rattle.mrp_run.proofs.pairing.reconcile_all.Goals as goal
@@ -8,6 +13,7 @@ pub loop-done-init : goal.loop-done-init
 loop-done-init g c =
     let N = c.args.network.now in record {
       settled = settle.settled_none N (length (lanes N)) c.in_ok-all.all.items c.in_ok-all.ensures.items;
+      room = omega (arith, c.in_ok-all.ensures.capacity, c.lanes-lanes.ensures);
       left = pair.all_left N c.requires.ended.0 c.args.plants.now c.requires.ended.1 c.requires.ended.2;
     }
 
@@ -17,8 +23,10 @@ reconcile_last-requires-clause-left g c = pair.left_here c.args.network.now c.lo
 pub loop-done-preserved : goal.loop-done-preserved
 loop-done-preserved g c =
     let N = c.args.network.now in record {
-      settled = settle.settled_more N c.lanes-lanes.result (length (lanes N)) c.loop-done.done c.loop-done.all.items c.push.new.self.items c.in_ok-settled.settled c.in_ok-push.ensures.items c.lanes-lanes.ensures
+      settled = settle.settled_more N c.lanes-lanes.result (length (lanes N)) c.loop-done.done c.loop-done.all.items c.push.new.self.items c.in_ok-settled.settled
+          (pushed c.loop-done.all.items c.push.new.self.items c.in_ok-settled.settled _ c.push.ensures.items (ap is_ok c.unwrap.ensures)) c.lanes-lanes.ensures
           c.in_ok-settled.ensures.settled c.loop-done.invariant.settled;
+      room = omega (arith, c.loop-done.invariant.room, c.push.ensures.capacity);
       left = pair.left_next N c.reconcile_last.new.plants c.lanes-lanes.result c.loop-done.done c.lanes-lanes.ensures c.loop-done-test.true c.in_ok-settled.ensures.left;
     }
 
@@ -34,3 +42,36 @@ pub returns-clause-no_ends : goal.returns-clause-no_ends
 returns-clause-no_ends g c =
     let N = c.args.network.now in
     pair.no_ends N c.loop-done.plants (length (lanes N) - c.loop-done.done) (omega (arith, c.lanes-lanes.ensures, c.loop-done-test.false)) c.loop-done.invariant.left
+
+pub overflow_sub-lanes : goal.overflow_sub-lanes
+overflow_sub-lanes g c = omega (arith, c.loop-done-test.true)
+
+pub overflow_sub-lanes-in-loop-done : goal.overflow_sub-lanes-in-loop-done
+overflow_sub-lanes-in-loop-done g c = omega (arith, c.loop-done-test.true)
+
+pub reconcile_last-requires-clause-lane : goal.reconcile_last-requires-clause-lane
+reconcile_last-requires-clause-lane g c = omega (arith, c.loop-done-test.true, c.lanes-lanes.ensures)
+
+pub unwrap-requires : goal.unwrap-requires
+unwrap-requires g c =
+    let here : vec_len c.loop-done.all < vec_capacity c.loop-done.all =
+    omega (arith, c.loop-done.invariant.settled.size, c.loop-done.invariant.room, c.loop-done-test.true, c.lanes-lanes.ensures, c.loop-done.all.ok.0) in
+    c.push.ensures.succeeds here
+
+pub returns-in_err-all-clause-lanes : goal.returns-in_err-all-clause-lanes
+returns-in_err-all-clause-lanes g c = IfOk-from_err c.from_residual.result (λ all. AreSettled c.args.network.now all.items) c.from_residual.ensures.0
+
+pub returns-in_err-all-clause-plans : goal.returns-in_err-all-clause-plans
+returns-in_err-all-clause-plans g c = IfOk-from_err c.from_residual.result (λ _. HavePlans c.args.network.now c.args.plants.now) c.from_residual.ensures.0
+
+pub returns-in_err-all-clause-no_ends : goal.returns-in_err-all-clause-no_ends
+returns-in_err-all-clause-no_ends g c = IfOk-from_err c.from_residual.result (λ _. All HasNoEnds c.args.plants.now) c.from_residual.ensures.0
+
+pub returns-in_err-settled-clause-lanes : goal.returns-in_err-settled-clause-lanes
+returns-in_err-settled-clause-lanes g c = IfOk-from_err c.from_residual-in_err-settled.result (λ all. AreSettled c.args.network.now all.items) c.from_residual-in_err-settled.ensures.0
+
+pub returns-in_err-settled-clause-plans : goal.returns-in_err-settled-clause-plans
+returns-in_err-settled-clause-plans g c = IfOk-from_err c.from_residual-in_err-settled.result (λ _. HavePlans c.args.network.now c.reconcile_last.new.plants) c.from_residual-in_err-settled.ensures.0
+
+pub returns-in_err-settled-clause-no_ends : goal.returns-in_err-settled-clause-no_ends
+returns-in_err-settled-clause-no_ends g c = IfOk-from_err c.from_residual-in_err-settled.result (λ _. All HasNoEnds c.reconcile_last.new.plants) c.from_residual-in_err-settled.ensures.0

@@ -1,4 +1,4 @@
-use Rattle.std.proofs.Common.{◌-◌, length}
+use Rattle.std.proofs.Common.{◌-◌, ◌≤◌, length, vec_capacity}
 use Rattle.mrp_net.specs.Lanes.{lanes}
 use Rattle.mrp_run.specs.Ends.{HaveLeft}
 use Rattle.mrp_run.proofs.PairedSettled.{AreSettledFrom}
@@ -8,5 +8,6 @@ use Rattle.mrp_run.proofs.pairing.reconcile_all.Given as goal
 abbrev pub invariant-loop-done : goal.invariant-loop-done
 invariant-loop-done g l = record {
   settled : AreSettledFrom l.network (length (lanes l.network)) l.done l.all.items;
+  room : length (lanes l.network) ≤ vec_capacity l.all;
   left : HaveLeft l.network (length (lanes l.network) - l.done) l.plants;
 }

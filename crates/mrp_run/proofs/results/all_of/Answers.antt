@@ -4,7 +4,7 @@ use Rattle.std.specs.Option.{option_to_list}
 use Rattle.std.specs.Vec.Iter.{into_iter_items}
 use Rattle.mrp_run.specs.declared.plant.Plant.{Plant}
 use Rattle.mrp_run.specs.Joined.{Back, faults_in}
-use Rattle.mrp_run.specs.Worst.{IsWorstOf}
+use Rattle.mrp_run.specs.Worst.{IsWorst, IsWorstOf}
 use Rattle.mrp_run.proofs.JoinedFaults.{plants_in, plants_more, plants_same, with_plant, with_another, no_fault, none_before}
 use Rattle.mrp_run.proofs.JoinedThreads.{whole_next, one_left, none_left}
 use Rattle.mrp_run.proofs.results.all_of.Goals as goal
@@ -41,3 +41,23 @@ returns-in-None-worst-clause-plants c =
     let all : at.yielded ≡ c.args.backs.items = none_left at.yielded (into_iter_items at.back-iterator) c.args.backs.items at.invariant.whole (omega (arith, c.in-None.ensures.steps.0, at.back-iterator.rest.ok.0)) in
     let none : option_to_list c.args.before ++ faults_in at.yielded ≡ [] = subst (λ w. IsWorstOf w (option_to_list c.args.before ++ faults_in at.yielded)) c.in-None-worst.is at.invariant.worst in
     sym all ∙ no_fault at.yielded (none_before c.args.before (faults_in at.yielded) none).1 ∙ ap (λ (z : List Plant). map Ok z) (sym at.invariant.plants)
+
+pub unwrap-requires : goal.unwrap-requires
+unwrap-requires c =
+    let at = c.loop-back in
+    let left = one_left at.yielded (into_iter_items at.back-iterator) _ c.args.backs.items c.in-Some.back at.invariant.whole c.in-Some.ensures.steps.0 in
+    let here : vec_len at.plants < vec_capacity at.plants = omega (arith, left, at.invariant.count, at.invariant.room, c.requires.room.1) in
+    c.push.ensures.succeeds here
+
+pub returns-in-None-worst-clause-none : goal.returns-in-None-worst-clause-none
+returns-in-None-worst-clause-none c =
+    let at = c.loop-back in
+    let none : option_to_list c.args.before ++ faults_in at.yielded ≡ [] = subst (λ w. IsWorstOf w (option_to_list c.args.before ++ faults_in at.yielded)) c.in-None-worst.is at.invariant.worst in
+    (none_before c.args.before (faults_in at.yielded) none).0
+
+pub returns-in-Some-worst-clause-fault : goal.returns-in-Some-worst-clause-fault
+returns-in-Some-worst-clause-fault c =
+    let at = c.loop-back in
+    let all : at.yielded ≡ c.args.backs.items = none_left at.yielded (into_iter_items at.back-iterator) c.args.backs.items at.invariant.whole (omega (arith, c.in-None.ensures.steps.0, at.back-iterator.rest.ok.0)) in
+    subst (λ (z : List Back). IsWorst c.in-Some-worst.fault (option_to_list c.args.before ++ faults_in z)) all
+    (subst (λ w. IsWorstOf w (option_to_list c.args.before ++ faults_in at.yielded)) c.in-Some-worst.is at.invariant.worst)

@@ -1,13 +1,14 @@
-use Rattle.std.proofs.Common.{◌≡◌, ◌<◌, ◌++◌, ◌∷◌, [], List, is_ok, length, vec_len, vec_capacity, sym, ap, subst, ◌∙◌, arith}
-use Rattle.std.proofs.lemmas.Bool.{cond-true}
+use Rattle.std.proofs.Common.{◌≡◌, ◌<◌, ◌++◌, ◌∷◌, [], List, is_ok, length, vec_len, vec_capacity, refl, sym, ap, ◌∙◌, append-nil, arith}
 use Rattle.std.proofs.lemmas.List.{length-map}
 use Rattle.std.specs.Vec.Iter.{into_iter_items}
 use Rattle.mrp_run.specs.declared.plant.Plant.{Plant}
 use Rattle.mrp_run.specs.Joined.{started}
 use Rattle.mrp_run.specs.Faults.{WasShut, WasSpent}
 use Rattle.mrp_run.specs.Steps.{IsAtWork}
-use Rattle.mrp_run.proofs.JoinedThreads.{holds_next, started_more, whole_next, one_left}
+use Rattle.mrp_run.proofs.DealtLists.{pushed}
+use Rattle.mrp_run.proofs.JoinedThreads.{holds_next, none_left, started_more, whole_next, one_left}
 use Rattle.mrp_run.proofs.StopRules.{allows_each}
+use Rattle.mrp_run.specs.declared.fault.RunFault.TheVariants.{ThreadRefused}
 use Rattle.mrp_run.proofs.threads.start_all.Goals as goal
 
 pub start-requires-clause-work : goal.start-requires-clause-work
@@ -35,10 +36,30 @@ loop-plant-preserved g c =
     let at = c.loop-plant in
     let plant = c.in-Some.plant in
     let thread = c.in-Some-start.thread in
-    let pushed : c.push.new.self.items ≡ at.threads.items ++ thread ∷ [] =
-    c.push.ensures.items ∙ cond-true _ (at.threads.items ++ thread ∷ []) at.threads.items (ap is_ok c.unwrap.ensures) in record {
+    let grown : c.push.new.self.items ≡ at.threads.items ++ thread ∷ [] = pushed at.threads.items c.push.new.self.items thread _ c.push.ensures.items (ap is_ok c.unwrap.ensures) in record {
       whole = whole_next at.yielded (into_iter_items at.plant-iterator) _ c.args.plants.items plant at.invariant.whole c.in-Some.ensures.steps.0;
-      started_so_far = ap started pushed ∙ started_more at.threads.items thread ∙ ap (λ (z : List Plant). z ++ thread.promise.plant.value ∷ []) at.invariant.started_so_far
+      started_so_far = ap started grown ∙ started_more at.threads.items thread ∙ ap (λ (z : List Plant). z ++ thread.promise.plant.value ∷ []) at.invariant.started_so_far
           ∙ ap (λ (z : Plant). at.yielded ++ z ∷ []) c.in-Some-start.ensures.plant;
       room = omega (arith, at.invariant.room, c.push.ensures.capacity);
     }
+
+pub start-requires-clause-workers : goal.start-requires-clause-workers
+start-requires-clause-workers g c = λ κs met. c.requires.workers
+
+pub tell-requires : goal.tell-requires
+tell-requires g c = record { by_rule = c.requires.rule ThreadRefused tt }
+
+pub returns-in_default-clause-started : goal.returns-in_default-clause-started
+returns-in_default-clause-started g c =
+    let at = c.loop-plant in
+    let rest = into_iter_items at.plant-iterator in
+    (rest, sym at.invariant.whole ∙ ap (λ (front : List Plant). front ++ rest) (sym at.invariant.started_so_far), tt)
+
+pub returns-in_default-clause-refused : goal.returns-in_default-clause-refused
+returns-in_default-clause-refused g c = refl
+
+pub returns-clause-started : goal.returns-clause-started
+returns-clause-started g c =
+    let at = c.loop-plant in
+    let all : at.yielded ≡ c.args.plants.items = none_left at.yielded (into_iter_items at.plant-iterator) c.args.plants.items at.invariant.whole (omega (arith, c.in-None.ensures.steps.0, at.plant-iterator.rest.ok.0)) in
+    ([], sym all ∙ sym at.invariant.started_so_far ∙ sym (append-nil (started at.threads.items)), refl)

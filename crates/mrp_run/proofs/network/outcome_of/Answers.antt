@@ -1,0 +1,45 @@
+use Rattle.std.proofs.Common.{◌≡◌, List, refl, sym, subst, ◌∙◌}
+use Rattle.std.proofs.lemmas.Result.{IfOk-from_err}
+use Rattle.mrp_run.specs.declared.fault.RunFault.TheVariants.{Memory}
+use Rattle.mrp_run.specs.declared.plant.Plant.{Plant}
+use Rattle.mrp_run.specs.Ends.{HaveEnded, HavePlans}
+use Rattle.mrp_run.specs.Outcome.{IsOutcome}
+use Rattle.mrp_run.proofs.Dealt.{in_place}
+use Rattle.mrp_run.proofs.JoinedNetwork.{have_ended}
+use Rattle.mrp_run.proofs.StopRules.{handed_on}
+use Rattle.mrp_run.proofs.network.outcome_of.Goals as goal
+
+pub reconcile_all-requires : goal.reconcile_all-requires
+reconcile_all-requires g c =
+    let N = c.args.network.now in
+    let through = c.requires.through in record {
+      ended = (
+        through.names,
+        through.all_lanes,
+        subst (λ (plants : List Plant). HaveEnded N through.names through.names plants) (sym c.as_mut_slice.ensures.value) (have_ended N c.args.plants.items through),
+      );
+    }
+
+pub returns-in_err-lanes-clause-outcome : goal.returns-in_err-lanes-clause-outcome
+returns-in_err-lanes-clause-outcome g c = IfOk-from_err c.from_residual.result (λ o. IsOutcome c.args.network.now o) c.from_residual.ensures.0
+
+pub gather-requires-clause-sized : goal.gather-requires-clause-sized
+gather-requires-clause-sized g c = c.requires.sized
+
+pub gather-requires-clause-plans : goal.gather-requires-clause-plans
+gather-requires-clause-plans g c =
+    let plans = c.in_ok-lanes.ensures.plans in
+    subst (HavePlans c.args.network.now)
+    (sym (in_place c.args.plants.items c.reconcile_all.new.plants c.args.plants.len c.args.plants.ok.0 (plans.all_plants ∙ sym c.requires.through.all_plants))) plans
+
+pub returns-in_err-plans-clause-outcome : goal.returns-in_err-plans-clause-outcome
+returns-in_err-plans-clause-outcome g c = IfOk-from_err c.from_residual-in_err-plans.result (λ o. IsOutcome c.args.network.now o) c.from_residual-in_err-plans.ensures.0
+
+pub returns-in_err-lanes-clause-fault : goal.returns-in_err-lanes-clause-fault
+returns-in_err-lanes-clause-fault g c = handed_on (λ fault. fault ≡ Memory) c.from_residual.result Memory c.from_residual.ensures.1 refl
+
+pub returns-in_err-plans-clause-fault : goal.returns-in_err-plans-clause-fault
+returns-in_err-plans-clause-fault g c = handed_on (λ fault. fault ≡ Memory) c.from_residual-in_err-plans.result Memory c.from_residual-in_err-plans.ensures.1 refl
+
+pub returns-clause-outcome : goal.returns-clause-outcome
+returns-clause-outcome g c = record { plans = c.in_ok-plans.ensures; lanes = c.in_ok-lanes.ensures.lanes }
