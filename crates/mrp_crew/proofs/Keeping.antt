@@ -57,6 +57,10 @@ pub on_true : (b : Bool) (P : Type 0) → P → OnTrue b ((b ≡ true) × P)
 on_true true P p = (refl, p)
 on_true false P p = tt
 
+pub where_true : (b : Bool) (P : Type 0) → (b ≡ true → P) → OnTrue b P
+where_true true P says = says refl
+where_true false P says = tt
+
 -- ---- where no pair is ready
 
 pub none_ready : (numbers : List PairNo) (o : Option PairNo) → o ≡ slice_get numbers 0 → is_some o ≡ false → numbers ≡ []
