@@ -1,6 +1,6 @@
 -- The agent keeps the results of a wave one by one, and those that are left still fit it.
 use Rattle.std.specs.Option.{is_some}
-use Rattle.std.proofs.Common.{◌≡◌, ◌≢◌, ℕ, ◌+◌, Bool, true, false, Option, None, Some, slice_get, List, [], ◌∷◌, ◌++◌, length, get_or, reverse, refl, sym, ap, ◌∙◌, subst, arith, All, Contains}
+use Rattle.std.proofs.Common.{◌≡◌, ◌≢◌, ℕ, ◌+◌, ◌<◌, Bool, true, false, Option, None, Some, slice_get, List, [], ◌∷◌, ◌++◌, length, get_or, reverse, refl, sym, ap, ◌∙◌, subst, arith, All, Contains}
 use Rattle.std.specs.Bool.{OnTrue}
 use Rattle.std.specs.List.{AllPairs}
 use Rattle.std.proofs.lemmas.Bool.{false≢true}
@@ -67,3 +67,9 @@ pub none_ready : (numbers : List PairNo) (o : Option PairNo) → o ≡ slice_get
 none_ready [] o at is = refl
 none_ready (x ∷ xs) None at is = absurd (cc at)
 none_ready (x ∷ xs) (Some y) at is = absurd (false≢true (sym is))
+
+-- and where one is
+pub some_ready : (numbers : List PairNo) (o : Option PairNo) → o ≡ slice_get numbers 0 → is_some o ≡ true → 0 < length numbers
+some_ready [] None at is = absurd (false≢true is)
+some_ready [] (Some y) at is = absurd (cc at)
+some_ready (x ∷ xs) o at is = omega arith
