@@ -1,14 +1,12 @@
 -- The agent keeps the results of a wave one by one, and those that are left still fit it.
 use Rattle.std.specs.Option.{is_some}
-use Rattle.std.proofs.Common.{◌≡◌, ◌≢◌, ℕ, ◌+◌, ◌<◌, Bool, true, false, Option, None, Some, slice_get, List, [], ◌∷◌, ◌++◌, length, get_or, reverse, refl, sym, ap, ◌∙◌, subst, arith, All, Contains}
+use Rattle.std.proofs.Common.{◌≡◌, ◌≢◌, ℕ, ◌<◌, Bool, true, false, Option, None, Some, slice_get, List, [], ◌∷◌, ◌++◌, length, get_or, reverse, refl, sym, ap, ◌∙◌, subst, arith, All, Contains}
 use Rattle.std.specs.Bool.{OnTrue}
-use Rattle.std.specs.List.{AllPairs}
 use Rattle.std.proofs.lemmas.Bool.{false≢true}
 use Rattle.std.proofs.lemmas.List.Elements.{All-head, All-tail}
 use Rattle.mrp_rows.specs.declared.numbers.PairNo.{PairNo}
-use Rattle.mrp_lot.specs.One.{PlanRows}
 use Rattle.mrp_view.specs.View.{PlantRows}
-use Rattle.mrp_agent.specs.Drafts.{drafted, ready_numbers}
+use Rattle.mrp_agent.specs.Drafts.{ready_numbers}
 use Rattle.mrp_agent.specs.State.{AgentState}
 use Rattle.mrp_crew.specs.declared.work.Work.{Work}
 use Rattle.mrp_crew.specs.Rooms.{IsRoom, WorkedFor}

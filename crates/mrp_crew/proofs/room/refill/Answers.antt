@@ -1,4 +1,4 @@
-use Rattle.std.proofs.Common.{◌∷◌, ◌++◌, [], length, ap, sym, subst, arith, All, length-append}
+use Rattle.std.proofs.Common.{◌∷◌, [], length, ap, sym, subst, arith, All, length-append}
 use Rattle.std.proofs.lemmas.List.Elements.{All-push}
 use Rattle.std.proofs.lemmas.Result.{err_from_is_err_and}
 use Rattle.mrp_crew.specs.Rooms.{IsRoom}

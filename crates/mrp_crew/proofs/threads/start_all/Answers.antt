@@ -1,4 +1,4 @@
-use Rattle.std.proofs.Common.{◌≡◌, [], ◌∷◌, ◌++◌, length, drop, List, Some, refl, ap, sym, ◌∙◌, subst, arith, All, length-append}
+use Rattle.std.proofs.Common.{[], ◌∷◌, ◌++◌, length, drop, List, Some, refl, ap, sym, ◌∙◌, subst, arith, All, length-append}
 use Rattle.std.proofs.lemmas.List.{take-append-drop}
 use Rattle.std.proofs.lemmas.List.Elements.{All-nil, All-push, All-pop, All-get_or}
 use Rattle.mrp_rows.specs.declared.numbers.PairNo.{PairNo}
