@@ -1,6 +1,7 @@
 -- The agent keeps the results of a wave one by one, and those that are left still fit it.
 use Rattle.std.specs.Option.{is_some}
-use Rattle.std.proofs.Common.{◌≡◌, ◌≢◌, ℕ, ◌<◌, Bool, true, false, Option, None, Some, slice_get, List, [], ◌∷◌, ◌++◌, length, get_or, reverse, refl, sym, ap, ◌∙◌, subst, arith, All, Contains}
+use Rattle.std.specs.Result.{IfErr, OnOk}
+use Rattle.std.proofs.Common.{◌≡◌, ◌≢◌, ℕ, ◌<◌, Bool, true, false, Option, None, Some, Result, Ok, Err, slice_get, List, [], ◌∷◌, ◌++◌, length, get_or, reverse, refl, sym, ap, ◌∙◌, subst, arith, All, Contains}
 use Rattle.std.specs.Bool.{OnTrue}
 use Rattle.std.proofs.lemmas.Bool.{false≢true}
 use Rattle.std.proofs.lemmas.List.Elements.{All-head, All-tail}
@@ -58,6 +59,14 @@ on_true false P p = tt
 pub where_true : (b : Bool) (P : Type 0) → (b ≡ true → P) → OnTrue b P
 where_true true P says = says refl
 where_true false P says = tt
+
+pub where_ok : {T E : Type 0} (r : Result T E) (P Q : Type 0) → OnOk r P → (P → Q) → OnOk r Q
+where_ok (Ok x) P Q says then_ = then_ says
+where_ok (Err e) P Q says then_ = tt
+
+pub where_err : {T E : Type 0} (r : Result T E) (P Q : E → Type 0) → IfErr r P → ((e : E) → P e → Q e) → IfErr r Q
+where_err (Ok x) P Q says then_ = tt
+where_err (Err e) P Q says then_ = then_ e says
 
 -- ---- where no pair is ready
 

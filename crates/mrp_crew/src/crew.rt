@@ -1,6 +1,6 @@
 //! The workers of a plant, and the rooms that they draft in.
 
-ghost use Rattle.std.specs.Prelude.{◌≡◌, ◌+◌, ◌<◌, ◌≤◌, true, false, min, length, reverse, All, IfOk};
+ghost use Rattle.std.specs.Prelude.{◌≡◌, ◌+◌, ◌<◌, ◌≤◌, true, false, min, length, reverse, All, IfErr, IfOk, OnOk};
 ghost use Rattle.mrp_agent.specs.Drafts.{ready_numbers};
 ghost use Rattle.mrp_crew.specs.Planning.{IsPlannable};
 ghost use Rattle.mrp_crew.specs.Rooms.{IsRoom};
@@ -137,10 +137,7 @@ impl Crew {
         let Drafts { works, all, rooms } = drafts;
         self.rooms = rooms;
         let open = settle_all(agent, works, &mut self.rooms);
-        if all && open {
-            return Ok(());
-        }
-        Err(wave_fault(all))
+        wave_end(all, open)
     }
 }
 
@@ -173,6 +170,18 @@ fn draft_ready<R: Threads + Wait + Sync, G: Gate>(
     let own = pairs[others];
     let others = &pairs[..others];
     Ok(draft_wave(rt, agent, plant, gate, others, own, rooms, threads, works))
+}
+
+/// How a wave ended: all its pairs are planned, or one of its threads could not be started or the gate was
+/// shut.
+fn wave_end(all: bool, let_in: bool) -> Result<(), CrewFault>
+    ensures planned { OnOk result ((all ≡ true) × (let_in ≡ true)) }
+    ensures shut { IfErr result (λ fault. fault ≡ CrewFault.GateShut → let_in ≡ false) }
+{
+    if all && let_in {
+        return Ok(());
+    }
+    Err(wave_fault(all))
 }
 
 /// Why a wave ended early: one of its threads could not be started, or all could and the gate was shut.

@@ -1,12 +1,11 @@
 use Rattle.std.proofs.Common.{[], ap, sym, ◌∙◌, subst, arith, All}
 use Rattle.std.proofs.lemmas.Result.{err_from_is_err_and}
-use Rattle.mrp_crew.proofs.Keeping.{when_true}
+use Rattle.mrp_crew.proofs.Keeping.{when_true, where_err, where_ok}
 use Rattle.mrp_crew.proofs.PlanningLaws.{plans_none}
-use Rattle.mrp_crew.proofs.ShutGates.{memory_is_no_gate, refusal_is_no_gate, shut_to_one}
+use Rattle.mrp_crew.proofs.ShutGates.{memory_is_no_gate, shut_to_one}
 use Rattle.mrp_crew.specs.Rooms.{IsRoom}
 use Rattle.mrp_crew.specs.Shut.{WasShut}
 use Rattle.mrp_crew.specs.State.{CrewState}
-use Rattle.mrp_crew.proofs.crew.Crew.plan_wave.Goals.{else-all-via-then-all+else-open, else-all-via-else-all}
 use Rattle.mrp_crew.proofs.crew.Crew.plan_wave.Goals as goal
 
 pub returns-in_err-refill-clause-planned : goal.returns-in_err-refill-clause-planned
@@ -28,20 +27,6 @@ pub returns-in_err-drafts-clause-shut : goal.returns-in_err-drafts-clause-shut
 returns-in_err-drafts-clause-shut g c =
     let p = err_from_is_err_and c.from_residual-in_err-drafts.result c.from_residual-in_err-drafts.ensures.1 in
     rw p.1 (λ is. absurd (memory_is_no_gate p.0 p.2 is))
-
-pub returns-clause-shut : goal.returns-clause-shut
-returns-clause-shut g c = λ is.
-    elim c.else-all.branch [
-      | else-all-via-then-all+else-open w ↦
-          shut_to_one (WasShut g.G.Gate.worker_shut c.args.plant) c.in_ok-drafts.drafts.works.items c.settle_all-open.result c.in_ok-drafts.ensures.shut
-          c.settle_all-open.ensures.let_in w.if-open.false
-      | else-all-via-else-all w ↦ absurd (refusal_is_no_gate c.wave_fault.result (c.wave_fault.ensures.refused w.if-all.false) is)
-    ]
-
-pub returns-clause-planned : goal.returns-clause-planned
-returns-clause-planned g c =
-    let p = c.settle_all-open.ensures.planned in
-    (p.0, p.1, tt)
 
 pub settle_all-open-requires-clause-drafts : goal.settle_all-open-requires-clause-drafts
 settle_all-open-requires-clause-drafts g c = c.in_ok-drafts.ensures.drafts
@@ -86,24 +71,27 @@ settle_all-open-requires-clause-plannable g c = c.requires.plannable
 pub settle_all-open-requires-clause-rooms : goal.settle_all-open-requires-clause-rooms
 settle_all-open-requires-clause-rooms g c = c.in_ok-drafts.ensures.free
 
-pub invariant_of-self-then-open : goal.invariant_of-self-then-open
-invariant_of-self-then-open g c =
-    let same = ap (λ (crew : CrewState). crew.horizon) c.self.view_is ∙ c.requires.horizon in
-    (c.self.invariant.0, c.self.invariant.1, subst (λ h. All (IsRoom h) c.settle_all-open.new.rooms.items) (sym same) c.settle_all-open.ensures.rooms)
-
-pub returns-then-open-clause-crew : goal.returns-then-open-clause-crew
-returns-then-open-clause-crew g c = c.self.view_is
-
-pub returns-then-open-clause-planned : goal.returns-then-open-clause-planned
-returns-then-open-clause-planned g c =
-    let p = c.settle_all-open.ensures.planned in
-    let each = when_true c.settle_all-open.result _ p.2 c.if-open.true in
-    (p.0, p.1, omega (arith, each, c.in_ok-drafts.ensures.some c.if-all.true))
+pub returns-clause-crew : goal.returns-clause-crew
+returns-clause-crew g c = c.self.view_is
 
 pub invariant_of-self-2 : goal.invariant_of-self-2
 invariant_of-self-2 g c =
     let same = ap (λ (crew : CrewState). crew.horizon) c.self.view_is ∙ c.requires.horizon in
     (c.self.invariant.0, c.self.invariant.1, subst (λ h. All (IsRoom h) c.settle_all-open.new.rooms.items) (sym same) c.settle_all-open.ensures.rooms)
 
-pub returns-clause-crew : goal.returns-clause-crew
-returns-clause-crew g c = c.self.view_is
+pub returns-clause-planned : goal.returns-clause-planned
+returns-clause-planned g c =
+    let p = c.settle_all-open.ensures.planned in
+    let some = c.in_ok-drafts.ensures.some in (
+      p.0,
+      p.1,
+      where_ok c.wave_end.result _ _ c.wave_end.ensures.planned (λ whole.
+          let each = when_true c.settle_all-open.result _ p.2 whole.1 in
+          omega (arith, each, some whole.0)),
+    )
+
+pub returns-clause-shut : goal.returns-clause-shut
+returns-clause-shut g c =
+    where_err c.wave_end.result _ _ c.wave_end.ensures.shut (λ fault shut is.
+    shut_to_one (WasShut g.G.Gate.worker_shut c.args.plant) c.in_ok-drafts.drafts.works.items c.settle_all-open.result c.in_ok-drafts.ensures.shut
+    c.settle_all-open.ensures.let_in (shut is))
