@@ -14,6 +14,13 @@ AllPairs-front {X} R xs ys all i j d less within =
     subst (λ (x : X). R x (get_or xs j d)) (get_or_append_left xs ys d i (omega (arith, less, within)))
     (subst (R (get_or (xs ++ ys) i d)) (get_or_append_left xs ys d j within) (all i j d less (omega (arith, within, length-append xs ys))))
 
+-- of no element, and of one more
+pub All-where_none : {X : Type 0} (P : X → Type 0) (xs : List X) → xs ≡ [] → All P xs
+All-where_none P xs none = subst (All P) (sym none) (All-nil P)
+
+pub All-pushed : {X : Type 0} (P : X → Type 0) (xs more : List X) (x : X) → more ≡ xs ++ x ∷ [] → All P xs → P x → All P more
+All-pushed P xs more x pushed all its = subst (All P) (sym pushed) (All-push P xs x all its)
+
 -- of a first element, and of the others
 pub AllPairs-head : {X : Type 0} (R : X → X → Type 0) (x : X) (xs : List X) → AllPairs R (x ∷ xs) → All (R x) xs
 AllPairs-head R x xs all k d within = all 0 (suc k) d (omega arith) (omega (arith, within))

@@ -1,12 +1,13 @@
 use Rattle.std.proofs.Common.{[], ◌∷◌, ◌++◌, ◌<◌, List, length, take, get_or, refl, ap, sym, ◌∙◌, subst, arith, All, length-append}
 use Rattle.std.proofs.lemmas.List.{length-take-le}
-use Rattle.std.proofs.lemmas.List.Elements.{All-nil, All-take, All-get_or}
+use Rattle.std.proofs.lemmas.List.Elements.{All-take, All-get_or}
 use Rattle.std.proofs.lemmas.Result.{err_from_is_err_and}
 use Rattle.mrp_rows.specs.declared.numbers.PairNo.{PairNo}
 use Rattle.mrp_agent.specs.Drafts.{CanDraft}
 use Rattle.mrp_agent.specs.State.{AgentState}
 use Rattle.mrp_crew.specs.Rooms.{IsRoom}
 use Rattle.mrp_crew.proofs.Drafting.{drafts_settle, wave_can, wave_once}
+use Rattle.mrp_crew.proofs.Fronts.{All-where_none}
 use Rattle.mrp_crew.proofs.Ready.{all_can_draft}
 use Rattle.mrp_crew.proofs.crew.draft_ready.Goals as goal
 
@@ -96,7 +97,7 @@ returns-in_err-threads-clause-shut g c =
 pub returns-clause-rooms : goal.returns-clause-rooms
 returns-clause-rooms g c =
     let h = c.args.agent.now.view.horizon in
-    subst (All (IsRoom h)) (sym (ap (λ z. z.items) c.replace-rooms.ensures.after ∙ c.new.ensures.items)) (All-nil (IsRoom h))
+    All-where_none (IsRoom h) c.replace-rooms.new.dest.items (ap (λ z. z.items) c.replace-rooms.ensures.after ∙ c.new.ensures.items)
 
 pub returns-clause-drafts : goal.returns-clause-drafts
 returns-clause-drafts g c =

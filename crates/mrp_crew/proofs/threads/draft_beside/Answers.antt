@@ -1,5 +1,5 @@
-use Rattle.std.proofs.Common.{◌≡◌, [], ◌∷◌, ◌++◌, length, List, Some, reverse, ap, sym, ◌∙◌, subst, arith, All, length-append}
-use Rattle.std.proofs.lemmas.List.Elements.{All-nil, All-pop, All-push}
+use Rattle.std.proofs.Common.{◌≡◌, [], ◌∷◌, ◌++◌, length, List, Some, reverse, ap, ◌∙◌, arith, All, length-append}
+use Rattle.std.proofs.lemmas.List.Elements.{All-pop}
 use Rattle.mrp_rows.specs.declared.numbers.PairNo.{PairNo}
 use Rattle.mrp_agent.specs.State.{AgentState}
 use Rattle.mrp_crew.specs.declared.work.Work.{Work}
@@ -7,6 +7,7 @@ use Rattle.mrp_crew.specs.Rooms.{IsRoom, WorkedFor, pairs_of}
 use Rattle.mrp_crew.specs.Shut.{AreLetIn, IsLetIn, WasShut}
 use Rattle.mrp_crew.specs.Started.{ordered}
 use Rattle.mrp_crew.proofs.Keeping.{when_true}
+use Rattle.mrp_crew.proofs.Fronts.{All-pushed, All-where_none}
 use Rattle.mrp_crew.proofs.Joining.{only_pair, refused_drafts, whole_drafts}
 use Rattle.mrp_crew.proofs.threads.draft_beside.Goals as goal
 
@@ -16,7 +17,7 @@ returns-then-not-all-clause-drafts g c =
     let workers = c.start_all-all.new.workers.items in
     let started = c.start_all-all.ensures.started in
     let room : IsRoom A.view.horizon c.take_last-room.result = (All-pop (IsRoom A.view.horizon) c.args.rooms.items c.take_last-room.new.self.items (Some c.take_last-room.result) c.take_last-room.ensures.items c.requires.wave.rooms).1 in
-    let nothing : All (WorkedFor A) c.args.works.items = subst (All (WorkedFor A)) (sym c.requires.wave.works.0) (All-nil (WorkedFor A)) in
+    let nothing : All (WorkedFor A) c.args.works.items = All-where_none (WorkedFor A) c.args.works.items c.requires.wave.works.0 in
     refused_drafts A c.args.others.now c.args.own workers started.0 (record { works = c.join_all.new.works; all = c.start_all-all.result; rooms = c.put_back.new.rooms })
     c.if-not-all.true started.1 (c.join_all.ensures.pairs ∙ ap (λ (z : List Work). ordered workers ++ pairs_of (reverse z)) c.requires.wave.works.0)
     (c.join_all.ensures.worked A c.start_all-all.ensures.agent nothing) (c.put_back.ensures A.view.horizon c.start_all-all.ensures.rooms room)
@@ -32,8 +33,8 @@ returns-clause-drafts g c =
     let workers = c.start_all-all.new.workers.items in
     let started = c.start_all-all.ensures.started in
     let w : Work = c.draft_pair-drafted.result in
-    let nothing : All (WorkedFor A) c.args.works.items = subst (All (WorkedFor A)) (sym c.requires.wave.works.0) (All-nil (WorkedFor A)) in
-    let one : All (WorkedFor A) c.push_reserved.new.self.items = subst (All (WorkedFor A)) (sym c.push_reserved.ensures.items) (All-push (WorkedFor A) c.args.works.items w nothing c.draft_pair-drafted.ensures.worked) in
+    let nothing : All (WorkedFor A) c.args.works.items = All-where_none (WorkedFor A) c.args.works.items c.requires.wave.works.0 in
+    let one : All (WorkedFor A) c.push_reserved.new.self.items = All-pushed (WorkedFor A) c.args.works.items c.push_reserved.new.self.items w c.push_reserved.ensures.items nothing c.draft_pair-drafted.ensures.worked in
     whole_drafts A c.args.others.now c.args.own workers started.0 (record { works = c.join_all-2.new.works; all = c.start_all-all.result; rooms = c.start_all-all.new.rooms })
     (when_true c.start_all-all.result (started.0 ≡ []) started.2 c.if-not-all.false) started.1
     (c.join_all-2.ensures.pairs
@@ -43,14 +44,14 @@ returns-clause-drafts g c =
 pub returns-then-not-all-clause-shut : goal.returns-then-not-all-clause-shut
 returns-then-not-all-clause-shut g c =
     let Shut : Type 0 = WasShut g.G.Gate.worker_shut c.args.plant in
-    c.join_all.ensures.shut c.args.plant c.start_all-all.ensures.plant (subst (AreLetIn Shut) (sym c.requires.wave.works.0) (All-nil (IsLetIn Shut)))
+    c.join_all.ensures.shut c.args.plant c.start_all-all.ensures.plant (All-where_none (IsLetIn Shut) c.args.works.items c.requires.wave.works.0)
 
 pub returns-clause-shut : goal.returns-clause-shut
 returns-clause-shut g c =
     let Shut : Type 0 = WasShut g.G.Gate.worker_shut c.args.plant in
-    let nothing : AreLetIn Shut c.args.works.items = subst (AreLetIn Shut) (sym c.requires.wave.works.0) (All-nil (IsLetIn Shut)) in
+    let nothing : AreLetIn Shut c.args.works.items = All-where_none (IsLetIn Shut) c.args.works.items c.requires.wave.works.0 in
     c.join_all-2.ensures.shut c.args.plant c.start_all-all.ensures.plant
-    (subst (AreLetIn Shut) (sym c.push_reserved.ensures.items) (All-push (IsLetIn Shut) c.args.works.items c.draft_pair-drafted.result nothing c.draft_pair-drafted.ensures.shut))
+    (All-pushed (IsLetIn Shut) c.args.works.items c.push_reserved.new.self.items c.draft_pair-drafted.result c.push_reserved.ensures.items nothing c.draft_pair-drafted.ensures.shut)
 
 pub take_last-room-requires : goal.take_last-room-requires
 take_last-room-requires g c = omega (arith, c.requires.wave.enough, c.args.rooms.ok.0)

@@ -1,10 +1,11 @@
-use Rattle.std.proofs.Common.{[], ◌∷◌, ◌++◌, length, drop, List, Some, refl, ap, sym, ◌∙◌, subst, arith, All, length-append}
+use Rattle.std.proofs.Common.{[], ◌∷◌, ◌++◌, length, drop, List, Some, refl, ap, sym, ◌∙◌, arith, length-append}
 use Rattle.std.proofs.lemmas.List.{take-append-drop}
-use Rattle.std.proofs.lemmas.List.Elements.{All-nil, All-push, All-pop, All-get_or}
+use Rattle.std.proofs.lemmas.List.Elements.{All-pop, All-get_or}
 use Rattle.mrp_rows.specs.declared.numbers.PairNo.{PairNo}
 use Rattle.mrp_agent.specs.Drafts.{CanDraft}
 use Rattle.mrp_crew.specs.Rooms.{IsRoom}
 use Rattle.mrp_crew.specs.Started.{IsAt, IsFor, ordered}
+use Rattle.mrp_crew.proofs.Fronts.{All-pushed, All-where_none}
 use Rattle.mrp_crew.proofs.Joining.{started_all, started_next}
 use Rattle.mrp_crew.proofs.threads.start_all.Goals as goal
 
@@ -28,8 +29,8 @@ loop-pair-preserved g c =
       enough = omega (arith, before.enough, ap length popped, fewer);
       places = omega (arith, before.places, c.push_reserved.ensures.capacity);
       rooms = (All-pop (IsRoom c.args.agent.now.view.horizon) c.loop-pair.rooms.items c.take_last-room.new.self.items (Some room) popped before.rooms).0;
-      told = subst (All (IsFor c.args.agent.now)) (sym pushed) (All-push (IsFor c.args.agent.now) c.loop-pair.workers.items h before.told c.in-Some.ensures.agent);
-      at = subst (All (IsAt c.args.plant)) (sym pushed) (All-push (IsAt c.args.plant) c.loop-pair.workers.items h before.at c.in-Some.ensures.plant_is);
+      told = All-pushed (IsFor c.args.agent.now) c.loop-pair.workers.items c.push_reserved.new.self.items h pushed before.told c.in-Some.ensures.agent;
+      at = All-pushed (IsAt c.args.plant) c.loop-pair.workers.items c.push_reserved.new.self.items h pushed before.at c.in-Some.ensures.plant_is;
     }
 
 pub loop-pair-init : goal.loop-pair-init
@@ -41,8 +42,8 @@ loop-pair-init g c =
       enough = omega (arith, c.requires.enough);
       places = c.requires.workers.1;
       rooms = c.requires.rooms;
-      told = subst (All (IsFor c.args.agent.now)) (sym none) (All-nil (IsFor c.args.agent.now));
-      at = subst (All (IsAt c.args.plant)) (sym none) (All-nil (IsAt c.args.plant));
+      told = All-where_none (IsFor c.args.agent.now) c.args.workers.now.items none;
+      at = All-where_none (IsAt c.args.plant) c.args.workers.now.items none;
     }
 
 pub offset_bounds-pairs-pair-index : goal.offset_bounds-pairs-pair-index
