@@ -172,8 +172,7 @@ fn draft_ready<R: Threads + Wait + Sync, G: Gate>(
     Ok(draft_wave(rt, agent, plant, gate, others, own, rooms, threads, works))
 }
 
-/// How a wave ended: all its pairs are planned, or one of its threads could not be started or the gate was
-/// shut.
+/// How a wave ended: all its pairs are planned, or a thread could not be started, or the gate was shut.
 fn wave_end(all: bool, let_in: bool) -> Result<(), CrewFault>
     ensures planned { OnOk result ((all ≡ true) × (let_in ≡ true)) }
     ensures shut { IfErr result (λ fault. fault ≡ CrewFault.GateShut → let_in ≡ false) }
