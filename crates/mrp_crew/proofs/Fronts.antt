@@ -1,5 +1,5 @@
 -- The first of some pairs, and results in the order in which they are settled.
-use Rattle.std.proofs.Common.{◌≡◌, ℕ, suc, ◌+◌, ◌<◌, List, [], ◌∷◌, ◌++◌, length, map, reverse, take, drop, get_or, refl, sym, ap, ◌∙◌, subst, arith, All, append_assoc, length-append}
+use Rattle.std.proofs.Common.{◌≡◌, ℕ, suc, List, [], ◌∷◌, ◌++◌, map, reverse, take, drop, get_or, sym, subst, arith, All, length-append}
 use Rattle.std.specs.List.{AllPairs}
 use Rattle.std.proofs.lemmas.List.{reverse-append, get_or_append_left, take-append-drop}
 use Rattle.std.proofs.lemmas.List.Elements.{All-nil, All-cons, All-head, All-tail, All-push}
@@ -13,6 +13,13 @@ pub AllPairs-front : {X : Type 0} (R : X → X → Type 0) (xs ys : List X) → 
 AllPairs-front {X} R xs ys all i j d less within =
     subst (λ (x : X). R x (get_or xs j d)) (get_or_append_left xs ys d i (omega (arith, less, within)))
     (subst (R (get_or (xs ++ ys) i d)) (get_or_append_left xs ys d j within) (all i j d less (omega (arith, within, length-append xs ys))))
+
+-- of no element, and of one more
+pub All-where_none : {X : Type 0} (P : X → Type 0) (xs : List X) → xs ≡ [] → All P xs
+All-where_none P xs none = subst (All P) (sym none) (All-nil P)
+
+pub All-pushed : {X : Type 0} (P : X → Type 0) (xs more : List X) (x : X) → more ≡ xs ++ x ∷ [] → All P xs → P x → All P more
+All-pushed P xs more x pushed all its = subst (All P) (sym pushed) (All-push P xs x all its)
 
 -- of a first element, and of the others
 pub AllPairs-head : {X : Type 0} (R : X → X → Type 0) (x : X) (xs : List X) → AllPairs R (x ∷ xs) → All (R x) xs

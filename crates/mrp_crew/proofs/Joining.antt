@@ -1,8 +1,8 @@
 -- What threads were started for, and what they bring back.
-use Rattle.std.proofs.Common.{◌≡◌, ℕ, suc, ◌+◌, ◌<◌, Bool, true, false, List, [], ◌∷◌, ◌++◌, length, map, reverse, take, get_or, refl, sym, ap, ◌∙◌, subst, All, add-one}
+use Rattle.std.proofs.Common.{◌≡◌, ℕ, ◌+◌, ◌<◌, ◌≤◌, false, List, [], ◌∷◌, ◌++◌, length, reverse, take, get_or, sym, ap, ◌∙◌, All, add-one}
 use Rattle.std.proofs.Math.Seq.{take-suc}
 use Rattle.std.proofs.lemmas.Bool.{false≢true}
-use Rattle.std.proofs.lemmas.List.{append_assoc, append-nil, length-map, length-reverse, map-append}
+use Rattle.std.proofs.lemmas.List.{append_assoc, append-nil, length-map, length-reverse, map-append, take_all}
 use Rattle.std.specs.declared.thread.PromisedHandle.{PromisedHandle}
 use Rattle.mrp_rows.specs.declared.numbers.PairNo.{PairNo}
 use Rattle.mrp_agent.specs.State.{AgentState}
@@ -25,6 +25,10 @@ pub started_next : {G : Type 0} (pairs : List PairNo) (i : ℕ) (d : PairNo) (wo
 started_next pairs i d workers more h within so_far pushed its =
     ap (λ (n : ℕ). take n pairs) (add-one i) ∙ take-suc pairs i d within ∙ ap (λ (z : List PairNo). z ++ get_or pairs i d ∷ []) so_far
     ∙ ap (λ (x : PairNo). ordered workers ++ x ∷ []) (sym its) ∙ sym (ordered-push workers more h pushed)
+
+-- no pair is left to start one for
+pub started_all : {G : Type 0} (pairs : List PairNo) (i : ℕ) (workers : List (Worker G)) → length pairs ≤ i → take i pairs ≡ ordered workers → pairs ≡ ordered workers ++ []
+started_all pairs i workers none so_far = sym (take_all i pairs none) ∙ so_far ∙ sym (append-nil (ordered workers))
 
 -- one is joined
 pub joined_pairs : {G : Type 0} (workers rest : List (Worker G)) (h : Worker G) (works more : List Work) (w : Work) (pairs : List PairNo) → workers ≡ rest ++ h ∷ [] → more ≡ works ++ w ∷ []

@@ -1,14 +1,13 @@
 -- The agent keeps the results of a wave one by one, and those that are left still fit it.
 use Rattle.std.specs.Option.{is_some}
-use Rattle.std.proofs.Common.{◌≡◌, ◌≢◌, ℕ, ◌+◌, Bool, true, false, Option, None, Some, slice_get, List, [], ◌∷◌, ◌++◌, length, get_or, reverse, refl, sym, ap, ◌∙◌, subst, arith, All, Contains}
+use Rattle.std.specs.Result.{IfErr, OnOk}
+use Rattle.std.proofs.Common.{◌≡◌, ◌≢◌, ℕ, ◌<◌, Bool, true, false, Option, None, Some, Result, Ok, Err, slice_get, List, [], ◌∷◌, ◌++◌, length, get_or, reverse, refl, sym, ap, ◌∙◌, subst, arith, All, Contains}
 use Rattle.std.specs.Bool.{OnTrue}
-use Rattle.std.specs.List.{AllPairs}
 use Rattle.std.proofs.lemmas.Bool.{false≢true}
 use Rattle.std.proofs.lemmas.List.Elements.{All-head, All-tail}
 use Rattle.mrp_rows.specs.declared.numbers.PairNo.{PairNo}
-use Rattle.mrp_lot.specs.One.{PlanRows}
 use Rattle.mrp_view.specs.View.{PlantRows}
-use Rattle.mrp_agent.specs.Drafts.{drafted, ready_numbers}
+use Rattle.mrp_agent.specs.Drafts.{ready_numbers}
 use Rattle.mrp_agent.specs.State.{AgentState}
 use Rattle.mrp_crew.specs.declared.work.Work.{Work}
 use Rattle.mrp_crew.specs.Rooms.{IsRoom, WorkedFor}
@@ -57,9 +56,27 @@ pub on_true : (b : Bool) (P : Type 0) → P → OnTrue b ((b ≡ true) × P)
 on_true true P p = (refl, p)
 on_true false P p = tt
 
+pub where_true : (b : Bool) (P : Type 0) → (b ≡ true → P) → OnTrue b P
+where_true true P says = says refl
+where_true false P says = tt
+
+pub where_ok : {T E : Type 0} (r : Result T E) (P Q : Type 0) → OnOk r P → (P → Q) → OnOk r Q
+where_ok (Ok x) P Q says then_ = then_ says
+where_ok (Err e) P Q says then_ = tt
+
+pub where_err : {T E : Type 0} (r : Result T E) (P Q : E → Type 0) → IfErr r P → ((e : E) → P e → Q e) → IfErr r Q
+where_err (Ok x) P Q says then_ = tt
+where_err (Err e) P Q says then_ = then_ e says
+
 -- ---- where no pair is ready
 
 pub none_ready : (numbers : List PairNo) (o : Option PairNo) → o ≡ slice_get numbers 0 → is_some o ≡ false → numbers ≡ []
 none_ready [] o at is = refl
 none_ready (x ∷ xs) None at is = absurd (cc at)
 none_ready (x ∷ xs) (Some y) at is = absurd (false≢true (sym is))
+
+-- and where one is
+pub some_ready : (numbers : List PairNo) (o : Option PairNo) → o ≡ slice_get numbers 0 → is_some o ≡ true → 0 < length numbers
+some_ready [] None at is = absurd (false≢true is)
+some_ready [] (Some y) at is = absurd (cc at)
+some_ready (x ∷ xs) o at is = omega arith

@@ -1,5 +1,5 @@
 -- Planning none, one pair, or some pairs and then others.
-use Rattle.std.proofs.Common.{◌≡◌, ℕ, ◌+◌, ◌==◌, if◌then◌else◌, Bool, true, false, List, [], ◌∷◌, ◌++◌, length, refl, sym, ap, ◌∙◌, subst, arith, All, length-append}
+use Rattle.std.proofs.Common.{◌≡◌, ℕ, ◌+◌, ◌==◌, if◌then◌else◌, Bool, true, false, List, [], ◌∷◌, ◌++◌, refl, sym, ◌∙◌, subst, arith, length-append}
 use Rattle.std.proofs.lemmas.Bool.{false≢true}
 use Rattle.std.proofs.lemmas.List.Elements.{All-nil, All-cons, All-append, All-weaker}
 use Rattle.mrp_rows.specs.declared.numbers.PairNo.{PairNo}
@@ -9,7 +9,7 @@ use Rattle.mrp_ready.specs.Progress.{left_of}
 use Rattle.mrp_agent.specs.Shows.{Shows}
 use Rattle.mrp_agent.specs.State.{AgentState}
 use Rattle.mrp_crew.specs.Laws.{PlanningKeepsAtWork}
-use Rattle.mrp_crew.specs.Planning.{IsPlannable, PlansAll, AreUnplanned, all_planned}
+use Rattle.mrp_crew.specs.Planning.{IsPlannable, PlansAll, all_planned}
 
 pub planning_keeps_at_work : PlanningKeepsAtWork
 planning_keeps_at_work N plant A B sent taken planned xs at plans = record {

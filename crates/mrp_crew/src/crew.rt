@@ -1,6 +1,11 @@
 //! The workers of a plant, and the rooms that they draft in.
 
-ghost use Rattle.std.specs.Prelude.{◌≡◌, ◌+◌, ◌≤◌, true, false, min};
+ghost use Rattle.std.specs.Prelude.{◌≡◌, ◌+◌, ◌<◌, ◌≤◌, true, false, min, length, reverse, All, IfErr, IfOk, OnOk};
+ghost use Rattle.mrp_agent.specs.Drafts.{ready_numbers};
+ghost use Rattle.mrp_crew.specs.Planning.{IsPlannable};
+ghost use Rattle.mrp_crew.specs.Rooms.{IsRoom};
+ghost use Rattle.mrp_crew.specs.Settled.{AreToSettle};
+ghost use Rattle.mrp_crew.specs.Shut.{AreLetIn, WasShut};
 ghost use Rattle.mrp_crew.specs.declared.crew.TheConstants.{MOST_WORKERS};
 ghost use Rattle.mrp_crew.specs.declared.fault.CrewFault.{CrewFault};
 
@@ -128,22 +133,54 @@ impl Crew {
         ensures shut { IfErr result (λ fault. fault ≡ CrewFault.GateShut → WasShut G.worker_shut plant) }
     {
         refill(alloc, &mut self.rooms, self.horizon, self.workers)?;
-        let pairs = agent.ready_pairs();
-        let others = others_of(pairs.len(), self.workers);
-        let works = Vec::with_capacity(alloc, others + 1)?;
-        let workers = Vec::with_capacity(alloc, others)?;
-        let rooms = mem::replace(&mut self.rooms, Vec::new(alloc));
-        let own = pairs[others];
-        let others = &pairs[..others];
-        let drafts = draft_wave(rt, agent, plant, gate, others, own, rooms, workers, works);
+        let drafts = draft_ready(rt, alloc, agent, plant, gate, self.workers, &mut self.rooms)?;
         let Drafts { works, all, rooms } = drafts;
         self.rooms = rooms;
         let open = settle_all(agent, works, &mut self.rooms);
-        if all && open {
-            return Ok(());
-        }
-        Err(wave_fault(all))
+        wave_end(all, open)
     }
+}
+
+/// Drafts the plans of the first ready pairs, of as many as there are workers; for each there is a room.
+fn draft_ready<R: Threads + Wait + Sync, G: Gate>(
+    rt: &R,
+    alloc: Global,
+    agent: &Agent,
+    plant: usize,
+    gate: &G,
+    workers: u64,
+    rooms: &mut Vec<Room>,
+) -> Result<Drafts, Memory>
+    requires plannable { IsPlannable agent.now }
+    requires ready { 0 < length (ready_numbers agent.now) }
+    requires workers { (1 ≤ workers) × (workers ≤ MOST_WORKERS) }
+    requires rooms { All (IsRoom agent.now.view.horizon) rooms.old.items }
+    requires enough { workers ≤ length rooms.old.items }
+    ensures rooms { All (IsRoom agent.now.view.horizon) rooms.new.items }
+    ensures drafts { IfOk result (λ drafts. AreToSettle agent.now (reverse drafts.works.items)) }
+    ensures some { IfOk result (λ drafts. drafts.all ≡ true → 0 < length drafts.works.items) }
+    ensures free { IfOk result (λ drafts. All (IsRoom agent.now.view.horizon) drafts.rooms.items) }
+    ensures shut { IfOk result (λ drafts. AreLetIn (WasShut G.worker_shut plant) drafts.works.items) }
+{
+    let pairs = agent.ready_pairs();
+    let others = others_of(pairs.len(), workers);
+    let works = Vec::with_capacity(alloc, others + 1)?;
+    let threads = Vec::with_capacity(alloc, others)?;
+    let rooms = mem::replace(rooms, Vec::new(alloc));
+    let own = pairs[others];
+    let others = &pairs[..others];
+    Ok(draft_wave(rt, agent, plant, gate, others, own, rooms, threads, works))
+}
+
+/// How a wave ended: all its pairs are planned, or a thread could not be started, or the gate was shut.
+fn wave_end(all: bool, let_in: bool) -> Result<(), CrewFault>
+    ensures planned { OnOk result ((all ≡ true) × (let_in ≡ true)) }
+    ensures shut { IfErr result (λ fault. fault ≡ CrewFault.GateShut → let_in ≡ false) }
+{
+    if all && let_in {
+        return Ok(());
+    }
+    Err(wave_fault(all))
 }
 
 /// Why a wave ended early: one of its threads could not be started, or all could and the gate was shut.

@@ -52,5 +52,5 @@ pub(crate) fn refill(
 pub(crate) fn put_back(rooms: &mut Vec<Room>, room: Room)
     ensures { (horizon : ℕ) → All (IsRoom horizon) rooms.old.items → IsRoom horizon room → All (IsRoom horizon) rooms.new.items }
 {
-    let _ = rooms.push(room);
+    rooms.push(room).ok();
 }

@@ -71,9 +71,7 @@ fn draft_beside<'s, E, R: Threads, G: Gate>(
     ensures drafts { AreDrafts agent.now (others.now ++ own ∷ []) result }
     ensures shut { AreLetIn (WasShut G.worker_shut plant) result.works.items }
 {
-    let Some(room) = rooms.pop() else {
-        unreachable!()
-    };
+    let room = rooms.take_last();
     let all = start_all(scope, agent, plant, gate, others, &mut rooms, &mut workers);
     if !all {
         put_back(&mut rooms, room);
@@ -82,9 +80,7 @@ fn draft_beside<'s, E, R: Threads, G: Gate>(
     }
     let number = others.len() as u64 + 1;
     let drafted = draft_pair(agent, plant, gate, number, own, room);
-    let Ok(()) = works.push(drafted) else {
-        unreachable!()
-    };
+    works.push_reserved(drafted);
     join_all(rt, workers, &mut works);
     Drafts { works, all, rooms }
 }
@@ -111,16 +107,12 @@ fn start_all<'s, E, G: Gate>(
     ensures plant { All (IsAt plant) workers.new.items }
 {
     for pair in pairs {
-        let Some(room) = rooms.pop() else {
-            unreachable!()
-        };
+        let room = rooms.take_last();
         let number = workers.len() as u64 + 1;
         let Some(worker) = start(scope, agent, plant, gate, number, *pair, room) else {
             return false;
         };
-        let Ok(()) = workers.push(worker) else {
-            unreachable!()
-        };
+        workers.push_reserved(worker);
     }
     true
 }
@@ -157,10 +149,7 @@ fn start<'s, E, G: Gate>(
             ensures shut { IsLetIn (WasShut G.worker_shut plant) result }
         { draft_pair(agent, plant, gate, number, pair, room) },
     );
-    match started {
-        Ok(worker) => Some(worker),
-        Err(_) => None,
-    }
+    started.ok()
 }
 
 /// Joins the threads, the last first, and puts their results behind those before them.
@@ -172,8 +161,6 @@ fn join_all<R: Threads, G: Gate>(rt: &R, mut workers: Vec<Worker<G>>, works: &mu
         → AreLetIn (WasShut G.worker_shut plant) works.new.items }
 {
     while let Some(worker) = workers.pop() {
-        let Ok(()) = works.push(worker.join(rt)) else {
-            unreachable!()
-        };
+        works.push_reserved(worker.join(rt));
     }
 }

@@ -1,12 +1,11 @@
-use Rattle.std.proofs.Common.{◌≡◌, true, Some, [], ◌∷◌, ◌++◌, length, reverse, List, ap, subst, arith, length-append}
+use Rattle.std.proofs.Common.{◌≡◌, true, Some, [], ◌∷◌, ◌++◌, length, reverse, List, refl, ap, subst, arith, length-append}
 use Rattle.std.proofs.lemmas.List.Elements.{All-pop}
-use Rattle.mrp_rows.specs.declared.numbers.PairNo.{PairNo}
 use Rattle.mrp_view.specs.View.{PlantRows}
 use Rattle.mrp_agent.specs.State.{AgentState}
 use Rattle.mrp_crew.specs.declared.work.Work.{Work}
 use Rattle.mrp_crew.specs.Rooms.{IsRoom}
-use Rattle.mrp_crew.proofs.Keeping.{first_ready, first_worked, popped_first, still_to_settle, when_true}
-use Rattle.mrp_crew.proofs.PlanningLaws.{plannable_after, plans_append}
+use Rattle.mrp_crew.proofs.Keeping.{first_ready, first_worked, popped_first, still_to_settle, when_true, where_true}
+use Rattle.mrp_crew.proofs.PlanningLaws.{plannable_after, plans_append, plans_none}
 use Rattle.mrp_crew.proofs.settling.settle_all.Goals as goal
 
 pub settle-kept-requires-clause-ready : goal.settle-kept-requires-clause-ready
@@ -50,3 +49,29 @@ loop-work-preserved c =
 
 pub returns-clause-let_in : goal.returns-clause-let_in
 returns-clause-let_in c = λ each. (c.loop-work.invariant.let_in each).0
+
+pub loop-work-init : goal.loop-work-init
+loop-work-init c = record {
+  planned = ([], plans_none c.args.agent.now, λ all. omega arith);
+  plannable = c.requires.plannable;
+  drafts = c.requires.drafts;
+  let_in = λ each. (refl, each);
+  rooms = c.requires.rooms;
+}
+
+pub settle-kept-requires-clause-plannable : goal.settle-kept-requires-clause-plannable
+settle-kept-requires-clause-plannable c = c.loop-work.invariant.plannable
+
+pub loop-work-smaller : goal.loop-work-smaller
+loop-work-smaller c = omega (arith, ap length c.in-Some.ensures.items, length-append c.pop.new.self.items (c.in-Some.work ∷ []))
+
+pub returns-clause-rooms : goal.returns-clause-rooms
+returns-clause-rooms c = c.loop-work.invariant.rooms
+
+pub returns-clause-planned : goal.returns-clause-planned
+returns-clause-planned c =
+    let so_far = c.loop-work.invariant.planned in (
+      so_far.0,
+      so_far.1,
+      where_true c.loop-work.all _ (λ all. omega (arith, so_far.2 all, c.in_default.ensures.cases.0, c.loop-work.works.ok.0)),
+    )

@@ -1,8 +1,10 @@
-use Rattle.std.proofs.Common.{◌++◌, ◌∙◌, sym, arith}
+use Rattle.std.proofs.Common.{[], ◌++◌, refl, ap, ◌∙◌, sym, arith}
 use Rattle.std.proofs.lemmas.Result.{err_from_is_err_and}
 use Rattle.mrp_agent.specs.Drafts.{ready_numbers}
-use Rattle.mrp_crew.proofs.Keeping.{none_ready}
-use Rattle.mrp_crew.proofs.PlanningLaws.{plannable_after, plans_append}
+use Rattle.mrp_view.specs.View.{PlantRows}
+use Rattle.mrp_crew.specs.State.{CrewState}
+use Rattle.mrp_crew.proofs.Keeping.{none_ready, some_ready}
+use Rattle.mrp_crew.proofs.PlanningLaws.{plannable_after, plans_append, plans_none}
 use Rattle.mrp_crew.proofs.crew.Crew.plan_ready.Goals as goal
 
 pub loop-alloc-preserved : goal.loop-alloc-preserved
@@ -37,3 +39,32 @@ pub returns-in_err-plan_wave-clause-shut : goal.returns-in_err-plan_wave-clause-
 returns-in_err-plan_wave-clause-shut g c =
     let p = err_from_is_err_and c.from_residual.result c.from_residual.ensures.1 in
     rw (p.1, p.2) c.in_err-plan_wave.ensures.shut
+
+pub loop-alloc-init : goal.loop-alloc-init
+loop-alloc-init g c = record { crew = refl; planned = ([], plans_none c.args.agent.now); plannable = c.requires.plannable }
+
+pub plan_wave-requires-clause-plannable : goal.plan_wave-requires-clause-plannable
+plan_wave-requires-clause-plannable g c κs within = c.loop-alloc.invariant.plannable
+
+pub plan_wave-requires-clause-horizon : goal.plan_wave-requires-clause-horizon
+plan_wave-requires-clause-horizon g c κs within =
+    let before = c.loop-alloc.invariant in
+    ap (λ (crew : CrewState). crew.horizon) before.crew ∙ c.requires.horizon ∙ sym (ap (λ (V : PlantRows). V.horizon) before.planned.1.view)
+
+pub plan_wave-requires-clause-ready : goal.plan_wave-requires-clause-ready
+plan_wave-requires-clause-ready g c κs within =
+    some_ready (ready_numbers c.loop-alloc.agent) c.ready.result c.ready.ensures (sym c.is_some.ensures ∙ c.loop-alloc-test.true)
+
+pub loop-alloc-smaller : goal.loop-alloc-smaller
+loop-alloc-smaller g c =
+    let next = c.in_ok-plan_wave.ensures.planned in
+    omega (arith, next.1.left, next.2)
+
+pub returns-in_err-plan_wave-clause-crew : goal.returns-in_err-plan_wave-clause-crew
+returns-in_err-plan_wave-clause-crew g c = c.plan_wave.ensures.crew ∙ c.loop-alloc.invariant.crew
+
+pub overflow_sub-result : goal.overflow_sub-result
+overflow_sub-result g c = omega (arith, c.loop-alloc.invariant.planned.1.left, c.left-before.ensures, c.left.ensures)
+
+pub returns-clause-crew : goal.returns-clause-crew
+returns-clause-crew g c = c.loop-alloc.invariant.crew

@@ -1,0 +1,27 @@
+use Rattle.std.proofs.Common.{◌≡◌, Option, Result, Ok, Err, sym, ap, ◌∙◌, subst}
+use Rattle.std.specs.Option.{IfSome}
+use Rattle.std.specs.Result.{IfOk, result_ok}
+use Rattle.mrp_agent.specs.State.{AgentState}
+use Rattle.mrp_crew.specs.Rooms.{WorkedFor}
+use Rattle.mrp_crew.specs.Started.{IsStarted}
+use Rattle.mrp_crew.proofs.threads.start.Goals as goal
+
+-- what holds of the value of an `Ok` holds of what is kept of it
+kept : {T E : Type 0} (P Q : T → Type 0) (r : Result T E) (o : Option T) → o ≡ result_ok r → IfOk r P → ((x : T) → P x → Q x) → IfSome o Q
+kept P Q (Ok x) o is holds weaker = subst (λ z. IfSome z Q) (sym is) (weaker x holds)
+kept P Q (Err e) o is holds weaker = subst (λ z. IfSome z Q) (sym is) tt
+
+pub spawn_with-started-requires-clause-runs : goal.spawn_with-started-requires-clause-runs
+spawn_with-started-requires-clause-runs g c κs within = (c.requires.can, (c.requires.room, (c.requires.number, record { shared = c.type_bounds.sync-G.shared })))
+
+pub spawn_with-started-requires-clause-keeps : goal.spawn_with-started-requires-clause-keeps
+spawn_with-started-requires-clause-keeps g c κs within = λ r gives. record {
+  pair = gives.0;
+  worked = subst (λ (A : AgentState). WorkedFor A r) (sym c.of.ensures) gives.1.0;
+  shut = gives.1.1;
+}
+
+pub returns : goal.returns
+returns g c =
+    kept _ (IsStarted c.args.agent.now c.args.plant c.args.pair) c.spawn_with-started.result c.ok.result c.ok.ensures.value c.spawn_with-started.ensures.ok
+    (λ h is. record { agent = ap (λ p. p.agent.value) is ∙ c.of.ensures; plant_is = ap (λ p. p.plant) is; pair_is = ap (λ p. p.pair) is })
