@@ -149,7 +149,32 @@ impl Agent {
         ensures plans { result.items ≡ self.plans }
         ensures all { length self.plans ≡ length self.view.pairs }
     {
-        self.plans
+        let Agent {
+            view,
+            items,
+            edges,
+            components,
+            out_items,
+            books,
+            came,
+            called,
+            plans,
+            progress,
+            outs,
+            desk,
+        } = self;
+        drop(view);
+        drop(items);
+        drop(edges);
+        drop(components);
+        drop(out_items);
+        drop(books);
+        drop(came);
+        drop(called);
+        drop(progress);
+        drop(outs);
+        drop(desk);
+        plans
     }
 
     /// The cumulative figure received of an item over a lane, closed years added, in pieces; `None` where
