@@ -172,4 +172,13 @@ impl Amounts {
             desk,
         })
     }
+
+    /// The plans, without the rest.
+    pub(crate) fn into_plans(self) -> Vec<PairPlan>
+        ensures { result.items ≡ self.plans.items }
+    {
+        let Amounts { plans, desk, .. } = self;
+        drop(desk);
+        plans
+    }
 }

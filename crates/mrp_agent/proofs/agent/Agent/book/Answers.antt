@@ -60,7 +60,7 @@ index_mut-requires c =
     c.incoming_place-k.ensures ∙ ap (λ (z : List IncomingLane). position_or_len (λ (k : IncomingLane). k.number.0 == c.args.lane.0) z) c.incoming.ensures in
     let within : incoming_place (the_view c.self.inside).view c.args.lane.0 < length (the_view c.self.inside).view.incoming =
     subst (λ (a : AgentState). incoming_place a.view c.args.lane.0 < length a.view.incoming) (sym c.self.view_is) c.requires.incoming in
-    omega (arith, at, within, c.self.invariant.rooms.books, c.self.inside.books.ok.0)
+    omega (arith, at, within, c.self.invariant.rooms.books, c.self.inside.lanes.books.ok.0)
 
 pub bounds-incoming-k : goal.bounds-incoming-k
 bounds-incoming-k c =
@@ -84,7 +84,7 @@ pub add_entry-requires-clause-called : goal.add_entry-requires-clause-called
 add_entry-requires-clause-called c = c.self.invariant.rooms.called
 
 -- a book that refuses a record is as it was
-unchanged : (c : In_err-book) → record (the_view c.self.inside) { books = set c.self.inside.books.items c.incoming_place-k.result c.book.new.self } ≡ the_view c.self.inside
+unchanged : (c : In_err-book) → record (the_view c.self.inside) { books = set c.self.inside.lanes.books.items c.incoming_place-k.result c.book.new.self } ≡ the_view c.self.inside
 unchanged c =
     let A : AgentState = the_view c.self.inside in
     let j : ℕ = c.incoming_place-k.result in
