@@ -1,4 +1,4 @@
-use Rattle.std.proofs.Common.{◌≡◌, ◌∙◌, ℕ, List, length, map, ap, subst}
+use Rattle.std.proofs.Common.{◌∙◌, List, length, map, ap, subst}
 use Rattle.std.specs.List.{range_with_len}
 use Rattle.mrp_view.specs.declared.view.PlantPair.{PlantPair}
 use Rattle.mrp_ready.specs.declared.join.Join.{Join}

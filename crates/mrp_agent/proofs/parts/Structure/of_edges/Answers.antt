@@ -1,4 +1,4 @@
-use Rattle.std.proofs.Common.{◌≡◌, ◌≤◌, ◌∙◌, ℕ, List, length, map, ap, refl, subst, sym}
+use Rattle.std.proofs.Common.{◌≤◌, ◌∙◌, ℕ, List, length, map, ap, refl, subst, sym, arith}
 use Rattle.mrp_view.specs.declared.view.PlantPair.{PlantPair}
 use Rattle.mrp_view.specs.Seen.{pairs_of_item}
 use Rattle.mrp_group.specs.Groups.{IsGrouped}
@@ -30,3 +30,6 @@ returns-clause-components c = c.in_ok-components.ensures.components
 
 pub returns-clause-first : goal.returns-clause-first
 returns-clause-first c = c.in_ok-components.ensures.first
+
+pub group-requires-clause-few : goal.group-requires-clause-few
+group-requires-clause-few c = omega (arith, ap (λ (z : List PlantPair). length z) c.pairs-2.ensures, c.requires.seen.few_pairs)
