@@ -3,7 +3,7 @@ use Rattle.std.proofs.Common.{◌≡◌, ℕ, zero, suc, ◌+◌, ◌<◌, ◌�
 use Rattle.std.specs.List.{All, AllByRecursion, IsDistinct, count_by, flat_map, list_any}
 use Rattle.std.proofs.lemmas.List.Elements.{All-map}
 use Rattle.std.proofs.lemmas.Bool.{cases_eq, cases_lt, eq-eqb, ne_eqb, or_from}
-use Rattle.std.proofs.lemmas.List.{map-append, take_more, length-append}
+use Rattle.std.proofs.lemmas.List.{flat_map_more, map-append, take_more, length-append}
 use Rattle.std.proofs.lemmas.List.Sums.{sum_by-cons, get_or-le-sum_by}
 use Rattle.indexmap.specs.IndexSet.{insert_key}
 use Rattle.mrp_rows.specs.declared.numbers.ItemNo.{ItemNo}
@@ -87,6 +87,13 @@ map_more {X} {Y} f xs k d x y so_far next within is value e grown =
     ∙ ap (λ (z : List Y). z ++ y ∷ []) e
     ∙ ap (λ (z : Y). map f (take k xs) ++ z ∷ []) value
     ∙ sym (ap (map f) more ∙ map-append f (take k xs) (x ∷ []))
+
+-- a list of lists that grows by one of them
+pub flat_more : {X A : Type 0} (f : X → List A) (xs : List X) (k : ℕ) (d x : X) (so_far next : List A) → k < length xs → x ≡ get_or xs k d
+    → so_far ≡ flat_map f (take k xs) → next ≡ so_far ++ f x → next ≡ flat_map f (take (k + 1) xs)
+flat_more {X} {A} f xs k d x so_far next within is e grown =
+    let more : take (k + 1) xs ≡ take k xs ++ x ∷ [] = take_more xs k d within ∙ ap (λ (z : X). take k xs ++ z ∷ []) (sym is) in
+    grown ∙ ap (λ (z : List A). z ++ f x) e ∙ flat_map_more f [] (take k xs) x ∙ sym (ap (flat_map f) more)
 
 -- the same behind what was there
 pub map_more_after : {X Y : Type 0} (f : X → Y) (before : List Y) (xs : List X) (k : ℕ) (d x : X) (y : Y) (so_far next : List Y) → k < length xs → x ≡ get_or xs k d → y ≡ f x

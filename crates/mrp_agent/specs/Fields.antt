@@ -7,20 +7,20 @@ use Rattle.mrp_agent.specs.State.{AgentState}
 abbrev pub state_of : Inside → AgentState
 state_of a = record {
   view = a.view;
-  books = a.books.items;
-  came = a.came.items;
-  called = a.called.items;
-  plans = a.plans.items;
-  progress = a.progress;
-  outs = a.outs.items;
+  books = a.lanes.books.items;
+  came = a.amounts.came.items;
+  called = a.amounts.called.items;
+  plans = a.amounts.plans.items;
+  progress = a.structure.progress;
+  outs = a.lanes.outs.items;
 }
 
 abbrev pub indexes_of : Inside → Indexes
 indexes_of a = record {
-  items = a.items;
-  edges = a.edges.rows.items;
-  starts = a.edges.starts.items;
-  components = a.components;
-  out_items = a.out_items.items;
-  desk = length a.desk.gross;
+  items = a.structure.items;
+  edges = a.structure.edges.rows.items;
+  starts = a.structure.edges.starts.items;
+  components = a.structure.components;
+  out_items = a.lanes.out_items.items;
+  desk = length a.amounts.desk.gross;
 }

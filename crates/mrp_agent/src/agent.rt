@@ -5,17 +5,12 @@ ghost use Rattle.std.specs.List.{list_all};
 ghost use Rattle.mrp_agent.specs.Kept.{IsShowing};
 
 use crate::booking::incoming_place;
-use crate::desk::Desk;
-use crate::edges::ParentEdge;
 use crate::parts::{Amounts, Lanes, Structure};
-use crate::places::ItemPlaces;
 use mrp_book::Book;
 use mrp_cursor::OutCursor;
-use mrp_group::Groups;
 use mrp_net::{ItemNo, LaneNo, PairNo};
 use mrp_netting::PairPlan;
 use mrp_qty::{Memory, Qty};
-use mrp_ready::{Components, Readiness};
 use mrp_view::PlantView;
 use std::alloc::Global;
 use std::marker::Model;
@@ -27,17 +22,9 @@ use std::marker::Model;
 #[derive(Drop)]
 pub struct Agent {
     pub(crate) view: PlantView,
-    pub(crate) items: ItemPlaces,
-    pub(crate) edges: Groups<ParentEdge>,
-    pub(crate) components: Components,
-    pub(crate) out_items: Vec<ItemPlaces>,
-    pub(crate) books: Vec<Book>,
-    pub(crate) came: Vec<u64>,
-    pub(crate) called: Vec<u64>,
-    pub(crate) plans: Vec<PairPlan>,
-    pub(crate) progress: Readiness,
-    pub(crate) outs: Vec<OutCursor>,
-    pub(crate) desk: Desk,
+    pub(crate) structure: Structure,
+    pub(crate) lanes: Lanes,
+    pub(crate) amounts: Amounts,
 }
 
 impl Model for Agent {
@@ -85,17 +72,9 @@ impl Agent {
         let amounts = Amounts::new(alloc, &view)?;
         Ok(Agent {
             view,
-            items: structure.items,
-            edges: structure.edges,
-            components: structure.components,
-            out_items: lanes.out_items,
-            books: lanes.books,
-            came: amounts.came,
-            called: amounts.called,
-            plans: amounts.plans,
-            progress: structure.progress,
-            outs: lanes.outs,
-            desk: amounts.desk,
+            structure,
+            lanes,
+            amounts,
         })
     }
 
@@ -114,7 +93,7 @@ impl Agent {
         ensures exact { (sent taken : ℕ → List Record) (planned : ℕ → Bool) → Shows self.now sent taken planned
             → (p : PlantPair) → Contains self.now.view.pairs p → Contains result.now p.number ↔ CanBePlanned self.now.view taken planned p }
     {
-        self.progress.ready_pairs()
+        self.structure.progress.ready_pairs()
     }
 
     /// A pair that can be planned, where there is one.
@@ -128,7 +107,7 @@ impl Agent {
     pub fn left(&self) -> usize
         ensures { result ≡ left_of self.now.progress.planned }
     {
-        self.progress.left()
+        self.structure.progress.left()
     }
 
     /// The plan of a pair, once it is planned; `None` where it isn't, or is another plant's.
@@ -137,8 +116,8 @@ impl Agent {
         ensures there { IsSome result ↔ IsTrue (is_planned self.now.progress.planned (pair_place self.now.view x.0)) }
     {
         let place = self.view.place(x)?;
-        if self.progress.planned(place) {
-            Some(&self.plans[place])
+        if self.structure.progress.planned(place) {
+            Some(&self.amounts.plans[place])
         } else {
             None
         }
@@ -149,7 +128,16 @@ impl Agent {
         ensures plans { result.items ≡ self.plans }
         ensures all { length self.plans ≡ length self.view.pairs }
     {
-        self.plans
+        let Agent {
+            view,
+            structure,
+            lanes,
+            amounts,
+        } = self;
+        drop(view);
+        drop(structure);
+        drop(lanes);
+        amounts.into_plans()
     }
 
     /// The cumulative figure received of an item over a lane, closed years added, in pieces; `None` where
@@ -159,8 +147,8 @@ impl Agent {
             → result ≡ received self.now.view taken lane item }
     {
         let place = incoming_place(self.view.incoming(), lane);
-        if place < self.books.len() {
-            self.books[place].cumulative(item)
+        if place < self.lanes.books.len() {
+            self.lanes.books[place].cumulative(item)
         } else {
             None
         }
@@ -181,7 +169,7 @@ impl Agent {
     fn is_done(&self) -> bool
         ensures { result ≡ is_done self.now }
     {
-        self.left() == 0 && are_booked(&self.books) && are_sent(&self.outs)
+        self.left() == 0 && are_booked(&self.lanes.books) && are_sent(&self.lanes.outs)
     }
 }
 

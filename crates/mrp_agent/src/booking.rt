@@ -39,17 +39,17 @@ impl Agent {
         ensures unchanged { OnErr result (self.new ≡ self.old) }
     {
         let k = incoming_place(self.view.incoming(), lane);
-        self.books[k].book(entry)?;
+        self.lanes.books[k].book(entry)?;
         let kind = self.view.incoming()[k].kind;
         add_entry(
-            &mut self.came,
-            &mut self.called,
+            &mut self.amounts.came,
+            &mut self.amounts.called,
             &self.view,
-            &self.items,
+            &self.structure.items,
             kind,
             entry,
         );
-        end_block(&mut self.progress, &self.items, entry);
+        end_block(&mut self.structure.progress, &self.structure.items, entry);
         Ok(())
     }
 }

@@ -48,8 +48,14 @@ impl Agent {
         let Some(place) = self.view.place(x) else {
             unreachable!()
         };
-        let rows = pair_rows(&self.view, &self.edges, &self.came, &self.called, place);
-        draft_from(&rows, &self.plans, incoming, gross, into);
+        let rows = pair_rows(
+            &self.view,
+            &self.structure.edges,
+            &self.amounts.came,
+            &self.amounts.called,
+            place,
+        );
+        draft_from(&rows, &self.amounts.plans, incoming, gross, into);
     }
 }
 

@@ -1,7 +1,12 @@
 //! The parts that an agent is made of, each with the room for its whole life.
 
 ghost use Rattle.std.specs.Prelude.{◌≡◌, IfOk, length, map, replicate};
+ghost use Rattle.std.specs.List.{range_with_len};
+ghost use Rattle.mrp_ready.specs.Counts.{components_of};
 ghost use Rattle.mrp_view.specs.Seen.{IsView};
+ghost use Rattle.mrp_agent.specs.Kept.{parent_edge};
+ghost use Rattle.mrp_agent.specs.Making.{IsFirst};
+ghost use Rattle.mrp_agent.specs.Shows.{joins_of};
 
 use crate::desk::Desk;
 use crate::edges::{ByComponent, ParentEdge, joins, parent_edges};
@@ -12,7 +17,7 @@ use mrp_cursor::OutCursor;
 use mrp_group::{Groups, group};
 use mrp_netting::PairPlan;
 use mrp_qty::Memory;
-use mrp_ready::{Components, Readiness};
+use mrp_ready::{Components, Join, Readiness};
 use mrp_view::PlantView;
 use std::alloc::Global;
 
@@ -26,12 +31,7 @@ pub(crate) struct Structure {
 }
 
 impl Structure {
-    ghost use Rattle.std.specs.List.{range_with_len};
     ghost use Rattle.mrp_group.specs.Groups.{IsGrouped};
-    ghost use Rattle.mrp_ready.specs.Counts.{components_of};
-    ghost use Rattle.mrp_agent.specs.Kept.{parent_edge};
-    ghost use Rattle.mrp_agent.specs.Making.{IsFirst};
-    ghost use Rattle.mrp_agent.specs.Shows.{joins_of};
 
     /// The pairs of a plant where nothing is planned and nothing has come.
     pub(crate) fn new(alloc: Global, view: &PlantView) -> Result<Structure, Memory>
@@ -43,13 +43,28 @@ impl Structure {
             (λ s. s.components ≡ map (components_of (joins_of view.now)) (range_with_len 0 (length view.now.pairs))) }
         ensures first { IfOk result (λ s. IsFirst view.now s.progress) }
     {
-        let pairs = view.pairs().len();
-        let items = ItemPlaces::of_pairs(alloc, view.pairs())?;
         let parents = parent_edges(alloc, view, view.edges())?;
-        let edges = group(alloc, &ByComponent, &parents, pairs)?;
-        let joins = joins(alloc, &parents)?;
-        let components = Components::new(alloc, &joins, pairs)?;
-        let progress = first_progress(alloc, view, &joins)?;
+        Structure::of_edges(alloc, view, &parents)
+    }
+
+    /// The same, by the plant's edges.
+    fn of_edges(
+        alloc: Global,
+        view: &PlantView,
+        parents: &[ParentEdge],
+    ) -> Result<Structure, Memory>
+        requires seen { IsView view.now }
+        requires parents { parents.now ≡ map (parent_edge view.now) view.now.edges }
+        ensures items { IfOk result (λ s. s.items ≡ map (λ p. p.item) view.now.pairs) }
+        ensures edges { IfOk result (λ s. IsGrouped (λ e. e.component) (length view.now.pairs) (map (parent_edge view.now) view.now.edges)
+            s.edges.rows.items s.edges.starts.items) }
+        ensures components { IfOk result
+            (λ s. s.components ≡ map (components_of (joins_of view.now)) (range_with_len 0 (length view.now.pairs))) }
+        ensures first { IfOk result (λ s. IsFirst view.now s.progress) }
+    {
+        let items = ItemPlaces::of_pairs(alloc, view.pairs())?;
+        let edges = group(alloc, &ByComponent, parents, view.pairs().len())?;
+        let (components, progress) = first_waiting(alloc, view, parents)?;
         Ok(Structure {
             items,
             edges,
@@ -57,6 +72,39 @@ impl Structure {
             progress,
         })
     }
+}
+
+/// For each pair the components that wait for it, and what is planned at first, by the plant's edges.
+fn first_waiting(
+    alloc: Global,
+    view: &PlantView,
+    parents: &[ParentEdge],
+) -> Result<(Components, Readiness), Memory>
+    requires seen { IsView view.now }
+    requires parents { parents.now ≡ map (parent_edge view.now) view.now.edges }
+    ensures components { IfOk result
+        (λ w. w.0 ≡ map (components_of (joins_of view.now)) (range_with_len 0 (length view.now.pairs))) }
+    ensures first { IfOk result (λ w. IsFirst view.now w.1) }
+{
+    let joins = joins(alloc, parents)?;
+    waiting_by(alloc, view, &joins)
+}
+
+/// The same, by the joins of the edges.
+fn waiting_by(
+    alloc: Global,
+    view: &PlantView,
+    joins: &[Join],
+) -> Result<(Components, Readiness), Memory>
+    requires seen { IsView view.now }
+    requires joins { joins.now ≡ joins_of view.now }
+    ensures components { IfOk result
+        (λ w. w.0 ≡ map (components_of (joins_of view.now)) (range_with_len 0 (length view.now.pairs))) }
+    ensures first { IfOk result (λ w. IsFirst view.now w.1) }
+{
+    let components = Components::new(alloc, joins, view.pairs().len())?;
+    let progress = first_progress(alloc, view, joins)?;
+    Ok((components, progress))
 }
 
 /// The lanes of a plant: the book of each that comes in, and the items and the cursor of each that goes
@@ -123,5 +171,14 @@ impl Amounts {
             plans,
             desk,
         })
+    }
+
+    /// The plans, without the rest.
+    pub(crate) fn into_plans(self) -> Vec<PairPlan>
+        ensures { result.items ≡ self.plans.items }
+    {
+        let Amounts { plans, desk, .. } = self;
+        drop(desk);
+        plans
     }
 }

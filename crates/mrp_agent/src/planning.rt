@@ -38,8 +38,8 @@ impl Agent {
         let Some(place) = self.view.place(x) else {
             unreachable!()
         };
-        let _ready = self.progress.ready_pairs();
-        let can = self.progress.is_ready(place);
+        let _ready = self.structure.progress.ready_pairs();
+        let can = self.structure.progress.is_ready(place);
         if can {
             self.write_plan(x, place);
             self.mark_planned(place);
@@ -53,9 +53,15 @@ impl Agent {
         requires place { place ≡ pair_place self.old.view x.0 }
         ensures { self.new ≡ record self.old { plans = slice_set self.old.plans place (drafted self.old x) } }
     {
-        let rows = pair_rows(&self.view, &self.edges, &self.came, &self.called, place);
-        self.desk.draft(&rows, &self.plans);
-        self.desk.exchange(&mut self.plans[place]);
+        let rows = pair_rows(
+            &self.view,
+            &self.structure.edges,
+            &self.amounts.came,
+            &self.amounts.called,
+            place,
+        );
+        self.amounts.desk.draft(&rows, &self.amounts.plans);
+        self.amounts.desk.exchange(&mut self.amounts.plans[place]);
     }
 
     /// Counts the pair at a place as planned, and lets the schedule lanes that have its item send it.
@@ -64,8 +70,15 @@ impl Agent {
         requires free { IsFree self.old.progress.waits self.old.progress.planned place }
         ensures { IsMarked self.old place self.new }
     {
-        self.progress.settle(place, self.components.of(place));
+        self.structure
+            .progress
+            .settle(place, self.structure.components.of(place));
         let item = self.view.pairs()[place].item;
-        queue_item(&mut self.outs, self.view.outgoing(), &self.out_items, item);
+        queue_item(
+            &mut self.lanes.outs,
+            self.view.outgoing(),
+            &self.lanes.out_items,
+            item,
+        );
     }
 }

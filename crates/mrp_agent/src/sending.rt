@@ -38,7 +38,7 @@ impl Agent {
         ensures none { IfNone result (NoneCanBeSent self.now (outgoing_place self.now.view lane.0)) }
     {
         let k = outgoing_place(self.view.outgoing(), lane);
-        self.outs[k].next_record(self.left_at(k))
+        self.lanes.outs[k].next_record(self.left_at(k))
     }
 
     /// Goes on after the record that [`Agent::next_out`] gives was sent on the lane.
@@ -52,7 +52,7 @@ impl Agent {
     {
         let k = outgoing_place(self.view.outgoing(), lane);
         let left = self.left_at(k);
-        self.outs[k].step(left);
+        self.lanes.outs[k].step(left);
     }
 
     /// What is left of the item at the head of a lane's queue.
@@ -60,8 +60,8 @@ impl Agent {
         requires { k < length self.now.view.outgoing }
         ensures { result ≡ left_at self.now k }
     {
-        let place = self.outs[k].head()?;
-        let mark = self.outs[k].mark();
+        let place = self.lanes.outs[k].head()?;
+        let mark = self.lanes.outs[k].mark();
         Some(self.left_of(&self.view.outgoing()[k], place, mark))
     }
 
@@ -89,7 +89,12 @@ impl Agent {
             unreachable!()
         };
         let before = incoming_place(self.view.incoming(), LaneNo(lane.number.0 - 1));
-        left_to_call(&self.books[before], &self.plans[customer], &item, mark)
+        left_to_call(
+            &self.lanes.books[before],
+            &self.amounts.plans[customer],
+            &item,
+            mark,
+        )
     }
 }
 

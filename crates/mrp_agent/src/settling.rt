@@ -36,8 +36,8 @@ impl Agent {
         let Some(place) = self.view.place(x) else {
             unreachable!()
         };
-        let _ready = self.progress.ready_pairs();
-        self.plans[place].copy_from(plan);
+        let _ready = self.structure.progress.ready_pairs();
+        self.amounts.plans[place].copy_from(plan);
         self.mark_planned(place);
     }
 }

@@ -2,8 +2,9 @@ use Rattle.std.proofs.Common.{◌≡◌, ℕ, ◌+◌, ◌<◌, ◌≤◌, List,
 use Rattle.mrp_lot.specs.One.{IsWithin, PlanRows, one}
 use Rattle.mrp_qty.specs.declared.quantity.TheConstants.{MOST}
 use Rattle.mrp_agent.specs.declared.edges.ParentEdge.{ParentEdge}
-use Rattle.mrp_agent.specs.Asking.{asked_by, grossed}
+use Rattle.mrp_agent.specs.Asking.{asked_by, grossed, CanAsk}
 use Rattle.mrp_agent.proofs.Asked.{called_within, gross_within, grossed_is}
+use Rattle.std.specs.List.{All}
 use Rattle.mrp_agent.proofs.drafting.draft_from.Goals as goal
 
 -- the row was made what is called for, and then what the parents ask was added
@@ -36,3 +37,22 @@ returns-clause-plan c =
     c.plan_pair.ensures
     ∙ ap (λ (row : List ℕ). one c.args.rows.now.params row c.add_asked.new.gross) c.copy_pieces.ensures
     ∙ ap (λ (row : List ℕ). one c.args.rows.now.params c.args.rows.now.came.now row) gross
+
+pub copy_pieces-requires-clause-periods : goal.copy_pieces-requires-clause-periods
+copy_pieces-requires-clause-periods c = c.requires.incoming
+
+pub copy_pieces-requires-2-clause-periods : goal.copy_pieces-requires-2-clause-periods
+copy_pieces-requires-2-clause-periods c = c.requires.gross
+
+pub add_asked-requires-clause-edges : goal.add_asked-requires-clause-edges
+add_asked-requires-clause-edges c =
+    subst (λ (row : List ℕ). All (CanAsk c.args.plans.now (length row)) c.args.rows.now.edges.now) (sym c.copy_pieces-2.ensures) c.requires.draft.edges_are
+
+pub plan_pair-requires-clause-room : goal.plan_pair-requires-clause-room
+plan_pair-requires-clause-room c = c.requires.into ∙ sym (c.add_asked.ensures.size ∙ ap (λ (row : List ℕ). length row) c.copy_pieces-2.ensures)
+
+pub returns-clause-incoming : goal.returns-clause-incoming
+returns-clause-incoming c = ap (λ (row : List ℕ). length row) c.copy_pieces.ensures ∙ sym c.requires.incoming
+
+pub returns-clause-gross : goal.returns-clause-gross
+returns-clause-gross c = c.add_asked.ensures.size ∙ ap (λ (row : List ℕ). length row) c.copy_pieces-2.ensures ∙ sym c.requires.gross

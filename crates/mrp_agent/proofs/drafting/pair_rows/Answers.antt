@@ -1,9 +1,11 @@
-use Rattle.std.proofs.Common.{ℕ, ◌+◌, ◌<◌, ◌≤◌, List, length, map, slice_index}
+use Rattle.std.proofs.Common.{ℕ, ◌+◌, ◌<◌, ◌≤◌, List, length, map, slice_index, ◌∙◌, ap, subst, sym}
 use Rattle.mrp_group.specs.Groups.{IsGrouped}
 use Rattle.mrp_group.proofs.Sorting.{IsGrouped-within}
 use Rattle.mrp_view.specs.View.{PlantRows}
 use Rattle.mrp_agent.specs.declared.edges.ParentEdge.{ParentEdge}
 use Rattle.mrp_agent.specs.Kept.{parent_edge}
+use Rattle.mrp_view.specs.declared.view.PlantPair.{PlantPair}
+use Rattle.mrp_agent.specs.Rows.{part_at}
 use Rattle.mrp_agent.proofs.drafting.pair_rows.Goals as goal
 
 -- the edges of a pair end within all of them
@@ -17,3 +19,12 @@ get-requires-clause-rises c = (edges_rise c.args.view.now c.requires.edges c.req
 
 pub get-requires-clause-within : goal.get-requires-clause-within
 get-requires-clause-within c = (edges_rise c.args.view.now c.requires.edges c.requires.place).1
+
+pub bounds-pairs-place : goal.bounds-pairs-place
+bounds-pairs-place c = subst (λ (z : List PlantPair). c.args.place < length z) (sym c.pairs.ensures) c.requires.place
+
+pub returns-clause-came : goal.returns-clause-came
+returns-clause-came c = c.part_of.ensures ∙ ap (λ (h : ℕ). part_at h c.args.place c.args.came.now) (c.get-periods.ensures.value ∙ c.horizon.ensures)
+
+pub returns-clause-called : goal.returns-clause-called
+returns-clause-called c = c.part_of-2.ensures ∙ ap (λ (h : ℕ). part_at h c.args.place c.args.called.now) (c.get-periods.ensures.value ∙ c.horizon.ensures)

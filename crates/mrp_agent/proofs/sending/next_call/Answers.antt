@@ -1,4 +1,4 @@
-use Rattle.std.proofs.Common.{◌≡◌, ℕ, sym, ap, ◌∙◌, arith, []}
+use Rattle.std.proofs.Common.{◌≡◌, ℕ, sym, ap, ◌∙◌, arith, [], refl}
 use Rattle.mrp_view.specs.Loads.{load}
 use Rattle.mrp_local.specs.Goods.{share}
 use Rattle.mrp_agent.specs.Sending.{called_by}
@@ -12,3 +12,6 @@ loop-period-preserved c =
     ap (λ (q : ℕ). share (load c.args.item.now []) q) (sym c.get.ensures) ∙ sym c.share-quantity.ensures ∙ zero in
     c.loop-period.invariant
     ∙ call_later c.args.release.now c.args.item.now c.loop-period.period (omega (arith, c.loop-period-test.true, c.len-period-end.ensures.value)) none
+
+pub loop-period-init : goal.loop-period-init
+loop-period-init c = refl

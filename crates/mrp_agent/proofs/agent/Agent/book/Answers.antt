@@ -1,19 +1,21 @@
-use Rattle.std.proofs.Common.{◌≡◌, ◌<◌, ◌==◌, Some, List, [], ◌∷◌, ◌++◌, ℕ, length, sym, ap, ◌∙◌, subst}
+use Rattle.std.proofs.Common.{◌≡◌, ◌<◌, ◌==◌, Some, List, [], ◌∷◌, ◌++◌, ℕ, length, set, sym, ap, ◌∙◌, subst, arith}
 use Rattle.std.specs.List.{position_or_len}
 use Rattle.std.proofs.lemmas.Result.{err_from_is_err_and}
+use Rattle.std.proofs.lemmas.List.{set-get_or}
 use Rattle.mrp_view.specs.declared.view.IncomingLane.{IncomingLane}
 use Rattle.mrp_record.specs.declared.record.Record.{Record}
 use Rattle.mrp_record.specs.Form.{IsInForm}
 use Rattle.mrp_book.specs.declared.fault.BookFault.{BookFault}
 use Rattle.mrp_book.specs.Faults.{first_fault}
-use Rattle.mrp_book.specs.Figures.{figures}
+use Rattle.mrp_book.specs.Figures.{Figures, figures}
 use Rattle.mrp_agent.specs.Fields.{indexes_of}
+use Rattle.mrp_agent.specs.Kept.{IsKept}
 use Rattle.mrp_agent.specs.State.{AgentState, incoming_at, incoming_place}
 use Rattle.mrp_agent.specs.Shows.{form_of, BooksShow, Shows}
 use Rattle.mrp_agent.specs.contracts.agent.Agent.{the_view}
 use Rattle.mrp_agent.proofs.BookCalls.{HasAdded, IsOnLane, ends, kept_now, shows_now, refused_is}
 use Rattle.mrp_agent.proofs.agent.Agent.book.Goals as goal
-use Rattle.mrp_agent.proofs.agent.Agent.book.Goals.{After-end_block, After-index_mut}
+use Rattle.mrp_agent.proofs.agent.Agent.book.Goals.{After-end_block, After-index_mut, In_err-book}
 
 on_lane : (c : After-index_mut) → IsOnLane (the_view c.self.inside) (indexes_of c.self.inside) c.args.lane.0 c.incoming_place-k.result c.index_mut.result.now
 on_lane c = record {
@@ -51,3 +53,56 @@ returns-in_err-book-clause-refused c =
     × (IsInForm (form_of a.view (incoming_at a.view (incoming_place a.view l))) (taken l ++ c.args.entry.now ∷ []) → ⊥) in
     let on = on_lane (goal.at.returns-in_err-book-clause-refused c).After-index_mut in
     rw (p.1, p.2) (subst P c.self.view_is (refused_is on c.args.entry.now fault c.in_err-book.ensures.refused))
+
+pub index_mut-requires : goal.index_mut-requires
+index_mut-requires c =
+    let at : c.incoming_place-k.result ≡ incoming_place (the_view c.self.inside).view c.args.lane.0 =
+    c.incoming_place-k.ensures ∙ ap (λ (z : List IncomingLane). position_or_len (λ (k : IncomingLane). k.number.0 == c.args.lane.0) z) c.incoming.ensures in
+    let within : incoming_place (the_view c.self.inside).view c.args.lane.0 < length (the_view c.self.inside).view.incoming =
+    subst (λ (a : AgentState). incoming_place a.view c.args.lane.0 < length a.view.incoming) (sym c.self.view_is) c.requires.incoming in
+    omega (arith, at, within, c.self.invariant.rooms.books, c.self.inside.lanes.books.ok.0)
+
+pub bounds-incoming-k : goal.bounds-incoming-k
+bounds-incoming-k c =
+    let on = on_lane (goal.at.bounds-incoming-k c).After-index_mut in
+    subst (λ (z : List IncomingLane). c.incoming_place-k.result < length z) (sym c.incoming-2.ensures)
+    (subst (λ (n : ℕ). n < length (the_view c.self.inside).view.incoming) (sym on.at) on.within)
+
+pub bounds-incoming-k-in_ok-book : goal.bounds-incoming-k-in_ok-book
+bounds-incoming-k-in_ok-book c =
+    let on = on_lane (goal.at.bounds-incoming-k-in_ok-book c).After-index_mut in
+    subst (λ (z : List IncomingLane). c.incoming_place-k.result < length z) (sym c.incoming-2.ensures)
+    (subst (λ (n : ℕ). n < length (the_view c.self.inside).view.incoming) (sym on.at) on.within)
+
+pub add_entry-requires-clause-items : goal.add_entry-requires-clause-items
+add_entry-requires-clause-items c = c.self.invariant.indexes.items
+
+pub add_entry-requires-clause-came : goal.add_entry-requires-clause-came
+add_entry-requires-clause-came c = c.self.invariant.rooms.came
+
+pub add_entry-requires-clause-called : goal.add_entry-requires-clause-called
+add_entry-requires-clause-called c = c.self.invariant.rooms.called
+
+-- a book that refuses a record is as it was
+unchanged : (c : In_err-book) → record (the_view c.self.inside) { books = set c.self.inside.lanes.books.items c.incoming_place-k.result c.book.new.self } ≡ the_view c.self.inside
+unchanged c =
+    let A : AgentState = the_view c.self.inside in
+    let j : ℕ = c.incoming_place-k.result in
+    let same : set A.books j c.book.new.self ≡ A.books =
+    ap (λ (b : Figures). set A.books j b) (c.in_err-book.ensures.unchanged ∙ c.index_mut.ensures.value) ∙ set-get_or A.books j c.index_mut.result.now in
+    ap (λ (z : List Figures). record A { books = z }) same
+
+pub invariant_of-self : goal.invariant_of-self
+invariant_of-self c =
+    subst (λ (a : AgentState). IsKept a (indexes_of c.self.inside)) (sym (unchanged (goal.at.invariant_of-self c).In_err-book)) c.self.invariant
+
+pub returns-in_err-book-clause-view : goal.returns-in_err-book-clause-view
+returns-in_err-book-clause-view c = ap (λ (a : AgentState). a.view) c.self.view_is
+
+pub returns-clause-view : goal.returns-clause-view
+returns-clause-view c = ap (λ (a : AgentState). a.view) c.self.view_is
+
+pub returns-in_err-book-clause-unchanged : goal.returns-in_err-book-clause-unchanged
+returns-in_err-book-clause-unchanged c =
+    let p = err_from_is_err_and c.from_residual.result c.from_residual.ensures.1 in
+    rw p.1 (unchanged (goal.at.returns-in_err-book-clause-unchanged c).In_err-book ∙ c.self.view_is)

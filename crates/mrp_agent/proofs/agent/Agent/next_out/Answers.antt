@@ -34,3 +34,22 @@ returns-clause-none c =
     let at = (goal.at.returns-clause-none c).After-next_record in
     let P : AgentState → Type 0 = λ a. IfNone c.next_record.result (NoneCanBeSent a (outgoing_place a.view c.args.lane.0)) in
     subst P c.self.view_is (none_legal (the_view c.self.inside) c.self.invariant _ (lane_there at) c.next_record.result (next_there at))
+
+pub index-requires : goal.index-requires
+index-requires c =
+    let at : c.outgoing_place-k.result ≡ outgoing_place (the_view c.self.inside).view c.args.lane.0 =
+    c.outgoing_place-k.ensures ∙ ap (λ (z : List OutgoingLane). position_or_len (λ (l : OutgoingLane). l.number.0 == c.args.lane.0) z) c.outgoing.ensures in
+    let within : outgoing_place (the_view c.self.inside).view c.args.lane.0 < length (the_view c.self.inside).view.outgoing =
+    subst (λ (a : AgentState). outgoing_place a.view c.args.lane.0 < length a.view.outgoing) (sym c.self.view_is) c.requires.outgoing in
+    omega (arith, at, within, c.self.invariant.rooms.cursors.count, c.self.inside.lanes.outs.ok.0)
+
+pub left_at-requires : goal.left_at-requires
+left_at-requires c =
+    let seen = c.outgoing.ensures ∙ ap (λ (a : AgentState). a.view.outgoing) c.self.view_is in
+    let at : c.outgoing_place-k.result ≡ outgoing_place c.args.self.now.view c.args.lane.0 =
+    c.outgoing_place-k.ensures ∙ ap (λ (z : List OutgoingLane). position_or_len (λ (l : OutgoingLane). l.number.0 == c.args.lane.0) z) seen in
+    subst (λ (n : ℕ). n < length c.args.self.now.view.outgoing) (sym at) c.requires.outgoing
+
+pub returns-clause-exact : goal.returns-clause-exact
+returns-clause-exact c =
+    next_there (goal.at.returns-clause-exact c).After-next_record ∙ ap (λ (a : AgentState). next_out a (outgoing_place a.view c.args.lane.0)) c.self.view_is

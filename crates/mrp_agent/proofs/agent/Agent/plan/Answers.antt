@@ -27,7 +27,7 @@ planned c =
     let can = can_draft c.self.view_is here c.requires.own (c.is_ready-can.ensures.ready.0 c.if-can.true) c.requires.within in
     has_planned c.self.view_is here can c.ready_pairs-ready.ensures.listed c.write_plan.ensures c.mark_planned.ensures
 
-still_ready : (c : After-write_plan) → c.self.inside.progress ≡ c.write_plan.new.self.progress
+still_ready : (c : After-write_plan) → c.self.inside.structure.progress ≡ c.write_plan.new.self.progress
 still_ready c = ap (λ (a : AgentState). a.progress) c.self.view_is ∙ sym (ap (λ (a : AgentState). a.progress) c.write_plan.ensures)
 
 pub write_plan-requires-clause-place : goal.write_plan-requires-clause-place

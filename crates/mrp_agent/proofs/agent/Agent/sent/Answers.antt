@@ -9,6 +9,7 @@ use Rattle.mrp_agent.specs.contracts.agent.Agent.{the_view}
 use Rattle.mrp_cursor.specs.Cursor.{OutFigures}
 use Rattle.mrp_cursor.specs.Next.{stepped}
 use Rattle.mrp_agent.proofs.Calls.{stepped_outs, kept_outs, appended}
+use Rattle.mrp_agent.specs.After.{after_sent}
 use Rattle.mrp_agent.proofs.agent.Agent.sent.Goals as goal
 use Rattle.mrp_agent.proofs.agent.Agent.sent.Goals.{After-step}
 
@@ -40,3 +41,27 @@ returns-clause-appended c =
     let B : AgentState = record A { outs = set A.outs c.outgoing_place-k.result c.step.new.self } in
     let P : AgentState → Type 0 = λ a. (r : Record) → next_out a (outgoing_place a.view c.args.lane.0) ≡ Some r → IsAppended a B (outgoing_place a.view c.args.lane.0) r in
     subst P c.self.view_is (λ r given. appended A B c.self.invariant _ (lane_there at) (ap (λ (z : List OutFigures). record A { outs = z }) (stepped_there at)) r given)
+
+pub index_mut-requires : goal.index_mut-requires
+index_mut-requires c =
+    let at : c.outgoing_place-k.result ≡ outgoing_place (the_view c.self.inside).view c.args.lane.0 =
+    c.outgoing_place-k.ensures ∙ ap (λ (z : List OutgoingLane). position_or_len (λ (l : OutgoingLane). l.number.0 == c.args.lane.0) z) c.outgoing.ensures in
+    let within : outgoing_place (the_view c.self.inside).view c.args.lane.0 < length (the_view c.self.inside).view.outgoing =
+    subst (λ (a : AgentState). outgoing_place a.view c.args.lane.0 < length a.view.outgoing) (sym c.self.view_is) c.requires.outgoing in
+    omega (arith, at, within, c.self.invariant.rooms.cursors.count, c.self.inside.lanes.outs.ok.0)
+
+pub left_at-left-requires : goal.left_at-left-requires
+left_at-left-requires c =
+    let seen = c.outgoing.ensures ∙ ap (λ (a : AgentState). a.view.outgoing) c.self.view_is in
+    let at : c.outgoing_place-k.result ≡ outgoing_place c.args.self.now.view c.args.lane.0 =
+    c.outgoing_place-k.ensures ∙ ap (λ (z : List OutgoingLane). position_or_len (λ (l : OutgoingLane). l.number.0 == c.args.lane.0) z) seen in
+    subst (λ (n : ℕ). n < length c.args.self.now.view.outgoing) (sym at) c.requires.outgoing
+
+pub returns-clause-view : goal.returns-clause-view
+returns-clause-view c = ap (λ (a : AgentState). a.view) c.self.view_is
+
+pub returns-clause-exact : goal.returns-clause-exact
+returns-clause-exact c =
+    let A : AgentState = the_view c.self.inside in
+    ap (λ (z : List OutFigures). record A { outs = z }) (stepped_there (goal.at.returns-clause-exact c).After-step)
+    ∙ ap (λ (a : AgentState). after_sent a (outgoing_place a.view c.args.lane.0)) c.self.view_is

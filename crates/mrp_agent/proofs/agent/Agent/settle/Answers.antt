@@ -20,7 +20,7 @@ is_draft c = c.requires.draft ∙ ap (λ (a : AgentState). drafted a c.args.x) (
 
 pub index_mut-requires : goal.index_mut-requires
 index_mut-requires c =
-    omega (arith, place_within (placed (goal.at.index_mut-requires c).In-Some), c.self.invariant.rooms.plans.count, c.self.inside.plans.ok.0)
+    omega (arith, place_within (placed (goal.at.index_mut-requires c).In-Some), c.self.invariant.rooms.plans.count, c.self.inside.amounts.plans.ok.0)
 
 pub copy_from-requires : goal.copy_from-requires
 copy_from-requires c =

@@ -26,7 +26,7 @@ draft-requires-clause-periods c = c.self.invariant.indexes.desk ∙ sym (called_
 
 pub index_mut-requires : goal.index_mut-requires
 index_mut-requires c =
-    omega (arith, place_within (read (goal.at.index_mut-requires c).After-deref-3).placed, c.self.invariant.rooms.plans.count, c.self.inside.plans.ok.0)
+    omega (arith, place_within (read (goal.at.index_mut-requires c).After-deref-3).placed, c.self.invariant.rooms.plans.count, c.self.inside.amounts.plans.ok.0)
 
 pub exchange-requires : goal.exchange-requires
 exchange-requires c =

@@ -1,0 +1,26 @@
+use Rattle.std.proofs.Common.{◌∙◌, ℕ, List, length, replicate, ap, subst}
+use Rattle.mrp_view.specs.declared.view.PlantPair.{PlantPair}
+use Rattle.mrp_netting.specs.Plan.{nothing_planned}
+use Rattle.mrp_agent.specs.Making.{AreFit}
+use Rattle.mrp_agent.proofs.parts.Amounts.new.Goals as goal
+
+pub returns-clause-came : goal.returns-clause-came
+returns-clause-came c = c.in_ok-came.ensures.same ∙ c.receipts.ensures
+
+pub returns-clause-called : goal.returns-clause-called
+returns-clause-called c = c.in_ok-called.ensures.same ∙ c.demands.ensures
+
+pub returns-clause-plans : goal.returns-clause-plans
+returns-clause-plans c =
+    c.in_ok-plans.ensures
+    ∙ ap (λ (z : List PlantPair). replicate (length z) (nothing_planned c.horizon.result)) c.pairs.ensures
+    ∙ ap (λ (h : ℕ). replicate (length c.args.view.now.pairs) (nothing_planned h)) c.horizon.ensures
+
+pub returns-clause-desk : goal.returns-clause-desk
+returns-clause-desk c = c.in_ok-desk.ensures ∙ c.horizon-2.ensures
+
+pub returns-clause-receipts : goal.returns-clause-receipts
+returns-clause-receipts c = subst AreFit c.receipts.ensures c.in_ok-came.ensures.fits
+
+pub returns-clause-demands : goal.returns-clause-demands
+returns-clause-demands c = subst AreFit c.demands.ensures c.in_ok-called.ensures.fits
