@@ -5,7 +5,6 @@ use Rattle.std.proofs.lemmas.List.Elements.{All-map}
 use Rattle.std.proofs.lemmas.Bool.{cases_eq, cases_lt, eq-eqb, ne_eqb, or_from}
 use Rattle.std.proofs.lemmas.List.{flat_map_more, map-append, take_more, length-append}
 use Rattle.std.proofs.lemmas.List.Sums.{sum_by-cons, get_or-le-sum_by}
-use Rattle.indexmap.specs.IndexSet.{insert_key}
 use Rattle.mrp_rows.specs.declared.numbers.ItemNo.{ItemNo}
 use Rattle.mrp_rows.specs.contracts.numbers.ItemNoPartialEq.TheImpl.{eq-value}
 use Rattle.mrp_rows.proofs.Keys.{same_test}
@@ -42,20 +41,17 @@ none_before {X} key (x ∷ xs) (suc k) d few within =
     or_from (eqb (key x) n) (list_any (λ (x : X). eqb (key x) n) (take k xs)) first
     (none_before key xs k d (omega (arith, all, none (eqb (key x) n) first)) inside)
 
--- an item more
-pub item_added : {X : Type 0} (item : X → ItemNo) (xs : List X) (k : ℕ) (d x : X) (names : List ItemNo) → count_by (λ y. eqb (item y).0 (item x).0) xs ≤ 1 → k < length xs → x ≡ get_or xs k d
-    → names ≡ map item (take k xs) → insert_key eq-value.it names (item x) ≡ map item (take (k + 1) xs)
-item_added {X} item xs k d x names few within is so_far =
-    let more : take (k + 1) xs ≡ take k xs ++ x ∷ [] = take_more xs k d within ∙ ap (λ (z : X). take k xs ++ z ∷ []) (sym is) in
+-- an item more isn't among those before it
+pub item_is_new : {X : Type 0} (item : X → ItemNo) (xs : List X) (k : ℕ) (d x : X) (names : List ItemNo) → count_by (λ y. eqb (item y).0 (item x).0) xs ≤ 1 → k < length xs → x ≡ get_or xs k d
+    → names ≡ map item (take k xs) → list_any (eq-value.it (item x)) names ≡ false
+item_is_new {X} item xs k d x names few within is so_far =
     let n : ℕ = (item x).0 in
     let once : count_by (λ y. eqb (item y).0 (item (get_or xs k d)).0) xs ≤ 1 = subst (λ (z : X). count_by (λ (y : X). eqb (item y).0 (item z).0) xs ≤ 1) is few in
     let new : list_any (λ (y : X). eqb (item y).0 n) (take k xs) ≡ false =
     ap (λ (z : X). list_any (λ (y : X). eqb (item y).0 (item z).0) (take k xs)) is ∙ none_before (λ (y : X). (item y).0) xs k d once within in
     let test : list_any (eq-value.it (item x)) (map item (take k xs)) ≡ list_any (λ (y : X). eqb (item y).0 n) (take k xs) =
     list_any_keys item _ (λ (y : X). eqb (item y).0 n) (λ y. same_test n (item y).0) (take k xs) in
-    let fresh : list_any (eq-value.it (item x)) names ≡ false = ap (list_any (eq-value.it (item x))) so_far ∙ test ∙ new in
-    let added : insert_key eq-value.it names (item x) ≡ names ++ item x ∷ [] = rw fresh refl in
-    added ∙ ap (λ (z : List ItemNo). z ++ item x ∷ []) so_far ∙ sym (ap (map item) more ∙ map-append item (take k xs) (x ∷ []))
+    ap (list_any (eq-value.it (item x))) so_far ∙ test ∙ new
 
 -- items that each stand once
 none_same : (i : IncomingItem) (rest : List IncomingItem) → count_by (λ z. eqb z.item.0 i.item.0) rest ≡ 0 → AllByRecursion (λ y. is_same_book_item (book_item i) y ≡ false) (map book_item rest)

@@ -3,7 +3,7 @@
 ghost use Rattle.std.specs.Prelude.{◌≡◌, All, IfOk, map};
 ghost use Rattle.mrp_agent.specs.Kept.{HasItemsOnce};
 
-use indexmap::IndexSet;
+use mrp_group::Places;
 use mrp_rows::ItemNo;
 use mrp_view::{OutgoingItems, OutgoingLane, PlantPair};
 use std::alloc::{AllocError, Global};
@@ -12,7 +12,7 @@ use std::marker::Model;
 /// The places of items in a list that has each of them once. Contracts see the list.
 #[derive(Drop)]
 pub(crate) struct ItemPlaces {
-    items: IndexSet<ItemNo>,
+    items: Places<ItemNo>,
 }
 
 impl Model for ItemPlaces {
@@ -21,7 +21,7 @@ impl Model for ItemPlaces {
 
     ghost Value = { List ItemNo };
 
-    ghost view = { λ p. p.items.keys };
+    ghost view = { λ p. p.items };
 }
 
 impl ItemPlaces {
@@ -33,7 +33,7 @@ impl ItemPlaces {
         ensures place { result ≡ place_of self.now item }
         ensures within { IfSome result (λ place. place < length self.now) }
     {
-        self.items.get_index_of(&item)
+        self.items.find(item)
     }
 
     /// The items of a plant's pairs, which has each of them once.
@@ -41,9 +41,9 @@ impl ItemPlaces {
         requires { (item : ℕ) → count_by (λ p. p.item.0 == item) pairs.now ≤ 1 }
         ensures { IfOk result (λ places. places ≡ map (λ p. p.item) pairs.now) }
     {
-        let mut items = IndexSet::new(alloc);
+        let mut items = Places::new(alloc);
         for pair in pairs {
-            items.insert(pair.item)?;
+            items.push(pair.item)?;
         }
         Ok(ItemPlaces { items })
     }
@@ -53,9 +53,9 @@ impl ItemPlaces {
         requires { (item : ℕ) → count_by (λ i. i.item.0 == item) lane.now ≤ 1 }
         ensures { IfOk result (λ places. places ≡ map (λ i. i.item) lane.now) }
     {
-        let mut items = IndexSet::new(alloc);
+        let mut items = Places::new(alloc);
         for j in 0..lane.len() {
-            items.insert(lane.get(j).item)?;
+            items.push(lane.get(j).item)?;
         }
         Ok(ItemPlaces { items })
     }

@@ -4,7 +4,6 @@ use Rattle.std.specs.List.{All, AllByRecursion, IsDistinct, list_any}
 use Rattle.std.proofs.lemmas.Bool.{or_from}
 use Rattle.std.proofs.lemmas.List.{map-append, take_more}
 use Rattle.std.proofs.lemmas.List.Elements.{All-nil, All-cons, All-push, All-get_or, All-from_recursion}
-use Rattle.indexmap.specs.IndexSet.{insert_key}
 use Rattle.std.proofs.lemmas.List.{take_all}
 use Rattle.mrp_qty.specs.declared.quantity.TheConstants.{MOST}
 use Rattle.mrp_rows.specs.declared.numbers.ItemNo.{ItemNo}
@@ -64,20 +63,24 @@ pub record AreOpened (k : ℕ) (items : List BookItem) (names : List ItemNo) (fi
 pub opened_none : (items : List BookItem) (names : List ItemNo) (figures : List ItemFigure) → names ≡ [] → figures ≡ [] → AreOpened 0 items names figures
 opened_none items names figures n f = record { names_are = n; figures_are = f; small = All-nil (λ (i : BookItem). i.opening ≤ MOST) }
 
-pub opened_more : (k : ℕ) (items : List BookItem) (names names' : List ItemNo) (figures figures' : List ItemFigure) (x : BookItem) (g : ItemFigure) → AreOpened k items names figures
-    → IsDistinct is_same_book_item items → k < length items → x ≡ get_or items k x → names' ≡ insert_key eq-value.it names x.item → figures' ≡ figures ++ g ∷ [] → g ≡ opened x → g.figure ≤ MOST
-    → AreOpened (k + 1) items names' figures'
-opened_more k items names names' figures figures' x g h once l is n f o small =
-    let more : take (k + 1) items ≡ take k items ++ x ∷ [] = take_more items k x l ∙ ap (λ (z : BookItem). take k items ++ z ∷ []) (sym is) in
+-- an item more isn't among the names
+pub item_is_new : (k : ℕ) (items : List BookItem) (names : List ItemNo) (figures : List ItemFigure) (x : BookItem) → AreOpened k items names figures
+    → IsDistinct is_same_book_item items → k < length items → x ≡ get_or items k x → list_any (eq-value.it x.item) names ≡ false
+item_is_new k items names figures x h once l is =
     let new : list_any (λ (j : BookItem). j.item.0 == x.item.0) (take k items) ≡ false =
     ap (λ (z : BookItem). list_any (λ j. j.item.0 == z.item.0) (take k items)) is ∙ is_new items k x once l in
     let test : list_any (eq-value.it x.item) (map (λ (i : BookItem). i.item) (take k items)) ≡ list_any (λ (j : BookItem). j.item.0 == x.item.0) (take k items) =
     list_any_keys (λ (i : BookItem). i.item) _ (λ (j : BookItem). j.item.0 == x.item.0) (λ j. same_test x.item.0 j.item.0) (take k items) in
-    let fresh : list_any (eq-value.it x.item) names ≡ false = ap (list_any (eq-value.it x.item)) h.names_are ∙ test ∙ new in
-    let added : insert_key eq-value.it names x.item ≡ names ++ x.item ∷ [] = rw fresh refl in
+    ap (list_any (eq-value.it x.item)) h.names_are ∙ test ∙ new
+
+pub opened_more : (k : ℕ) (items : List BookItem) (names names' : List ItemNo) (figures figures' : List ItemFigure) (x : BookItem) (g : ItemFigure) → AreOpened k items names figures
+    → k < length items → x ≡ get_or items k x → names' ≡ names ++ x.item ∷ [] → figures' ≡ figures ++ g ∷ [] → g ≡ opened x → g.figure ≤ MOST
+    → AreOpened (k + 1) items names' figures'
+opened_more k items names names' figures figures' x g h l is n f o small =
+    let more : take (k + 1) items ≡ take k items ++ x ∷ [] = take_more items k x l ∙ ap (λ (z : BookItem). take k items ++ z ∷ []) (sym is) in
     let opening : x.opening ≤ MOST = omega (arith, small, ap (λ (z : ItemFigure). z.figure) o) in
     record {
-      names_are = n ∙ added ∙ ap (λ (z : List ItemNo). z ++ x.item ∷ []) h.names_are
+      names_are = n ∙ ap (λ (z : List ItemNo). z ++ x.item ∷ []) h.names_are
           ∙ sym (ap (map (λ (i : BookItem). i.item)) more ∙ map-append (λ (i : BookItem). i.item) (take k items) (x ∷ []));
       figures_are = f ∙ ap (λ (z : ItemFigure). figures ++ z ∷ []) o ∙ ap (λ (z : List ItemFigure). z ++ opened x ∷ []) h.figures_are
           ∙ sym (ap (map opened) more ∙ map-append opened (take k items) (x ∷ []));

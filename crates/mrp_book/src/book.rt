@@ -5,7 +5,7 @@ ghost use Rattle.std.specs.List.{list_all};
 ghost use Rattle.mrp_book.specs.Figures.{rises_on};
 
 use crate::{BookFault, BookItem, ItemFigure};
-use indexmap::IndexSet;
+use mrp_group::Places;
 use mrp_net::{ItemNo, LaneKind};
 use mrp_qty::{Horizon, MOST, Qty};
 use mrp_record::Record;
@@ -24,7 +24,7 @@ pub struct Book {
     next: u64,
     closed: bool,
     begun: Option<ItemNo>,
-    keys: IndexSet<ItemNo>,
+    places: Places<ItemNo>,
     items: Vec<ItemFigure>,
 }
 
@@ -44,7 +44,7 @@ impl Model for Book {
       items = b.items.items;
     } };
 
-    ghost invariant = { λ b. IsBook b.next b.keys.keys b.items.items };
+    ghost invariant = { λ b. IsBook b.next b.places b.items.items };
 }
 
 impl Book {
@@ -77,10 +77,10 @@ impl Book {
         requires once { IsDistinct is_same_book_item items.now }
         ensures shows { IfOk result (λ book. Shows (form_of kind horizon items.now) book []) }
     {
-        let mut keys = IndexSet::new(alloc);
+        let mut places = Places::new(alloc);
         let mut figures = Vec::new(alloc);
         for item in items {
-            keys.insert(item.item)?;
+            places.push(item.item)?;
             figures.push(ItemFigure::opened(item))?;
         }
         Ok(Book {
@@ -89,7 +89,7 @@ impl Book {
             next: 1,
             closed: false,
             begun: None,
-            keys,
+            places,
             items: figures,
         })
     }
@@ -214,7 +214,7 @@ impl Book {
         ensures place { result ≡ position (λ g. g.item.0 == item.0) self.now.items }
         ensures within { IfSome result (λ place. place < length self.now.items) }
     {
-        self.keys.get_index_of(&item)
+        self.places.find(item)
     }
 
     /// Whether the block of another item has begun and isn't ended.

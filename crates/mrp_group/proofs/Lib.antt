@@ -3,3 +3,4 @@ pub mod Sorting
 pub mod Placing
 pub mod Kept
 pub mod Adding
+pub mod Finding

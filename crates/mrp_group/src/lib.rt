@@ -5,8 +5,10 @@
 #![tactic(auto)]
 
 pub mod laws;
+mod places;
 mod sort;
 mod sums;
 
+pub use places::Places;
 pub use sort::{Groups, KeyOf, group, group_into, starts};
 pub use sums::{AmountOf, add_amounts, add_totals};

@@ -3,14 +3,15 @@ use Rattle.std.proofs.Common.{◌≡◌, ◌<◌, ℕ, get_or, ◌==◌, ◌&&�
 use Rattle.std.specs.List.{All, IsDistinct, position_or_len, list_any}
 use Rattle.std.specs.Str.{bytes_eq}
 use Rattle.std.specs.String.{string_bytes, string_eq, string_eq_equiv}
-use Rattle.std.proofs.lemmas.List.{length-map, map-append}
+use Rattle.std.proofs.lemmas.List.{length-map}
 use Rattle.std.proofs.lemmas.Bool.Decides.{nat_tests}
+use Rattle.std.proofs.lemmas.List.Folds.{list_any_at, list_any_none}
+use Rattle.std.proofs.lemmas.List.Quantifiers.{position-Some}
 use Rattle.std.proofs.lemmas.List.Sums.{fails_before_first, position_or_len_is}
 use Rattle.std.proofs.lemmas.Bool.{lt-ltb}
 use Rattle.std.proofs.lemmas.Slice.Eq.{bytes_eq-Decides}
 use Rattle.std.proofs.lemmas.Option.{get_or_from_slice_get}
 use Rattle.std.proofs.lemmas.Map.Keys.{apart_from_distinct}
-use Rattle.indexmap.specs.IndexSet.{insert_key}
 use Rattle.mrp_rows.specs.Growing.{add_item, key_of}
 use Rattle.mrp_rows.specs.contracts.row_lists.PairKeyPartialEq.TheImpl.{eq-value}
 use Rattle.mrp_rows.specs.declared.rows.PairRow.{PairRow}
@@ -27,18 +28,6 @@ position_or_len_keys f p q same (x ∷ xs) = rw (same x, position_or_len_keys f 
 -- a look-up among the keys of rows is one among the rows
 pub position_keys : {X K : Type 0} (f : X → K) (p : K → Bool) (q : X → Bool) → ((x : X) → p (f x) ≡ q x) → (xs : List X) → position p (map f xs) ≡ position q xs
 position_keys f p q same xs = rw (position_or_len_keys f p q same xs, length-map xs f)
-
--- the names after one that is new or not
-pub map-insert_key : (ks : List (String Global)) (k : String Global) (name : List ℕ) → string_bytes k ≡ name → map string_bytes (insert_key string_eq ks k) ≡ add_item (map string_bytes ks) name
-map-insert_key ks k name same =
-    let any : list_any (bytes_eq (string_bytes k)) (map string_bytes ks) ≡ list_any (string_eq k) ks =
-    list_any_keys string_bytes (bytes_eq (string_bytes k)) (string_eq k) (λ x. refl) ks in
-    subst (λ (n : List ℕ). map string_bytes (insert_key string_eq ks k) ≡ add_item (map string_bytes ks) n) same (by (list_any (string_eq k) ks) refl any)
-  where
-    by : (b : Bool) → list_any (string_eq k) ks ≡ b → list_any (bytes_eq (string_bytes k)) (map string_bytes ks) ≡ list_any (string_eq k) ks
-        → map string_bytes (insert_key string_eq ks k) ≡ add_item (map string_bytes ks) (string_bytes k)
-    by true e any = rw (any, e) refl
-    by false e any = rw (any, e) (map-append string_bytes ks (k ∷ []))
 
 pub same_test : (a b : ℕ) → (a == b) ≡ (b == a)
 same_test a b = grind (arith, nat_tests)
@@ -87,27 +76,8 @@ position_is p xs i d lt before here =
     let e : position_or_len p xs ≡ i = position_or_len_is p xs i d (omega arith) before (λ l. here) in
     rw (e, lt-ltb i (length xs) lt) refl
 
--- a key that is there stands at one place
-pub position_near : (keys : List (String Global)) (name : List ℕ) (near : ℕ) (k : String Global) → IsDistinct string_eq keys → near < length keys → k ≡ get_or keys near k → bytes_eq (string_bytes k) name ≡ true
-    → position (bytes_eq name) (map string_bytes keys) ≡ Some near
-position_near keys name near k distinct within at same =
-    let is : string_bytes k ≡ name = (bytes_eq-Decides (string_bytes k) name).0 same in
-    let there : get_or keys near k ≡ k = sym at in
-    let test : String Global → Bool = λ x. bytes_eq (string_bytes k) (string_bytes x) in
-    let before : (j : ℕ) → j < near → test (get_or keys j k) ≡ false =
-    λ j lt. string_eq_equiv.symm k (get_or keys j k) ∙ ap (string_eq (get_or keys j k)) (sym there) ∙ apart_from_distinct string_eq keys j near k distinct lt within in
-    let here : test (get_or keys near k) ≡ true = ap test there ∙ string_eq_equiv.refl k in
-    subst (λ (n : List ℕ). position (bytes_eq n) (map string_bytes keys) ≡ Some near) is
-    (position_keys string_bytes (bytes_eq (string_bytes k)) test (λ x. refl) keys ∙ position_is test keys near k within before here)
-
 pub swap : (a b c d : ℕ) → ((a == b) && (c == d)) ≡ ((b == a) && (d == c))
 swap a b c d = rw (same_test a b, same_test c d) refl
-
--- the names after one that is new
-pub map-insert_new : (ks : List (String Global)) (k : String Global) (name : List ℕ) → string_bytes k ≡ name → list_any (bytes_eq name) (map string_bytes ks) ≡ false
-    → map string_bytes (insert_key string_eq ks k) ≡ map string_bytes ks ++ name ∷ []
-map-insert_new ks k name same fresh =
-    map-insert_key ks k name same ∙ ap (λ b. if b then map string_bytes ks else map string_bytes ks ++ name ∷ []) fresh
 
 -- whether there is a row of a pair
 pub any_pair : (plant : PlantNo) (item : ItemNo) (keys : List PairKey) (pairs : List PairRow) → keys ≡ map key_of pairs
@@ -116,10 +86,19 @@ any_pair plant item keys pairs same =
     ap (list_any (eq-value.it (record { plant = plant; item = item }))) same
     ∙ list_any_keys key_of _ (λ p. (p.plant.0 == plant.0) && (p.item.0 == item.0)) (λ p. swap plant.0 p.plant.0 item.0 p.item.0) pairs
 
--- where a name stands that equals one that was looked for
-pub position_stored : (keys : List (String Global)) (name : List ℕ) (k : String Global) (near : ℕ) (kept : String Global) → IsDistinct string_eq keys → near < length keys
-    → slice_get keys near ≡ Some kept → string_eq k kept ≡ true → string_bytes k ≡ name → position (bytes_eq name) (map string_bytes keys) ≡ Some near
-position_stored keys name k near kept distinct within at same is =
-    let equal : bytes_eq (string_bytes kept) name ≡ true =
-    subst (λ (n : List ℕ). bytes_eq (string_bytes kept) n ≡ true) is (string_eq_equiv.symm kept k ∙ same) in
-    position_near keys name near kept distinct within (sym (get_or_from_slice_get keys near kept kept at)) equal
+-- whether a test passes, by the first place at which it does
+pub any-from_position : {X : Type 0} (p : X → Bool) (xs : List X) (i : ℕ) → position p xs ≡ Some i → list_any p xs ≡ true
+any-from_position p [] i e = absurd (cc)
+any-from_position p (y ∷ ys) i e =
+    let at = position-Some p (y ∷ ys) i y e in
+    list_any_at p (y ∷ ys) i y at.0 at.1
+
+pub any-from_no_position : {X : Type 0} (p : X → Bool) (xs : List X) → position p xs ≡ None → list_any p xs ≡ false
+any-from_no_position p xs e = list_any_none p xs (All-from_position p xs e)
+
+pub is_some-position : {X : Type 0} (p : X → Bool) (xs : List X) → is_some (position p xs) ≡ list_any p xs
+is_some-position p xs = by (position p xs) refl
+  where
+    by : (o : Option ℕ) → position p xs ≡ o → is_some (position p xs) ≡ list_any p xs
+    by None none = rw (none, any-from_no_position p xs none) refl
+    by (Some i) at = rw (at, any-from_position p xs i at) refl

@@ -1,3 +1,4 @@
 pub mod Grow
 pub mod Keys
 pub mod Lists
+pub mod Naming

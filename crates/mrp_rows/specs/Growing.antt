@@ -1,10 +1,7 @@
 -- The table with one row more.
-use Rattle.std.specs.Prelude.{ℕ, ◌∷◌, ◌++◌, [], List, length, map, if◌then◌else◌, Bool, not, nat_lt}
+use Rattle.std.specs.Prelude.{ℕ, ◌∷◌, ◌++◌, [], List, length, if◌then◌else◌, Bool, not, nat_lt}
 use Rattle.std.specs.List.{list_any}
 use Rattle.std.specs.Str.{bytes_eq}
-use Rattle.std.specs.declared.string.String.{String}
-use Rattle.std.specs.String.{string_bytes}
-use Rattle.std.specs.declared.alloc.Global.{Global}
 use Rattle.mrp_cal.specs.Calendar.{CalendarTerms}
 use Rattle.mrp_rows.specs.Table.{Table, source_pair}
 use Rattle.mrp_rows.specs.declared.rows.PairRow.{PairRow}
@@ -18,12 +15,12 @@ use Rattle.mrp_rows.specs.declared.rows.ResetRow.{ResetRow}
 use Rattle.mrp_rows.specs.declared.row_lists.PairKey.{PairKey}
 
 -- the table of these rows
-abbrev pub table_of : CalendarTerms → List (String Global) → List (String Global) → List PairRow → List SourceRow → List BillRow → List DemandRow
+abbrev pub table_of : CalendarTerms → List (List ℕ) → List (List ℕ) → List PairRow → List SourceRow → List BillRow → List DemandRow
     → List ReceiptRow → List ShipRow → List CumRow → List ResetRow → Table
 table_of calendar plants items pairs sources bills demands receipts ships cums resets = record {
   calendar = calendar;
-  plants = map string_bytes plants;
-  items = map string_bytes items;
+  plants = plants;
+  items = items;
   pairs = pairs;
   sources = sources;
   bills = bills;

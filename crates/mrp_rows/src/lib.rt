@@ -4,6 +4,7 @@
 #![tactic(auto)]
 
 mod laws;
+mod names;
 mod numbers;
 mod row_lists;
 mod rows;

@@ -1,15 +1,12 @@
 //! The lists of a table as they grow, row by row.
 
-ghost use Rattle.std.specs.Prelude.{◌≡◌, ◌<◌, length, map, position, slice_get, IfSome};
-ghost use Rattle.std.specs.Str.{bytes_eq};
-ghost use Rattle.std.specs.String.{string_bytes};
-
+use crate::names::Names;
 use crate::{
     BillRow, CumRow, DemandRow, ItemNo, PairNo, PairRow, PlantNo, ReceiptRow, ResetRow, ShipRow,
     SourceRow,
 };
-use indexmap::IndexSet;
 use mrp_cal::Calendar;
+use mrp_group::Places;
 use std::alloc::{AllocError, Global};
 use std::marker::Model;
 
@@ -25,9 +22,9 @@ pub(crate) struct PairKey {
 #[derive(Drop)]
 pub struct RowLists {
     calendar: Calendar,
-    plants: IndexSet<String>,
-    items: IndexSet<String>,
-    pair_keys: IndexSet<PairKey>,
+    plants: Names,
+    items: Names,
+    pair_places: Places<PairKey>,
     pairs: Vec<PairRow>,
     sources: Vec<SourceRow>,
     bills: Vec<BillRow>,
@@ -45,13 +42,13 @@ impl Model for RowLists {
 
     ghost Value = { Table };
 
-    ghost view = { λ r. table_of r.calendar r.plants.keys r.items.keys r.pairs.items r.sources.items r.bills.items r.demands.items
+    ghost view = { λ r. table_of r.calendar r.plants r.items r.pairs.items r.sources.items r.bills.items r.demands.items
         r.receipts.items r.ships.items r.cums.items r.resets.items };
 
     // the rows are in range, and the keys are those of the pairs in their order
-    ghost invariant = { λ r. IsRead (table_of r.calendar r.plants.keys r.items.keys r.pairs.items r.sources.items r.bills.items r.demands.items
+    ghost invariant = { λ r. IsRead (table_of r.calendar r.plants r.items r.pairs.items r.sources.items r.bills.items r.demands.items
         r.receipts.items r.ships.items r.cums.items r.resets.items)
-        × (r.pair_keys.keys ≡ map key_of r.pairs.items) };
+        × (r.pair_places ≡ map key_of r.pairs.items) };
 }
 
 impl RowLists {
@@ -59,6 +56,7 @@ impl RowLists {
     ghost use Rattle.mrp_rows.specs.declared.rows.TheConstants.{MOST_BILLS, MOST_OF_A_KIND, MOST_PAIRS, MOST_PLANTS, MOST_SOURCES};
     ghost use Rattle.std.specs.Prelude.{false, is_some, slice_get, unwrap_or, Some};
     ghost use Rattle.std.specs.List.{list_any};
+    ghost use Rattle.std.specs.Str.{bytes_eq};
     ghost use Rattle.mrp_rows.specs.Names.{has_plant, pair_named, plant_no};
     ghost use Rattle.mrp_rows.specs.Growing.{lacks_pair, with_plant, with_item, with_pair, with_source, with_bill};
     ghost use Rattle.mrp_rows.specs.Growing.{with_demand, with_receipt, with_ship, with_cum, with_reset};
@@ -72,9 +70,9 @@ impl RowLists {
     {
         RowLists {
             calendar,
-            plants: IndexSet::new(alloc),
-            items: IndexSet::new(alloc),
-            pair_keys: IndexSet::new(alloc),
+            plants: Names::new(alloc),
+            items: Names::new(alloc),
+            pair_places: Places::new(alloc),
             pairs: Vec::new(alloc),
             sources: Vec::new(alloc),
             bills: Vec::new(alloc),
@@ -94,8 +92,7 @@ impl RowLists {
         ensures rows { OnOk result (IsRead self.new) }
         ensures table { OnOk result (self.new ≡ with_plant self.old name.now) }
     {
-        self.plants.insert(String::from_str(alloc, name)?)?;
-        Ok(())
+        self.plants.push(alloc, name)
     }
 
     /// The item of that name, which is new where no pair row has named it.
@@ -107,8 +104,14 @@ impl RowLists {
         ensures place { IfOk result (λ item. item.0 ≡ unwrap_or (position (bytes_eq name.now) self.new.items) 0) }
         ensures within { IfOk result (λ item. item.0 < length self.new.items) }
     {
-        let (place, _) = self.items.insert_full(String::from_str(alloc, name)?)?;
-        Ok(ItemNo(place))
+        match self.items.find(name) {
+            Some(known) => Ok(ItemNo(known)),
+            None => {
+                let place = self.items.len();
+                self.items.push(alloc, name)?;
+                Ok(ItemNo(place))
+            }
+        }
     }
 
     /// Adds a pair, of which there is no row yet.
@@ -124,9 +127,7 @@ impl RowLists {
             item: row.item,
         };
         self.pairs.reserve(1)?;
-        if !self.pair_keys.insert(key)? {
-            unreachable!();
-        }
+        self.pair_places.push(key)?;
         let Ok(()) = self.pairs.push(row) else {
             unreachable!();
         };
@@ -214,7 +215,7 @@ impl RowLists {
     pub fn has_plant(&self, name: &str) -> bool
         ensures exact { result ≡ has_plant self.now name.now }
     {
-        self.plants.contains(name)
+        self.plants.find(name).is_some()
     }
 
     /// The pair of a plant and of the item of that name.
@@ -223,15 +224,15 @@ impl RowLists {
         ensures within { IfSome result (λ pair. pair.0 < length self.now.pairs) }
     {
         let plant = plant?;
-        let item = place_of(&self.items, item)?;
-        self.find_pair(plant, ItemNo(item))
+        let item = self.find_item(item)?;
+        self.find_pair(plant, item)
     }
 
     /// Whether there is a row of the pair of these names.
     pub fn has_pair(&self, plant: &str, item: &str) -> bool
         ensures exact { result ≡ is_some (pair_named self.now (plant_no self.now plant.now) item.now) }
     {
-        let plant = place_of(&self.plants, plant).map(PlantNo);
+        let plant = self.find_plant(plant);
         self.find_named_pair(plant, item).is_some()
     }
 
@@ -241,7 +242,7 @@ impl RowLists {
         ensures within { IfSome result (λ pair. pair.0 < length self.now.pairs) }
     {
         let key = PairKey { plant, item };
-        match self.pair_keys.get_index_of(&key) {
+        match self.pair_places.find(key) {
             Some(place) => Some(PairNo(place)),
             None => None,
         }
@@ -354,7 +355,7 @@ impl RowLists {
         requires known { plant.0 < length self.now.plants }
         ensures value { slice_get self.now.plants plant.0 ≡ Some result.now }
     {
-        name_at(&self.plants, plant.0)
+        self.plants.at(plant.0)
     }
 
     /// The name of an item.
@@ -362,7 +363,7 @@ impl RowLists {
         requires known { item.0 < length self.now.items }
         ensures value { slice_get self.now.items item.0 ≡ Some result.now }
     {
-        name_at(&self.items, item.0)
+        self.items.at(item.0)
     }
 
     /// The plant of that name, if there is one.
@@ -370,7 +371,7 @@ impl RowLists {
         ensures place { option_map (λ p. p.0) result ≡ plant_no self.now name.now }
         ensures within { IfSome result (λ p. p.0 < length self.now.plants) }
     {
-        place_of(&self.plants, name).map(PlantNo)
+        self.plants.find(name).map(PlantNo)
     }
 
     /// The plant of that name, which is looked for at the place `near` first.
@@ -378,7 +379,7 @@ impl RowLists {
         ensures place { option_map (λ p. p.0) result ≡ plant_no self.now name.now }
         ensures within { IfSome result (λ p. p.0 < length self.now.plants) }
     {
-        place_near(&self.plants, name, near).map(PlantNo)
+        self.plants.find_near(name, near).map(PlantNo)
     }
 
     /// The item of that name, if there is one.
@@ -386,33 +387,6 @@ impl RowLists {
         ensures place { option_map (λ i. i.0) result ≡ position (bytes_eq name.now) self.now.items }
         ensures within { IfSome result (λ i. i.0 < length self.now.items) }
     {
-        place_of(&self.items, name).map(ItemNo)
+        self.items.find(name).map(ItemNo)
     }
-}
-
-/// The place of a name.
-fn place_of(names: &IndexSet<String>, name: &str) -> Option<usize>
-    ensures place { result ≡ position (bytes_eq name.now) (map string_bytes names.now.keys) }
-    ensures within { IfSome result (λ place. place < length names.now.keys) }
-{
-    names.get_index_of(name)
-}
-
-/// The place of a name, which is looked for at `near` first.
-fn place_near(names: &IndexSet<String>, name: &str, near: usize) -> Option<usize>
-    ensures place { result ≡ position (bytes_eq name.now) (map string_bytes names.now.keys) }
-    ensures within { IfSome result (λ place. place < length names.now.keys) }
-{
-    match names.as_slice().get(near) {
-        Some(known) if known.as_str() == name => Some(near),
-        _ => place_of(names, name),
-    }
-}
-
-/// The name at a place.
-fn name_at(names: &IndexSet<String>, place: usize) -> &str
-    requires within { place < length names.now.keys }
-    ensures value { slice_get (map string_bytes names.now.keys) place ≡ Some result.now }
-{
-    names.as_slice()[place].as_str()
 }

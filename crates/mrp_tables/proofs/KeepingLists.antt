@@ -12,7 +12,7 @@ use Rattle.std.proofs.lemmas.List.Quantifiers.{position-Some}
 use Rattle.std.proofs.lemmas.Option.{slice_get-get_or}
 use Rattle.std.proofs.lemmas.Slice.Eq.{bytes_eq-Decides}
 use Rattle.mrp_spell.proofs.Lists.{distinct_push}
-use Rattle.mrp_rows.proofs.Keys.{All-from_position, position_is}
+use Rattle.mrp_rows.proofs.Keys.{All-from_position, any-from_no_position, any-from_position, position_is}
 
 -- ---- names
 
@@ -23,9 +23,6 @@ pub any_agree : {X : Type 0} (p q : X → Bool) → ((x : X) → p x ≡ q x) �
 any_agree p q same [] = refl
 any_agree p q same (x ∷ xs) = rw (same x, any_agree p q same xs)
 
-pub distinct_name : (xs : List (List ℕ)) (y : List ℕ) → IsDistinct bytes_eq xs → list_any (bytes_eq y) xs ≡ false → IsDistinct bytes_eq (xs ++ y ∷ [])
-distinct_name xs y d new = distinct_push bytes_eq xs y d (any_agree (λ x. bytes_eq x y) (bytes_eq y) (λ x. bytes_flip x y) xs ∙ new)
-
 -- ---- places
 
 pub position_there : {X : Type 0} (p : X → Bool) (xs : List X) (i : ℕ) → position p xs ≡ Some i → (x : X) × (i < length xs) × (slice_get xs i ≡ Some x) × (p x ≡ true)
@@ -33,15 +30,6 @@ position_there p [] i e = absurd (cc)
 position_there p (y ∷ ys) i e =
     let at = position-Some p (y ∷ ys) i y e in
     (get_or (y ∷ ys) i y, at.0, slice_get-get_or (y ∷ ys) i y at.0, at.1)
-
-pub any-from_position : {X : Type 0} (p : X → Bool) (xs : List X) (i : ℕ) → position p xs ≡ Some i → list_any p xs ≡ true
-any-from_position p [] i e = absurd (cc)
-any-from_position p (y ∷ ys) i e =
-    let at = position-Some p (y ∷ ys) i y e in
-    list_any_at p (y ∷ ys) i y at.0 at.1
-
-pub any-from_no_position : {X : Type 0} (p : X → Bool) (xs : List X) → position p xs ≡ None → list_any p xs ≡ false
-any-from_no_position p xs e = list_any_none p xs (All-from_position p xs e)
 
 -- where a test passes there is a first place
 pub position-from_any : {X : Type 0} (p : X → Bool) (xs : List X) → list_any p xs ≡ true → (i : ℕ) × (position p xs ≡ Some i)

@@ -16,7 +16,7 @@ returns-in_err-check_end c =
 pub invariant_of-self : goal.invariant_of-self
 invariant_of-self c =
     let t = item_in_turn _ c.args.self.now c.args.number c.args.item.0 c.in_ok-place.place c.index.result.now c.self.view_is c.in_ok-check_number.ensures c.in_ok-place.ensures c.index.ensures in
-    end_kept t c.self.inside.keys.keys c.index_mut.result.now c.add_end.new.self c.args.lines c.args.cumulative c.self.invariant c.index_mut.ensures.value c.add_end.ensures c.in_ok-check_end.ensures
+    end_kept t c.self.inside.places c.index_mut.result.now c.add_end.new.self c.args.lines c.args.cumulative c.self.invariant c.index_mut.ensures.value c.add_end.ensures c.in_ok-check_end.ensures
 
 pub returns : goal.returns
 returns c =

@@ -18,7 +18,7 @@ pub invariant_of-self : goal.invariant_of-self
 invariant_of-self c =
     let t = item_in_turn _ c.args.self.now c.args.number c.args.item.0 c.in_ok-place.place c.index.result.now c.self.view_is c.in_ok-check_number.ensures c.in_ok-place.ensures c.index.ensures in
     let checked = shown_line_tests t c.get.result c.args.period c.args.quantity c.args.cumulative None c.get.ensures.value c.in_ok-check_line.ensures in
-    line_kept t c.self.inside.keys.keys c.index_mut.result.now c.add_line.new.self c.args.period c.args.quantity c.args.cumulative c.self.invariant c.index_mut.ensures.value c.add_line.ensures checked
+    line_kept t c.self.inside.places c.index_mut.result.now c.add_line.new.self c.args.period c.args.quantity c.args.cumulative c.self.invariant c.index_mut.ensures.value c.add_line.ensures checked
 
 pub returns : goal.returns
 returns c =

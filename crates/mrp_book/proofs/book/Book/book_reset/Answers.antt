@@ -14,7 +14,7 @@ returns-in_err-check_reset c =
 pub invariant_of-self : goal.invariant_of-self
 invariant_of-self c =
     let t = item_in_turn _ c.args.self.now c.args.number c.args.item.0 c.in_ok-place.place c.index.result.now c.self.view_is c.in_ok-check_number.ensures c.in_ok-place.ensures c.index.ensures in
-    reset_kept t c.self.inside.keys.keys c.index_mut.result.now c.add_reset.new.self c.args.closed c.self.invariant c.index_mut.ensures.value c.add_reset.ensures c.in_ok-check_reset.ensures
+    reset_kept t c.self.inside.places c.index_mut.result.now c.add_reset.new.self c.args.closed c.self.invariant c.index_mut.ensures.value c.add_reset.ensures c.in_ok-check_reset.ensures
 
 pub returns : goal.returns
 returns c =

@@ -6,6 +6,6 @@ use Rattle.mrp_book.proofs.book.Book.find.Goals as goal
 
 pub returns-clause-place : goal.returns-clause-place
 returns-clause-place c =
-    c.get_index_of.ensures.index
-    ∙ place_of_item c.args.item c.self.inside.keys.keys c.self.inside.items.items c.self.invariant.names_are
+    c.find.ensures.place
+    ∙ place_of_item c.args.item c.self.inside.places c.self.inside.items.items c.self.invariant.names_are
     ∙ ap (λ (f : Figures). position (λ g. g.item.0 == c.args.item.0) f.items) c.self.view_is

@@ -5,10 +5,10 @@ use Rattle.mrp_rows.proofs.row_lists.RowLists.find_pair.Goals as goal
 
 pub returns-in-Some-clause-place : goal.returns-in-Some-clause-place
 returns-in-Some-clause-place c =
-    c.in-Some.ensures.index ∙ place_of_key _ _ _ _ c.self.invariant.1
+    c.in-Some.ensures.place ∙ place_of_key _ _ _ _ c.self.invariant.1
     ∙ ap (λ (N : Table). position (λ p. (p.plant.0 == c.args.plant.0) && (p.item.0 == c.args.item.0)) N.pairs) c.self.view_is
 
 pub returns-in-None-clause-place : goal.returns-in-None-clause-place
 returns-in-None-clause-place c =
-    c.in-None.ensures.index ∙ place_of_key _ _ _ _ c.self.invariant.1
+    c.in-None.ensures.place ∙ place_of_key _ _ _ _ c.self.invariant.1
     ∙ ap (λ (N : Table). position (λ p. (p.plant.0 == c.args.plant.0) && (p.item.0 == c.args.item.0)) N.pairs) c.self.view_is

@@ -1,29 +1,24 @@
-use Rattle.std.proofs.Common.{◌∙◌, ap, map, subst, sym, unwrap_or, Option, ℕ}
-use Rattle.std.specs.String.{string_bytes}
+use Rattle.std.proofs.Common.{◌∙◌, ap, sym}
 use Rattle.mrp_rows.specs.contracts.row_lists.RowLists.{the_view}
 use Rattle.mrp_rows.specs.Growing.{with_item}
-use Rattle.mrp_rows.specs.Table.{IsRead, Table}
-use Rattle.mrp_rows.proofs.Grow.{read-with_item}
-use Rattle.mrp_rows.proofs.Keys.{map-insert_key, position_stored}
+use Rattle.mrp_rows.specs.Table.{Table}
+use Rattle.mrp_rows.proofs.Naming.{item_added, item_known, item_place, item_unknown}
 use Rattle.mrp_rows.proofs.row_lists.RowLists.item_no.Goals as goal
 
-pub returns-clause-table : goal.returns-clause-table
-returns-clause-table c =
-    ap (λ items. let N : Table = record (the_view c.self.inside) { items = items } in N)
-    (ap (λ ks. map string_bytes ks) c.in_ok-place.ensures.keys ∙ map-insert_key c.self.inside.items.keys c.in_ok-from_str.field-0 c.args.name.now c.in_ok-from_str.ensures.ok)
+pub returns-in-Some-clause-table : goal.returns-in-Some-clause-table
+returns-in-Some-clause-table c =
+    sym c.self.view_is ∙ item_known (the_view c.self.inside) c.args.name.now c.find.result c.in-Some.known c.find.ensures.place c.in-Some.is
     ∙ ap (λ (N : Table). with_item N c.args.name.now) c.self.view_is
 
-pub returns-clause-place : goal.returns-clause-place
-returns-clause-place c =
-    let keys = c.insert_full.new.self.keys in
-    let at = c.in_ok-place.ensures.stored in
-    let name = c.in_ok-from_str.ensures.ok in
-    ap (λ (o : Option ℕ). unwrap_or o 0) (sym (position_stored keys c.args.name.now c.in_ok-from_str.field-0 c.in_ok-place.place at.0 c.insert_full.ensures.unique c.in_ok-place.ensures.within at.1 at.2 name))
+pub push-requires : goal.push-requires
+push-requires c = record { fresh = item_unknown (the_view c.self.inside) c.args.name.now c.find.result c.find.ensures.place c.in-None.is }
 
-pub returns-clause-rows : goal.returns-clause-rows
-returns-clause-rows c =
-    let read = subst IsRead c.self.view_is c.self.invariant.0 in
-    subst IsRead (sym (returns-clause-table c)) (read-with_item c.args.self.now c.args.name.now read c.requires.named c.requires.room)
+pub returns-in_ok-push-in-None-clause-table : goal.returns-in_ok-push-in-None-clause-table
+returns-in_ok-push-in-None-clause-table c =
+    item_added (the_view c.self.inside) c.args.name.now c.push.new.self (item_unknown (the_view c.self.inside) c.args.name.now c.find.result c.find.ensures.place c.in-None.is) c.in_ok-push-in-None.ensures.names
+    ∙ ap (λ (N : Table). with_item N c.args.name.now) c.self.view_is
 
-pub invariant_of-self-2 : goal.invariant_of-self-2
-invariant_of-self-2 c = (returns-clause-rows c, c.self.invariant.1)
+pub returns-in_ok-push-in-None-clause-place : goal.returns-in_ok-push-in-None-clause-place
+returns-in_ok-push-in-None-clause-place c =
+    item_place c.args.name.now c.self.inside.items c.push.new.self c.len-place.result (item_unknown (the_view c.self.inside) c.args.name.now c.find.result c.find.ensures.place c.in-None.is) c.in_ok-push-in-None.ensures.names
+    c.len-place.ensures

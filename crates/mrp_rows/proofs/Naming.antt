@@ -1,0 +1,66 @@
+-- Names of which one more came, and where they stand.
+use Rattle.std.proofs.Common.{if◌then◌else◌, unwrap_or, ◌≡◌, ◌<◌, ℕ, Bool, true, false, cond, get_or, List, [], ◌∷◌, ◌++◌, map, length, position, Option, None, Some, IfSome, String, Global, ap, sym, subst, ◌∙◌}
+use Rattle.std.specs.Cmp.Lexicographic.{nat_list_eq_equiv}
+use Rattle.std.specs.List.{IsDistinct, list_any}
+use Rattle.std.specs.Str.{bytes_eq}
+use Rattle.std.specs.String.{string_bytes}
+use Rattle.std.proofs.lemmas.List.{map-append}
+use Rattle.std.proofs.lemmas.List.Quantifiers.{position-Some}
+use Rattle.std.proofs.lemmas.Map.Keys.{apart_from_distinct}
+use Rattle.std.proofs.lemmas.Slice.Eq.{bytes_eq-Decides}
+use Rattle.mrp_spell.proofs.Lists.{distinct_push}
+use Rattle.mrp_group.proofs.Finding.{last_passes}
+use Rattle.mrp_rows.specs.Growing.{with_item}
+use Rattle.mrp_rows.specs.Table.{Table}
+use Rattle.mrp_rows.proofs.Keys.{any-from_no_position, any-from_position, position_is}
+
+-- a name more stands apart from the others
+pub distinct_name : (names : List (List ℕ)) (name : List ℕ) → IsDistinct bytes_eq names → list_any (bytes_eq name) names ≡ false → IsDistinct bytes_eq (names ++ name ∷ [])
+distinct_name names name apart fresh =
+    let turned : list_any (λ n. bytes_eq n name) names ≡ list_any (bytes_eq name) names = λ i. list_any (λ n. nat_list_eq_equiv.symm n name i) names in
+    distinct_push bytes_eq names name apart (turned ∙ fresh)
+
+-- where a name is found, there is a name
+pub place_within : (name : List ℕ) (names : List (List ℕ)) (found : Option ℕ) → found ≡ position (bytes_eq name) names → IfSome found (λ place. place < length names)
+place_within name names None is = tt
+place_within name names (Some place) is = (position-Some (bytes_eq name) names place [] (sym is)).0
+
+-- a name that stands at a place is found there
+pub place_near : (names : List (List ℕ)) (name known : List ℕ) (near : ℕ) → IsDistinct bytes_eq names → near < length names → known ≡ get_or names near known → bytes_eq known name ≡ true
+    → position (bytes_eq name) names ≡ Some near
+place_near names name known near distinct within at same =
+    let is : known ≡ name = (bytes_eq-Decides known name).0 same in
+    let here : get_or names near known ≡ known = sym at in
+    subst (λ (n : List ℕ). position (bytes_eq n) names ≡ Some near) is
+    (position_is (bytes_eq known) names near known within
+    (λ k lt.
+        nat_list_eq_equiv.symm known (get_or names k known) ∙ ap (bytes_eq (get_or names k known)) at ∙ apart_from_distinct bytes_eq names k near known distinct lt within)
+    (ap (bytes_eq known) here ∙ nat_list_eq_equiv.refl known))
+
+-- the names after one more
+pub names_more : (names roomy more : List (String Global)) (last : String Global) (name : List ℕ) → roomy ≡ names → more ≡ roomy ++ last ∷ [] → string_bytes last ≡ name
+    → map string_bytes more ≡ map string_bytes names ++ name ∷ []
+names_more names roomy more last name same grown is =
+    ap (map string_bytes) (grown ∙ ap (λ (ns : List (String Global)). ns ++ last ∷ []) same)
+    ∙ map-append string_bytes names (last ∷ [])
+    ∙ ap (λ (n : List ℕ). map string_bytes names ++ n ∷ []) is
+
+-- an item that is known stays one, and one that isn't comes last
+pub item_known : (N : Table) (name : List ℕ) (found : Option ℕ) (place : ℕ) → found ≡ position (bytes_eq name) N.items → found ≡ Some place → N ≡ with_item N name
+item_known N name found place is at =
+    ap (λ b. let M : Table = record N { items = if b then N.items else N.items ++ name ∷ [] } in M) (sym (any-from_position (bytes_eq name) N.items place (sym is ∙ at)))
+
+pub item_unknown : (N : Table) (name : List ℕ) (found : Option ℕ) → found ≡ position (bytes_eq name) N.items → found ≡ None → list_any (bytes_eq name) N.items ≡ false
+item_unknown N name found is none = any-from_no_position (bytes_eq name) N.items (sym is ∙ none)
+
+pub item_added : (N : Table) (name : List ℕ) (items : List (List ℕ)) → list_any (bytes_eq name) N.items ≡ false → items ≡ N.items ++ name ∷ []
+    → (let M : Table = record N { items = items } in M) ≡ with_item N name
+item_added N name items fresh grown =
+    ap (λ (ns : List (List ℕ)). let M : Table = record N { items = ns } in M) grown
+    ∙ ap (λ b. let M : Table = record N { items = if b then N.items else N.items ++ name ∷ [] } in M) (sym fresh)
+
+-- the place of an item that came last
+pub item_place : (name : List ℕ) (old new : List (List ℕ)) (place : ℕ) → list_any (bytes_eq name) old ≡ false → new ≡ old ++ name ∷ [] → place ≡ length old
+    → place ≡ unwrap_or (position (bytes_eq name) new) 0
+item_place name old new place fresh grown last =
+    last ∙ sym (ap (λ (o : Option ℕ). unwrap_or o 0) (ap (position (bytes_eq name)) grown ∙ last_passes (bytes_eq name) old name fresh (nat_list_eq_equiv.refl name)))
