@@ -28,7 +28,6 @@ pub use answers::{answer, exit_status};
 pub use fault::{PairName, TextFault, status};
 pub use laws::{bytes_make_one_table, reports_are_one, reports_exclude_refusals};
 pub use lines::write_fault;
-pub use mrp_agent::{Gate, NoGate};
 pub use mrp_report::ReportFault;
-pub use mrp_run::Settings;
+pub use mrp_run::{Gate, NoGate, Settings};
 pub use text::{check_text, cums_text, drive_text, peg_text, plan_text};

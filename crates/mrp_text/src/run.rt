@@ -8,11 +8,10 @@ ghost use Rattle.mrp_text.specs.Runs.{IsInNetwork, IsOfRun, IsShutFor};
 ghost use Rattle.mrp_text.specs.Text.{IsPlannable, IsRunFault};
 
 use crate::fault::TextFault;
-use mrp_agent::Gate;
 use mrp_loops::SizedNet;
 use mrp_net::{Network, PlantNo};
 use mrp_plan::Plan;
-use mrp_run::{RunFault, Settings, run_network};
+use mrp_run::{Gate, RunFault, Settings, run_network};
 use std::alloc::{AllocError, Global};
 use std::sync::Wait;
 use std::thread::Threads;
