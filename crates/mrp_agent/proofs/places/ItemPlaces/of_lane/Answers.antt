@@ -9,9 +9,8 @@ use Rattle.mrp_agent.proofs.places.ItemPlaces.of_lane.Goals as goal
 pub push-requires : goal.push-requires
 push-requires c =
     let load = load_at c.args.lane.now c.loop-j.j in
-    subst (λ (i : OutgoingItem). list_any (eq-value.it i.item) c.loop-j.items ≡ false) (sym c.get.ensures)
-    (item_is_new (λ (i : Load). i.item) c.args.lane.now c.loop-j.j no_load load c.loop-j.items (c.requires load.item.0) (omega (arith, c.loop-j-test.true, c.len-j-end.ensures)) refl
-    c.loop-j.invariant)
+    let fresh = item_is_new (λ (i : Load). i.item) c.args.lane.now c.loop-j.j no_load load c.loop-j.items (c.requires load.item.0) (omega (arith, c.loop-j-test.true, c.len-j-end.ensures)) refl c.loop-j.invariant in
+    record { fresh = subst (λ (i : OutgoingItem). list_any (eq-value.it i.item) c.loop-j.items ≡ false) (sym c.get.ensures) fresh }
 
 pub loop-j-preserved : goal.loop-j-preserved
 loop-j-preserved c =

@@ -5,9 +5,10 @@ use Rattle.mrp_agent.proofs.Made.{item_is_new, map_more}
 use Rattle.mrp_agent.proofs.places.ItemPlaces.of_pairs.Goals as goal
 
 pub push-requires : goal.push-requires
-push-requires c =
-    item_is_new (λ (p : PlantPair). p.item) c.args.pairs.now c.loop-pair.pair-index c.pair-item.result c.pair-item.result c.loop-pair.items (c.requires c.pair-item.result.item.0)
-    c.loop-pair-test.true c.pair-item.is c.loop-pair.invariant
+push-requires c = record {
+  fresh = item_is_new (λ (p : PlantPair). p.item) c.args.pairs.now c.loop-pair.pair-index c.pair-item.result c.pair-item.result c.loop-pair.items (c.requires c.pair-item.result.item.0)
+      c.loop-pair-test.true c.pair-item.is c.loop-pair.invariant;
+}
 
 pub loop-pair-preserved : goal.loop-pair-preserved
 loop-pair-preserved c =

@@ -5,13 +5,14 @@ pub loop-item-init : goal.loop-item-init
 loop-item-init c = opened_none c.args.items.now c.new-places.result c.new-figures.result.items c.new-places.ensures c.new-figures.ensures.items
 
 pub push-requires : goal.push-requires
-push-requires c =
-    item_is_new c.loop-item.item-index c.args.items.now c.loop-item.places c.loop-item.figures.items c.item-item.result c.loop-item.invariant c.requires.once c.loop-item-test.true
-    c.item-item.is
+push-requires c = record {
+  fresh = item_is_new c.loop-item.item-index c.args.items.now c.loop-item.places c.loop-item.figures.items c.item-item.result c.loop-item.invariant c.requires.once c.loop-item-test.true
+      c.item-item.is;
+}
 
 pub loop-item-preserved : goal.loop-item-preserved
 loop-item-preserved c =
-    opened_more c.loop-item.item-index c.args.items.now c.loop-item.places c.push.new.self c.loop-item.figures.items c.push-2.new.self.items c.item-item.result c.opened.result
+    opened_more c.loop-item.item-index c.args.items.now c.loop-item.places c.push.new.self c.loop-item.figures.items c.push-in-loop-item.new.self.items c.item-item.result c.opened.result
     c.loop-item.invariant c.loop-item-test.true c.item-item.is c.in_ok-push.ensures.keys c.in_ok-push-2.ensures.items c.opened.ensures.value c.opened.ensures.small
 
 pub invariant_of-result : goal.invariant_of-result
