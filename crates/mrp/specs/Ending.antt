@@ -1,17 +1,10 @@
--- With which status the program ends, and what it reports, where the words are refused, ask for help or the version, or can't be read.
-use Rattle.std.specs.Prelude.{◌≡◌, ℕ, List, codes, Option, Some, None, Result, Ok, Err}
-use Rattle.std.specs.declared.io.ErrorKind.{ErrorKind}
-use Rattle.std.specs.declared.io.ErrorKind.TheVariants as cause
+-- With which status the program ends, and what it reports, where the words are refused or ask for help or the version.
+use Rattle.std.specs.Prelude.{ℕ, Option, Some, None, Result}
 use Rattle.clap.specs.declared.error.kind.ErrorKind.{ErrorKind as WordsFault}
 use Rattle.clap.specs.declared.error.kind.ErrorKind.TheVariants as words
 use Rattle.mrp_text.specs.declared.fault.TextFault.{TextFault}
 use Rattle.mrp_text.specs.declared.fault.TextFault.TheVariants as fault
-use Rattle.mrp_text.specs.Lines.{SendsText, fault_line}
-
--- after help or the version: 0 where it was printed, and else 3
-abbrev pub help_status : {U E : Type 0} → Result U E → ℕ
-help_status (Ok printed) = 0
-help_status (Err failed) = 3
+use Rattle.mrp_text.specs.Ending.{help_fault, help_status}
 
 -- after the words were refused: 3 for want of memory, that of help after help or the version, and else 2
 abbrev pub refusal_status : {U E : Type 0} → WordsFault → Result U E → ℕ
@@ -20,36 +13,9 @@ refusal_status words.DisplayHelp printed = help_status printed
 refusal_status words.DisplayVersion printed = help_status printed
 refusal_status _ printed = 2
 
--- where the words can't be read: 2 for a word that is no text, and else 3
-abbrev pub IsStatusOfUnread : ErrorKind → ℕ → Type 0
-IsStatusOfUnread cause.InvalidData status = status ≡ 2
-IsStatusOfUnread _ status = status ≡ 3
-
--- ---- what is reported
-
--- where there is a fault, its line, or a front of it where that could not be written; else nothing
-abbrev pub Reports : {W U E : Type 0} → (W → Option (List ℕ)) → W → W → Result U E → Option TextFault → Type 0
-Reports contents old new reported None = new ≡ old
-Reports contents old new reported (Some met) = SendsText (contents old) (contents new) reported (fault_line met)
-
--- after the work: its fault
-abbrev pub fault_in : {U : Type 0} → Result U TextFault → Option TextFault
-fault_in (Ok done) = None
-fault_in (Err met) = Some met
-
--- after help or the version: that it could not be printed
-abbrev pub help_fault : {U E : Type 0} → Result U E → Option TextFault
-help_fault (Ok printed) = None
-help_fault (Err failed) = Some fault.WriteFault
-
 -- after the words were refused, `clap` has said why; want of memory is for the program to say
 abbrev pub refusal_fault : {U E : Type 0} → WordsFault → Result U E → Option TextFault
 refusal_fault words.OutOfMemory printed = Some fault.Memory
 refusal_fault words.DisplayHelp printed = help_fault printed
 refusal_fault words.DisplayVersion printed = help_fault printed
 refusal_fault _ printed = None
-
--- where the words can't be read
-abbrev pub unread_line : ErrorKind → List ℕ
-unread_line cause.InvalidData = codes "mrp: a word of the command is not UTF-8\n"
-unread_line _ = fault_line fault.Memory

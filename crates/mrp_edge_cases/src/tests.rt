@@ -1,5 +1,6 @@
 //! The text functions at their edges.
 
+mod endings;
 mod limits;
 mod memory;
 mod random;

@@ -1,5 +1,6 @@
 pub mod Answer
 pub mod Checks
+pub mod Ending
 pub mod Fault
 pub mod Lines
 pub mod Text

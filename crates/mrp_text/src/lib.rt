@@ -9,12 +9,15 @@
 //! consists of, and [`cums_text`] the cumulative figures of the lanes between plants; [`answer`] does the
 //! one of them that the words of a command line chose.
 //! Where a text was not written whole, a [`TextFault`] says why: [`write_fault`] writes the line that
-//! reports it, and [`status`] and [`exit_status`] are the statuses with which a program ends.
+//! reports it, and [`status`] and [`exit_status`] are the statuses with which a program ends. [`ended`]
+//! does both after the work, [`after_help`] after help or the version, and [`unread`] where the arguments
+//! can't be read.
 //!
 //! No call ends the process: a growth that is refused is [`TextFault::Memory`].
 #![tactic(auto)]
 
 mod answers;
+mod ending;
 mod fault;
 mod firm;
 mod laws;
@@ -25,6 +28,7 @@ mod text;
 mod writing;
 
 pub use answers::{answer, exit_status};
+pub use ending::{Ending, REFUSED, after_help, ended, unread};
 pub use fault::{PairName, TextFault, status};
 pub use laws::{bytes_make_one_table, reports_are_one, reports_exclude_refusals};
 pub use lines::write_fault;

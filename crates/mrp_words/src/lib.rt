@@ -5,7 +5,9 @@
 #![tactic(auto)]
 
 mod laws;
+mod named;
 mod words;
 
 pub use laws::{limits_are_numbers, version_is_asked_for};
+pub use named::named_words;
 pub use words::{Choice, ChooseFault, LAST_PERIOD, MOST_CAPACITY, MOST_WORKERS, choose};

@@ -1,5 +1,7 @@
 //! Readers and writers that give little, fail or end early.
 
+ghost use Rattle.mrp_words.specs.Choice.{IsInRange};
+
 use super::is_report;
 use mrp_tables::TableFaultKind;
 use mrp_text::{
@@ -8,7 +10,7 @@ use mrp_text::{
 };
 use mrp_text_cases::outcome;
 use mrp_text_cases::tables::{BICYCLE, BICYCLE_PLAN, FIRM_OF_TWO, FIRM_OF_TWO_CUMS};
-use mrp_words::choose;
+use mrp_words::Choice;
 use std::alloc::{AllocError, Global};
 use std::io;
 use std::io::{ErrorKind, Read, Write};
@@ -210,39 +212,33 @@ fn a_reader_that_fails_before_figures(rt: HostRuntime) {
     }
 }
 
-/// Whether the choice of these words tells the failed read.
+/// Whether the choice tells the failed read.
 fn choice_tells<T: Threads + Wait + Sync>(
     rt: &T,
     alloc: Global,
-    words: &[&str],
+    asked: Asked,
     fails: usize,
-) -> Result<bool, Fail> {
-    let choice = choose(alloc, words)?;
+) -> bool {
     let mut written = Vec::new(alloc);
-    let answer = answer(rt, alloc, choice, failing(fails), &mut written);
-    Ok(tells_the_read(&answer, written.as_slice(), fails))
+    let answer = answer(rt, alloc, choice_of(asked), failing(fails), &mut written);
+    tells_the_read(&answer, written.as_slice(), fails)
 }
 
 /// Whether each choice does.
-fn choices_tell<T: Threads + Wait + Sync>(
-    rt: &T,
-    alloc: Global,
-    fails: usize,
-) -> Result<bool, Fail> {
+fn choices_tell<T: Threads + Wait + Sync>(rt: &T, alloc: Global, fails: usize) -> bool {
     for written in &REPORTS {
-        if !choice_tells(rt, alloc, written.words, fails)? {
-            return Ok(false);
+        if !choice_tells(rt, alloc, written.asked, fails) {
+            return false;
         }
     }
-    Ok(true)
+    true
 }
 
 #[test]
-fn a_reader_that_fails_before_each_choice(rt: HostRuntime) -> Result<(), Fail> {
+fn a_reader_that_fails_before_each_choice(rt: HostRuntime) {
     for fails in 0..22usize {
-        is_so_at(&rt, choices_tell(&rt, rt.alloc(), fails)?, fails);
+        is_so_at(&rt, choices_tell(&rt, rt.alloc(), fails), fails);
     }
-    Ok(())
 }
 
 /// Whether the bicycle is planned where a read after the end of the text fails.
@@ -355,9 +351,44 @@ fn a_writer_that_ends_in_figures(rt: HostRuntime) {
     }
 }
 
-/// What the choice of these words writes of that table.
+/// What is asked for.
+#[derive(Clone, Copy)]
+enum Asked {
+    PlanByThreads,
+    PlanOnOneThread,
+    Codes,
+    Terms,
+    Figures,
+}
+
+/// The choice that asks for it.
+fn choice_of(asked: Asked) -> Choice<'static>
+    ensures { IsInRange result }
+{
+    match asked {
+        Asked::PlanByThreads => Choice::Plan {
+            workers: 1,
+            capacity: 64,
+            single: false,
+        },
+        Asked::PlanOnOneThread => Choice::Plan {
+            workers: 1,
+            capacity: 64,
+            single: true,
+        },
+        Asked::Codes => Choice::Check,
+        Asked::Terms => Choice::Peg {
+            plant: "P1",
+            item: "WHEEL",
+            period: 2,
+        },
+        Asked::Figures => Choice::Cums,
+    }
+}
+
+/// What is written of that table where it is asked for.
 struct Written {
-    words: &'static [&'static str],
+    asked: Asked,
     table: &'static str,
     report: &'static str,
 }
@@ -365,61 +396,60 @@ struct Written {
 /// A report of each choice, of three writes at least.
 const REPORTS: [Written; 5] = [
     Written {
-        words: &["mrp", "plan"],
+        asked: Asked::PlanByThreads,
         table: BICYCLE,
         report: BICYCLE_PLAN,
     },
     Written {
-        words: &["mrp", "plan", "--single"],
+        asked: Asked::PlanOnOneThread,
         table: BICYCLE,
         report: BICYCLE_PLAN,
     },
     Written {
-        words: &["mrp", "check"],
+        asked: Asked::Codes,
         table: BICYCLE,
         report: "code,P1,BIKE,0\ncode,P1,WHEEL,1\n",
     },
     Written {
-        words: &["mrp", "peg", "P1", "WHEEL", "2"],
+        asked: Asked::Terms,
         table: BICYCLE,
         report: "peg,bill,P1,BIKE,10,2,20\n",
     },
     Written {
-        words: &["mrp", "cums"],
+        asked: Asked::Figures,
         table: FIRM_OF_TWO,
         report: FIRM_OF_TWO_CUMS,
     },
 ];
 
-/// Whether the choice of these words ends there.
+/// Whether the choice ends there.
 fn choice_ends<T: Threads + Wait + Sync>(
     rt: &T,
     alloc: Global,
     written: &Written,
     ends: usize,
-) -> Result<bool, Fail> {
-    let choice = choose(alloc, written.words)?;
+) -> bool {
+    let choice = choice_of(written.asked);
     let mut sink = ending(alloc, ends, false);
     let answer = answer(rt, alloc, choice, written.table.as_bytes(), &mut sink);
-    Ok(ended_in_front(&answer, &sink, written.report.as_bytes()))
+    ended_in_front(&answer, &sink, written.report.as_bytes())
 }
 
 /// Whether each choice does.
-fn choices_end<T: Threads + Wait + Sync>(rt: &T, alloc: Global, ends: usize) -> Result<bool, Fail> {
+fn choices_end<T: Threads + Wait + Sync>(rt: &T, alloc: Global, ends: usize) -> bool {
     for written in &REPORTS {
-        if !choice_ends(rt, alloc, written, ends)? {
-            return Ok(false);
+        if !choice_ends(rt, alloc, written, ends) {
+            return false;
         }
     }
-    Ok(true)
+    true
 }
 
 #[test]
-fn a_writer_that_ends_in_each_choice(rt: HostRuntime) -> Result<(), Fail> {
+fn a_writer_that_ends_in_each_choice(rt: HostRuntime) {
     for ends in 0..3usize {
-        is_so_at(&rt, choices_end(&rt, rt.alloc(), ends)?, ends);
+        is_so_at(&rt, choices_end(&rt, rt.alloc(), ends), ends);
     }
-    Ok(())
 }
 
 /// Whether a plan by threads ends there.

@@ -5,7 +5,7 @@ use Rattle.std.specs.Prelude.{codes, OnErr, OnOk, Option, Result, Ok, Err}
 use Rattle.std.specs.declared.io.ErrorKind.TheVariants as cause
 use Rattle.mrp_report.specs.Sending.{AppendsFront}
 use Rattle.mrp_text.specs.Lines.{SendsText}
-use Rattle.mrp.proofs.unread.Goals as goal
+use Rattle.mrp_text.proofs.ending.unread.Goals as goal
 
 -- what was sent, whole or in front, is the line
 sends : {U E : Type 0} (old new : Option (List ℕ)) (sent : Result U E) (text line : List ℕ) → OnOk sent (Appends old new text) → OnErr sent (AppendsFront old new text) → text ≡ line → SendsText old new sent line
