@@ -35,7 +35,8 @@ use Rattle.mrp_tables.specs.Written.{AreNumbered, item_name, pair_fields, pair_r
 use Rattle.mrp_tables.proofs.BackNames.{at_place, name_at, none_before, plant_at_place}
 use Rattle.mrp_tables.proofs.BackRows.{Ends, ends_after, has_room, kind_read, may_stand, plant_is_name, Row, row_read, with_bills}
 use Rattle.mrp_tables.proofs.BackTexts.{name_is_text, number_is_text, rule_is_text, supply_is_text, word_is_text}
-use Rattle.mrp_tables.proofs.KeepingLists.{any-from_position, any_agree, bytes_flip, filter_everything, filter_nothing, position_last}
+use Rattle.mrp_rows.proofs.Keys.{any-from_position}
+use Rattle.mrp_tables.proofs.KeepingLists.{any_agree, bytes_flip, filter_everything, filter_nothing, position_last}
 use Rattle.mrp_tables.proofs.KeepingPair.{no_place}
 
 -- ---- the item of the next pair

@@ -12,7 +12,7 @@ use Rattle.mrp_tables.specs.declared.lanes.KnownLane.{KnownLane}
 use Rattle.mrp_tables.specs.declared.lanes.NamedLane.{NamedLane}
 use Rattle.mrp_tables.specs.Grammar.{cum_between, cum_of, cum_terms, has_cum, has_reset, known_lane, LaneTerms, reset_between, reset_of, reset_terms, seen, ship_of, ship_terms}
 use Rattle.mrp_tables.specs.Lists.{Finds, known_found, source_at}
-use Rattle.mrp_tables.proofs.KeepingLists.{any-from_no_position, any-from_position}
+use Rattle.mrp_rows.proofs.Keys.{any-from_no_position, any-from_position}
 
 -- a lane without the place of its source
 abbrev pub lane_ends : KnownLane → PlantNo × PairNo

@@ -26,7 +26,9 @@ use Rattle.mrp_tables.specs.declared.kind.Kind.{Kind}
 use Rattle.mrp_tables.specs.declared.kind.Kind.TheVariants as kind
 use Rattle.mrp_tables.specs.Reading.{IsReadSoFar}
 use Rattle.mrp_spell.proofs.Lists.{All-from_any, distinct_append, distinct_push, IsDistinct-nil}
-use Rattle.mrp_tables.proofs.KeepingLists.{any-from_no_position, any-from_position, distinct_name, filter_everything, filter_nothing, names_at, ordered_append, position-from_any, position_last, position_there}
+use Rattle.mrp_rows.proofs.Keys.{any-from_no_position, any-from_position}
+use Rattle.mrp_rows.proofs.Naming.{distinct_name}
+use Rattle.mrp_tables.proofs.KeepingLists.{filter_everything, filter_nothing, names_at, ordered_append, position-from_any, position_last, position_there}
 use Rattle.mrp_rows.proofs.Grow.{Changes, Grows, length-add_item-le, name_added, one_more, read_grows, same_rows}
 use Rattle.mrp_tables.proofs.KeepingRead.{lt_test, plant_within}
 use Rattle.mrp_tables.proofs.KeepingShares.{named_few, named_shares, pair_terms_are, shares_are, SpellsPair}

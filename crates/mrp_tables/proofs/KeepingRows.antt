@@ -17,7 +17,7 @@ use Rattle.mrp_tables.specs.Grammar.{LaneTerms, cum_between, cum_of, known_lane,
 use Rattle.mrp_rows.specs.Names.{has_plant, pair_named, plant_no}
 use Rattle.mrp_rows.specs.Table.{rises_from, arrivals}
 use Rattle.mrp_spell.proofs.Lists.{distinct_push}
-use Rattle.mrp_tables.proofs.KeepingLists.{distinct_name}
+use Rattle.mrp_rows.proofs.Naming.{distinct_name}
 use Rattle.mrp_tables.proofs.KeepingParts.{cum_parts, reset_parts, ship_parts}
 use Rattle.mrp_tables.proofs.KeepingSame.{stays_once, stays_sourced}
 use Rattle.mrp_tables.proofs.KeepingSteps.{after, after_check, after_some, same_Ok}
