@@ -71,35 +71,34 @@ row_in_periods N amount amounts x are h =
     ∙ are.each x t h g
     ∙ sym (get_or-map-range_with_len (amount x) 0 (horizon N) t t 0 g (omega arith)))
 
--- a row of a list that was read, and one amount
-pub row_ends : (N M : Table) (sums : Table → ℕ → ℕ → ℕ) (amounts : List ℕ) (x n : ℕ) → N ≡ M → ArePeriods N (sums N) amounts → n ≡ horizon M → IsPair M x → (x + 1) * n ≤ length amounts
-row_ends N M sums amounts x n is are periods pair =
+-- the amounts of a pair end within those of all
+pub row_ends : (N M : Table) (sums : Table → ℕ → ℕ → ℕ) (amounts : List ℕ) (x : ℕ) → N ≡ M → ArePeriods N (sums N) amounts → IsPair M x → (x + 1) * horizon M ≤ length amounts
+row_ends N M sums amounts x is are pair =
     let there : ArePeriods M (sums M) amounts = subst (λ (z : Table). ArePeriods z (sums z) amounts) is are in
-    subst (λ (z : ℕ). (x + 1) * z ≤ length amounts) (sym periods) (omega (arith, there.size, mul-le-mul_left (horizon M) pair))
+    omega (arith, there.size, mul-le-mul_left (horizon M) pair)
 
-pub row_read : (N M : Table) (sums : Table → ℕ → ℕ → ℕ) (amounts read : List ℕ) (x n : ℕ) → N ≡ M → ArePeriods N (sums N) amounts → n ≡ horizon M → IsPair M x → read ≡ amounts
-    → take ((x + 1) * n - x * n) (drop (x * n) read) ≡ row_of M (sums M x)
-row_read N M sums amounts read x n is are periods pair same =
-    let long : (x + 1) * n - x * n ≡ n = omega arith in
+pub row_read : (N M : Table) (sums : Table → ℕ → ℕ → ℕ) (amounts read : List ℕ) (x from to : ℕ) → N ≡ M → ArePeriods N (sums N) amounts → from ≡ x * horizon M → to ≡ (x + 1) * horizon M → IsPair M x
+    → read ≡ amounts → take (to - from) (drop from read) ≡ row_of M (sums M x)
+row_read N M sums amounts read x from to is are begins ends pair same =
+    let long : to - from ≡ horizon M = omega (arith, begins, ends) in
     let there : ArePeriods M (sums M) amounts = subst (λ (z : Table). ArePeriods z (sums z) amounts) is are in
-    ap (λ (z : List ℕ). take ((x + 1) * n - x * n) (drop (x * n) z)) same
-    ∙ ap (λ (z : ℕ). take z (drop (x * n) amounts)) long
-    ∙ ap (λ (z : ℕ). take z (drop (x * z) amounts)) periods
+    ap (λ (z : List ℕ). take (to - from) (drop from z)) same
+    ∙ ap (λ (z : ℕ). take z (drop from amounts)) long
+    ∙ ap (λ (z : ℕ). take (horizon M) (drop z amounts)) begins
     ∙ row_in_periods M (sums M) amounts x there pair
 
-pub amount_within : (N M : Table) (sums : Table → ℕ → ℕ → ℕ) (amounts : List ℕ) (x t n : ℕ) → N ≡ M → ArePeriods N (sums N) amounts → n ≡ horizon M → IsPair M x → t < horizon M → x * n + t < length amounts
-amount_within N M sums amounts x t n is are periods pair period =
+-- and so does the amount of a period
+pub amount_within : (N M : Table) (sums : Table → ℕ → ℕ → ℕ) (amounts : List ℕ) (x t : ℕ) → N ≡ M → ArePeriods N (sums N) amounts → IsPair M x → t < horizon M → x * horizon M + t < length amounts
+amount_within N M sums amounts x t is are pair period =
     let there : ArePeriods M (sums M) amounts = subst (λ (z : Table). ArePeriods z (sums z) amounts) is are in
-    subst (λ (z : ℕ). x * z + t < length amounts) (sym periods) (place_within M amounts x t there.size pair period)
+    place_within M amounts x t there.size pair period
 
-pub amount_read : (N M : Table) (sums : Table → ℕ → ℕ → ℕ) (amounts : List ℕ) (x t n v : ℕ) → N ≡ M → ArePeriods N (sums N) amounts → n ≡ horizon M → IsPair M x → t < horizon M
-    → v ≡ get_or amounts (x * n + t) v → v ≡ sums M x t
-amount_read N M sums amounts x t n v is are periods pair period read =
+pub amount_read : (N M : Table) (sums : Table → ℕ → ℕ → ℕ) (amounts : List ℕ) (x t place v : ℕ) → N ≡ M → ArePeriods N (sums N) amounts → place ≡ x * horizon M + t → IsPair M x → t < horizon M
+    → v ≡ get_or amounts place v → v ≡ sums M x t
+amount_read N M sums amounts x t place v is are at pair period read =
     let there : ArePeriods M (sums M) amounts = subst (λ (z : Table). ArePeriods z (sums z) amounts) is are in
-    let within = amount_within N M sums amounts x t n is are periods pair period in
-    get_or_read amounts (x * n + t) v within read 0
-    ∙ ap (λ (z : ℕ). get_or amounts (x * z + t) 0) periods
-    ∙ there.each x t pair period
+    let within : place < length amounts = omega (arith, at, amount_within N M sums amounts x t is are pair period) in
+    get_or_read amounts place v within read 0 ∙ ap (λ (z : ℕ). get_or amounts z 0) at ∙ there.each x t pair period
 
 -- what is added to zeros, in a slice of a list that is put back, are the sums
 pub sums_built : {R : Type 0} (pair period amount : R → ℕ) (N : Table) (periods : ℕ) (rows : List R) (first slice after : List ℕ) (n : ℕ)

@@ -21,6 +21,7 @@ use mrp_rows::{ItemNo, PairNo, PairRow, PlantNo, SourceRow, Tables};
 use std::alloc::Global;
 use std::marker::Model;
 use std::mem;
+use std::ops::Range;
 
 /// The network.
 ///
@@ -192,14 +193,32 @@ impl Network {
         self.tables.pairs()[x.0]
     }
 
+    /// Where the amount of a pair in a period stands among those of all pairs.
+    fn place_of(&self, x: PairNo, t: usize) -> usize
+        requires pair { IsPair self.now x.0 }
+        requires period { t < horizon self.now }
+        ensures { result ≡ x.0 * horizon self.now + t }
+    {
+        x.0 * self.tables.horizon().get() as usize + t
+    }
+
+    /// Where the amounts of a pair stand among those of all pairs.
+    fn places_of(&self, x: PairNo) -> Range<usize>
+        requires { IsPair self.now x.0 }
+        ensures start { result.start ≡ x.0 * horizon self.now }
+        ensures end { result.end ≡ (x.0 + 1) * horizon self.now }
+    {
+        let periods = self.tables.horizon().get() as usize;
+        x.0 * periods..(x.0 + 1) * periods
+    }
+
     /// The sum of the pair's demand rows in period `t`, at most 10^18 pieces.
     pub fn demand(&self, x: PairNo, t: usize) -> u64
         requires pair { IsPair self.now x.0 }
         requires period { t < horizon self.now }
         ensures { result ≡ demand self.now x.0 t }
     {
-        let periods = self.horizon().get() as usize;
-        self.amounts.demand[x.0 * periods + t]
+        self.amounts.demand[self.place_of(x, t)]
     }
 
     /// The sums of the pair's demand rows, period by period, each at most 10^18 pieces.
@@ -207,8 +226,7 @@ impl Network {
         requires { IsPair self.now x.0 }
         ensures { result.now ≡ row_of self.now (demand self.now x.0) }
     {
-        let periods = self.horizon().get() as usize;
-        &self.amounts.demand[x.0 * periods..(x.0 + 1) * periods]
+        &self.amounts.demand[self.places_of(x)]
     }
 
     /// The sum of the pair's demand rows, at most 10^18 pieces.
@@ -226,8 +244,7 @@ impl Network {
         requires period { t < horizon self.now }
         ensures { result ≡ incoming self.now x.0 t }
     {
-        let periods = self.horizon().get() as usize;
-        self.amounts.incoming[x.0 * periods + t]
+        self.amounts.incoming[self.place_of(x, t)]
     }
 
     /// What comes in for the pair, period by period: its receipt rows and the shipments to it, each at most 2 * 10^18 pieces.
@@ -235,8 +252,7 @@ impl Network {
         requires { IsPair self.now x.0 }
         ensures { result.now ≡ row_of self.now (incoming self.now x.0) }
     {
-        let periods = self.horizon().get() as usize;
-        &self.amounts.incoming[x.0 * periods..(x.0 + 1) * periods]
+        &self.amounts.incoming[self.places_of(x)]
     }
 
     /// The sums of the pair's receipt rows, period by period, without shipments, each at most 10^18 pieces.
@@ -244,8 +260,7 @@ impl Network {
         requires { IsPair self.now x.0 }
         ensures { result.now ≡ row_of self.now (received self.now x.0) }
     {
-        let periods = self.horizon().get() as usize;
-        &self.amounts.received[x.0 * periods..(x.0 + 1) * periods]
+        &self.amounts.received[self.places_of(x)]
     }
 
     /// On hand, receipts, shipments and opening figures of the pair, or 2^64 - 1 where they are more.
