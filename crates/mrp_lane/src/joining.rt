@@ -7,7 +7,7 @@ ghost use Rattle.mrp_lane.specs.Reconciled.{figure_of, figures_of, figures_on};
 
 use crate::send::SendEnd;
 use crate::take::{TakeEnd, pop};
-use crate::tally::ItemPieces;
+use crate::tally::{ItemPieces, Tally};
 use crate::view::{LanePass, Mailbox, Meeting};
 use mrp_book::LaneFigure;
 use mrp_net::LaneNo;
@@ -56,38 +56,46 @@ pub fn reconcile<R: Wait>(
 {
     let SendEnd {
         mailbox,
-        pass,
+        mut pass,
         lane,
         tally: sent,
     } = send;
-    let left = rest(rt, alloc, &mailbox, pass, take.pass)?;
-    let figures = lane_figures(alloc, lane, sent.items(), take.tally.items())?;
+    mailbox.absorb::<Meeting>(&mut pass, take.pass);
+    settle(rt, alloc, lane, &mailbox, pass, &sent, &take.tally)
+}
+
+/// What went over the lane of a joined pass, by what the two ends counted.
+fn settle<R: Wait>(
+    rt: &R,
+    alloc: Global,
+    lane: LaneNo,
+    mailbox: &Mailbox,
+    pass: LanePass,
+    sent: &Tally,
+    taken: &Tally,
+) -> Result<Reconciled, Memory>
+    requires pass { IsPassOf mailbox.now pass }
+    requires sends { (view pass).sends ≡ true }
+    requires takes { (view pass).takes ≡ true }
+    requires named { (view pass).named ≡ true }
+    requires items { length taken.now.items ≡ length sent.now.items }
+    requires shipped { All (λ i. i.opening + i.pieces ≤ MOST) sent.now.items }
+    requires received { All (λ i. i.opening + i.pieces ≤ MOST) taken.now.items }
+    ensures lane { IfOk result (λ r. r.lane ≡ lane) }
+    ensures sent { IfOk result (λ r. r.sent ≡ sent.now.records) }
+    ensures taken { IfOk result (λ r. r.taken ≡ taken.now.records) }
+    ensures left { IfOk result (λ r. (view pass).sent ≡ (view pass).taken ++ r.left.items) }
+    ensures figures { IfOk result (λ r. r.figures.items ≡ figures_of lane sent.now.items taken.now.items) }
+{
+    let left = drained(rt, alloc, mailbox, pass)?;
+    let figures = lane_figures(alloc, lane, sent.items(), taken.items())?;
     Ok(Reconciled {
         lane,
         sent: sent.records(),
-        taken: take.tally.records(),
+        taken: taken.records(),
         left,
         figures,
     })
-}
-
-/// What the mailbox holds once both passes are in one thread.
-fn rest<R: Wait>(
-    rt: &R,
-    alloc: Global,
-    mailbox: &Mailbox,
-    mut sender: LanePass,
-    taker: LanePass,
-) -> Result<Vec<Record>, Memory>
-    requires sender { IsPassOf mailbox.now sender }
-    requires taker { IsPassOf mailbox.now taker }
-    requires sends { (view sender).sends ≡ true }
-    requires takes { (view taker).takes ≡ true }
-    requires named { ((view sender).named ≡ true) × ((view taker).named ≡ true) }
-    ensures { IfOk result (λ left. (view sender).sent ≡ (view taker).taken ++ left.items) }
-{
-    mailbox.absorb::<Meeting>(&mut sender, taker);
-    drained(rt, alloc, mailbox, sender)
 }
 
 /// Takes all that is left with the joined pass.

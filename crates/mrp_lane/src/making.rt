@@ -1,6 +1,7 @@
 //! How the two ends of a lane are made.
 ghost use Rattle.std.specs.Prelude.{◌≡◌, ◌≤◌, ◌<◌, [], min, length, IfOk};
-ghost use Rattle.crossbeam_queue.specs.Passes.{view, IsPassOf, IsSamePass};
+ghost use Rattle.std.specs.Arc.{arc_value};
+ghost use Rattle.crossbeam_queue.specs.Passes.{view, IsPassOf, IsSamePass, ruled_capacity};
 ghost use Rattle.mrp_net.specs.Lanes.{lanes, lane_at};
 ghost use Rattle.mrp_net.specs.Texts.{longest_text};
 ghost use Rattle.mrp_lane.specs.Views.{sending, taking, unnamed};
@@ -44,23 +45,40 @@ pub fn lane(
 {
     let network = net.network();
     let room = capacity.min(network.longest_text(lane));
-    let (mailbox, mut pass) = Mailbox::ruled(alloc, room as usize)?;
+    let sent = Tally::of(alloc, network, lane)?;
+    let taken = Tally::of(alloc, network, lane)?;
+    let (mailbox, takers_mailbox, mut pass) = shared(alloc, room)?;
     let takers_pass = name(&mailbox, &mut pass, network, lane);
-    let mailbox = Arc::new(alloc, mailbox)?;
-    let takers_mailbox = Arc::try_clone(&mailbox)?;
     let send = SendEnd {
         mailbox,
         pass,
         lane,
-        tally: Tally::of(alloc, network, lane)?,
+        tally: sent,
     };
     let take = TakeEnd {
         mailbox: takers_mailbox,
         pass: takers_pass,
         lane,
-        tally: Tally::of(alloc, network, lane)?,
+        tally: taken,
     };
     Ok((send, take))
+}
+
+/// A new mailbox for two ends, and its first pass.
+fn shared(
+    alloc: Global,
+    room: u64,
+) -> Result<(Arc<Mailbox, Global>, Arc<Mailbox, Global>, LanePass), Memory>
+    requires room { 1 ≤ room }
+    ensures room { IfOk result (λ r. ruled_capacity (arc_value r.0) ≡ room) }
+    ensures one { IfOk result (λ r. arc_value r.1 ≡ arc_value r.0) }
+    ensures pass { IfOk result (λ r. IsPassOf (arc_value r.0) r.2) }
+    ensures first { IfOk result (λ r. view r.2 ≡ unnamed) }
+{
+    let (mailbox, pass) = Mailbox::ruled(alloc, room as usize)?;
+    let mailbox = Arc::new(alloc, mailbox)?;
+    let takers_mailbox = Arc::try_clone(&mailbox)?;
+    Ok((mailbox, takers_mailbox, pass))
 }
 
 /// Tells the first pass of a mailbox whose it is, and makes the receiver's.

@@ -2,7 +2,9 @@
 use Rattle.std.proofs.Common.{◌≡◌, ℕ, ◌+◌, ◌*◌, ◌<◌, ◌≤◌, List, [], ◌∷◌, length, sum, slice_index, slice_index_or, suc, arith, ap, ◌∙◌}
 use Rattle.std.proofs.lemmas.List.{get_or_default}
 use Rattle.std.specs.List.{All}
-use Rattle.std.proofs.lemmas.List.Sums.{sum_by-cons}
+use Rattle.std.proofs.Math.Nat.{mul-le-mul_left}
+use Rattle.std.proofs.lemmas.List.Sums.{get_or-le-sum_by, sum_by-cons}
+use Rattle.mrp_qty.specs.declared.quantity.TheConstants.{MOST}
 use Rattle.mrp_lot.specs.One.{PlanRows}
 use Rattle.mrp_lot.proofs.RangeLaws.{sum_by-range-suc}
 use Rattle.mrp_net.specs.Edges.{edge_need, part}
@@ -36,6 +38,17 @@ sum-le_each (b ∷ before) (a ∷ after) (r ∷ row) per size same each =
     let here : a ≤ b + per * r = each 0 (omega arith) in
     let rest = sum-le_each before after row per (omega arith) (omega arith) (λ t h. each (suc t) (omega arith)) in
     omega (arith, here, rest, sum_by-cons (λ (x : ℕ). x) b before, sum_by-cons (λ (x : ℕ). x) a after, ap (λ (x : ℕ). per * x) (sum_by-cons (λ (x : ℕ). x) r row))
+
+-- what is within the bound in all is within it in each period
+pub within_each : (gross row : List ℕ) (per t : ℕ) → length row ≡ length gross → sum gross + per * sum row ≤ MOST → t < length gross
+    → slice_index gross t + per * slice_index row t ≤ MOST
+within_each gross row per t size within here =
+    omega (
+      arith,
+      within,
+      get_or-le-sum_by (λ (x : ℕ). x) gross t 0 here,
+      mul-le-mul_left per (get_or-le-sum_by (λ (x : ℕ). x) row t 0 (omega (arith, size, here))),
+    )
 
 -- an element that was read is the rows of its pair
 pub rows_at_read : (table : List PlanRows) (x : ℕ) (rows : PlanRows) → x < length table → rows ≡ slice_index_or table x rows → rows ≡ rows_at table x

@@ -59,7 +59,8 @@ fn explode_part(edge: &Edge, release: &Row, gross: &mut Row)
         slice_index gross.new t ≡ slice_index gross.old t + edge_need edge.now (slice_index release.now t) }
     ensures size { length gross.new ≡ length gross.old }
 {
-    for (t, released) in release.as_slice().iter().enumerate() {
+    for t in 0..release.len() {
+        let released = release.get(t);
         let quantity = released.get();
         if quantity != 0 {
             gross.add(t, Qty::of(edge.per * part_of(edge, quantity)));

@@ -42,3 +42,6 @@ returns-clause-name g c =
 
 pub returns-clause-sent : goal.returns-clause-sent
 returns-clause-sent g c = ap (λ (v : LaneView). v.sent) c.in_default.ensures.sent ∙ ap (λ (e : End). e.list ++ c.args.entry ∷ []) c.self.view_is
+
+pub returns-in-Err-clause-sent : goal.returns-in-Err-clause-sent
+returns-in-Err-clause-sent g c = tt

@@ -43,3 +43,6 @@ returns-clause-name g c =
 
 pub returns-clause-taken : goal.returns-clause-taken
 returns-clause-taken g c = ap (λ (v : LaneView). v.taken) c.in_ok-entry.ensures.taken.0 ∙ ap (λ (e : End). e.list ++ c.in_ok-entry.entry ∷ []) c.self.view_is
+
+pub returns-clause-none : goal.returns-clause-none
+returns-clause-none g c = tt
