@@ -41,3 +41,12 @@ loop-row-preserved g c =
     c.saturating_add.ensures ∙ ap (λ (z : ℕ). min (get_or c.loop-row.amounts at 0 + z) (2 ^ 64 - 1)) c.amount.ensures in
     AddsAmounts-more key second amount c.args.width c.args.rows.now c.args.amounts.now c.loop-row.amounts i r at c.saturating_add.result
     c.loop-row-test.true c.row-item.is c.loop-row.invariant is small c.loop-row.auto.amounts new
+
+pub offset_bounds-amounts-at : goal.offset_bounds-amounts-at
+offset_bounds-amounts-at g c = record { fits = omega (arith, lies_at g c, c.loop-row.auto.amounts) }
+
+pub bounds-amounts-at-in-loop-row : goal.bounds-amounts-at-in-loop-row
+bounds-amounts-at-in-loop-row g c = omega (arith, lies_at g (goal.at.bounds-amounts-at-in-loop-row g c).After-key-in-loop-row, c.loop-row.auto.amounts)
+
+pub offset_bounds-amounts-at-in-loop-row : goal.offset_bounds-amounts-at-in-loop-row
+offset_bounds-amounts-at-in-loop-row g c = record { fits = omega (arith, lies_at g (goal.at.offset_bounds-amounts-at-in-loop-row g c).After-key-in-loop-row, c.loop-row.auto.amounts) }
