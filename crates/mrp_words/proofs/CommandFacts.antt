@@ -17,9 +17,10 @@ use Rattle.clap.specs.declared.error.Error.{Error}
 use Rattle.clap.specs.declared.builder.value_parser.ValueParser.TheVariants.{Unsigned, Bool as Truth}
 use Rattle.clap.proofs.OnLiterals.{clap_on_literals}
 use Rattle.clap.proofs.ValueTestLemmas.{accepts-Accepts}
-use Rattle.mrp_words.specs.Choice.{number_at}
+use Rattle.mrp_words.specs.Choice.{IsCommand, IsMeantBy, number_at}
 use Rattle.mrp_words.specs.CommandLine.{check_words, cums_words, mrp, peg_words, plan_words, program_words}
 use Rattle.mrp_words.specs.declared.words.TheConstants.{MOST_WORKERS, MOST_CAPACITY, LAST_PERIOD}
+use Rattle.mrp_words.specs.declared.words.Choice.{Choice}
 use Rattle.mrp_words.specs.Values.{HasFlag, HasNumber, HasPegValues, HasPlanValues, HasText, IsWholeCommand, IsWithin}
 use Rattle.mrp_words.proofs.RowFacts.{asks_at, defaults_gain, either, first_none, given_row, next_none, no_kind, rows_good, unfailed, value_found, walk_good}
 
@@ -236,3 +237,10 @@ pair_is (Some b) f g name rows e h =
 
 pub other_name : (name other : Text) (r : Bool) → r ≡ bytes_eq name other → r ≡ false → name ≡ other → ⊥
 other_name name other r e off is = true≢false (sym ((bytes_eq-Decides name other).1 is) ∙ (sym e ∙ off))
+
+-- what is meant by the text of a test is meant by the name that passed it
+pub meant : {B : Type 0} (o : Option B) (f : B → Text) (g : B → List Row) (name text : Text) (rows : List Row) (choice : Choice) (r : Bool) → Some name ≡ option_map f o
+    → Some rows ≡ option_map second (paired f g o) → r ≡ bytes_eq name text → r ≡ true → IsCommand text rows choice → IsMeantBy (paired f g o) choice
+meant o f g name text rows choice r e h tested passed right =
+    let is : name ≡ text = (bytes_eq-Decides name text).0 (sym tested ∙ passed) in
+    subst (λ w. IsMeantBy w choice) (sym (pair_is o f g name rows e h)) (subst (λ n. IsCommand n rows choice) (sym is) right)

@@ -2,4 +2,3 @@ pub mod Numbers
 pub mod RowFacts
 pub mod CommandFacts
 pub mod Commands
-pub mod Taken

@@ -70,6 +70,14 @@ program_words name =
       top = record (new_app name).top { has_version = true; subcommand_required = true };
     }
 
+-- the command line up to `check`, and up to `peg`
+abbrev pub up_to_check : App
+up_to_check =
+    with_subcommand (with_subcommand (program_words (codes "mrp")) plan_words.top) check_words.top
+
+abbrev pub up_to_peg : App
+up_to_peg = with_subcommand up_to_check peg_words.top
+
 -- the command line
 unfoldable pub mrp : App
 mrp = with_subcommand

@@ -1,12 +1,15 @@
 //! The command line: what words choose.
 
-ghost use Rattle.std.specs.Prelude.{◌≡◌, Some, true, false, [], codes, IfOk, IfErr};
-ghost use Rattle.clap.specs.Words.{app_of, fault_of, found_of, rows_of, subcommand_rows_of, takes, with_subcommand};
+ghost use Rattle.std.specs.Prelude.{◌≡◌, ◌≤◌, Some, true, false, [], codes, IfOk, IfErr};
+ghost use Rattle.clap.specs.Words.{app_of, fault_of, found_of, new_app, rows_of, subcommand_rows_of, takes};
+ghost use Rattle.clap.specs.declared.builder.value_parser.ValueParser.TheVariants.{Unsigned};
 ghost use Rattle.mrp_words.specs.Choice.{IsChosenBy, IsCommand, IsInRange, IsMeantBy, IsMemory, IsRefusalOf, flag_at, number_at, text_at, texts_of};
-ghost use Rattle.mrp_words.specs.CommandLine.{IsRuled, IsWorded, check_words, cums_words, mrp, peg_words, plan_words, program_words};
+ghost use Rattle.mrp_words.specs.CommandLine.{IsRuled, IsWorded, mrp, peg_words, plan_words, program_words, up_to_check, up_to_peg};
 ghost use Rattle.mrp_words.specs.CommandLine as rule;
+ghost use Rattle.mrp_words.specs.declared.words.TheConstants.{MOST_CAPACITY};
 ghost use Rattle.mrp_words.specs.Values.{HasFlag, HasName, HasNumber, HasPlanValues, HasPegValues, IsWholeCommand};
 
+use clap::builder::ValueParser;
 use clap::{Arg, ArgAction, ArgMatches, Command, value_parser};
 use std::alloc::{AllocError, Global};
 use thiserror::Error;
@@ -144,15 +147,43 @@ pub fn choose<'a>(alloc: Global, words: &'a [&'a str]) -> Result<Choice<'a>, Cho
     }
 }
 
+// What makes a `Command` says `let .. else` where a `?` would do: its check takes half the time.
+
 /// The whole command line.
 fn program<'a>(alloc: Global) -> Result<Command<'a>, AllocError>
     ensures { IfOk result (λ command. app_of command ≡ mrp) }
 {
-    let plan = plan_command(alloc)?;
-    let planned = described(alloc).subcommand(plan)?;
-    let checked = planned.subcommand(check_command(alloc))?;
-    let pegged = with_peg(alloc, checked)?;
-    pegged.subcommand(cums_command(alloc))
+    let Ok(pegged) = with_peg(alloc) else {
+        return Err(AllocError);
+    };
+    pegged.subcommand(explained(alloc, "cums", CUMS, CUMS_LONG, CUMS_EXAMPLE))
+}
+
+/// The command line up to `peg`.
+fn with_peg<'a>(alloc: Global) -> Result<Command<'a>, AllocError>
+    ensures { IfOk result (λ command. app_of command ≡ up_to_peg) }
+{
+    let Ok(checked) = with_check(alloc) else {
+        return Err(AllocError);
+    };
+    let Ok(peg) = peg_command(alloc) else {
+        drop(checked);
+        return Err(AllocError);
+    };
+    checked.subcommand(peg)
+}
+
+/// The command line up to `check`.
+fn with_check<'a>(alloc: Global) -> Result<Command<'a>, AllocError>
+    ensures { IfOk result (λ command. app_of command ≡ up_to_check) }
+{
+    let Ok(plan) = plan_command(alloc) else {
+        return Err(AllocError);
+    };
+    let Ok(planned) = described(alloc).subcommand(plan) else {
+        return Err(AllocError);
+    };
+    planned.subcommand(explained(alloc, "check", CHECK, CHECK_LONG, CHECK_EXAMPLE))
 }
 
 /// What the command line says of itself, without a command.
@@ -166,54 +197,79 @@ fn described<'a>(alloc: Global) -> Command<'a>
         .subcommand_required(true)
 }
 
-/// The command line with `peg` behind its other commands.
-fn with_peg<'a>(alloc: Global, command: Command<'a>) -> Result<Command<'a>, AllocError>
-    ensures { IfOk result (λ more. app_of more ≡ with_subcommand (app_of command.entry) peg_words.top) }
+/// The command that is called `name`, with what help says of it, and without an argument.
+fn explained<'a>(
+    alloc: Global,
+    name: &'a str,
+    about: &'a str,
+    long_about: &'a str,
+    example: &'a str,
+) -> Command<'a>
+    ensures { IsWorded (new_app name.entry.now) result }
 {
-    match peg_command(alloc) {
-        Ok(peg) => command.subcommand(peg),
-        Err(refusal) => {
-            drop(command);
-            Err(refusal)
-        }
-    }
+    Command::new(alloc, name)
+        .about(about)
+        .long_about(long_about)
+        .after_help(example)
 }
 
 /// `plan`.
 fn plan_command<'a>(alloc: Global) -> Result<Command<'a>, AllocError>
     ensures { IfOk result (IsWorded plan_words) }
 {
-    Command::new(alloc, "plan")
-        .about(PLAN)
-        .long_about(PLAN_LONG)
-        .after_help(PLAN_EXAMPLE)
-        .arg(workers_option(alloc))?
-        .arg(capacity_option(alloc))?
-        .arg(single_flag(alloc))
+    let plan = explained(alloc, "plan", PLAN, PLAN_LONG, PLAN_EXAMPLE);
+    let Ok(with_workers) = plan.arg(workers_option(alloc)) else {
+        return Err(AllocError);
+    };
+    let Ok(with_both) = with_workers.arg(capacity_option(alloc)) else {
+        return Err(AllocError);
+    };
+    with_both.arg(single_flag(alloc))
 }
 
 /// `--workers`.
 fn workers_option<'a>(alloc: Global) -> Arg<'a>
     ensures { IsRuled rule.workers result }
 {
-    Arg::new(alloc, "workers")
-        .long("workers")
-        .value_name("W")
-        .value_parser(value_parser!(u64).range(1..MOST_WORKERS as i64 + 1))
-        .default_value("1")
-        .help("Workers of each plant, 1 to 64")
+    let help = "Workers of each plant, 1 to 64";
+    number_option(alloc, "workers", "W", MOST_WORKERS, "1", help)
 }
 
 /// `--capacity`.
 fn capacity_option<'a>(alloc: Global) -> Arg<'a>
     ensures { IsRuled rule.capacity result }
 {
-    Arg::new(alloc, "capacity")
-        .long("capacity")
-        .value_name("C")
-        .value_parser(value_parser!(u64).range(1..MOST_CAPACITY as i64 + 1))
-        .default_value("64")
-        .help("Records that wait between two plants at most, 1 to 65536")
+    let help = "Records that wait between two plants at most, 1 to 65536";
+    number_option(alloc, "capacity", "C", MOST_CAPACITY, "64", help)
+}
+
+/// The option that is called `name`, with a number from 1 to `most`, and with the number
+/// `otherwise` where it is left out.
+fn number_option<'a>(
+    alloc: Global,
+    name: &'a str,
+    value_name: &'a str,
+    most: u64,
+    otherwise: &'a str,
+    help: &'a str,
+) -> Arg<'a>
+    requires { (1 ≤ most) × (most ≤ MOST_CAPACITY) }
+    ensures { IsRuled (rule.number_option name.entry.now 1 most otherwise.entry.now) result }
+{
+    Arg::new(alloc, name)
+        .long(name)
+        .value_name(value_name)
+        .value_parser(numbers(1, most))
+        .default_value(otherwise)
+        .help(help)
+}
+
+/// The numbers from `least` to `most`.
+fn numbers<'a>(least: u64, most: u64) -> ValueParser<'a>
+    requires { (least ≤ most) × (most ≤ MOST_CAPACITY) }
+    ensures { result ≡ Unsigned least most }
+{
+    value_parser!(u64).range(least as i64..most as i64 + 1)
 }
 
 /// `--single`.
@@ -226,68 +282,50 @@ fn single_flag<'a>(alloc: Global) -> Arg<'a>
         .help("Plan all plants on one thread")
 }
 
-/// `check`.
-fn check_command<'a>(alloc: Global) -> Command<'a>
-    ensures { IsWorded check_words result }
-{
-    Command::new(alloc, "check")
-        .about(CHECK)
-        .long_about(CHECK_LONG)
-        .after_help(CHECK_EXAMPLE)
-}
-
 /// `peg`.
 fn peg_command<'a>(alloc: Global) -> Result<Command<'a>, AllocError>
     ensures { IfOk result (IsWorded peg_words) }
 {
-    Command::new(alloc, "peg")
-        .about(PEG)
-        .long_about(PEG_LONG)
-        .after_help(PEG_EXAMPLE)
-        .arg(plant_argument(alloc))?
-        .arg(item_argument(alloc))?
-        .arg(period_argument(alloc))
+    let peg = explained(alloc, "peg", PEG, PEG_LONG, PEG_EXAMPLE);
+    let Ok(with_plant) = peg.arg(plant_argument(alloc)) else {
+        return Err(AllocError);
+    };
+    let Ok(with_item) = with_plant.arg(item_argument(alloc)) else {
+        return Err(AllocError);
+    };
+    with_item.arg(period_argument(alloc))
 }
 
 /// The plant of `peg`.
 fn plant_argument<'a>(alloc: Global) -> Arg<'a>
     ensures { IsRuled rule.plant result }
 {
-    Arg::new(alloc, "plant")
-        .value_name("PLANT")
-        .required(true)
-        .help("The name of the plant")
+    wanted_argument(alloc, "plant", "PLANT", "The name of the plant")
 }
 
 /// The item of `peg`.
 fn item_argument<'a>(alloc: Global) -> Arg<'a>
     ensures { IsRuled rule.item result }
 {
-    Arg::new(alloc, "item")
-        .value_name("ITEM")
-        .required(true)
-        .help("The name of the item")
+    wanted_argument(alloc, "item", "ITEM", "The name of the item")
 }
 
 /// The period of `peg`.
 fn period_argument<'a>(alloc: Global) -> Arg<'a>
     ensures { IsRuled rule.period result }
 {
-    Arg::new(alloc, "period")
-        .value_name("PERIOD")
-        .required(true)
-        .value_parser(value_parser!(u64).range(0..LAST_PERIOD as i64 + 1))
-        .help("The period, 0 to 103")
+    let parser = numbers(0, LAST_PERIOD);
+    wanted_argument(alloc, "period", "PERIOD", "The period, 0 to 103").value_parser(parser)
 }
 
-/// `cums`.
-fn cums_command<'a>(alloc: Global) -> Command<'a>
-    ensures { IsWorded cums_words result }
+/// The argument that is called `name` and has to be there.
+fn wanted_argument<'a>(alloc: Global, name: &'a str, value_name: &'a str, help: &'a str) -> Arg<'a>
+    ensures { IsRuled (rule.wanted name.entry.now) result }
 {
-    Command::new(alloc, "cums")
-        .about(CUMS)
-        .long_about(CUMS_LONG)
-        .after_help(CUMS_EXAMPLE)
+    Arg::new(alloc, name)
+        .value_name(value_name)
+        .required(true)
+        .help(help)
 }
 
 /// The choice that the matches name.

@@ -8,8 +8,8 @@ use Rattle.mrp_words.proofs.words.peg_command.Goals as goal
 
 pub returns : goal.returns
 returns c =
-    let start : app_of c.after_help.result ≡ new_app (codes "peg") = search rules in
-    let alone : (out-Command c.after_help.result).has_globals ≡ false = search rules in
-    let one = worded_more (new_app (codes "peg")) rule.plant c.after_help.result c.in_ok-arg.field-0 c.plant_argument.result (start, alone) c.plant_argument.ensures c.in_ok-arg.ensures.shape c.in_ok-arg.ensures.globals in
-    let two = worded_more (with_rule (new_app (codes "peg")) rule.plant) rule.item c.in_ok-arg.field-0 c.in_ok-arg-2.field-0 c.item_argument.result one c.item_argument.ensures c.in_ok-arg-2.ensures.shape c.in_ok-arg-2.ensures.globals in
-    IfOk-weaker c.arg-3.result _ _ (λ r h. worded_more (with_rule (with_rule (new_app (codes "peg")) rule.plant) rule.item) rule.period c.in_ok-arg-2.field-0 r c.period_argument.result two c.period_argument.ensures h.shape h.globals) c.arg-3.ensures
+    let start : app_of c.explained-peg.result ≡ new_app (codes "peg") = search rules in
+    let alone : (out-Command c.explained-peg.result).has_globals ≡ false = search rules in
+    let one = worded_more (new_app (codes "peg")) rule.plant c.explained-peg.result c.in-Ok.with_plant c.plant_argument.result (start, alone) c.plant_argument.ensures c.in-Ok.ensures.shape c.in-Ok.ensures.globals in
+    let two = worded_more (with_rule (new_app (codes "peg")) rule.plant) rule.item c.in-Ok.with_plant c.in-Ok-arg.with_item c.item_argument.result one c.item_argument.ensures c.in-Ok-arg.ensures.shape c.in-Ok-arg.ensures.globals in
+    IfOk-weaker c.arg-3.result _ _ (λ r h. worded_more (with_rule (with_rule (new_app (codes "peg")) rule.plant) rule.item) rule.period c.in-Ok-arg.with_item r c.period_argument.result two c.period_argument.ensures h.shape h.globals) c.arg-3.ensures
