@@ -34,7 +34,7 @@ place_near names name known near distinct within at same =
     subst (λ (n : List ℕ). position (bytes_eq n) names ≡ Some near) is
     (position_is (bytes_eq known) names near known within
     (λ k lt.
-        nat_list_eq_equiv.symm known (get_or names k known) ∙ ap (bytes_eq (get_or names k known)) at ∙ apart_from_distinct bytes_eq names k near known distinct lt within)
+    nat_list_eq_equiv.symm known (get_or names k known) ∙ ap (bytes_eq (get_or names k known)) at ∙ apart_from_distinct bytes_eq names k near known distinct lt within)
     (ap (bytes_eq known) here ∙ nat_list_eq_equiv.refl known))
 
 -- the names after one more
