@@ -1,5 +1,5 @@
 -- What a demand or a receipt row makes, from what the steps of its reading answer.
-use Rattle.std.proofs.Common.{◌≡◌, ℕ, ◌+◌, ◌<◌, ◌≤◌, nat_lt, true, false, List, length, map, Ok, Err, refl, sym, ap, subst, ◌∙◌, arith}
+use Rattle.std.proofs.Common.{◌≡◌, ℕ, ◌+◌, ◌<◌, ◌≤◌, nat_lt, true, false, List, length, Ok, Err, refl, sym, ap, subst, ◌∙◌, arith}
 use Rattle.std.proofs.lemmas.Bool.Decides.{nat_tests}
 use Rattle.mrp_rows.specs.declared.numbers.PairNo.{PairNo}
 use Rattle.mrp_rows.specs.declared.numbers.PlantNo.{PlantNo}
@@ -7,12 +7,11 @@ use Rattle.mrp_rows.specs.declared.rows.DemandRow.{DemandRow}
 use Rattle.mrp_rows.specs.declared.rows.ReceiptRow.{ReceiptRow}
 use Rattle.mrp_rows.specs.declared.rows.TheConstants.{MOST_OF_A_KIND}
 use Rattle.mrp_rows.specs.Table.{horizon, IsRead, Table}
-use Rattle.mrp_rows.specs.Turns.{row_count}
 use Rattle.mrp_tables.specs.declared.draft.Draft.{Draft}
 use Rattle.mrp_tables.specs.declared.fault.TableFaultKind.{TableFaultKind}
 use Rattle.mrp_tables.specs.declared.fault.TableFaultKind.TheVariants as fault
 use Rattle.mrp_tables.specs.Grammar.{amount_of, amount_terms, AmountTerms, known_pair}
-use Rattle.mrp_tables.specs.Lists.{AddsRow, bill_key_of, cum_key_of, Fits, HoldsRows, reset_key_of}
+use Rattle.mrp_tables.specs.Lists.{AddsRow, HoldsRows}
 
 module _ {A : Type 0} (N : Table) (row : List (List ℕ)) (count : ℕ) (made : PairNo → ℕ → ℕ → A) (periods : ℕ) (same : periods ≡ horizon N) where
   pub amount_unspelled : (e : TableFaultKind) → Err e ≡ amount_terms row periods → Err e ≡ amount_of N row (nat_lt count MOST_OF_A_KIND) made
