@@ -1,5 +1,5 @@
 -- A table that is written out is read as it.
-use Rattle.std.proofs.Common.{◌≡◌, ◌≤◌, ◌<◌, ◌^◌, ℕ, ◌*◌, ◌↔◌, true, false, ltb, List, [], ◌∷◌, ◌++◌, codes, length, Some, Ok, refl, ap, sym, ◌∙◌, subst, arith}
+use Rattle.std.proofs.Common.{◌≡◌, ◌≤◌, ◌<◌, ◌^◌, ℕ, ◌↔◌, true, false, ltb, List, [], ◌∷◌, ◌++◌, codes, length, Some, Ok, refl, ap, sym, ◌∙◌, subst, arith}
 use Rattle.std.specs.List.{list_all, list_any}
 use Rattle.std.specs.Str.{bytes_eq, is_utf8}
 use Rattle.csv.specs.Records.{field_at}

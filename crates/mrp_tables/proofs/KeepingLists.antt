@@ -1,18 +1,16 @@
 -- Lists with elements more: what is distinct, ordered, found or kept.
 use Rattle.std.proofs.Common.{◌≡◌, ◌≤◌, ◌<◌, ℕ, get_or, ◌+◌, ◌-◌, Bool, true, false, List, [], ◌∷◌, ◌++◌, length, position, slice_get, Option, None, Some, refl, ap, sym, ◌∙◌, ⊎_elim, arith}
-use Rattle.std.specs.List.{All, IsDistinct, list_any, filter}
+use Rattle.std.specs.List.{All, list_any, filter}
 use Rattle.std.specs.List.Sorted.{IsNonDecreasingBy}
 use Rattle.std.specs.Str.{bytes_eq}
 use Rattle.std.proofs.lemmas.Bool.{cases_lt}
 use Rattle.std.proofs.lemmas.Bool.Decides.{same_from_decides, Decides-like}
 use Rattle.std.proofs.lemmas.List.{length-append, get_or_append_left, get_or-append_right, get_or_at, length_push}
 use Rattle.std.proofs.lemmas.List.Elements.{All-append, All-head, All-tail, All-weaker}
-use Rattle.std.proofs.lemmas.List.Folds.{list_any_at, list_any_none}
 use Rattle.std.proofs.lemmas.List.Quantifiers.{position-Some}
 use Rattle.std.proofs.lemmas.Option.{slice_get-get_or}
 use Rattle.std.proofs.lemmas.Slice.Eq.{bytes_eq-Decides}
-use Rattle.mrp_spell.proofs.Lists.{distinct_push}
-use Rattle.mrp_rows.proofs.Keys.{All-from_position, any-from_no_position, any-from_position, position_is}
+use Rattle.mrp_rows.proofs.Keys.{All-from_position, any-from_no_position, position_is}
 
 -- ---- names
 

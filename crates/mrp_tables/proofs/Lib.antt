@@ -1,4 +1,5 @@
 pub mod Accept
+pub mod AmountRows
 pub mod Finding
 pub mod First
 pub mod Keys
