@@ -1,5 +1,4 @@
 pub mod Accept
-pub mod AmountRows
 pub mod Finding
 pub mod First
 pub mod Keys
