@@ -1,5 +1,4 @@
-//! Worked cases of quantities, dates, lots, networks and plans, and of texts: of tables, records, reports and the
-//! command line.
+//! Worked cases of calls that no command makes: what fits, and records as text, booked and written again.
 #![tactic(auto)]
 
 #[cfg(test)]

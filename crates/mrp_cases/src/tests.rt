@@ -1,13 +1,6 @@
-//! Each call once on a case that was worked by hand, from quantities to plans and the texts of records.
+//! Calls that no command makes, each on cases that were worked by hand: what fits, and the texts of records.
 
-mod commands;
-mod dates;
-mod lane_reports;
-mod limits;
-mod lots;
-mod plans;
-mod quantities;
-mod reading;
+mod fitting;
 mod record_faults;
 mod records;
 

@@ -1,11 +1,11 @@
 //! The text functions at their edges.
 
 mod endings;
-mod limits;
+mod gates;
 mod memory;
-mod random;
+mod outcomes;
+mod reports;
 mod streams;
-mod threads;
 
 use std::process::Abort;
 

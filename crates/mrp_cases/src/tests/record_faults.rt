@@ -25,13 +25,13 @@ fn is_refused<R: Read + Drop>(
 }
 
 /// Whether each text is refused at that row for that fault.
-fn are_refused(alloc: Global, rows: &[(&str, u64, RecordFaultKind)]) -> bool {
+fn are_refused(alloc: Global, rows: &[(&[u8], u64, RecordFaultKind)]) -> bool {
     let Some(network) = network_of(alloc, TWO_PLANTS) else {
         return false;
     };
     let mut all = true;
     for (text, row, kind) in rows {
-        all = is_refused(alloc, &network, text.as_bytes(), *row, *kind) && all;
+        all = is_refused(alloc, &network, *text, *row, *kind) && all;
     }
     drop(network);
     all
@@ -39,44 +39,29 @@ fn are_refused(alloc: Global, rows: &[(&str, u64, RecordFaultKind)]) -> bool {
 
 #[test]
 fn damaged_rows(rt: HostRuntime) {
-    let rows = [
-        ("close,3", 1, RecordFaultKind::FieldCount),
+    let rows: [(&[u8], u64, RecordFaultKind); 12] = [
+        (b"close,3", 1, RecordFaultKind::FieldCount),
         (
-            "line,1,X,2,8,108\nclose,3\n",
+            b"line,1,X,2,8,108\nclose,3\n",
             2,
             RecordFaultKind::FieldCount,
         ),
-        ("close,3,,,1,\n", 1, RecordFaultKind::FieldCount),
-        ("reset,1,X,100,0,\n", 1, RecordFaultKind::FieldCount),
-        ("clos,3,,,,\n", 1, RecordFaultKind::UnknownKind),
-        ("Line,01,X,2,8,108\n", 1, RecordFaultKind::UnknownKind),
-        ("line,01,X,2,8,108\n", 1, RecordFaultKind::BadNumber),
-        ("line,1,Q,2,8,10 8\n", 1, RecordFaultKind::BadNumber),
+        (b"close,3,,,1,\n", 1, RecordFaultKind::FieldCount),
+        (b"reset,1,X,100,0,\n", 1, RecordFaultKind::FieldCount),
+        (b"clos,3,,,,\n", 1, RecordFaultKind::UnknownKind),
+        (b"Line,01,X,2,8,108\n", 1, RecordFaultKind::UnknownKind),
+        (b"line,01,X,2,8,108\n", 1, RecordFaultKind::BadNumber),
+        (b"line,1,Q,2,8,10 8\n", 1, RecordFaultKind::BadNumber),
         (
-            "line,1,X,2,8,12345678901234567\n",
+            b"line,1,X,2,8,12345678901234567\n",
             1,
             RecordFaultKind::BadNumber,
         ),
-        ("line,1,Q,2,8,108\n", 1, RecordFaultKind::UnknownItem),
-        ("end,1,a name,0,0,\n", 1, RecordFaultKind::UnknownItem),
+        (b"line,1,Q,2,8,108\n", 1, RecordFaultKind::UnknownItem),
+        (b"end,1,a name,0,0,\n", 1, RecordFaultKind::UnknownItem),
+        (b"line,1,\xff,2,8,108\n", 1, RecordFaultKind::NotUtf8),
     ];
     assert!(rt; are_refused(rt.alloc(), &rows));
-}
-
-/// Whether a row that isn't UTF-8 is refused for that.
-fn no_text_is_refused(alloc: Global) -> bool {
-    let Some(network) = network_of(alloc, TWO_PLANTS) else {
-        return false;
-    };
-    let row: &[u8] = b"line,1,\xff,2,8,108\n";
-    let is_so = is_refused(alloc, &network, row, 1, RecordFaultKind::NotUtf8);
-    drop(network);
-    is_so
-}
-
-#[test]
-fn a_row_that_is_no_text(rt: HostRuntime) {
-    assert!(rt; no_text_is_refused(rt.alloc()));
 }
 
 /// A reader of a text, seven bytes a call, which counts its calls and whose call number `fails` fails. Asked

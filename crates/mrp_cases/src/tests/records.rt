@@ -15,14 +15,48 @@ use std::alloc::Global;
 /// What B has sent to A of the firm.
 pub(super) const DESPATCHES: &str = "line,1,X,2,8,108\nend,2,X,1,108,\nclose,3,,,,\n";
 
-/// The book of a lane of X over four periods.
-fn book_of(alloc: Global, kind: LaneKind, opening: u64, reset: Option<u64>) -> Option<Book> {
+/// The items of a lane: one, by its number, with its opening figure and the period from which its figures
+/// start anew; or X and W of the ring.
+#[derive(Clone, Copy)]
+enum Items {
+    One(usize, u64, Option<u64>),
+    XAndW,
+}
+
+/// A lane of a table's network, over so many periods.
+#[derive(Clone, Copy)]
+struct Lane {
+    table: &'static str,
+    kind: LaneKind,
+    periods: u64,
+    items: Items,
+}
+
+/// A lane, what its book answers to the records of each text, and the figures that its first item then has: in
+/// force, and with the closed years.
+///
+/// Where the answer to a text is `None` each of its records is taken. A text that ends with a line's end is
+/// written again as it was read.
+type Case = (Lane, &'static [Answered], (u64, u64));
+
+/// A text of records, and the fault that each of them is refused for, or `None` where it is taken.
+type Answered = (&'static str, Option<BookFault>);
+
+/// The book of a lane of one item.
+fn book_of_one(
+    alloc: Global,
+    kind: LaneKind,
+    horizon: Horizon,
+    item: usize,
+    opening: u64,
+    reset: Option<u64>,
+) -> Option<Book> {
     let item = BookItem {
-        item: ItemNo(0),
+        item: ItemNo(item),
         opening: Qty::new(opening)?,
         reset,
     };
-    Book::new(alloc, kind, Horizon::new(4)?, &[item]).ok()
+    Book::new(alloc, kind, horizon, &[item]).ok()
 }
 
 /// An item as a book of the ring is given it.
@@ -37,199 +71,31 @@ fn opened(number: usize) -> BookItem
 }
 
 /// The book of a lane of the ring that carries X and W.
-fn book_of_two(alloc: Global, kind: LaneKind) -> Option<Book> {
-    Book::new(alloc, kind, Horizon::new(1)?, &[opened(0), opened(2)]).ok()
+fn book_of_two(alloc: Global, kind: LaneKind, horizon: Horizon) -> Option<Book> {
+    Book::new(alloc, kind, horizon, &[opened(0), opened(2)]).ok()
 }
 
-/// The book of a lane of the ring that carries Y.
-fn book_of_one(alloc: Global, kind: LaneKind) -> Option<Book> {
-    Book::new(alloc, kind, Horizon::new(1)?, &[opened(1)]).ok()
-}
-
-/// Whether a book gives a record that answer: `None` where it takes the record.
-fn is_answered(book: &mut Book, record: &Record, wanted: Option<BookFault>) -> bool {
-    book.book(record).err() == wanted
-}
-
-/// Whether a book gives records those answers, one after the other.
-fn are_answered(book: &mut Book, records: &[Record], wanted: &[Option<BookFault>]) -> bool {
-    let mut all = records.len() == wanted.len();
-    for (record, answer) in records.iter().zip(wanted) {
-        all = is_answered(book, record, *answer) && all;
-    }
-    all
-}
-
-/// Whether a book gives the records of a text those answers.
-fn is_text_answered(
-    alloc: Global,
-    network: &Network,
-    book: &mut Book,
-    text: &str,
-    wanted: &[Option<BookFault>],
-) -> bool {
-    match read_records(alloc, network, text.as_bytes()) {
-        Ok(records) => are_answered(book, &records, wanted),
-        Err(_) => false,
+/// The book of a lane.
+fn book_of(alloc: Global, lane: Lane) -> Option<Book> {
+    let horizon = Horizon::new(lane.periods)?;
+    match lane.items {
+        Items::One(item, opening, reset) => {
+            book_of_one(alloc, lane.kind, horizon, item, opening, reset)
+        }
+        Items::XAndW => book_of_two(alloc, lane.kind, horizon),
     }
 }
 
-/// Whether a book gives the record of each text that answer, one after the other.
-fn are_texts_answered(
-    alloc: Global,
-    network: &Network,
-    book: &mut Book,
-    rows: &[(&str, Option<BookFault>)],
-) -> bool {
-    let mut all = true;
-    for (text, wanted) in rows {
-        all = is_text_answered(alloc, network, book, text, &[*wanted]) && all;
-    }
-    all
-}
-
-/// Whether a new book of despatches of X gives the record of each text that answer.
-fn new_book_answers(
-    alloc: Global,
-    network: &Network,
-    opening: u64,
-    reset: Option<u64>,
-    rows: &[(&str, Option<BookFault>)],
-) -> bool {
-    match book_of(alloc, LaneKind::Despatch, opening, reset) {
-        Some(mut book) => are_texts_answered(alloc, network, &mut book, rows),
-        None => false,
-    }
-}
-
-/// Whether the book of B's despatches gives the record of each text that answer.
-fn despatches_are_answered(
-    alloc: Global,
-    opening: u64,
-    reset: Option<u64>,
-    rows: &[(&str, Option<BookFault>)],
-) -> bool {
-    let Some(network) = network_of(alloc, TWO_PLANTS) else {
-        return false;
-    };
-    let is_so = new_book_answers(alloc, &network, opening, reset, rows);
-    drop(network);
-    is_so
-}
-
-#[test]
-fn a_record_is_booked_once_and_in_turn(rt: HostRuntime) {
-    let rows = [
-        ("line,1,X,2,8,108", None),
-        ("end,2,X,1,108,", None),
-        ("end,2,X,1,108,", Some(BookFault::Repeated)),
-        ("close,4,,,,", Some(BookFault::Gap)),
-        ("close,3,,,,", None),
-        ("close,4,,,,", Some(BookFault::AfterClose)),
-        ("close,3,,,,", Some(BookFault::Repeated)),
-    ];
-    assert!(rt; despatches_are_answered(rt.alloc(), 100, None, &rows));
-}
-
-#[test]
-fn a_refused_record_changes_nothing(rt: HostRuntime) {
-    let rows = [
-        ("line,1,X,2,8,109", Some(BookFault::CumWrong)),
-        ("close,1,,,,", Some(BookFault::CloseEarly)),
-        ("line,1,X,2,8,108", None),
-        ("end,2,X,0,108,", Some(BookFault::EndWrong)),
-        ("line,2,X,4,1,109", Some(BookFault::PeriodWrong)),
-        ("line,2,X,3,0,108", Some(BookFault::QuantityZero)),
-        ("line,2,X,3,1,109", None),
-    ];
-    assert!(rt; despatches_are_answered(rt.alloc(), 100, None, &rows));
-}
-
-#[test]
-fn the_greatest_figure(rt: HostRuntime) {
-    let rows = [
-        ("line,1,X,0,1,1000000000000000", None),
-        ("line,2,X,0,1,1000000000000001", Some(BookFault::TooLarge)),
-        ("line,2,X,0,1,1000000000000002", Some(BookFault::CumWrong)),
-    ];
-    assert!(rt; despatches_are_answered(rt.alloc(), 999_999_999_999_999, None, &rows));
-}
-
-#[test]
-fn figures_that_start_anew(rt: HostRuntime) {
-    let rows = [
-        ("line,1,X,2,8,108", Some(BookFault::ResetWrong)),
-        ("reset,1,X,99,,", Some(BookFault::ResetWrong)),
-        ("reset,1,X,100,,", None),
-        ("line,2,X,2,8,108", Some(BookFault::CumWrong)),
-        ("line,2,X,1,8,8", Some(BookFault::ResetWrong)),
-        ("line,2,X,2,8,8", None),
-        ("reset,3,X,8,,", Some(BookFault::ResetWrong)),
-        ("end,3,X,1,8,", None),
-    ];
-    assert!(rt; despatches_are_answered(rt.alloc(), 100, Some(2), &rows));
-}
-
-/// Whether a book has those two figures of X.
-fn has_figures(book: &Book, in_force: u64, cumulative: u64) -> bool {
-    book.in_force(ItemNo(0)) == Qty::new(in_force)
-        && book.cumulative(ItemNo(0)) == Qty::new(cumulative)
-}
-
-/// Whether a book takes the record of each text, and then has those two figures.
-fn figures_follow(
-    alloc: Global,
-    network: &Network,
-    book: &mut Book,
-    rows: &[(&str, u64, u64)],
-) -> bool {
-    let mut all = true;
-    for (text, in_force, cumulative) in rows {
-        let taken = is_text_answered(alloc, network, book, text, &[None]);
-        all = taken && has_figures(book, *in_force, *cumulative) && all;
-    }
-    all
-}
-
-/// Whether a new book of despatches of X, which start anew in period 2, has those two figures after the
-/// record of each text.
-fn new_book_has_figures(alloc: Global, network: &Network, rows: &[(&str, u64, u64)]) -> bool {
-    match book_of(alloc, LaneKind::Despatch, 100, Some(2)) {
-        Some(mut book) => figures_follow(alloc, network, &mut book, rows),
-        None => false,
-    }
-}
-
-/// The same of B's despatches.
-fn despatches_have_figures(alloc: Global, rows: &[(&str, u64, u64)]) -> bool {
-    let Some(network) = network_of(alloc, TWO_PLANTS) else {
-        return false;
-    };
-    let is_so = new_book_has_figures(alloc, &network, rows);
-    drop(network);
-    is_so
-}
-
-#[test]
-fn the_figure_in_force_and_the_cumulative_one(rt: HostRuntime) {
-    let rows = [
-        ("reset,1,X,100,,", 0, 100),
-        ("line,2,X,2,8,8", 8, 108),
-        ("end,3,X,1,8,", 8, 108),
-    ];
-    assert!(rt; despatches_have_figures(rt.alloc(), &rows));
-}
-
-/// Whether a book takes all records and is closed by them.
-fn is_closed_by(book: &mut Book, records: &[Record]) -> bool {
+/// Whether a book gives each of the records that answer.
+fn are_answered(book: &mut Book, records: &[Record], wanted: Option<BookFault>) -> bool {
     let mut all = true;
     for record in records {
-        all = book.book(record).is_ok() && all;
+        all = book.book(record).err() == wanted && all;
     }
-    all && book.closed()
+    all
 }
 
-/// Whether that text is written of records.
+/// Whether a text that ends with a line's end is written of these records.
 fn is_written(alloc: Global, network: &Network, records: &[Record], text: &str) -> bool
     requires { All (HasRow network.now) records.now }
 {
@@ -238,280 +104,322 @@ fn is_written(alloc: Global, network: &Network, records: &[Record], text: &str) 
     for record in records {
         all = write_record(network, record, &mut written).is_ok() && all;
     }
-    all && written.as_slice() == text.as_bytes()
+    all && (!text.ends_with('\n') || written.as_slice() == text.as_bytes())
 }
 
-/// Whether a book takes records and is closed by them, and that text is written of them.
-fn are_taken(
+/// Whether a book gives the records of a text that answer, and the text is written of them.
+fn is_answered(
     alloc: Global,
     network: &Network,
     book: &mut Book,
-    records: &[Record],
     text: &str,
-) -> bool
-    requires { All (HasRow network.now) records.now }
-{
-    is_closed_by(book, records) && is_written(alloc, network, records, text)
-}
-
-/// Whether a book takes each record of a text and is closed, and the same text is written of them.
-fn is_taken(alloc: Global, network: &Network, book: &mut Book, text: &str) -> bool {
+    wanted: Option<BookFault>,
+) -> bool {
     match read_records(alloc, network, text.as_bytes()) {
-        Ok(records) => are_taken(alloc, network, book, &records, text),
+        Ok(records) => {
+            are_answered(book, &records, wanted) && is_written(alloc, network, &records, text)
+        }
         Err(_) => false,
     }
 }
 
-/// A lane of X, a text of its records, and the figures that it ends with.
-#[derive(Drop)]
-struct LaneText<'t> {
-    kind: LaneKind,
-    opening: u64,
-    reset: Option<u64>,
-    text: &'t str,
-    in_force: u64,
-    cumulative: u64,
+/// Whether a book has these figures of an item: in force, and with the closed years.
+fn has_figures(book: &Book, item: ItemNo, (in_force, cumulative): (u64, u64)) -> bool {
+    book.in_force(item) == Qty::new(in_force) && book.cumulative(item) == Qty::new(cumulative)
 }
 
-/// Whether the text of a lane is taken and written again, and the book ends with its figures.
-fn is_lane_taken(alloc: Global, network: &Network, lane: &LaneText) -> bool {
-    match book_of(alloc, lane.kind, lane.opening, lane.reset) {
+/// The first item of a lane.
+fn first_item(lane: Lane) -> ItemNo {
+    match lane.items {
+        Items::One(item, _, _) => ItemNo(item),
+        Items::XAndW => ItemNo(0),
+    }
+}
+
+/// Whether a book gives the texts those answers.
+fn answers(alloc: Global, network: &Network, book: &mut Book, texts: &[Answered]) -> bool {
+    let mut all = true;
+    for (text, wanted) in texts {
+        all = is_answered(alloc, network, book, *text, *wanted) && all;
+    }
+    all
+}
+
+/// Whether a new book of the case's lane answers as it says, and then has its figures.
+fn new_book_answers(alloc: Global, network: &Network, (lane, texts, figures): Case) -> bool {
+    match book_of(alloc, lane) {
         Some(mut book) => {
-            is_taken(alloc, network, &mut book, lane.text)
-                && has_figures(&book, lane.in_force, lane.cumulative)
+            answers(alloc, network, &mut book, texts)
+                && has_figures(&book, first_item(lane), figures)
         }
         None => false,
     }
 }
 
-/// Whether the text of each lane of a table is taken and written again, and its book ends with its
-/// figures.
-fn lanes_are_taken(alloc: Global, table: &str, lanes: &[LaneText]) -> bool {
-    let Some(network) = network_of(alloc, table) else {
+/// The same in the network of its table.
+fn holds(alloc: Global, case: Case) -> bool {
+    let Some(network) = network_of(alloc, case.0.table) else {
         return false;
     };
-    let mut all = true;
-    for lane in lanes {
-        all = is_lane_taken(alloc, &network, lane) && all;
-    }
+    let is_so = new_book_answers(alloc, &network, case);
     drop(network);
-    all
+    is_so
 }
+
+/// Despatches of X to A, which open with 100.
+const TO_A: Lane = Lane {
+    table: TWO_PLANTS,
+    kind: LaneKind::Despatch,
+    periods: 4,
+    items: Items::One(0, 100, None),
+};
+
+/// The same where the figures start anew in period 2.
+const TO_A_ANEW: Lane = Lane {
+    table: TWO_PLANTS,
+    kind: LaneKind::Despatch,
+    periods: 4,
+    items: Items::One(0, 100, Some(2)),
+};
+
+/// Despatches of X to A, which open just below the greatest figure.
+const TO_A_AT_MOST: Lane = Lane {
+    table: TWO_PLANTS,
+    kind: LaneKind::Despatch,
+    periods: 4,
+    items: Items::One(0, 999_999_999_999_999, None),
+};
+
+/// Each record once, and in turn.
+const IN_TURN: Case = (
+    TO_A,
+    &[
+        ("line,1,X,2,8,108", None),
+        ("end,2,X,1,108,", None),
+        ("end,2,X,1,108,", Some(BookFault::Repeated)),
+        ("close,4,,,,", Some(BookFault::Gap)),
+        ("close,3,,,,", None),
+        ("close,4,,,,", Some(BookFault::AfterClose)),
+        ("close,3,,,,", Some(BookFault::Repeated)),
+    ],
+    (108, 108),
+);
+
+/// What is refused changes nothing.
+const REFUSED: Case = (
+    TO_A,
+    &[
+        ("line,1,X,2,8,10", Some(BookFault::CumWrong)),
+        ("line,1,X,2,8,109", Some(BookFault::CumWrong)),
+        ("close,1,,,,", Some(BookFault::CloseEarly)),
+        ("end,2,X,1,108,", Some(BookFault::Gap)),
+        ("\"line\",1,\"X\",2,8,108", None),
+        ("line,1,X,2,8,108", Some(BookFault::Repeated)),
+        ("end,2,X,0,108,", Some(BookFault::EndWrong)),
+        ("line,2,X,4,1,109", Some(BookFault::PeriodWrong)),
+        ("line,2,X,3,0,108", Some(BookFault::QuantityZero)),
+        ("line,2,X,3,1,109", None),
+        ("", None),
+    ],
+    (109, 109),
+);
+
+/// A reset in its turn.
+const RESET: Case = (
+    TO_A_ANEW,
+    &[
+        ("line,1,X,2,8,108", Some(BookFault::ResetWrong)),
+        ("reset,1,X,99,,", Some(BookFault::ResetWrong)),
+        ("reset,1,X,100,,", None),
+        ("line,2,X,2,8,108", Some(BookFault::CumWrong)),
+        ("line,2,X,1,8,8", Some(BookFault::ResetWrong)),
+        ("line,2,X,2,8,8", None),
+        ("reset,3,X,8,,", Some(BookFault::ResetWrong)),
+        ("end,3,X,1,8,", None),
+    ],
+    (8, 108),
+);
+
+/// After a reset alone no figure is in force.
+const RESET_ALONE: Case = (TO_A_ANEW, &[("reset,1,X,100,,", None)], (0, 100));
+
+/// A figure of 10^15, and none above it.
+const GREATEST: Case = (
+    TO_A_AT_MOST,
+    &[
+        ("line,1,X,0,1,1000000000000000", None),
+        ("line,2,X,0,1,1000000000000001", Some(BookFault::TooLarge)),
+        ("line,2,X,0,1,1000000000000002", Some(BookFault::CumWrong)),
+    ],
+    (1_000_000_000_000_000, 1_000_000_000_000_000),
+);
 
 #[test]
-fn texts_of_despatches(rt: HostRuntime) {
-    let lanes = [
-        LaneText {
-            kind: LaneKind::Despatch,
-            opening: 100,
-            reset: None,
-            text: DESPATCHES,
-            in_force: 108,
-            cumulative: 108,
-        },
-        LaneText {
-            kind: LaneKind::Despatch,
-            opening: 100,
-            reset: Some(2),
-            text: "reset,1,X,100,,\nline,2,X,2,8,8\nend,3,X,1,8,\nclose,4,,,,\n",
-            in_force: 8,
-            cumulative: 108,
-        },
-    ];
-    assert!(rt; lanes_are_taken(rt.alloc(), TWO_PLANTS, &lanes));
-}
-
-#[test]
-fn texts_of_schedules(rt: HostRuntime) {
-    let lanes = [
-        LaneText {
-            kind: LaneKind::Schedule,
-            opening: 108,
-            reset: None,
-            text: "line,1,X,1,22,130\nend,2,X,1,130,\nclose,3,,,,\n",
-            in_force: 130,
-            cumulative: 130,
-        },
-        LaneText {
-            kind: LaneKind::Schedule,
-            opening: 108,
-            reset: Some(2),
-            text: "line,1,X,1,22,130\nreset,2,X,130,,\nend,3,X,1,0,\nclose,4,,,,\n",
-            in_force: 0,
-            cumulative: 130,
-        },
-        LaneText {
-            kind: LaneKind::Schedule,
-            opening: 108,
-            reset: Some(1),
-            text: "reset,1,X,108,,\nline,2,X,1,22,22\nend,3,X,1,22,\nclose,4,,,,\n",
-            in_force: 22,
-            cumulative: 130,
-        },
-    ];
-    assert!(rt; lanes_are_taken(rt.alloc(), TWO_PLANTS, &lanes));
-}
-
-#[test]
-fn texts_of_two_suppliers(rt: HostRuntime) {
-    let lanes = [
-        LaneText {
-            kind: LaneKind::Despatch,
-            opening: 0,
-            reset: None,
-            text: "end,1,X,0,0,\nclose,2,,,,\n",
-            in_force: 0,
-            cumulative: 0,
-        },
-        LaneText {
-            kind: LaneKind::Schedule,
-            opening: 0,
-            reset: None,
-            text: "line,1,X,0,1,1\nend,2,X,1,1,\nclose,3,,,,\n",
-            in_force: 1,
-            cumulative: 1,
-        },
-        LaneText {
-            kind: LaneKind::Despatch,
-            opening: 0,
-            reset: None,
-            text: "line,1,X,0,5,5\nend,2,X,1,5,\nclose,3,,,,\n",
-            in_force: 5,
-            cumulative: 5,
-        },
-        LaneText {
-            kind: LaneKind::Schedule,
-            opening: 5,
-            reset: None,
-            text: "line,1,X,0,1,6\nend,2,X,1,6,\nclose,3,,,,\n",
-            in_force: 6,
-            cumulative: 6,
-        },
-    ];
-    assert!(rt; lanes_are_taken(rt.alloc(), SHARED_AFTER_SHIPMENT, &lanes));
-}
-
-/// Whether a text of a lane of the ring that carries Y is taken and written again.
-fn text_of_one_is_taken(alloc: Global, network: &Network, kind: LaneKind, text: &str) -> bool {
-    match book_of_one(alloc, kind) {
-        Some(mut book) => is_taken(alloc, network, &mut book, text),
-        None => false,
+fn books_answer_to_records(rt: HostRuntime) {
+    for case in [IN_TURN, REFUSED, RESET, RESET_ALONE, GREATEST] {
+        assert!(rt; holds(rt.alloc(), case));
     }
 }
 
-/// Whether a text of a lane of the ring that carries X and W is taken and written again.
-fn text_of_two_is_taken(alloc: Global, network: &Network, kind: LaneKind, text: &str) -> bool {
-    match book_of_two(alloc, kind) {
-        Some(mut book) => is_taken(alloc, network, &mut book, text),
-        None => false,
-    }
-}
+/// Schedules of X to B, which open with 108.
+const TO_B: Lane = Lane {
+    table: TWO_PLANTS,
+    kind: LaneKind::Schedule,
+    periods: 4,
+    items: Items::One(0, 108, None),
+};
 
-/// Whether each text of a lane of the ring that carries Y is taken and written again.
-fn texts_of_one_are_taken(alloc: Global, texts: &[(LaneKind, &str)]) -> bool {
-    let Some(network) = network_of(alloc, RING) else {
-        return false;
-    };
-    let mut all = true;
-    for (kind, text) in texts {
-        all = text_of_one_is_taken(alloc, &network, *kind, text) && all;
-    }
-    drop(network);
-    all
-}
+/// The same where the figures start anew in period 2.
+const TO_B_ANEW: Lane = Lane {
+    table: TWO_PLANTS,
+    kind: LaneKind::Schedule,
+    periods: 4,
+    items: Items::One(0, 108, Some(2)),
+};
 
-/// Whether each text of a lane of the ring that carries X and W is taken and written again.
-fn texts_of_two_are_taken(alloc: Global, texts: &[(LaneKind, &str)]) -> bool {
-    let Some(network) = network_of(alloc, RING) else {
-        return false;
-    };
-    let mut all = true;
-    for (kind, text) in texts {
-        all = text_of_two_is_taken(alloc, &network, *kind, text) && all;
-    }
-    drop(network);
-    all
-}
+/// The same where they start anew in the period of the release.
+const TO_B_AT_ONCE: Lane = Lane {
+    table: TWO_PLANTS,
+    kind: LaneKind::Schedule,
+    periods: 4,
+    items: Items::One(0, 108, Some(1)),
+};
 
-#[test]
-fn texts_of_one_item(rt: HostRuntime) {
-    let texts = [
-        (LaneKind::Despatch, "end,1,Y,0,0,\nclose,2,,,,\n"),
-        (
-            LaneKind::Schedule,
-            "line,1,Y,0,10,10\nend,2,Y,1,10,\nclose,3,,,,\n",
-        ),
-    ];
-    assert!(rt; texts_of_one_are_taken(rt.alloc(), &texts));
-}
+/// Despatches to the customer of two suppliers.
+const TO_SHARED: Lane = Lane {
+    table: SHARED_AFTER_SHIPMENT,
+    kind: LaneKind::Despatch,
+    periods: 1,
+    items: Items::One(0, 0, None),
+};
 
-#[test]
-fn texts_of_two_items(rt: HostRuntime) {
-    let texts = [
-        (
-            LaneKind::Despatch,
-            "end,1,X,0,0,\nend,2,W,0,0,\nclose,3,,,,\n",
-        ),
-        (
-            LaneKind::Despatch,
-            "end,1,W,0,0,\nend,2,X,0,0,\nclose,3,,,,\n",
-        ),
-        (
-            LaneKind::Schedule,
+/// Schedules to its suppliers.
+const FROM_SHARED: Lane = Lane {
+    table: SHARED_AFTER_SHIPMENT,
+    kind: LaneKind::Schedule,
+    periods: 1,
+    items: Items::One(0, 0, None),
+};
+
+/// Schedules to the one that has shipped five.
+const FROM_SHARED_AFTER: Lane = Lane {
+    table: SHARED_AFTER_SHIPMENT,
+    kind: LaneKind::Schedule,
+    periods: 1,
+    items: Items::One(0, 5, None),
+};
+
+/// The ring's lanes of Y.
+const OF_Y: Lane = Lane {
+    table: RING,
+    kind: LaneKind::Despatch,
+    periods: 1,
+    items: Items::One(1, 0, None),
+};
+
+/// The same, as schedules.
+const FOR_Y: Lane = Lane {
+    table: RING,
+    kind: LaneKind::Schedule,
+    periods: 1,
+    items: Items::One(1, 0, None),
+};
+
+/// The ring's lanes of X and W.
+const OF_X_AND_W: Lane = Lane {
+    table: RING,
+    kind: LaneKind::Despatch,
+    periods: 1,
+    items: Items::XAndW,
+};
+
+/// The same, as schedules.
+const FOR_X_AND_W: Lane = Lane {
+    table: RING,
+    kind: LaneKind::Schedule,
+    periods: 1,
+    items: Items::XAndW,
+};
+
+/// The whole texts of lanes; where two items have no lines their blocks come in either order.
+const WHOLE: [Case; 14] = [
+    (TO_A, &[(DESPATCHES, None)], (108, 108)),
+    (
+        TO_A_ANEW,
+        &[(
+            "reset,1,X,100,,\nline,2,X,2,8,8\nend,3,X,1,8,\nclose,4,,,,\n",
+            None,
+        )],
+        (8, 108),
+    ),
+    (
+        TO_B,
+        &[("line,1,X,1,22,130\nend,2,X,1,130,\nclose,3,,,,\n", None)],
+        (130, 130),
+    ),
+    (
+        TO_B_ANEW,
+        &[(
+            "line,1,X,1,22,130\nreset,2,X,130,,\nend,3,X,1,0,\nclose,4,,,,\n",
+            None,
+        )],
+        (0, 130),
+    ),
+    (
+        TO_B_AT_ONCE,
+        &[(
+            "reset,1,X,108,,\nline,2,X,1,22,22\nend,3,X,1,22,\nclose,4,,,,\n",
+            None,
+        )],
+        (22, 130),
+    ),
+    (TO_SHARED, &[("end,1,X,0,0,\nclose,2,,,,\n", None)], (0, 0)),
+    (
+        FROM_SHARED,
+        &[("line,1,X,0,1,1\nend,2,X,1,1,\nclose,3,,,,\n", None)],
+        (1, 1),
+    ),
+    (
+        TO_SHARED,
+        &[("line,1,X,0,5,5\nend,2,X,1,5,\nclose,3,,,,\n", None)],
+        (5, 5),
+    ),
+    (
+        FROM_SHARED_AFTER,
+        &[("line,1,X,0,1,6\nend,2,X,1,6,\nclose,3,,,,\n", None)],
+        (6, 6),
+    ),
+    (OF_Y, &[("end,1,Y,0,0,\nclose,2,,,,\n", None)], (0, 0)),
+    (
+        FOR_Y,
+        &[("line,1,Y,0,10,10\nend,2,Y,1,10,\nclose,3,,,,\n", None)],
+        (10, 10),
+    ),
+    (
+        OF_X_AND_W,
+        &[("end,1,X,0,0,\nend,2,W,0,0,\nclose,3,,,,\n", None)],
+        (0, 0),
+    ),
+    (
+        OF_X_AND_W,
+        &[("end,1,W,0,0,\nend,2,X,0,0,\nclose,3,,,,\n", None)],
+        (0, 0),
+    ),
+    (
+        FOR_X_AND_W,
+        &[(
             "line,1,X,0,5,5\nend,2,X,1,5,\nline,3,W,0,30,30\nend,4,W,1,30,\nclose,5,,,,\n",
-        ),
-    ];
-    assert!(rt; texts_of_two_are_taken(rt.alloc(), &texts));
-}
-
-/// Whether a new book of B's despatches gives the records of a text those answers.
-fn is_newly_answered(
-    alloc: Global,
-    network: &Network,
-    text: &str,
-    wanted: &[Option<BookFault>],
-) -> bool {
-    match book_of(alloc, LaneKind::Despatch, 100, None) {
-        Some(mut book) => is_text_answered(alloc, network, &mut book, text, wanted),
-        None => false,
-    }
-}
-
-/// Whether a new book of B's despatches gives the records of each text those answers.
-fn are_newly_answered(alloc: Global, rows: &[(&str, &[Option<BookFault>])]) -> bool {
-    let Some(network) = network_of(alloc, TWO_PLANTS) else {
-        return false;
-    };
-    let mut all = true;
-    for (text, wanted) in rows {
-        all = is_newly_answered(alloc, &network, text, wanted) && all;
-    }
-    drop(network);
-    all
-}
+            None,
+        )],
+        (5, 5),
+    ),
+];
 
 #[test]
-fn damaged_texts_of_good_rows(rt: HostRuntime) {
-    let repeated = "line,1,X,2,8,108\nline,1,X,2,8,108\nend,2,X,1,108,\nclose,3,,,,\n";
-    let rows: [(&str, &[Option<BookFault>]); 7] = [
-        (repeated, &[None, Some(BookFault::Repeated), None, None]),
-        (
-            "end,2,X,1,108,\nclose,3,,,,\n",
-            &[Some(BookFault::Gap), Some(BookFault::Gap)],
-        ),
-        (
-            "line,1,X,2,8,108\nclose,3,,,,\nend,2,X,1,108,\n",
-            &[None, Some(BookFault::Gap), None],
-        ),
-        ("line,1,X,2,8,10", &[Some(BookFault::CumWrong)]),
-        ("line,1,X,2,8,108", &[None]),
-        ("", &[]),
-        (
-            "\"line\",1,\"X\",2,8,108\r\nend,2,X,1,108,\r\n",
-            &[None, None],
-        ),
-    ];
-    assert!(rt; are_newly_answered(rt.alloc(), &rows));
+fn whole_texts_are_booked_and_written_again(rt: HostRuntime) {
+    for case in WHOLE {
+        assert!(rt; holds(rt.alloc(), case));
+    }
 }
 
 /// Whether a book takes so many lines of one piece each.
@@ -530,7 +438,7 @@ fn takes_lines(book: &mut Book, count: u64) -> bool {
     all
 }
 
-/// Whether a book takes the item end and the closing record after a million lines.
+/// Whether a book takes the item end and the closing record after a million lines, and is closed.
 fn takes_the_end(book: &mut Book) -> bool {
     let end = Record::ItemEnd {
         number: 1_000_001,
@@ -538,16 +446,16 @@ fn takes_the_end(book: &mut Book) -> bool {
         lines: 1_000_000,
         cumulative: 1_000_000,
     };
-    is_closed_by(book, &[end, Record::Close { number: 1_000_002 }])
+    are_answered(book, &[end, Record::Close { number: 1_000_002 }], None) && book.closed()
 }
 
-/// Whether a book takes a million lines, and what comes after them.
+/// Whether a new book takes a million lines, and what comes after them.
 fn takes_a_million_lines(alloc: Global) -> bool {
-    match book_of(alloc, LaneKind::Despatch, 0, None) {
+    match book_of(alloc, TO_SHARED) {
         Some(mut book) => {
             takes_lines(&mut book, 1_000_000)
                 && takes_the_end(&mut book)
-                && has_figures(&book, 1_000_000, 1_000_000)
+                && has_figures(&book, ItemNo(0), (1_000_000, 1_000_000))
         }
         None => false,
     }

@@ -1,8 +1,9 @@
 //! Texts where memory is refused: what is written is the right text, or a front of it.
 
+use super::reports::{TWO_PLANTS_CUMS, TWO_PLANTS_PLAN};
 use mrp_tables::TableFaultKind;
 use mrp_text::{TextFault, cums_text, drive_text};
-use mrp_text_cases::tables::{FIRM_OF_TWO, FIRM_OF_TWO_CUMS, FIRM_OF_TWO_PLAN};
+use mrp_worked::TWO_PLANTS;
 use std::alloc::Global;
 use std::test::Fail;
 
@@ -24,15 +25,15 @@ fn is_written_or_refused(answer: &Result<(), TextFault>, written: &[u8], text: &
 /// Whether the plan is written, or memory was refused.
 fn plans_or_is_refused(alloc: Global) -> Result<bool, Fail> {
     let mut plan = Vec::with_capacity(alloc, ROOM)?;
-    let answer = drive_text(alloc, FIRM_OF_TWO.as_bytes(), &mut plan, 2);
-    Ok(is_written_or_refused(&answer, plan.as_slice(), FIRM_OF_TWO_PLAN))
+    let answer = drive_text(alloc, TWO_PLANTS.as_bytes(), &mut plan, 2);
+    Ok(is_written_or_refused(&answer, plan.as_slice(), TWO_PLANTS_PLAN))
 }
 
 /// Whether the figures are written, or memory was refused.
 fn figures_or_is_refused(alloc: Global) -> Result<bool, Fail> {
     let mut figures = Vec::with_capacity(alloc, ROOM)?;
-    let answer = cums_text(alloc, FIRM_OF_TWO.as_bytes(), &mut figures);
-    Ok(is_written_or_refused(&answer, figures.as_slice(), FIRM_OF_TWO_CUMS))
+    let answer = cums_text(alloc, TWO_PLANTS.as_bytes(), &mut figures);
+    Ok(is_written_or_refused(&answer, figures.as_slice(), TWO_PLANTS_CUMS))
 }
 
 /// With an allocation refused its assertion holds, or the room of the writer is refused.

@@ -2,15 +2,13 @@
 
 ghost use Rattle.mrp_words.specs.Choice.{IsInRange};
 
+use super::outcomes::outcome;
+use super::reports::{BICYCLE_PLAN, TWO_PLANTS_CUMS};
 use super::is_report;
 use mrp_tables::TableFaultKind;
-use mrp_text::{
-    NoGate, Settings, TextFault, answer, check_text, cums_text, drive_text, peg_text, plan_text,
-    status,
-};
-use mrp_text_cases::outcome;
-use mrp_text_cases::tables::{BICYCLE, BICYCLE_PLAN, FIRM_OF_TWO, FIRM_OF_TWO_CUMS};
+use mrp_text::{TextFault, answer, check_text, drive_text, status};
 use mrp_words::Choice;
+use mrp_worked::{BICYCLE, TWO_PLANTS};
 use std::alloc::{AllocError, Global};
 use std::io;
 use std::io::{ErrorKind, Read, Write};
@@ -145,73 +143,6 @@ fn is_so_at<R: Abort>(rt: &R, is_so: bool, call: usize) {
     assert!(rt; is_so, "at call {call}");
 }
 
-/// Whether a plan tells the failed read.
-fn plan_tells(alloc: Global, fails: usize) -> bool {
-    let mut written = Vec::new(alloc);
-    let answer = drive_text(alloc, failing(fails), &mut written, 64);
-    tells_the_read(&answer, written.as_slice(), fails)
-}
-
-#[test]
-fn a_reader_that_fails(rt: HostRuntime) {
-    for fails in 0..22usize {
-        is_so_at(&rt, plan_tells(rt.alloc(), fails), fails);
-    }
-}
-
-/// Whether a plan by threads tells the failed read.
-fn threads_tell<T: Threads + Wait + Sync>(rt: &T, alloc: Global, fails: usize) -> bool {
-    let Some(settings) = Settings::new(1, 64) else {
-        return false;
-    };
-    let mut written = Vec::new(alloc);
-    let answer = plan_text(rt, alloc, failing(fails), &mut written, settings, &NoGate);
-    tells_the_read(&answer, written.as_slice(), fails)
-}
-
-#[test]
-fn a_reader_that_fails_before_threads(rt: HostRuntime) {
-    for fails in 0..22usize {
-        is_so_at(&rt, threads_tell(&rt, rt.alloc(), fails), fails);
-    }
-}
-
-/// Whether the codes tell the failed read.
-fn codes_tell(alloc: Global, fails: usize) -> bool {
-    let mut written = Vec::new(alloc);
-    let answer = check_text(alloc, failing(fails), &mut written);
-    tells_the_read(&answer, written.as_slice(), fails)
-}
-
-/// Whether the terms of a requirement tell the failed read.
-fn pegs_tell(alloc: Global, fails: usize) -> bool {
-    let mut written = Vec::new(alloc);
-    let answer = peg_text(alloc, failing(fails), &mut written, "P1", "WHEEL", 2);
-    tells_the_read(&answer, written.as_slice(), fails)
-}
-
-#[test]
-fn a_reader_that_fails_before_codes_and_pegs(rt: HostRuntime) {
-    for fails in 0..22usize {
-        is_so_at(&rt, codes_tell(rt.alloc(), fails), fails);
-        is_so_at(&rt, pegs_tell(rt.alloc(), fails), fails);
-    }
-}
-
-/// Whether the figures tell the failed read.
-fn figures_tell(alloc: Global, fails: usize) -> bool {
-    let mut written = Vec::new(alloc);
-    let answer = cums_text(alloc, failing(fails), &mut written);
-    tells_the_read(&answer, written.as_slice(), fails)
-}
-
-#[test]
-fn a_reader_that_fails_before_figures(rt: HostRuntime) {
-    for fails in 0..22usize {
-        is_so_at(&rt, figures_tell(rt.alloc(), fails), fails);
-    }
-}
-
 /// Whether the choice tells the failed read.
 fn choice_tells<T: Threads + Wait + Sync>(
     rt: &T,
@@ -270,21 +201,6 @@ fn ended_in_front(answer: &Result<(), TextFault>, sink: &Sink, text: &[u8]) -> b
     matches!(answer, Err(TextFault::WriteFault)) && sink.taken.as_slice() == front
 }
 
-/// Whether the plan ends so.
-fn plan_ends(alloc: Global, ends: usize, takes_nothing: bool) -> bool {
-    let mut sink = ending(alloc, ends, takes_nothing);
-    let answer = drive_text(alloc, BICYCLE.as_bytes(), &mut sink, 64);
-    ended_in_front(&answer, &sink, BICYCLE_PLAN.as_bytes())
-}
-
-#[test]
-fn a_writer_that_ends(rt: HostRuntime) {
-    for ends in 0..30usize {
-        is_so_at(&rt, plan_ends(rt.alloc(), ends, false), ends);
-        is_so_at(&rt, plan_ends(rt.alloc(), ends, true), ends);
-    }
-}
-
 /// What that many writes take of the late plan: the plan rows are sent first, 64 bytes in seven
 /// writes, then the late row, 15 bytes in two.
 fn late_front(writes: usize) -> &'static [u8] {
@@ -311,43 +227,6 @@ fn late_plan_ends(alloc: Global, ends: usize) -> bool {
 fn a_writer_that_ends_in_the_late_rows(rt: HostRuntime) {
     for ends in 0..9usize {
         is_so_at(&rt, late_plan_ends(rt.alloc(), ends), ends);
-    }
-}
-
-/// Whether the codes end there.
-fn codes_end(alloc: Global, ends: usize) -> bool {
-    let mut sink = ending(alloc, ends, false);
-    let answer = check_text(alloc, BICYCLE.as_bytes(), &mut sink);
-    ended_in_front(&answer, &sink, b"code,P1,BIKE,0\ncode,P1,WHEEL,1\n")
-}
-
-/// Whether the terms of a requirement end there.
-fn pegs_end(alloc: Global, ends: usize) -> bool {
-    let mut sink = ending(alloc, ends, false);
-    let answer = peg_text(alloc, BICYCLE.as_bytes(), &mut sink, "P1", "WHEEL", 2);
-    ended_in_front(&answer, &sink, b"peg,bill,P1,BIKE,10,2,20\n")
-}
-
-#[test]
-fn a_writer_that_ends_in_codes_and_pegs(rt: HostRuntime) {
-    for ends in 0..3usize {
-        is_so_at(&rt, codes_end(rt.alloc(), ends), ends);
-        is_so_at(&rt, pegs_end(rt.alloc(), ends), ends);
-    }
-}
-
-/// Whether the figures end so.
-fn figures_end(alloc: Global, ends: usize, takes_nothing: bool) -> bool {
-    let mut sink = ending(alloc, ends, takes_nothing);
-    let answer = cums_text(alloc, FIRM_OF_TWO.as_bytes(), &mut sink);
-    ended_in_front(&answer, &sink, FIRM_OF_TWO_CUMS.as_bytes())
-}
-
-#[test]
-fn a_writer_that_ends_in_figures(rt: HostRuntime) {
-    for ends in 0..7usize {
-        is_so_at(&rt, figures_end(rt.alloc(), ends, false), ends);
-        is_so_at(&rt, figures_end(rt.alloc(), ends, true), ends);
     }
 }
 
@@ -417,28 +296,37 @@ const REPORTS: [Written; 5] = [
     },
     Written {
         asked: Asked::Figures,
-        table: FIRM_OF_TWO,
-        report: FIRM_OF_TWO_CUMS,
+        table: TWO_PLANTS,
+        report: TWO_PLANTS_CUMS,
     },
 ];
 
-/// Whether the choice ends there.
+/// Whether the choice ends there, or its report does before.
 fn choice_ends<T: Threads + Wait + Sync>(
     rt: &T,
     alloc: Global,
     written: &Written,
     ends: usize,
+    takes_nothing: bool,
 ) -> bool {
+    if ends.saturating_mul(10) >= written.report.len() {
+        return true;
+    }
     let choice = choice_of(written.asked);
-    let mut sink = ending(alloc, ends, false);
+    let mut sink = ending(alloc, ends, takes_nothing);
     let answer = answer(rt, alloc, choice, written.table.as_bytes(), &mut sink);
     ended_in_front(&answer, &sink, written.report.as_bytes())
 }
 
 /// Whether each choice does.
-fn choices_end<T: Threads + Wait + Sync>(rt: &T, alloc: Global, ends: usize) -> bool {
+fn choices_end<T: Threads + Wait + Sync>(
+    rt: &T,
+    alloc: Global,
+    ends: usize,
+    takes_nothing: bool,
+) -> bool {
     for written in &REPORTS {
-        if !choice_ends(rt, alloc, written, ends) {
+        if !choice_ends(rt, alloc, written, ends, takes_nothing) {
             return false;
         }
     }
@@ -447,25 +335,9 @@ fn choices_end<T: Threads + Wait + Sync>(rt: &T, alloc: Global, ends: usize) -> 
 
 #[test]
 fn a_writer_that_ends_in_each_choice(rt: HostRuntime) {
-    for ends in 0..3usize {
-        is_so_at(&rt, choices_end(&rt, rt.alloc(), ends), ends);
-    }
-}
-
-/// Whether a plan by threads ends there.
-fn threads_end<T: Threads + Wait + Sync>(rt: &T, alloc: Global, ends: usize) -> bool {
-    let Some(settings) = Settings::new(1, 64) else {
-        return false;
-    };
-    let mut sink = ending(alloc, ends, false);
-    let answer = plan_text(rt, alloc, BICYCLE.as_bytes(), &mut sink, settings, &NoGate);
-    ended_in_front(&answer, &sink, BICYCLE_PLAN.as_bytes())
-}
-
-#[test]
-fn a_writer_that_ends_in_a_plan_by_threads(rt: HostRuntime) {
     for ends in 0..30usize {
-        is_so_at(&rt, threads_end(&rt, rt.alloc(), ends), ends);
+        is_so_at(&rt, choices_end(&rt, rt.alloc(), ends, false), ends);
+        is_so_at(&rt, choices_end(&rt, rt.alloc(), ends, true), ends);
     }
 }
 

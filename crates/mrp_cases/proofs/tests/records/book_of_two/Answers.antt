@@ -11,7 +11,7 @@ two_apart a b other i j d lt within =
     let second : j ≡ 1 = omega arith in
     rw (first, second) other
 
-pub new-requires-2 : goal.new-requires-2
-new-requires-2 c = record {
+pub new-requires : goal.new-requires
+new-requires c = record {
   once = IsDistinct-from_apart _ _ (two_apart c.opened.result c.opened-2.result (rw (c.opened.ensures, c.opened-2.ensures) refl));
 }

@@ -1,33 +1,17 @@
-//! Plans of threads: the bytes that one thread writes, whatever the workers and the capacity.
+//! Gates of plans by threads: which plants and workers they are asked for, and what is answered where they are shut.
 
 use super::is_report;
-use mrp_text::{Gate, NoGate, Settings};
-use mrp_text_cases::tables::{
-    ANEW, BICYCLE, FIRM_OF_TWO, FIRM_OF_TWO_PLAN, RING, SPLIT, SUPPLIER, THREE_PLANTS,
-};
-use mrp_text_cases::{plan, threaded};
-use std::alloc::Global;
+use super::outcomes::outcome;
+use super::reports::TWO_PLANTS_PLAN;
+use mrp_text::{Gate, Settings, plan_text};
+use mrp_worked::TWO_PLANTS;
+use std::alloc::{AllocError, Global};
 use std::process::Abort;
 use std::sync::Wait;
 use std::sync::atomic::{AtomicBool, AtomicU64, Ordering};
 use std::test::Fail;
 use std::thread;
 use std::thread::Threads;
-
-/// What is planned by threads here: one plant, two to four of them, a ring, a split source, figures that
-/// start anew, a loop, and a row that is cut.
-const TABLES: [&str; 9] = [
-    BICYCLE,
-    FIRM_OF_TWO,
-    RING,
-    SUPPLIER,
-    THREE_PLANTS,
-    ANEW,
-    SPLIT,
-    "run,2026-01-05,7,1,,,,\nplant,A,,,,,,\nplant,B,,,,,,\npair,A,X,from:B,lot,0,0,0\n\
-pair,B,X,from:A,lot,0,0,0\n",
-    "run,2026-01-05,7,4,,,,\nplant,A\n",
-];
 
 /// With how many workers and records a mailbox gates are asked here.
 const SETTINGS: [(u64, u64); 6] = [(1, 1), (1, 65_536), (2, 1), (3, 64), (64, 1), (64, 65_536)];
@@ -37,8 +21,8 @@ const LOOKS: u64 = 1_000_000;
 
 /// Shut for the turns of the plant with this number.
 #[derive(Drop)]
-pub(super) struct ShutFor {
-    pub(super) plant: usize,
+struct ShutFor {
+    plant: usize,
 }
 
 impl Gate for ShutFor {
@@ -53,8 +37,8 @@ impl Gate for ShutFor {
 
 /// Shut for the workers of the plant with this number.
 #[derive(Drop)]
-pub(super) struct NoWorkersFor {
-    pub(super) plant: usize,
+struct NoWorkersFor {
+    plant: usize,
 }
 
 impl Gate for NoWorkersFor {
@@ -113,33 +97,17 @@ impl Gate for OneByOne {
     }
 }
 
-/// Whether threads write what one thread writes of a table.
-pub(super) fn writes_the_same<T: Threads + Wait + Sync>(
+/// What `mrp plan` writes for the table, or its fault.
+fn threaded<T: Threads + Wait + Sync, G: Gate>(
     rt: &T,
     alloc: Global,
     table: &str,
-    workers: u64,
-    capacity: u64,
-) -> Result<bool, Fail> {
-    let Some(settings) = Settings::new(workers, capacity) else {
-        return Ok(false);
-    };
-    let rows = threaded(rt, alloc, table, settings, &NoGate)?;
-    Ok(rows.as_str() == plan(alloc, table)?.as_str())
-}
-
-/// Whether that is so of each of the tables.
-fn all_are_the_same<T: Threads + Wait + Sync>(
-    rt: &T,
-    alloc: Global,
-    workers: u64,
-    capacity: u64,
-) -> Result<bool, Fail> {
-    let mut all = true;
-    for table in TABLES {
-        all = writes_the_same(rt, alloc, table, workers, capacity)? && all;
-    }
-    Ok(all)
+    settings: Settings,
+    gate: &G,
+) -> Result<String, AllocError> {
+    let mut written = Vec::new(alloc);
+    let answer = plan_text(rt, alloc, table.as_bytes(), &mut written, settings, gate);
+    outcome(alloc, written.as_slice(), &answer)
 }
 
 /// What is written of two plants with these settings under a gate.
@@ -152,28 +120,7 @@ fn gated<T: Threads + Wait + Sync, G: Gate>(
     let Some(settings) = Settings::new(workers, capacity) else {
         return Ok(String::new(alloc));
     };
-    Ok(threaded(rt, alloc, FIRM_OF_TWO, settings, gate)?)
-}
-
-#[test]
-fn a_worker_and_a_record(rt: HostRuntime) -> Result<(), Fail> {
-    assert!(rt; all_are_the_same(&rt, rt.alloc(), 1, 1)?);
-    assert!(rt; all_are_the_same(&rt, rt.alloc(), 1, 65_536)?);
-    Ok(())
-}
-
-#[test]
-fn two_workers(rt: HostRuntime) -> Result<(), Fail> {
-    assert!(rt; all_are_the_same(&rt, rt.alloc(), 2, 1)?);
-    assert!(rt; all_are_the_same(&rt, rt.alloc(), 2, 65_536)?);
-    Ok(())
-}
-
-#[test]
-fn all_workers(rt: HostRuntime) -> Result<(), Fail> {
-    assert!(rt; all_are_the_same(&rt, rt.alloc(), 64, 1)?);
-    assert!(rt; all_are_the_same(&rt, rt.alloc(), 64, 65_536)?);
-    Ok(())
+    Ok(threaded(rt, alloc, TWO_PLANTS, settings, gate)?)
 }
 
 /// Two gates that are each shut for one of two plants are named with that plant.
@@ -211,7 +158,7 @@ fn plants_take_their_turns_together(rt: HostRuntime) -> Result<(), Fail> {
             asked: [AtomicBool::new(false), AtomicBool::new(false)],
         };
         let written = gated(&rt, rt.alloc(), settings, &together)?;
-        is_report(&rt, written, FIRM_OF_TWO_PLAN);
+        is_report(&rt, written, TWO_PLANTS_PLAN);
     }
     Ok(())
 }
@@ -223,7 +170,53 @@ fn each_turn_is_asked_for_once(rt: HostRuntime) -> Result<(), Fail> {
             begun: [AtomicU64::new(0), AtomicU64::new(0)],
         };
         let written = gated(&rt, rt.alloc(), settings, &one_by_one)?;
-        is_report(&rt, written, FIRM_OF_TWO_PLAN);
+        is_report(&rt, written, TWO_PLANTS_PLAN);
+    }
+    Ok(())
+}
+
+/// The table of 64 plants that each buy an item.
+fn of_64_plants(alloc: Global) -> Result<String, AllocError> {
+    let mut plants = String::from_str(alloc, "run,2026-01-05,7,1,,,,\n")?;
+    let mut pairs = String::new(alloc);
+    for plant in 0..64u64 {
+        plants.push_str(format!(in alloc; "plant,P{plant},,,,,,\n")?.as_str())?;
+        pairs.push_str(format!(in alloc; "pair,P{plant},X,buy,lot,0,0,0\n")?.as_str())?;
+    }
+    plants.push_str(pairs.as_str())?;
+    Ok(plants)
+}
+
+/// Whether threads answer of the table that the gate is shut, and name the plant of that number.
+fn names_plant<T: Threads + Wait + Sync, G: Gate>(
+    rt: &T,
+    alloc: Global,
+    table: &str,
+    gate: &G,
+    plant: usize,
+) -> Result<bool, Fail> {
+    let Some(settings) = Settings::new(1, 64) else {
+        return Ok(false);
+    };
+    let written = threaded(rt, alloc, table, settings, gate)?;
+    let wanted = format!(in alloc; "3 mrp: GateShut P{plant}\n")?;
+    Ok(written.as_str() == wanted.as_str())
+}
+
+#[test]
+fn a_gate_is_asked_for_each_of_64_plants_by_its_number(rt: HostRuntime) -> Result<(), Fail> {
+    let table = of_64_plants(rt.alloc())?;
+    for plant in 0..64 {
+        let turns = names_plant(&rt, rt.alloc(), table.as_str(), &ShutFor { plant }, plant)?;
+        assert!(&rt; turns, "turns of plant {plant}");
+        let workers = names_plant(
+            &rt,
+            rt.alloc(),
+            table.as_str(),
+            &NoWorkersFor { plant },
+            plant,
+        )?;
+        assert!(&rt; workers, "workers of plant {plant}");
     }
     Ok(())
 }

@@ -1,4 +1,4 @@
-//! The plan of a bicycle: what fits, and what its requirements consist of.
+//! The plan of a bicycle, which is the only one that fits: no command asks what fits.
 
 ghost use Rattle.std.specs.Prelude.{◌≡◌, ◌≤◌, length};
 ghost use Rattle.mrp_lot.specs.declared.rule.TheConstants.{LONGEST_LEAD};
@@ -8,7 +8,7 @@ use mrp_loops::{SizedNet, bound, check};
 use mrp_lot::Rule;
 use mrp_net::{Network, PairNo};
 use mrp_netting::{PairParams, PairPlan, plan_pair};
-use mrp_plan::{PegSource, PegTerm, Plan, fits, peg, plan_all};
+use mrp_plan::{Plan, fits, plan_all};
 use mrp_qty::{Horizon, Qty, Row};
 use mrp_worked::BICYCLE;
 use std::alloc::Global;
@@ -64,27 +64,6 @@ fn is_the_only_plan(alloc: Global, net: &SizedNet) -> Result<bool, Fail> {
     )
 }
 
-/// Whether the one term is the bicycle's: ten of it ask for twenty.
-fn is_asked_by_the_bicycle(terms: &[PegTerm]) -> bool {
-    terms.len() == 1
-        && terms[0].source == PegSource::Bill
-        && terms[0].pair == PairNo(0)
-        && terms[0].release == 10
-        && terms[0].per == 2
-        && terms[0].quantity == 20
-}
-
-/// What the wheels' gross requirement in period 2 consists of.
-fn wheel_terms(alloc: Global, net: &SizedNet) -> Result<Vec<PegTerm>, Fail> {
-    let network = net.network();
-    if network.pairs() != 2 || network.horizon().get() != 4 {
-        return Err("no bicycle")?;
-    }
-    let plan = plan_all(alloc, net)?;
-    let terms = peg(alloc, net, &plan, PairNo(1), 2)?;
-    Ok(terms)
-}
-
 /// Whether the network has one plan only.
 fn has_one_plan(alloc: Global, network: &Network) -> Result<bool, Fail> {
     let levels = check(alloc, network)?;
@@ -103,27 +82,5 @@ fn a_bicycle_has_one_plan(alloc: Global) -> Result<bool, Fail> {
 #[test]
 fn a_plan_with_another_release_does_not_fit(rt: HostRuntime) -> Result<(), Fail> {
     assert!(rt; a_bicycle_has_one_plan(rt.alloc())?);
-    Ok(())
-}
-
-/// Whether the wheels of the network are asked for by its bicycle.
-fn are_asked_for_by_the_bicycle(alloc: Global, network: &Network) -> Result<bool, Fail> {
-    let levels = check(alloc, network)?;
-    let net = bound(alloc, network, &levels)?;
-    let terms = wheel_terms(alloc, &net)?;
-    Ok(is_asked_by_the_bicycle(terms.as_slice()))
-}
-
-/// Whether the bicycle asks for its wheels.
-fn a_bicycle_asks_for_wheels(alloc: Global) -> Result<bool, Fail> {
-    let network = network(alloc, BICYCLE)?;
-    let is_so = are_asked_for_by_the_bicycle(alloc, &network);
-    drop(network);
-    is_so
-}
-
-#[test]
-fn wheels_are_asked_for_by_the_bicycle(rt: HostRuntime) -> Result<(), Fail> {
-    assert!(rt; a_bicycle_asks_for_wheels(rt.alloc())?);
     Ok(())
 }

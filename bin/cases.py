@@ -1,0 +1,251 @@
+"""The cases of cases/, and tables that are made for a case: what the program answers to each, byte for byte."""
+import glob
+import itertools
+import os
+import re
+import subprocess
+
+TOP = os.path.dirname(os.path.dirname(os.path.realpath(__file__)))
+COMMANDS = ("check", "plan", "plan --single", "peg A X 0", "cums")
+# With how many workers a plant and records a mailbox a plan is made: the answer is the same.
+SETTINGS = ("", " --single", " --single --capacity 1", " --workers 1 --capacity 1", " --workers 1 --capacity 65536")
+SETTINGS += (" --workers 2 --capacity 1", " --workers 2 --capacity 65536", " --workers 64 --capacity 1", " --workers 64 --capacity 65536")
+# Rows before those that a case is about: A makes X and takes Y from B.
+HEAD = "run,2026-01-05,7,4,,,,\nplant,A,,,,,,\nplant,B,,,,,,\npair,A,X,make,lot,1,0,0\npair,A,Y,from:B,lot,1,0,0\npair,B,Y,buy,lot,0,0,0\n"
+
+
+class Different(AssertionError):
+    """The program answers something else than the case says."""
+
+
+def answer(program, words, table):
+    """Returns what the program writes, or the status and the line of its fault, behind a ! where something was written before it."""
+    table = table if isinstance(table, bytes) else table.encode()
+    done = subprocess.run([program, *words.split()], input=table, capture_output=True, timeout=300, check=False)
+    written, said = (it.decode(errors="replace") for it in (done.stdout, done.stderr))
+    if done.returncode == 0:
+        return written + said
+    return f"{'!' * bool(written)}{done.returncode} {said}"
+
+
+def expect(program, words, table, wanted):
+    """Has a command answer so; a plan with each setting."""
+    for more in SETTINGS if words == "plan" else ("",):
+        got = answer(program, words + more, table)
+        is_so = got[:2] not in ("1 ", "2 ", "3 ", "!1", "!3") if wanted == "accepted\n" else got == wanted
+        if not is_so:
+            raise Different(f"mrp {words}{more} of\n{str(table)[:2000]}\nanswers\n{got[:2000]}\nin place of\n{wanted[:2000]}")
+
+
+def refused(program, table, line, commands=COMMANDS):
+    """Has each command refuse a table with that line."""
+    for words in commands:
+        expect(program, words, table, f"1 mrp: {line}\n")
+
+
+def blocks(text):
+    """Returns title, table, and what follows it, of each case of a file."""
+    for block in re.split(r"^== ", text, flags=re.MULTILINE)[1:]:
+        title, _, rest = block.rstrip("\n").partition("\n")
+        rows = rest.split("\n") if rest else []
+        at = next((at for at, it in enumerate(rows) if it.startswith(("$ ", "! "))), len(rows))
+        yield title, "".join(f"{it}\n" for it in rows[:at]), rows[at:]
+
+
+def run_case(program, table, asks):
+    """Runs what a case asks: `$ mrp WORDS` and the lines of the answer below it, `! FAULT  ROW` for a row that is refused behind the table."""
+    if not asks:
+        raise Different("the case asks nothing")
+    at = 0
+    while at < len(asks):
+        mark, ask = asks[at][:2], asks[at][2:]
+        at += 1
+        if mark == "! ":
+            fault, _, row = ask.partition("  ")
+            refused(program, f"{table}{row}\n", f"row {table.count(chr(10)) + 1}: {fault}")
+            continue
+        end = next((it for it in range(at, len(asks)) if asks[it].startswith(("$ ", "! "))), len(asks))
+        expect(program, ask.removeprefix("mrp "), table, "".join(f"{it}\n" for it in asks[at:end]))
+        at = end
+
+
+def numbered(count, before, behind):
+    """Returns a row for each number below count."""
+    return "".join(f"{before}{it}{behind}\n" for it in range(count))
+
+
+def each_name_is_tested(program):
+    """A text that is no name, in each field that holds one; and names of 20 characters in each."""
+    around = ("pair,{},Z,buy,lot,0,0,0", "pair,A,{},buy,lot,0,0,0", "bill,{},X,Y,1,,,", "bill,A,{},Y,1,,,", "bill,A,X,{},1,,,")
+    around += ("demand,{},X,0,1,,,", "demand,A,{},0,1,,,", "receipt,{},X,0,1,,,", "receipt,A,{},0,1,,,")
+    around += ("ship,{},A,Y,0,1,,", "ship,B,{},Y,0,1,,", "ship,B,A,{},0,1,,", "cum,{},A,Y,1,,,", "cum,B,{},Y,1,,,", "cum,B,A,{},1,,,")
+    around += ("reset,{},A,Y,1,,,", "reset,B,{},Y,1,,,", "reset,B,A,{},1,,,")
+    for name in ("", "A/B", "A:B", "A B", "X!", "?", "@A", "A[", "A`B", "{A", '"A,B"', "Ü", "NAME-OF-21-CHARACTERS"):
+        refused(program, f"run,2026-01-05,7,4,,,,\nplant,{name},,,,,,\n", "row 2: BadName", ("check",))
+        for row in around:
+            refused(program, f"{HEAD}{row.replace('{}', name)}\n", "row 7: BadName", ("check",))
+    plants, items = ("Plant-of-20.letters1", "Plant-of-20.letters2"), ("ITEM_OF_MORE_LETTERS", "ITEM_OF_20_LETTERS.Z")
+    table = HEAD + "bill,A,X,Y,1,,,\ndemand,A,X,0,1,,,\nreceipt,A,X,0,1,,,\nship,B,A,Y,0,1,,\ncum,B,A,Y,1,,,\nreset,B,A,Y,1,,,\n"
+    for short, long in zip("ABXY", (*plants, *reversed(items))):
+        table = re.sub(rf"(?<=[,:]){short}(?=,)", long, table)
+    expect(program, "check", table, "accepted\n")
+
+
+def rules_have_the_least_and_the_greatest_numbers(program):
+    """What is ordered shows which rule was read."""
+    most = 10**12
+    for rule, order in (("lot", 5), ("fixed:1", 5), (f"fixed:{most}", most), ("periods:1", 5), ("periods:104", 8), ("min:1:1", 5)) + (
+        (f"min:1:{most}", most),
+        (f"min:{most}:1", most),
+    ):
+        table = f"run,2026-01-05,7,2,,,,\nplant,A,,,,,,\npair,A,X,buy,{rule},0,0,0\ndemand,A,X,0,5,,,\ndemand,A,X,1,3,,,\n"
+        first = answer(program, "plan", table).partition("\n")[0]
+        if first != f"plan,A,X,0,2026-01-05,5,0,{order},{order},{order - 5}":
+            raise Different(f"{rule} plans\n{first}")
+
+
+def rows_that_are_no_text(program):
+    """In the first row and in a later one."""
+    refused(program, b"run,2026-01-05,7,4,,,,\nplant,\xff,,,,,,\n", "row 2: NotUtf8")
+    refused(program, b"\xff,2026-01-05,7,4,,,,\n", "row 1: NotUtf8")
+
+
+def tables_of_other_programs(program):
+    """Lines as other systems end them, quoted fields, and a last line without an end."""
+    rows = "run,2026-01-05,7,1,,,,\nplant,A,,,,,,\npair,A,X,buy,lot,0,0,0\ndemand,A,X,0,3,,,\n"
+    quoted = 'run,2026-01-05,7,1,,,,\r\nplant,"A",,,,,"",\r\npair,A,"X",buy,lot,0,0,0\r\ndemand,A,X,0,"3",,,\r\n'
+    for table in (rows, rows.replace("\n", "\r\n"), quoted, rows.rstrip("\n")):
+        expect(program, "plan", table, "plan,A,X,0,2026-01-05,3,0,3,3,0\n")
+    refused(program, "run;2026-01-05;7;1;;;;\nplant;A;;;;;;\n", "row 1: FieldCount")
+    zeros = "run,2026-01-05,7,1,,,,\nplant,A,,,,,,\npair,A,007,buy,lot,0,0,0\ndemand,A,7,0,3,,,\n"
+    refused(program, zeros, "row 4: UnknownPair")
+
+
+def tables_cut_within_a_row(program):
+    """A firm of two plants, cut behind each of its characters that neither ends a row nor stands before the end of one."""
+    rows = "demand,A,X,2,30,,,\nship,B,A,X,2,8,,\ncum,B,A,X,100,,,\n"
+    firm = "run,2026-01-05,7,4,,,,\nplant,A,,,,,,\nplant,B,,,,,,\npair,A,X,from:B,lot,1,0,0\npair,B,X,buy,lot,0,0,0\n" + rows
+    for count in range(1, len(firm)):
+        if "\n" not in firm[count - 1 : count + 1]:
+            row = firm.count("\n", 0, count) + 1
+            # (where the last digit of a pair row is cut off its last field is empty, and there are eight)
+            fault = "BadNumber" if row in (4, 5) and firm[count + 1] == "\n" else "FieldCount"
+            refused(program, firm[:count], f"row {row}: {fault}", ("plan --single",))
+
+
+def plans_are_sent_by_sixteen_pairs(program):
+    """Around the numbers of pairs that a piece of the report has."""
+    for pairs in (0, 1, 15, 16, 17, 32, 33):
+        table, report = "run,2026-01-05,7,2,,,,\nplant,A,,,,,,\n", ""
+        for it in range(pairs):
+            table += f"pair,A,I{it},buy,lot,0,{it},0\n"
+            report += f"plan,A,I{it},0,2026-01-05,0,0,0,0,{it}\nplan,A,I{it},1,2026-01-12,0,0,0,0,{it}\n"
+        expect(program, "plan", table, report)
+
+
+ONE_PLANT = "run,2026-01-05,7,1,,,,\nplant,A,,,,,,\n"
+TWO_PLANTS = "run,2026-01-05,7,1,,,,\nplant,A,,,,,,\nplant,B,,,,,,\npair,A,X,from:B,lot,0,0,0\npair,B,X,buy,lot,0,0,0\n"
+
+
+def kinds_have_their_limits(program):
+    """So many rows of a kind are read, and one more is refused."""
+    plants = "run,2026-01-05,7,4,,,,\n" + numbered(64, "plant,P", ",,,,,,")
+    pairs = ONE_PLANT + numbered(20_000, "pair,A,X", ",make,lot,0,0,0")
+    some = ONE_PLANT + numbered(1000, "pair,A,X", ",make,lot,0,0,0")
+    bills = some + "".join(f"bill,A,X{parent},X{part},1,,,\n" for parent in range(1000) for part in range(200) if parent != part)
+    bills += "".join(f"bill,A,X{it},X{200 + it},1,,,\n" for it in range(200))
+    for most, more in ((plants, "plant,Q,,,,,,\n"), (pairs, "pair,A,Y,make,lot,0,0,0\n"), (bills, "bill,A,X0,X999,1,,,\n")):
+        row = most.count("\n") + 1
+        if answer(program, "check", most).startswith("1 mrp: row"):
+            raise Different(f"{row - 1} rows are refused: {answer(program, 'check', most)}")
+        refused(program, most + more, f"row {row}: TooMany", ("check",))
+    amounts = ("demand,A,X,0,1,,,\n", "receipt,A,X,0,1,,,\n", "ship,B,A,X,0,1,,\n")
+    for row in amounts:
+        expect(program, "check", TWO_PLANTS + row * 1_000_000, "code,A,X,0\ncode,B,X,1\n")
+        refused(program, TWO_PLANTS + row * 1_000_001, "row 1000006: TooMany", ("check",))
+    expect(program, "check", TWO_PLANTS + "".join(it * 1_000_000 for it in amounts), "code,A,X,0\ncode,B,X,1\n")
+
+
+def faults_are_named_in_large_tables(program):
+    """A need behind 19,998 pairs, and a loop of 1,000."""
+    need = ONE_PLANT + numbered(19_998, "pair,A,F", ",buy,lot,0,0,0") + "pair,A,Y,make,lot,0,0,0\npair,A,X,buy,lot,0,0,0\n"
+    refused(program, need + "bill,A,Y,X,1000000,,,\ndemand,A,Y,0,1000000000,,,\ndemand,A,X,0,1,,,\n", "NeedTooLarge A/X", ("plan --single", "plan"))
+    loop = ONE_PLANT + numbered(1000, "pair,A,X", ",make,lot,0,0,0") + "".join(f"bill,A,X{it},X{(it + 1) % 1000},1,,,\n" for it in range(1000))
+    refused(program, loop, "loop " + " ".join(f"A/X{it}" for it in range(1000)), ("check",))
+
+
+def a_part_goes_into_all_others(program):
+    """19,999 pairs are made of one part for their safety stocks: its code, and what it is asked for by."""
+    table = ONE_PLANT + numbered(19_999, "pair,A,X", ",make,lot,0,0,1") + "pair,A,F,buy,lot,0,0,0\n" + numbered(19_999, "bill,A,X", ",F,1,,,")
+    expect(program, "check", table, numbered(19_999, "code,A,X", ",0") + "code,A,F,1\n")
+    expect(program, "peg A F 0", table, numbered(19_999, "peg,bill,A,X", ",1,1,1"))
+
+
+def each_of_20000_pairs_has_a_late_order(program):
+    """By one thread and by several."""
+    table = ONE_PLANT + numbered(20_000, "pair,A,F", ",buy,lot,1,0,1")
+    report = numbered(20_000, "plan,A,F", ",0,2026-01-05,0,0,1,1,1") + numbered(20_000, "late,A,F", ",0,1,1")
+    for words in ("plan --single", "plan --workers 1", "plan --workers 3"):
+        expect(program, words, table, report)
+
+
+def plants_take_from_each_other(program):
+    """64 plants of which each takes an item from each other, and a chain of 64."""
+    table = "run,2026-01-05,7,1,,,,\n" + numbered(64, "plant,P", ",,,,,,")
+    for item, plant in itertools.product(range(64), range(64)):
+        table += f"pair,P{plant},I{item},buy,lot,0,0,0\n" if plant == item else f"pair,P{plant},I{item},from:P{item},lot,0,0,1\n"
+    figures = answer(program, "cums", table).splitlines()
+    if len(figures) != 8_064 or any(not it.startswith("lane,") for it in figures):
+        raise Different(f"{len(figures)} rows of figures")
+    chain = "run,2026-01-05,7,4,,,,\n" + numbered(64, "plant,P", ",,,,,,") + "".join(f"pair,P{it},X,from:P{it + 1},lot,0,0,0\n" for it in range(63))
+    chain += "pair,P63,X,buy,lot,0,0,0\ndemand,P0,X,3,5,,,\n"
+    for firm in (table, chain):
+        wanted = answer(program, "plan --single", firm)
+        for words in ("plan", "plan --workers 2 --capacity 1"):
+            expect(program, words, firm, wanted)
+
+
+def long_names_make_long_reports(program):
+    """Two plants and 10,000 items of 20 characters: more than a million bytes of figures, and 5,000 that start anew."""
+    sender, customer, item = "B" * 20, "A" * 20, "ITEM-OF-A-NAME-"
+
+    def taken(count):
+        table = f"run,2026-01-05,7,1,,,,\nplant,{customer},,,,,,\nplant,{sender},,,,,,\n"
+        table += numbered(count, f"pair,{customer},{item}", f",from:{sender},lot,0,0,0")
+        return table + numbered(count, f"pair,{sender},{item}", ",buy,lot,0,0,0")
+
+    def figures(count, kind, one, other):
+        return numbered(count, f"lane,{kind},{one},{other},{item}", ",0,0,0,0")
+
+    anew = taken(5_000) + numbered(5_000, f"cum,{sender},{customer},{item}", ",0,,,") + numbered(5_000, f"reset,{sender},{customer},{item}", ",0,,,")
+    for table, count in ((taken(10_000), 10_000), (anew, 5_000)):
+        wanted = figures(count, "despatch", sender, customer) + figures(count, "schedule", customer, sender)
+        expect(program, "cums", table, wanted)
+    codes = numbered(10_000, f"code,{customer},{item}", ",0") + numbered(10_000, f"code,{sender},{item}", ",1")
+    expect(program, "check", taken(10_000), codes)
+
+
+MADE = (
+    each_name_is_tested,
+    rules_have_the_least_and_the_greatest_numbers,
+    rows_that_are_no_text,
+    tables_of_other_programs,
+    tables_cut_within_a_row,
+    plans_are_sent_by_sixteen_pairs,
+    kinds_have_their_limits,
+    faults_are_named_in_large_tables,
+    a_part_goes_into_all_others,
+    each_of_20000_pairs_has_a_late_order,
+    plants_take_from_each_other,
+    long_names_make_long_reports,
+)
+
+
+def all_cases():
+    """Returns name and test of each case: the test is called with the program's path."""
+    for path in sorted(glob.glob(f"{TOP}/cases/*.txt")):
+        with open(path, encoding="utf-8") as file:
+            for title, table, asks in blocks(file.read()):
+                yield f"{os.path.basename(path)}: {title}", lambda program, table=table, asks=asks: run_case(program, table, asks)
+    for made in MADE:
+        yield made.__name__, made

@@ -1,0 +1,19 @@
+//! The reports of tables that were worked by hand.
+
+/// The plan of the bicycle.
+pub(super) const BICYCLE_PLAN: &str = "plan,P1,BIKE,0,2026-01-05,0,0,0,0,0\n\
+plan,P1,BIKE,1,2026-01-12,0,0,0,0,0\nplan,P1,BIKE,2,2026-01-19,0,0,0,10,0\n\
+plan,P1,BIKE,3,2026-01-26,10,0,10,0,0\nplan,P1,WHEEL,0,2026-01-05,0,0,0,0,0\n\
+plan,P1,WHEEL,1,2026-01-12,0,0,0,20,0\nplan,P1,WHEEL,2,2026-01-19,20,0,20,0,0\n\
+plan,P1,WHEEL,3,2026-01-26,0,0,0,0,0\n";
+
+/// The figures of two plants, eight pieces under way between them.
+pub(super) const TWO_PLANTS_CUMS: &str =
+    "lane,despatch,B,A,X,100,108,108,0\nlane,schedule,A,B,X,108,130,130,0\n";
+
+/// Their plan.
+pub(super) const TWO_PLANTS_PLAN: &str = "plan,A,X,0,2026-01-05,0,0,0,0,0\n\
+plan,A,X,1,2026-01-12,0,0,0,22,0\nplan,A,X,2,2026-01-19,30,8,22,0,0\n\
+plan,A,X,3,2026-01-26,0,0,0,0,0\nplan,B,X,0,2026-01-05,0,0,0,0,0\n\
+plan,B,X,1,2026-01-12,22,0,22,22,0\nplan,B,X,2,2026-01-19,0,0,0,0,0\n\
+plan,B,X,3,2026-01-26,0,0,0,0,0\n";
