@@ -8,7 +8,7 @@ use Rattle.mrp_run.specs.Faults.{WasShut}
 use Rattle.mrp_run.specs.Worst.{IsFaultIn}
 use Rattle.mrp_text.specs.declared.fault.TextFault.{TextFault}
 use Rattle.mrp_text.specs.declared.fault.TextFault.TheVariants as fault
-use Rattle.mrp_words.specs.declared.words.Choice.TheVariants.{Plan}
+use Rattle.mrp_choice.specs.declared.choice.Choice.TheVariants.{Plan}
 use Rattle.mrp_text.specs.Answer.{IsAnswerRefusal, IsNoShutGate}
 use Rattle.mrp_text.specs.Runs.{IsInNetwork, IsOfRun, IsShutFor}
 use Rattle.mrp_text.specs.Text.{IsRunFault, IsRunRefusal, IsTextRefusal}

@@ -22,8 +22,8 @@ use Rattle.mrp_loops.proofs.Upstream.{codes_are_one}
 use Rattle.mrp_loops.proofs.Within.{needs_within}
 use Rattle.mrp_plan.specs.Peg.{peg_terms}
 use Rattle.mrp_report.specs.Report.{plan_text, late_text, peg_text, code_text}
-use Rattle.mrp_words.specs.declared.words.Choice.{Choice}
-use Rattle.mrp_words.specs.declared.words.Choice.TheVariants.{Plan, Check, Peg, Cums}
+use Rattle.mrp_choice.specs.declared.choice.Choice.{Choice}
+use Rattle.mrp_choice.specs.declared.choice.Choice.TheVariants.{Plan, Check, Peg, Cums}
 use Rattle.mrp_text.specs.declared.fault.TextFault.{TextFault}
 use Rattle.mrp_text.specs.declared.fault.TextFault.TheVariants as fault
 use Rattle.mrp_text.specs.Answer.{IsAnswer, IsAnswerRefusal}

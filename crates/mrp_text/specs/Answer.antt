@@ -1,8 +1,8 @@
 -- What is answered to a choice of words.
 use Rattle.std.specs.Prelude.{◌≢◌, ℕ, true, false, List, Result, Ok, Err}
 use Rattle.mrp_rows.specs.Table.{Table}
-use Rattle.mrp_words.specs.declared.words.Choice.{Choice}
-use Rattle.mrp_words.specs.declared.words.Choice.TheVariants.{Plan, Check, Peg, Cums}
+use Rattle.mrp_choice.specs.declared.choice.Choice.{Choice}
+use Rattle.mrp_choice.specs.declared.choice.Choice.TheVariants.{Plan, Check, Peg, Cums}
 use Rattle.mrp_text.specs.declared.fault.TextFault.{TextFault}
 use Rattle.mrp_text.specs.declared.fault.TextFault.TheVariants.{GateShut, WriteFault}
 use Rattle.mrp_text.specs.Fault.{IsBeforeWriting, status_of}

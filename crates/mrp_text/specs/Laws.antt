@@ -1,7 +1,7 @@
 -- What holds of the reports and refusals of one text.
 use Rattle.std.specs.Prelude.{◌≡◌, List, ℕ, Some}
 use Rattle.mrp_rows.specs.Table.{Table}
-use Rattle.mrp_words.specs.declared.words.Choice.{Choice}
+use Rattle.mrp_choice.specs.declared.choice.Choice.{Choice}
 use Rattle.mrp_text.specs.declared.fault.TextFault.{TextFault}
 use Rattle.mrp_text.specs.Answer.{IsAnswer, IsAnswerRefusal}
 use Rattle.mrp_text.specs.Fault.{status_of}

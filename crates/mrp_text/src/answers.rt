@@ -1,14 +1,14 @@
 //! What the program does for a choice, and the status with which it ends.
 
 ghost use Rattle.std.specs.Prelude.{◌≡◌, IfErr};
-ghost use Rattle.mrp_words.specs.Choice.{IsInRange};
+ghost use Rattle.mrp_choice.specs.Range.{IsInRange};
 ghost use Rattle.mrp_text.specs.Answer.{IsAnswer, IsAnswerRefusal, IsBeforeReport, IsNoShutGate, exit_status_of};
 ghost use Rattle.mrp_text.specs.Text.{Writes, OfTable, IsTextRefusal};
 
 use crate::fault::{TextFault, status};
 use crate::text::{check_text, cums_text, drive_text, peg_text, plan_text};
 use mrp_run::{NoGate, Settings};
-use mrp_words::Choice;
+use mrp_choice::Choice;
 use std::alloc::Global;
 use std::io::{Read, Write};
 use std::sync::Wait;

@@ -5,13 +5,13 @@ ghost use Rattle.mrp_net.specs.Plan.{Fits};
 ghost use Rattle.mrp_report.specs.Lanes.{IsFigure};
 ghost use Rattle.mrp_world.specs.Figures.{last_figures};
 ghost use Rattle.mrp_text.specs.Text.{IsPlannable};
-ghost use Rattle.mrp_words.specs.declared.words.TheConstants.{MOST_CAPACITY};
+ghost use Rattle.mrp_choice.specs.declared.choice.TheConstants.{MOST_CAPACITY};
 
 use crate::fault::TextFault;
 use mrp_book::LaneFigure;
 use mrp_loops::SizedNet;
 use mrp_plan::Plan;
-use mrp_words::MOST_CAPACITY;
+use mrp_choice::MOST_CAPACITY;
 use mrp_world::Firm;
 use std::alloc::Global;
 

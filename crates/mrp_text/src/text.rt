@@ -13,13 +13,13 @@ ghost use Rattle.mrp_text.specs.Fault.{IsBeforeWriting};
 ghost use Rattle.mrp_text.specs.Text.{Writes, OfTable, IsPlanReport, IsCodeReport};
 ghost use Rattle.mrp_text.specs.Text.{IsPegReport, IsCumReport};
 ghost use Rattle.mrp_text.specs.Text.{IsRefusal, IsRunRefusal, IsPegRefusal, IsTextRefusal};
-ghost use Rattle.mrp_words.specs.declared.words.TheConstants.{MOST_CAPACITY};
+ghost use Rattle.mrp_choice.specs.declared.choice.TheConstants.{MOST_CAPACITY};
 
 use crate::fault::TextFault;
 use crate::network::network_of;
 use crate::writing::{write_codes, write_cums, write_pegs, write_plan, write_run};
 use mrp_run::{Gate, Settings};
-use mrp_words::MOST_CAPACITY;
+use mrp_choice::MOST_CAPACITY;
 use std::alloc::Global;
 use std::io::{Read, Write};
 use std::sync::Wait;

@@ -10,7 +10,7 @@ ghost use Rattle.mrp_text.specs.Fault.{IsBeforeWriting, IsLate};
 ghost use Rattle.mrp_text.specs.Text.{Writes, IsPlannable, IsPlanReport, IsCodeReport};
 ghost use Rattle.mrp_text.specs.Text.{IsPegReport, IsCumReport, IsPegs};
 ghost use Rattle.mrp_text.specs.Text.{IsRefusal, IsRunRefusal, IsPegRefusal};
-ghost use Rattle.mrp_words.specs.declared.words.TheConstants.{MOST_CAPACITY};
+ghost use Rattle.mrp_choice.specs.declared.choice.TheConstants.{MOST_CAPACITY};
 
 use crate::fault::TextFault;
 use crate::firm::{driven_figures, driven_plan};
@@ -21,7 +21,7 @@ use mrp_net::{Network, PairNo};
 use mrp_plan::{Plan, peg, plan_all};
 use mrp_report::{code_rows, lane_rows, late_rows, peg_rows, plan_rows};
 use mrp_run::{Gate, Settings};
-use mrp_words::MOST_CAPACITY;
+use mrp_choice::MOST_CAPACITY;
 use std::alloc::Global;
 use std::io::Write;
 use std::sync::Wait;

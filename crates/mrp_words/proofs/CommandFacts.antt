@@ -19,8 +19,8 @@ use Rattle.clap.proofs.OnLiterals.{clap_on_literals}
 use Rattle.clap.proofs.ValueTestLemmas.{accepts-Accepts}
 use Rattle.mrp_words.specs.Choice.{IsCommand, IsMeantBy, number_at}
 use Rattle.mrp_words.specs.CommandLine.{check_words, cums_words, mrp, peg_words, plan_words, program_words}
-use Rattle.mrp_words.specs.declared.words.TheConstants.{MOST_WORKERS, MOST_CAPACITY, LAST_PERIOD}
-use Rattle.mrp_words.specs.declared.words.Choice.{Choice}
+use Rattle.mrp_choice.specs.declared.choice.TheConstants.{MOST_WORKERS, MOST_CAPACITY, LAST_PERIOD}
+use Rattle.mrp_choice.specs.declared.choice.Choice.{Choice}
 use Rattle.mrp_words.specs.Values.{HasFlag, HasNumber, HasPegValues, HasPlanValues, HasText, IsWholeCommand, IsWithin}
 use Rattle.mrp_words.proofs.RowFacts.{asks_at, defaults_gain, either, first_none, given_row, next_none, no_kind, rows_good, unfailed, value_found, walk_good}
 

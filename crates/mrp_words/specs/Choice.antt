@@ -1,5 +1,5 @@
--- What the program is asked to do.
-use Rattle.std.specs.Prelude.{◌≡◌, ◌≤◌, ℕ, Bool, false, List, Option, Some, None, codes}
+-- Which choice the words of a command line are.
+use Rattle.std.specs.Prelude.{◌≡◌, ℕ, Bool, false, List, Option, Some, None, codes}
 use Rattle.std.specs.Prelude.{map, option_map}
 use Rattle.std.specs.Borrow.{Bor}
 use Rattle.std.specs.Option.{option_map_or}
@@ -8,18 +8,10 @@ use Rattle.std.specs.Str.Parse.{digits_value, without_leading_plus}
 use Rattle.clap.specs.Words.{HasKind, Row, Text, fault_of, first_of, kind_of, subcommand_of}
 use Rattle.clap.specs.declared.error.kind.ErrorKind.TheVariants.{OutOfMemory}
 use Rattle.mrp_words.specs.CommandLine.{mrp}
-use Rattle.mrp_words.specs.declared.words.Choice.{Choice}
-use Rattle.mrp_words.specs.declared.words.Choice.TheVariants.{Plan, Check, Peg, Cums}
+use Rattle.mrp_choice.specs.declared.choice.Choice.{Choice}
+use Rattle.mrp_choice.specs.declared.choice.Choice.TheVariants.{Plan, Check, Peg, Cums}
 use Rattle.mrp_words.specs.declared.words.ChooseFault.{ChooseFault}
 use Rattle.mrp_words.specs.declared.words.ChooseFault.TheVariants.{Words, Memory}
-use Rattle.mrp_words.specs.declared.words.TheConstants.{MOST_WORKERS, MOST_CAPACITY, LAST_PERIOD}
-
--- the numbers of a choice are in their ranges
-abbrev pub IsInRange : Choice → Type 0
-IsInRange (Plan workers capacity single) = (1 ≤ workers) × (workers ≤ MOST_WORKERS) × (1 ≤ capacity) × (capacity ≤ MOST_CAPACITY)
-IsInRange Check = Unit {0}
-IsInRange (Peg plant item period) = period ≤ LAST_PERIOD
-IsInRange Cums = Unit {0}
 
 -- the texts of the words
 abbrev pub texts_of : List (Bor Text) → List Text

@@ -4,7 +4,7 @@ use Rattle.std.specs.Str.Parse.{IsNumeral, digits_value, without_leading_plus}
 use Rattle.clap.specs.Words.{Row, Text, one_of}
 use Rattle.clap.specs.Values.{bool_text}
 use Rattle.mrp_words.specs.Choice.{number_at, text_at}
-use Rattle.mrp_words.specs.declared.words.TheConstants.{MOST_WORKERS, MOST_CAPACITY, LAST_PERIOD}
+use Rattle.mrp_choice.specs.declared.choice.TheConstants.{MOST_WORKERS, MOST_CAPACITY, LAST_PERIOD}
 
 -- the argument has a value, which is read as it was written
 abbrev pub HasText : Text → Text → List Row → Type 0

@@ -8,6 +8,7 @@ mod laws;
 mod named;
 mod words;
 
-pub use laws::{limits_are_numbers, version_is_asked_for};
+pub use laws::version_is_asked_for;
+pub use mrp_choice::{Choice, LAST_PERIOD, MOST_CAPACITY, MOST_WORKERS};
 pub use named::named_words;
-pub use words::{Choice, ChooseFault, LAST_PERIOD, MOST_CAPACITY, MOST_WORKERS, choose};
+pub use words::{ChooseFault, choose};

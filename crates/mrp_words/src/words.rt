@@ -3,52 +3,18 @@
 ghost use Rattle.std.specs.Prelude.{◌≡◌, ◌≤◌, Some, true, false, [], codes, IfOk, IfErr};
 ghost use Rattle.clap.specs.Words.{app_of, fault_of, found_of, new_app, rows_of, subcommand_rows_of, takes};
 ghost use Rattle.clap.specs.declared.builder.value_parser.ValueParser.TheVariants.{Unsigned};
-ghost use Rattle.mrp_words.specs.Choice.{IsChosenBy, IsCommand, IsInRange, IsMeantBy, IsMemory, IsRefusalOf, flag_at, number_at, text_at, texts_of};
+ghost use Rattle.mrp_choice.specs.Range.{IsInRange};
+ghost use Rattle.mrp_words.specs.Choice.{IsChosenBy, IsCommand, IsMeantBy, IsMemory, IsRefusalOf, flag_at, number_at, text_at, texts_of};
 ghost use Rattle.mrp_words.specs.CommandLine.{IsRuled, IsWorded, mrp, peg_words, plan_words, program_words, up_to_check, up_to_peg};
 ghost use Rattle.mrp_words.specs.CommandLine as rule;
-ghost use Rattle.mrp_words.specs.declared.words.TheConstants.{MOST_CAPACITY};
+ghost use Rattle.mrp_choice.specs.declared.choice.TheConstants.{MOST_CAPACITY};
 ghost use Rattle.mrp_words.specs.Values.{HasFlag, HasName, HasNumber, HasPlanValues, HasPegValues, IsWholeCommand};
 
 use clap::builder::ValueParser;
 use clap::{Arg, ArgAction, ArgMatches, Command, value_parser};
+use mrp_choice::{Choice, LAST_PERIOD, MOST_CAPACITY, MOST_WORKERS};
 use std::alloc::{AllocError, Global};
 use thiserror::Error;
-
-/// The most worker threads of a plant.
-pub const MOST_WORKERS: u64 = 64;
-
-/// The most records that a mailbox between two plants may hold.
-pub const MOST_CAPACITY: u64 = 65_536;
-
-/// The last period that may be asked about: that of the longest horizon, counted from 0.
-pub const LAST_PERIOD: u64 = 103;
-
-/// What the program is asked to do.
-#[derive(Clone, Copy, Debug, PartialEq, Eq)]
-pub enum Choice<'a> {
-    /// Write the plan.
-    Plan {
-        /// Worker threads of each plant, 1 to [`MOST_WORKERS`].
-        workers: u64,
-        /// Records that the mailbox between two plants holds, 1 to [`MOST_CAPACITY`].
-        capacity: u64,
-        /// One thread plans all plants.
-        single: bool,
-    },
-    /// Write the low-level codes.
-    Check,
-    /// Write what a gross requirement consists of.
-    Peg {
-        /// The name of the plant.
-        plant: &'a str,
-        /// The name of the item.
-        item: &'a str,
-        /// The period, 0 to [`LAST_PERIOD`].
-        period: u64,
-    },
-    /// Write the cumulative figures of the lanes between plants.
-    Cums,
-}
 
 /// Why no choice was made.
 #[derive(Debug, Drop, Error)]

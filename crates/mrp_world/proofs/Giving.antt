@@ -7,7 +7,8 @@ use Rattle.mrp_rows.specs.Table.{Table}
 use Rattle.mrp_events.specs.State.{State, IsFinished}
 use Rattle.mrp_world.specs.Gathering.{own_plans, HasPlannedAll}
 use Rattle.mrp_world.specs.Moments.{Moment, Showing, IsAt}
-use Rattle.mrp_world.specs.World.{Held, AreAt}
+use Rattle.mrp_mailbox.specs.Mailbox.{Held}
+use Rattle.mrp_world.specs.World.{AreAt}
 use Rattle.mrp_world.proofs.Makes.{each_more}
 use Rattle.mrp_world.proofs.Steps.{moment, plant_is_at}
 

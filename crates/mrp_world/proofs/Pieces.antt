@@ -1,17 +1,14 @@
--- The pieces that wait in a mailbox, and the figures of its lane.
-use Rattle.std.proofs.Common.{◌≡◌, ℕ, ◌+◌, ◌<◌, ◌≤◌, List, [], ◌∷◌, ◌++◌, length, get_or, take, drop, map, sym, ap, subst, ◌∙◌, arith, append_assoc, Contains}
-use Rattle.std.specs.List.{sum_by, flat_map, range_with_len}
+-- The figures of a lane, by what its receiver says and what waits in its mailbox.
+use Rattle.std.proofs.Common.{◌≡◌, ℕ, ◌+◌, ◌<◌, ◌≤◌, List, [], ◌∷◌, ◌++◌, length, get_or, take, map, sym, ap, subst, ◌∙◌, arith, append_assoc, Contains}
+use Rattle.std.specs.List.{flat_map, range_with_len}
 use Rattle.mrp_net.proofs.Routing.{flat_map-range-more}
-use Rattle.std.proofs.lemmas.List.{take_more, take-append-drop, map-append, map_more}
-use Rattle.std.proofs.lemmas.List.Elements.{filter-append}
-use Rattle.std.proofs.lemmas.List.Sums.{sum_by-append}
+use Rattle.std.proofs.lemmas.List.{map_more}
 use Rattle.mrp_rows.specs.declared.numbers.ItemNo.{ItemNo}
 use Rattle.mrp_rows.specs.Table.{Table}
 use Rattle.mrp_net.specs.declared.lane.Lane.{Lane}
 use Rattle.mrp_net.specs.Lanes.{lanes, lane_at, lane_items, opening}
 use Rattle.mrp_net.specs.Routes.{IsLane}
-use Rattle.mrp_record.specs.declared.record.Record.{Record}
-use Rattle.mrp_record.specs.Entries.{content, contents, entries_of, is_of, moved, quantity_of}
+use Rattle.mrp_record.specs.Entries.{contents, moved}
 use Rattle.mrp_book.specs.declared.figure.LaneFigure.{LaneFigure}
 use Rattle.mrp_events.specs.Laws.{cum_on}
 use Rattle.mrp_events.specs.State.{State}
@@ -19,34 +16,9 @@ use Rattle.mrp_events.proofs.Ordering.{lanes_keep_order, nothing_is_lost}
 use Rattle.mrp_events.proofs.Small.{legal_cums_are_small}
 use Rattle.mrp_world.specs.Figures.{figure_at}
 use Rattle.mrp_world.specs.Moments.{Moment, Showing, IsAt, IsIn, Receives}
-use Rattle.mrp_world.specs.World.{Held, box_at, AreAt, AreSomewhere}
+use Rattle.mrp_mailbox.specs.Mailbox.{Held}
+use Rattle.mrp_world.specs.World.{box_at, AreAt, AreSomewhere}
 use Rattle.mrp_world.proofs.Steps.{moment, plant_is_at, box_is, may_receive, receiver_within}
-
-moved_parts : (item : ℕ) (xs ys : List Record) → moved item (contents (xs ++ ys)) ≡ moved item (contents xs) + moved item (contents ys)
-moved_parts item xs ys =
-    ap (moved item) (map-append content xs ys)
-    ∙ ap (sum_by quantity_of) (filter-append (is_of item) (contents xs) (contents ys))
-    ∙ sum_by-append quantity_of (entries_of item (contents xs)) (entries_of item (contents ys))
-
-pub pieces_more : (item : ℕ) (records : List Record) (at : ℕ) (d : Record) → at < length records
-    → moved item (contents (take (at + 1) records)) ≡ moved item (contents (take at records)) + moved item (contents (get_or records at d ∷ []))
-pieces_more item records at d within =
-    ap (λ (xs : List Record). moved item (contents xs)) (take_more records at d within) ∙ moved_parts item (take at records) (get_or records at d ∷ [])
-
-pub pieces_within : (item : ℕ) (records : List Record) (n : ℕ) → moved item (contents (take n records)) ≤ moved item (contents records)
-pieces_within item records n =
-    omega (arith, moved_parts item (take n records) (drop n records), ap (λ (xs : List Record). moved item (contents xs)) (take-append-drop n records))
-
-pub pieces_so_far : (item : ℕ) (inside held : List Record) (at : ℕ) (r : Record) (pieces more : ℕ) → inside ≡ held → at < length inside → r ≡ get_or inside at r
-    → pieces ≡ moved item (contents (take at held)) → more ≡ moved item (contents (r ∷ [])) → pieces + more ≡ moved item (contents (take (at + 1) held))
-pieces_so_far item inside held at r pieces more same within is so_far here =
-    let next = subst (λ (xs : List Record). at < length xs → r ≡ get_or xs at r → moved item (contents (take (at + 1) xs)) ≡ moved item (contents (take at xs)) + moved item (contents (r ∷ []))) same
-    (λ h e. pieces_more item inside at r h ∙ ap (λ (z : Record). moved item (contents (take at inside)) + moved item (contents (z ∷ []))) (sym e)) in
-    let grown : moved item (contents (take (at + 1) held)) ≡ moved item (contents (take at held)) + moved item (contents (r ∷ [])) =
-    next (subst (λ (xs : List Record). at < length xs) same within) (subst (λ (xs : List Record). r ≡ get_or xs at r) same is) in
-    omega (arith, grown, so_far, here)
-
--- ---- figures
 
 -- what has been shipped is what has been received and what waits
 pub shipped_is : {A : Type 0} (shows : Showing A) (N : Table) (capacity : ℕ) (plants : List A) (boxes : List Held) (s : State) (l : ℕ) (item : ItemNo)

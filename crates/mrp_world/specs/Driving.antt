@@ -4,7 +4,8 @@ use Rattle.mrp_rows.specs.Table.{Table}
 use Rattle.mrp_events.specs.declared.event.Event.{Event}
 use Rattle.mrp_events.specs.State.{State, Run}
 use Rattle.mrp_world.specs.Moments.{Showing}
-use Rattle.mrp_world.specs.World.{Held, AreAt}
+use Rattle.mrp_mailbox.specs.Mailbox.{Held}
+use Rattle.mrp_world.specs.World.{AreAt}
 
 -- from each state that they show the events lead to one that they show then
 pub record LeadOn {A : Type 0} (shows : Showing A) (N : Table) (plants : List A) (boxes : List Held)

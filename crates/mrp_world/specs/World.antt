@@ -4,17 +4,12 @@ use Rattle.mrp_rows.specs.Table.{Table}
 use Rattle.mrp_net.specs.Lanes.{lanes, lane_at}
 use Rattle.mrp_net.specs.Texts.{longest_text}
 use Rattle.mrp_loops.specs.Sized.{IsSized}
-use Rattle.mrp_record.specs.declared.record.Record.{Record}
+use Rattle.mrp_mailbox.specs.Mailbox.{Held}
 use Rattle.mrp_events.specs.declared.event.Event.{Event}
 use Rattle.mrp_events.specs.declared.event.Event.TheVariants.{Send, Receive, Plan}
 use Rattle.mrp_events.specs.Progress.{steps_left}
 use Rattle.mrp_events.specs.State.{State, Step, Run, IsEnabled, IsReached}
 use Rattle.mrp_world.specs.Moments.{Showing, IsOwn}
-
--- what a mailbox holds, first in first out, and how many records it has room for
-pub record Held : Type 0 where
-  pub records : List Record
-  pub room : ℕ
 
 abbrev pub nothing_held : Held
 nothing_held = record { records = []; room = 0 }

@@ -3,11 +3,12 @@ ghost use Rattle.std.specs.Prelude.{◌≡◌, ◌<◌, List, true, false, lengt
 ghost use Rattle.mrp_rows.specs.Table.{IsPair};
 ghost use Rattle.mrp_net.specs.Lanes.{lanes};
 ghost use Rattle.mrp_events.specs.declared.event.Event.TheVariants.{Send, Receive, Plan};
-ghost use Rattle.mrp_world.specs.World.{Held, Acts, AreSomewhere, Lead, LeadNowhere};
+ghost use Rattle.mrp_mailbox.specs.Mailbox.{Held};
+ghost use Rattle.mrp_world.specs.World.{Acts, AreSomewhere, Lead, LeadNowhere};
 
-use crate::mailbox::Mailbox;
 use crate::plant::Plant;
 use mrp_events::Event;
+use mrp_mailbox::Mailbox;
 use mrp_net::{LaneNo, Network, PairNo};
 
 /// Sends the next record of a lane, if there is one and the mailbox has room.

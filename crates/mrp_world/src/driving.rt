@@ -6,9 +6,9 @@ ghost use Rattle.mrp_world.specs.Driving.{LeadOn};
 
 use crate::acting::act_on;
 use crate::looking::look;
-use crate::mailbox::Mailbox;
 use crate::plant::Plant;
 use mrp_events::Event;
+use mrp_mailbox::Mailbox;
 use mrp_net::Network;
 
 /// Where the last event happened: the next one is looked for from there on.

@@ -2,7 +2,8 @@
 ghost use Rattle.std.specs.Prelude.{◌<◌, ℕ, IfOk, List, length};
 ghost use Rattle.mrp_events.specs.State.{State, IsFinished};
 ghost use Rattle.mrp_gather.specs.Given.{HaveGiven};
-ghost use Rattle.mrp_world.specs.World.{Held, AreAt};
+ghost use Rattle.mrp_mailbox.specs.Mailbox.{Held};
+ghost use Rattle.mrp_world.specs.World.{AreAt};
 
 use crate::plant::Plant;
 use mrp_net::Network;

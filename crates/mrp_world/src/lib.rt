@@ -18,7 +18,6 @@ mod figures;
 mod gathering;
 pub mod laws;
 mod looking;
-mod mailbox;
 mod making;
 mod plant;
 mod world;

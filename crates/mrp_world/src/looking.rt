@@ -2,11 +2,12 @@
 ghost use Rattle.std.specs.Prelude.{◌≡◌, ℕ, ◌<◌, ◌≤◌, List, length, IfSome, IfNone};
 ghost use Rattle.mrp_net.specs.Lanes.{lanes};
 ghost use Rattle.mrp_events.specs.declared.event.Event.TheVariants.{Plan};
-ghost use Rattle.mrp_world.specs.World.{Held, AreSomewhere, MayLead, LaneRests, PlantRests, AllRests};
+ghost use Rattle.mrp_mailbox.specs.Mailbox.{Held};
+ghost use Rattle.mrp_world.specs.World.{AreSomewhere, MayLead, LaneRests, PlantRests, AllRests};
 
-use crate::mailbox::Mailbox;
 use crate::plant::Plant;
 use mrp_events::Event;
+use mrp_mailbox::Mailbox;
 use mrp_net::{LaneNo, Network};
 
 /// An event over a lane that is enabled: its receiver takes what waits before its sender sends more.

@@ -1,6 +1,5 @@
 //! Agents alone, over tables that were worked by hand.
 
-mod alone;
 mod deeds;
 mod handing;
 mod hands;

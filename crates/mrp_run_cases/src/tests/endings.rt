@@ -156,81 +156,25 @@ fn ends<R: Threads + Wait + Sync>(rt: &R, alloc: Global, ending: &Ending) -> Res
 }
 
 #[test]
-fn two_plants_end(rt: HostRuntime) -> Result<(), Fail> {
-    assert!(&rt; ends(&rt, rt.alloc(), &TWO_PLANTS_ENDING)?);
-    Ok(())
-}
-
-#[test]
-fn two_shipments_end(rt: HostRuntime) -> Result<(), Fail> {
-    assert!(&rt; ends(&rt, rt.alloc(), &TWO_SHIPMENTS_ENDING)?);
-    Ok(())
-}
-
-#[test]
-fn figures_that_start_anew_end_alike(rt: HostRuntime) -> Result<(), Fail> {
-    for ending in [RESET_LATER_ENDING, RESET_AT_RELEASE_ENDING] {
-        assert!(&rt; ends(&rt, rt.alloc(), &ending)?);
+fn runs_come_to_their_endings(rt: HostRuntime) -> Result<(), Fail> {
+    let endings = [
+        TWO_PLANTS_ENDING,
+        TWO_SHIPMENTS_ENDING,
+        RING_ENDING,
+        IDLE_RING_ENDING,
+        LONG_RING_ENDING,
+        TWO_CUSTOMERS_ENDING,
+        SHARED_ENDING,
+        ONE_SHARED_ENDING,
+        SHARED_AFTER_SHIPMENT_ENDING,
+        FOUR_PLANTS_ENDING,
+        NO_LANES_ENDING,
+        NO_PLANTS_ENDING,
+        RESET_LATER_ENDING,
+        RESET_AT_RELEASE_ENDING,
+    ];
+    for ending in endings {
+        assert!(&rt; ends(&rt, rt.alloc(), &ending)?, "{}", ending.table);
     }
-    Ok(())
-}
-
-#[test]
-fn a_ring_ends(rt: HostRuntime) -> Result<(), Fail> {
-    assert!(&rt; ends(&rt, rt.alloc(), &RING_ENDING)?);
-    Ok(())
-}
-
-#[test]
-fn an_idle_ring_ends(rt: HostRuntime) -> Result<(), Fail> {
-    assert!(&rt; ends(&rt, rt.alloc(), &IDLE_RING_ENDING)?);
-    Ok(())
-}
-
-#[test]
-fn a_ring_that_goes_round_twice_ends(rt: HostRuntime) -> Result<(), Fail> {
-    assert!(&rt; ends(&rt, rt.alloc(), &LONG_RING_ENDING)?);
-    Ok(())
-}
-
-#[test]
-fn two_customers_end(rt: HostRuntime) -> Result<(), Fail> {
-    assert!(&rt; ends(&rt, rt.alloc(), &TWO_CUSTOMERS_ENDING)?);
-    Ok(())
-}
-
-#[test]
-fn shares_end(rt: HostRuntime) -> Result<(), Fail> {
-    assert!(&rt; ends(&rt, rt.alloc(), &SHARED_ENDING)?);
-    Ok(())
-}
-
-#[test]
-fn a_share_of_nothing_ends(rt: HostRuntime) -> Result<(), Fail> {
-    assert!(&rt; ends(&rt, rt.alloc(), &ONE_SHARED_ENDING)?);
-    Ok(())
-}
-
-#[test]
-fn shares_after_a_shipment_end(rt: HostRuntime) -> Result<(), Fail> {
-    assert!(&rt; ends(&rt, rt.alloc(), &SHARED_AFTER_SHIPMENT_ENDING)?);
-    Ok(())
-}
-
-#[test]
-fn four_plants_end(rt: HostRuntime) -> Result<(), Fail> {
-    assert!(&rt; ends(&rt, rt.alloc(), &FOUR_PLANTS_ENDING)?);
-    Ok(())
-}
-
-#[test]
-fn a_firm_without_lanes_ends(rt: HostRuntime) -> Result<(), Fail> {
-    assert!(&rt; ends(&rt, rt.alloc(), &NO_LANES_ENDING)?);
-    Ok(())
-}
-
-#[test]
-fn a_firm_without_plants_is_at_its_end(rt: HostRuntime) -> Result<(), Fail> {
-    assert!(&rt; ends(&rt, rt.alloc(), &NO_PLANTS_ENDING)?);
     Ok(())
 }

@@ -328,40 +328,38 @@ fn is_asked_in_order<R: Threads + Wait + Sync>(
     is_answered(rt, alloc, TWO_CUSTOMERS, workers, &gate, None)
 }
 
+/// A table, the plant and the turn for which a gate is shut, and what is answered.
+const SHUT_TURNS: [(&str, usize, u64, Option<RunFault>); 5] = [
+    (TWO_PLANTS, 0, 1, Some(RunFault::GateShut(PlantNo(0)))),
+    (TWO_PLANTS, 1, 1, Some(RunFault::GateShut(PlantNo(1)))),
+    (LONG_RING, 0, 3, Some(RunFault::GateShut(PlantNo(0)))),
+    (LONG_RING, 1, 3, Some(RunFault::GateShut(PlantNo(1)))),
+    // (a plant that isn't there)
+    (TWO_PLANTS, 2, 1, None),
+];
+
 #[test]
-fn a_gate_shut_at_the_first_turn_names_its_plant(rt: HostRuntime) -> Result<(), Fail> {
-    for plant in [0, 1] {
-        assert!(&rt; is_answered_at_turn(&rt, rt.alloc(), TWO_PLANTS, plant, 1, shut(plant))?);
+fn a_gate_shut_at_a_turn_names_its_plant(rt: HostRuntime) -> Result<(), Fail> {
+    for (table, plant, turn, fault) in SHUT_TURNS {
+        assert!(&rt; is_answered_at_turn(&rt, rt.alloc(), table, plant, turn, fault)?);
     }
     Ok(())
 }
 
-#[test]
-fn a_gate_shut_at_the_third_turn_names_its_plant(rt: HostRuntime) -> Result<(), Fail> {
-    for plant in [0, 1] {
-        assert!(&rt; is_answered_at_turn(&rt, rt.alloc(), LONG_RING, plant, 3, shut(plant))?);
-    }
-    Ok(())
-}
-
-#[test]
-fn a_gate_shut_for_a_plant_that_is_not_there_is_no_fault(rt: HostRuntime) -> Result<(), Fail> {
-    assert!(&rt; is_answered_at_turn(&rt, rt.alloc(), TWO_PLANTS, 2, 1, None)?);
-    Ok(())
-}
+/// How many workers a plant has, the plant and the worker for which a gate is shut, and what is answered: a
+/// second worker is asked for where there are two.
+const SHUT_WORKERS: [(u64, usize, u64, Option<RunFault>); 5] = [
+    (2, 0, 1, Some(RunFault::GateShut(PlantNo(0)))),
+    (2, 1, 1, Some(RunFault::GateShut(PlantNo(1)))),
+    (2, 2, 1, Some(RunFault::GateShut(PlantNo(2)))),
+    (2, SUPPLIER, 2, Some(RunFault::GateShut(PlantNo(SUPPLIER)))),
+    (1, SUPPLIER, 2, None),
+];
 
 #[test]
 fn a_gate_shut_for_a_worker_names_its_plant(rt: HostRuntime) -> Result<(), Fail> {
-    for plant in [0, 1, 2] {
-        assert!(&rt; is_answered_for_worker(&rt, rt.alloc(), 2, plant, 1, shut(plant))?);
-    }
-    Ok(())
-}
-
-#[test]
-fn a_second_worker_is_asked_for_where_there_are_two(rt: HostRuntime) -> Result<(), Fail> {
-    for (workers, fault) in [(1, None), (2, shut(SUPPLIER))] {
-        assert!(&rt; is_answered_for_worker(&rt, rt.alloc(), workers, SUPPLIER, 2, fault)?);
+    for (workers, plant, worker, fault) in SHUT_WORKERS {
+        assert!(&rt; is_answered_for_worker(&rt, rt.alloc(), workers, plant, worker, fault)?);
     }
     Ok(())
 }

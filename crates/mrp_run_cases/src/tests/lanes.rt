@@ -3,7 +3,6 @@
 
 ghost use Rattle.std.specs.Prelude.{◌≡◌, ◌<◌, ◌≤◌, ◌-◌, ◌*◌, ◌/◌, length, Contains, IfOk};
 ghost use Rattle.mrp_rows.specs.Table.{IsTable, horizon};
-ghost use Rattle.mrp_loops.specs.Loop.{AreCodes};
 ghost use Rattle.mrp_net.specs.Lanes.{lanes, lane_at, lane_items};
 ghost use Rattle.mrp_net.specs.Plan.{Fits, plan_of};
 ghost use Rattle.mrp_net.specs.Sources.{source_on};
@@ -11,14 +10,15 @@ ghost use Rattle.mrp_events.specs.Loads.{called_in};
 ghost use Rattle.mrp_cursor.specs.Next.{IsLeft, IsNext, IsRemainder};
 ghost use Rattle.mrp_run_cases.specs.Feeding.{despatches_from, calls_from, item_goods, goods, IsOver, Feeds};
 
+use super::trials::{Trial, holds_of};
 use mrp_cursor::{NextLine, OutCursor, Remainder};
 use mrp_lane::{LaneNo, Reconciled, Record, SendEnd, TakeEnd, lane, reconcile};
-use mrp_loops::{Levels, SizedNet, bound, check};
+use mrp_loops::SizedNet;
 use mrp_net::{ItemNo, LaneKind, Network};
 use mrp_plan::{Plan, plan_all};
 use mrp_qty::Qty;
 use mrp_rows::SourceRow;
-use mrp_tables::read_tables_uncounted;
+use mrp_run::NoGate;
 use mrp_worked::{RING, TWO_PLANTS};
 use std::alloc::{AllocError, Global};
 use std::sync::Wait;
@@ -27,7 +27,7 @@ use std::thread;
 use std::thread::Threads;
 
 /// The firm of two plants as far as its shipments, of which there are then very many.
-const BUSY: &[u8] = b"run,2026-01-05,7,4,,,,
+const BUSY: &str = "run,2026-01-05,7,4,,,,
 plant,A,,,,,,
 plant,B,,,,,,
 pair,A,X,from:B,lot,1,0,0
@@ -559,22 +559,17 @@ fn carries_shipments<R: Threads + Wait + Sync>(
 }
 
 /// The table of the firm with so many shipments of one piece.
-fn busy_table(alloc: Global, shipments: u64) -> Result<Vec<u8>, AllocError> {
-    let mut text = Vec::from_slice(alloc, BUSY)?;
+fn busy_table(alloc: Global, shipments: u64) -> Result<String, AllocError> {
+    let mut text = String::from_str(alloc, BUSY)?;
     for _ in 0..shipments {
-        text.extend_from_slice(b"ship,B,A,X,2,1,,\n")?;
+        text.push_str("ship,B,A,X,2,1,,\n")?;
     }
     Ok(text)
 }
 
-/// The network of a table.
-fn network_of(alloc: Global, text: &[u8]) -> Result<Network, Fail> {
-    Ok(Network::of(alloc, read_tables_uncounted(alloc, text)?)?)
-}
-
 /// What is tried on the lanes of a network.
 #[derive(Clone, Copy)]
-enum Trial {
+pub(super) enum LaneTrial {
     /// All records of the firm's calls are left where none is taken.
     LeavesAll,
     /// A mailbox of one refuses the second record of the firm's shipments.
@@ -586,112 +581,50 @@ enum Trial {
 }
 
 /// Whether a trial goes as it says.
-fn holds<R: Threads + Wait + Sync>(
+pub(super) fn lanes_go<R: Threads + Wait + Sync>(
     rt: &R,
     alloc: Global,
     net: &SizedNet<'_>,
-    trial: Trial,
+    trial: LaneTrial,
 ) -> Result<bool, Fail> {
     match trial {
-        Trial::LeavesAll => leaves_all(rt, alloc, net),
-        Trial::RefusesTheSecond => refuses_the_second(rt, alloc, net),
-        Trial::CarriesTheRing => carries_the_ring(rt, alloc, net),
-        Trial::CarriesShipments(capacity) => carries_shipments(rt, alloc, net, capacity),
+        LaneTrial::LeavesAll => leaves_all(rt, alloc, net),
+        LaneTrial::RefusesTheSecond => refuses_the_second(rt, alloc, net),
+        LaneTrial::CarriesTheRing => carries_the_ring(rt, alloc, net),
+        LaneTrial::CarriesShipments(capacity) => carries_shipments(rt, alloc, net, capacity),
     }
 }
 
-/// The same of a network with these low-level codes.
-fn holds_at_levels<R: Threads + Wait + Sync>(
+/// Whether a trial goes so on the lanes of a table.
+fn goes<R: Threads + Wait + Sync>(
     rt: &R,
     alloc: Global,
-    network: &Network,
-    levels: &Levels,
-    trial: Trial,
-) -> Result<bool, Fail>
-    requires { AreCodes network.now levels.now }
-{
-    let net = bound(alloc, network, levels)?;
-    holds(rt, alloc, &net, trial)
-}
-
-/// The same of a network.
-fn holds_in_network<R: Threads + Wait + Sync>(
-    rt: &R,
-    alloc: Global,
-    network: &Network,
-    trial: Trial,
+    table: &str,
+    trial: LaneTrial,
 ) -> Result<bool, Fail> {
-    let levels = check(alloc, network)?;
-    holds_at_levels(rt, alloc, network, &levels, trial)
-}
-
-/// The same of the network of a table.
-fn holds_of<R: Threads + Wait + Sync>(
-    rt: &R,
-    alloc: Global,
-    text: &[u8],
-    trial: Trial,
-) -> Result<bool, Fail> {
-    let network = network_of(alloc, text)?;
-    let is_so = holds_in_network(rt, alloc, &network, trial);
-    drop(network);
-    is_so
-}
-
-/// Whether the shipments of the busy firm come over a mailbox of that room.
-fn carries_a_million<R: Threads + Wait + Sync>(
-    rt: &R,
-    alloc: Global,
-    capacity: u64,
-) -> Result<bool, Fail> {
-    let text = busy_table(alloc, MANY)?;
-    holds_of(
-        rt,
-        alloc,
-        text.as_slice(),
-        Trial::CarriesShipments(capacity),
-    )
+    holds_of(rt, alloc, table, Trial::Lanes(trial), &NoGate)
 }
 
 #[test]
-fn records_are_left_where_none_is_taken(rt: HostRuntime) -> Result<(), Fail> {
-    assert!(rt; holds_of(&rt, rt.alloc(), TWO_PLANTS.as_bytes(), Trial::LeavesAll)?);
-    Ok(())
-}
-
-#[test]
-fn a_lane_of_one_refuses_the_second_record(rt: HostRuntime) -> Result<(), Fail> {
-    assert!(rt;
-        holds_of(
-            &rt,
-            rt.alloc(),
-            TWO_PLANTS.as_bytes(),
-            Trial::RefusesTheSecond
-        )?
-    );
+fn lanes_in_one_thread(rt: HostRuntime) -> Result<(), Fail> {
+    for trial in [LaneTrial::LeavesAll, LaneTrial::RefusesTheSecond] {
+        assert!(&rt; goes(&rt, rt.alloc(), TWO_PLANTS, trial)?);
+    }
     Ok(())
 }
 
 #[test]
 fn one_thread_offers_the_calls_of_a_ring_and_another_takes(rt: HostRuntime) -> Result<(), Fail> {
-    assert!(rt; holds_of(&rt, rt.alloc(), RING.as_bytes(), Trial::CarriesTheRing)?);
+    assert!(&rt; goes(&rt, rt.alloc(), RING, LaneTrial::CarriesTheRing)?);
     Ok(())
 }
 
 #[test]
-fn a_million_shipments_go_one_by_one(rt: HostRuntime) -> Result<(), Fail> {
-    assert!(rt; carries_a_million(&rt, rt.alloc(), 1)?);
-    Ok(())
-}
-
-#[test]
-fn a_million_shipments_go_through_a_lane_of_64(rt: HostRuntime) -> Result<(), Fail> {
-    assert!(rt; carries_a_million(&rt, rt.alloc(), 64)?);
-    Ok(())
-}
-
-#[test]
-fn a_million_shipments_go_through_a_lane_of_65536(rt: HostRuntime) -> Result<(), Fail> {
-    assert!(rt; carries_a_million(&rt, rt.alloc(), 65_536)?);
+fn a_million_shipments_go_through_a_lane(rt: HostRuntime) -> Result<(), Fail> {
+    let table = busy_table(rt.alloc(), MANY)?;
+    for capacity in [1, 64, 65_536] {
+        let trial = LaneTrial::CarriesShipments(capacity);
+        assert!(&rt; goes(&rt, rt.alloc(), table.as_str(), trial)?, "{capacity}");
+    }
     Ok(())
 }

@@ -5,6 +5,7 @@ ghost use Rattle.mrp_loops.specs.Loop.{AreCodes};
 
 use super::endings::all_end;
 use super::gates::{answers, answers_within};
+use super::lanes::{LaneTrial, lanes_go};
 use super::places::{Place, are_met};
 use super::stops::are_stopped;
 use mrp_loops::{Levels, SizedNet, bound, check};
@@ -31,6 +32,8 @@ pub(super) enum Trial<'a> {
     BreaksOff(&'a Ending, [(u64, u64); 2], Place, u64),
     /// Of so many plants one stops the run after so many turns of the others.
     Stops(usize, usize, u64),
+    /// What is tried on the lanes alone.
+    Lanes(LaneTrial),
 }
 
 /// Whether a trial goes as it says; the gate is for what a run answers under it.
@@ -51,6 +54,7 @@ fn holds<R: Threads + Wait + Sync, G: Gate>(
         Trial::Stops(plants, plant, turns) => {
             Ok(are_stopped(rt, alloc, net, plants, plant, turns))
         }
+        Trial::Lanes(trial) => lanes_go(rt, alloc, net, trial),
     }
 }
 

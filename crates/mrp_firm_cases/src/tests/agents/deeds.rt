@@ -15,8 +15,14 @@ use std::test::Fail;
 /// What is done with an agent, or seen of it.
 #[derive(Clone, Copy)]
 pub(super) enum Deed<'a> {
-    /// This is the next record of a lane, and is handed over.
-    Hand(usize, Record),
+    /// A lane's next record is this line, and is handed over: its number, its item, period, quantity and figure.
+    Line(usize, u64, usize, u64, u64, u64),
+    /// The same of an item end: its number, its item, lines and figure.
+    End(usize, u64, usize, u64, u64),
+    /// The same of a reset: its number, its item and the closed figure.
+    Reset(usize, u64, usize, u64),
+    /// The same of the closing record: its number.
+    Close(usize, u64),
     /// A lane has no record to send.
     Rest(usize),
     /// A plant can plan these pairs.
@@ -33,61 +39,42 @@ pub(super) enum Deed<'a> {
     Received(usize, usize, usize, u64),
 }
 
-/// A line is handed over.
-pub(super) const fn line<'a>(
-    lane: usize,
-    number: u64,
-    item: usize,
-    period: u64,
-    quantity: u64,
-    cumulative: u64,
-) -> Deed<'a> {
-    Deed::Hand(
-        lane,
-        Record::Line {
-            number,
-            item: ItemNo(item),
-            period,
-            quantity,
-            cumulative,
-        },
-    )
-}
-
-/// An item end is handed over.
-pub(super) const fn end<'a>(
-    lane: usize,
-    number: u64,
-    item: usize,
-    lines: u64,
-    cumulative: u64,
-) -> Deed<'a> {
-    Deed::Hand(
-        lane,
-        Record::ItemEnd {
-            number,
-            item: ItemNo(item),
-            lines,
-            cumulative,
-        },
-    )
-}
-
-/// A reset is handed over.
-pub(super) const fn reset<'a>(lane: usize, number: u64, item: usize, closed: u64) -> Deed<'a> {
-    Deed::Hand(
-        lane,
-        Record::Reset {
-            number,
-            item: ItemNo(item),
-            closed,
-        },
-    )
-}
-
-/// The closing record is handed over.
-pub(super) const fn close<'a>(lane: usize, number: u64) -> Deed<'a> {
-    Deed::Hand(lane, Record::Close { number })
+/// The lane and the record of a deed that hands one over.
+fn handed(deed: Deed) -> Option<(usize, Record)> {
+    match deed {
+        Deed::Line(lane, number, item, period, quantity, cumulative) => {
+            let item = ItemNo(item);
+            let line = Record::Line {
+                number,
+                item,
+                period,
+                quantity,
+                cumulative,
+            };
+            Some((lane, line))
+        }
+        Deed::End(lane, number, item, lines, cumulative) => {
+            let item = ItemNo(item);
+            let end = Record::ItemEnd {
+                number,
+                item,
+                lines,
+                cumulative,
+            };
+            Some((lane, end))
+        }
+        Deed::Reset(lane, number, item, closed) => {
+            let item = ItemNo(item);
+            let reset = Record::Reset {
+                number,
+                item,
+                closed,
+            };
+            Some((lane, reset))
+        }
+        Deed::Close(lane, number) => Some((lane, Record::Close { number })),
+        _ => None,
+    }
 }
 
 /// Whether a lane's next record is this one, and is handed over.
@@ -171,8 +158,18 @@ fn takes_one(network: &Network, agents: &mut [Agent], deed: Deed) -> bool
     requires { AreAlone network.now agents.old }
     ensures { AreAlone network.now agents.new }
 {
+    match handed(deed) {
+        Some((l, wanted)) => hands(network, agents, l, wanted),
+        None => is_seen(network, agents, deed),
+    }
+}
+
+/// The same of a deed that hands nothing over.
+fn is_seen(network: &Network, agents: &mut [Agent], deed: Deed) -> bool
+    requires { AreAlone network.now agents.old }
+    ensures { AreAlone network.now agents.new }
+{
     match deed {
-        Deed::Hand(l, wanted) => hands(network, agents, l, wanted),
         Deed::Rest(l) => rests(network, agents, l),
         Deed::Ready(p, pairs) => is_ready(agents, p, pairs),
         Deed::Plan(x, orders) => plans(network, agents, x, orders),
@@ -180,6 +177,7 @@ fn takes_one(network: &Network, agents: &mut [Agent], deed: Deed) -> bool
         Deed::Undone(p) => is_done(agents, p, false),
         Deed::Left(p, wanted) => has_left(agents, p, wanted),
         Deed::Received(p, l, item, wanted) => has_received(agents, p, l, item, wanted),
+        _ => false,
     }
 }
 

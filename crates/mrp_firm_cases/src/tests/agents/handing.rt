@@ -1,230 +1,202 @@
 //! Firms agent by agent, with each record handed over.
 
-use super::deeds::{Deed, close, end, go, line, reset};
+use super::deeds::{Deed, go};
 use mrp_worked::{
     NO_LANES, ONE_SHARED, RESET_AT_RELEASE, RESET_LATER, RING, SHARED, SHARED_AFTER_SHIPMENT,
     TWO_CUSTOMERS, TWO_PLANTS, TWO_SHIPMENTS,
 };
 use std::test::Fail;
 
-#[test]
-fn a_plant_without_lanes(rt: HostRuntime) -> Result<(), Fail> {
-    let deeds = [
-        Deed::Ready(0, &[0]),
-        Deed::Undone(0),
-        Deed::Plan(0, &[20, 0, 20]),
-        Deed::Ready(0, &[]),
-        Deed::Done(0),
-    ];
-    assert!(rt; go(&rt, NO_LANES, &deeds)?);
-    Ok(())
-}
+const A_PLANT_WITHOUT_LANES: &[Deed] = &[
+    Deed::Ready(0, &[0]),
+    Deed::Undone(0),
+    Deed::Plan(0, &[20, 0, 20]),
+    Deed::Ready(0, &[]),
+    Deed::Done(0),
+];
 
-#[test]
-fn two_plants(rt: HostRuntime) -> Result<(), Fail> {
-    let deeds = [
-        Deed::Ready(0, &[]),
-        Deed::Ready(1, &[]),
-        Deed::Rest(1),
-        line(0, 1, 0, 2, 8, 108),
-        Deed::Ready(0, &[]),
-        end(0, 2, 0, 1, 108),
-        Deed::Ready(0, &[0]),
-        Deed::Rest(1),
-        Deed::Plan(0, &[0, 0, 22, 0]),
-        Deed::Ready(0, &[]),
-        line(1, 1, 0, 1, 22, 130),
-        Deed::Ready(1, &[]),
-        end(1, 2, 0, 1, 130),
-        close(1, 3),
-        Deed::Rest(1),
-        Deed::Ready(1, &[1]),
-        Deed::Undone(0),
-        Deed::Undone(1),
-        Deed::Plan(1, &[0, 22, 0, 0]),
-        Deed::Undone(1),
-        close(0, 3),
-        Deed::Rest(0),
-        Deed::Done(0),
-        Deed::Done(1),
-    ];
-    assert!(rt; go(&rt, TWO_PLANTS, &deeds)?);
-    Ok(())
-}
+const TWO_PLANTS_DEEDS: &[Deed] = &[
+    Deed::Ready(0, &[]),
+    Deed::Ready(1, &[]),
+    Deed::Rest(1),
+    Deed::Line(0, 1, 0, 2, 8, 108),
+    Deed::Ready(0, &[]),
+    Deed::End(0, 2, 0, 1, 108),
+    Deed::Ready(0, &[0]),
+    Deed::Rest(1),
+    Deed::Plan(0, &[0, 0, 22, 0]),
+    Deed::Ready(0, &[]),
+    Deed::Line(1, 1, 0, 1, 22, 130),
+    Deed::Ready(1, &[]),
+    Deed::End(1, 2, 0, 1, 130),
+    Deed::Close(1, 3),
+    Deed::Rest(1),
+    Deed::Ready(1, &[1]),
+    Deed::Undone(0),
+    Deed::Undone(1),
+    Deed::Plan(1, &[0, 22, 0, 0]),
+    Deed::Undone(1),
+    Deed::Close(0, 3),
+    Deed::Rest(0),
+    Deed::Done(0),
+    Deed::Done(1),
+];
 
-#[test]
-fn two_shipments(rt: HostRuntime) -> Result<(), Fail> {
-    let deeds = [
-        line(0, 1, 0, 2, 8, 108),
-        line(0, 2, 0, 2, 8, 116),
-        end(0, 3, 0, 2, 116),
-        Deed::Plan(0, &[0, 0, 14, 0]),
-        line(1, 1, 0, 1, 14, 130),
-        end(1, 2, 0, 1, 130),
-        Deed::Plan(1, &[0, 14, 0, 0]),
-    ];
-    assert!(rt; go(&rt, TWO_SHIPMENTS, &deeds)?);
-    Ok(())
-}
+const TWO_SHIPMENTS_DEEDS: &[Deed] = &[
+    Deed::Line(0, 1, 0, 2, 8, 108),
+    Deed::Line(0, 2, 0, 2, 8, 116),
+    Deed::End(0, 3, 0, 2, 116),
+    Deed::Plan(0, &[0, 0, 14, 0]),
+    Deed::Line(1, 1, 0, 1, 14, 130),
+    Deed::End(1, 2, 0, 1, 130),
+    Deed::Plan(1, &[0, 14, 0, 0]),
+];
 
 /// The ring's items are numbered as its pairs name them: X, Y, W.
-#[test]
-fn a_ring(rt: HostRuntime) -> Result<(), Fail> {
-    let deeds = [
-        Deed::Ready(0, &[]),
-        Deed::Ready(1, &[]),
-        end(2, 1, 0, 0, 0),
-        Deed::Ready(1, &[0]),
-        Deed::Plan(0, &[5]),
-        line(3, 1, 0, 0, 5, 5),
-        end(3, 2, 0, 1, 5),
-        Deed::Rest(3),
-        Deed::Plan(1, &[5]),
-        Deed::Ready(0, &[]),
-        end(0, 1, 1, 0, 0),
-        Deed::Ready(0, &[2]),
-        close(0, 2),
-        Deed::Plan(2, &[10]),
-        line(1, 1, 1, 0, 10, 10),
-        end(1, 2, 1, 1, 10),
-        close(1, 3),
-        Deed::Plan(3, &[10]),
-        Deed::Ready(1, &[]),
-        end(2, 2, 2, 0, 0),
-        Deed::Plan(4, &[30]),
-        line(3, 3, 2, 0, 30, 30),
-        end(3, 4, 2, 1, 30),
-        Deed::Plan(5, &[30]),
-        Deed::Undone(0),
-        Deed::Undone(1),
-        close(2, 3),
-        close(3, 5),
-        Deed::Done(0),
-        Deed::Done(1),
-    ];
-    assert!(rt; go(&rt, RING, &deeds)?);
-    Ok(())
-}
+const A_RING: &[Deed] = &[
+    Deed::Ready(0, &[]),
+    Deed::Ready(1, &[]),
+    Deed::End(2, 1, 0, 0, 0),
+    Deed::Ready(1, &[0]),
+    Deed::Plan(0, &[5]),
+    Deed::Line(3, 1, 0, 0, 5, 5),
+    Deed::End(3, 2, 0, 1, 5),
+    Deed::Rest(3),
+    Deed::Plan(1, &[5]),
+    Deed::Ready(0, &[]),
+    Deed::End(0, 1, 1, 0, 0),
+    Deed::Ready(0, &[2]),
+    Deed::Close(0, 2),
+    Deed::Plan(2, &[10]),
+    Deed::Line(1, 1, 1, 0, 10, 10),
+    Deed::End(1, 2, 1, 1, 10),
+    Deed::Close(1, 3),
+    Deed::Plan(3, &[10]),
+    Deed::Ready(1, &[]),
+    Deed::End(2, 2, 2, 0, 0),
+    Deed::Plan(4, &[30]),
+    Deed::Line(3, 3, 2, 0, 30, 30),
+    Deed::End(3, 4, 2, 1, 30),
+    Deed::Plan(5, &[30]),
+    Deed::Undone(0),
+    Deed::Undone(1),
+    Deed::Close(2, 3),
+    Deed::Close(3, 5),
+    Deed::Done(0),
+    Deed::Done(1),
+];
 
 /// The item Z is the third that the table names.
-#[test]
-fn a_pair_waits_for_all_its_customers(rt: HostRuntime) -> Result<(), Fail> {
-    let deeds = [
-        Deed::Ready(0, &[0, 1]),
-        Deed::Plan(0, &[10]),
-        Deed::Ready(0, &[1]),
-        Deed::Plan(1, &[10]),
-        Deed::Ready(0, &[]),
-        end(0, 1, 2, 0, 0),
-        end(2, 1, 2, 0, 0),
-        Deed::Ready(1, &[3]),
-        Deed::Ready(2, &[4]),
-        Deed::Plan(3, &[15]),
-        line(1, 1, 2, 0, 15, 15),
-        end(1, 2, 2, 1, 15),
-        Deed::Ready(0, &[]),
-        Deed::Plan(4, &[25]),
-        line(3, 1, 2, 0, 25, 25),
-        Deed::Ready(0, &[]),
-        end(3, 2, 2, 1, 25),
-        Deed::Ready(0, &[2]),
-        Deed::Plan(2, &[100]),
-        Deed::Undone(0),
-    ];
-    assert!(rt; go(&rt, TWO_CUSTOMERS, &deeds)?);
-    Ok(())
-}
+const A_PAIR_WAITS_FOR_ALL_ITS_CUSTOMERS: &[Deed] = &[
+    Deed::Ready(0, &[0, 1]),
+    Deed::Plan(0, &[10]),
+    Deed::Ready(0, &[1]),
+    Deed::Plan(1, &[10]),
+    Deed::Ready(0, &[]),
+    Deed::End(0, 1, 2, 0, 0),
+    Deed::End(2, 1, 2, 0, 0),
+    Deed::Ready(1, &[3]),
+    Deed::Ready(2, &[4]),
+    Deed::Plan(3, &[15]),
+    Deed::Line(1, 1, 2, 0, 15, 15),
+    Deed::End(1, 2, 2, 1, 15),
+    Deed::Ready(0, &[]),
+    Deed::Plan(4, &[25]),
+    Deed::Line(3, 1, 2, 0, 25, 25),
+    Deed::Ready(0, &[]),
+    Deed::End(3, 2, 2, 1, 25),
+    Deed::Ready(0, &[2]),
+    Deed::Plan(2, &[100]),
+    Deed::Undone(0),
+];
+
+const PARTS_OF_AN_ORDER: &[Deed] = &[
+    Deed::End(0, 1, 0, 0, 0),
+    Deed::Ready(0, &[]),
+    Deed::End(2, 1, 0, 0, 0),
+    Deed::Plan(0, &[7]),
+    Deed::Line(1, 1, 0, 0, 4, 4),
+    Deed::End(1, 2, 0, 1, 4),
+    Deed::Line(3, 1, 0, 0, 3, 3),
+    Deed::End(3, 2, 0, 1, 3),
+    Deed::Plan(1, &[4]),
+    Deed::Plan(2, &[3]),
+];
+
+const A_PART_OF_NOTHING_HAS_NO_LINE: &[Deed] = &[
+    Deed::End(0, 1, 0, 0, 0),
+    Deed::End(2, 1, 0, 0, 0),
+    Deed::Plan(0, &[1]),
+    Deed::End(1, 1, 0, 0, 0),
+    Deed::Close(1, 2),
+    Deed::Line(3, 1, 0, 0, 1, 1),
+    Deed::End(3, 2, 0, 1, 1),
+    Deed::Plan(1, &[0]),
+    Deed::Plan(2, &[1]),
+];
+
+const PARTS_AFTER_A_SHIPMENT: &[Deed] = &[
+    Deed::End(0, 1, 0, 0, 0),
+    Deed::Line(2, 1, 0, 0, 5, 5),
+    Deed::Ready(0, &[]),
+    Deed::End(2, 2, 0, 1, 5),
+    Deed::Plan(0, &[2]),
+    Deed::Line(1, 1, 0, 0, 1, 1),
+    Deed::End(1, 2, 0, 1, 1),
+    Deed::Line(3, 1, 0, 0, 1, 6),
+    Deed::End(3, 2, 0, 1, 6),
+    Deed::Plan(1, &[1]),
+    Deed::Plan(2, &[1]),
+];
+
+const FIGURES_START_ANEW_WITH_THE_SHIPMENT: &[Deed] = &[
+    Deed::Reset(0, 1, 0, 100),
+    Deed::Line(0, 2, 0, 2, 8, 8),
+    Deed::End(0, 3, 0, 1, 8),
+    Deed::Plan(0, &[0, 0, 22, 0]),
+    Deed::Line(1, 1, 0, 1, 22, 130),
+    Deed::Reset(1, 2, 0, 130),
+    Deed::End(1, 3, 0, 1, 0),
+    Deed::Close(1, 4),
+    Deed::Plan(1, &[0, 22, 0, 0]),
+    Deed::Close(0, 4),
+    Deed::Done(0),
+    Deed::Done(1),
+];
+
+const FIGURES_START_ANEW_WITH_THE_RELEASE: &[Deed] = &[
+    Deed::Reset(0, 1, 0, 100),
+    Deed::Line(0, 2, 0, 2, 8, 8),
+    Deed::End(0, 3, 0, 1, 8),
+    Deed::Plan(0, &[0, 0, 22, 0]),
+    Deed::Reset(1, 1, 0, 108),
+    Deed::Line(1, 2, 0, 1, 22, 22),
+    Deed::End(1, 3, 0, 1, 22),
+    Deed::Close(1, 4),
+    Deed::Plan(1, &[0, 22, 0, 0]),
+    Deed::Close(0, 4),
+    Deed::Done(0),
+    Deed::Done(1),
+];
+
+/// The agents of each of these tables, and what is done with them.
+const CASES: [(&str, &[Deed]); 10] = [
+    (NO_LANES, A_PLANT_WITHOUT_LANES),
+    (TWO_PLANTS, TWO_PLANTS_DEEDS),
+    (TWO_SHIPMENTS, TWO_SHIPMENTS_DEEDS),
+    (RING, A_RING),
+    (TWO_CUSTOMERS, A_PAIR_WAITS_FOR_ALL_ITS_CUSTOMERS),
+    (SHARED, PARTS_OF_AN_ORDER),
+    (ONE_SHARED, A_PART_OF_NOTHING_HAS_NO_LINE),
+    (SHARED_AFTER_SHIPMENT, PARTS_AFTER_A_SHIPMENT),
+    (RESET_LATER, FIGURES_START_ANEW_WITH_THE_SHIPMENT),
+    (RESET_AT_RELEASE, FIGURES_START_ANEW_WITH_THE_RELEASE),
+];
 
 #[test]
-fn parts_of_an_order(rt: HostRuntime) -> Result<(), Fail> {
-    let deeds = [
-        end(0, 1, 0, 0, 0),
-        Deed::Ready(0, &[]),
-        end(2, 1, 0, 0, 0),
-        Deed::Plan(0, &[7]),
-        line(1, 1, 0, 0, 4, 4),
-        end(1, 2, 0, 1, 4),
-        line(3, 1, 0, 0, 3, 3),
-        end(3, 2, 0, 1, 3),
-        Deed::Plan(1, &[4]),
-        Deed::Plan(2, &[3]),
-    ];
-    assert!(rt; go(&rt, SHARED, &deeds)?);
-    Ok(())
-}
-
-#[test]
-fn a_part_of_nothing_has_no_line(rt: HostRuntime) -> Result<(), Fail> {
-    let deeds = [
-        end(0, 1, 0, 0, 0),
-        end(2, 1, 0, 0, 0),
-        Deed::Plan(0, &[1]),
-        end(1, 1, 0, 0, 0),
-        close(1, 2),
-        line(3, 1, 0, 0, 1, 1),
-        end(3, 2, 0, 1, 1),
-        Deed::Plan(1, &[0]),
-        Deed::Plan(2, &[1]),
-    ];
-    assert!(rt; go(&rt, ONE_SHARED, &deeds)?);
-    Ok(())
-}
-
-#[test]
-fn parts_after_a_shipment(rt: HostRuntime) -> Result<(), Fail> {
-    let deeds = [
-        end(0, 1, 0, 0, 0),
-        line(2, 1, 0, 0, 5, 5),
-        Deed::Ready(0, &[]),
-        end(2, 2, 0, 1, 5),
-        Deed::Plan(0, &[2]),
-        line(1, 1, 0, 0, 1, 1),
-        end(1, 2, 0, 1, 1),
-        line(3, 1, 0, 0, 1, 6),
-        end(3, 2, 0, 1, 6),
-        Deed::Plan(1, &[1]),
-        Deed::Plan(2, &[1]),
-    ];
-    assert!(rt; go(&rt, SHARED_AFTER_SHIPMENT, &deeds)?);
-    Ok(())
-}
-
-#[test]
-fn figures_start_anew_with_the_shipment(rt: HostRuntime) -> Result<(), Fail> {
-    let deeds = [
-        reset(0, 1, 0, 100),
-        line(0, 2, 0, 2, 8, 8),
-        end(0, 3, 0, 1, 8),
-        Deed::Plan(0, &[0, 0, 22, 0]),
-        line(1, 1, 0, 1, 22, 130),
-        reset(1, 2, 0, 130),
-        end(1, 3, 0, 1, 0),
-        close(1, 4),
-        Deed::Plan(1, &[0, 22, 0, 0]),
-        close(0, 4),
-        Deed::Done(0),
-        Deed::Done(1),
-    ];
-    assert!(rt; go(&rt, RESET_LATER, &deeds)?);
-    Ok(())
-}
-
-#[test]
-fn figures_start_anew_with_the_release(rt: HostRuntime) -> Result<(), Fail> {
-    let deeds = [
-        reset(0, 1, 0, 100),
-        line(0, 2, 0, 2, 8, 8),
-        end(0, 3, 0, 1, 8),
-        Deed::Plan(0, &[0, 0, 22, 0]),
-        reset(1, 1, 0, 108),
-        line(1, 2, 0, 1, 22, 22),
-        end(1, 3, 0, 1, 22),
-        close(1, 4),
-        Deed::Plan(1, &[0, 22, 0, 0]),
-        close(0, 4),
-        Deed::Done(0),
-        Deed::Done(1),
-    ];
-    assert!(rt; go(&rt, RESET_AT_RELEASE, &deeds)?);
+fn agents_hand_their_records_over(rt: HostRuntime) -> Result<(), Fail> {
+    for (number, (table, deeds)) in CASES.iter().enumerate() {
+        assert!(rt; go(&rt, table, deeds)?, "case {number}");
+    }
     Ok(())
 }

@@ -1,8 +1,6 @@
 //! Agents for which memory is refused: once they are made they need none.
 
-ghost use Rattle.mrp_firm_cases.specs.Hands.{AreAlone};
-
-use super::deeds::{Deed, close, end, line, reset, takes};
+use super::deeds::{Deed, takes};
 use super::hands::agents_of;
 use super::network;
 use mrp_agent::Agent;
@@ -13,36 +11,31 @@ use mrp_worked::{RESET_LATER, has_pieces};
 use std::alloc::Global;
 use std::test::Fail;
 
-/// Whether the agents of two plants take these deeds, from the first record to the last.
-fn go_on(network: &Network, agents: &mut [Agent]) -> bool
-    requires { AreAlone network.now agents.old }
-{
-    let deeds = [
-        Deed::Rest(1),
-        Deed::Left(0, 1),
-        Deed::Received(0, 0, 0, 100),
-        reset(0, 1, 0, 100),
-        line(0, 2, 0, 2, 8, 8),
-        Deed::Ready(0, &[]),
-        end(0, 3, 0, 1, 8),
-        Deed::Received(0, 0, 0, 108),
-        Deed::Ready(0, &[0]),
-        Deed::Plan(0, &[0, 0, 22, 0]),
-        Deed::Left(0, 0),
-        line(1, 1, 0, 1, 22, 130),
-        reset(1, 2, 0, 130),
-        end(1, 3, 0, 1, 0),
-        close(1, 4),
-        Deed::Rest(1),
-        Deed::Received(1, 1, 0, 130),
-        Deed::Plan(1, &[0, 22, 0, 0]),
-        Deed::Undone(1),
-        close(0, 4),
-        Deed::Done(0),
-        Deed::Done(1),
-    ];
-    takes(network, agents, &deeds)
-}
+/// What is done with the agents of two plants, from the first record to the last.
+const DEEDS: &[Deed] = &[
+    Deed::Rest(1),
+    Deed::Left(0, 1),
+    Deed::Received(0, 0, 0, 100),
+    Deed::Reset(0, 1, 0, 100),
+    Deed::Line(0, 2, 0, 2, 8, 8),
+    Deed::Ready(0, &[]),
+    Deed::End(0, 3, 0, 1, 8),
+    Deed::Received(0, 0, 0, 108),
+    Deed::Ready(0, &[0]),
+    Deed::Plan(0, &[0, 0, 22, 0]),
+    Deed::Left(0, 0),
+    Deed::Line(1, 1, 0, 1, 22, 130),
+    Deed::Reset(1, 2, 0, 130),
+    Deed::End(1, 3, 0, 1, 0),
+    Deed::Close(1, 4),
+    Deed::Rest(1),
+    Deed::Received(1, 1, 0, 130),
+    Deed::Plan(1, &[0, 22, 0, 0]),
+    Deed::Undone(1),
+    Deed::Close(0, 4),
+    Deed::Done(0),
+    Deed::Done(1),
+];
 
 /// Whether the last of the agents gives the plan of its one pair, with these orders, and is gone.
 fn gives(agents: &mut Vec<Agent>, orders: &[u64]) -> bool {
@@ -60,7 +53,7 @@ fn are_one(plans: &[PairPlan], orders: &[u64]) -> bool {
 /// Whether the agents of two plants, once they are made, do what agents do.
 fn made_agents_go_on(alloc: Global, net: &SizedNet) -> Result<bool, Fail> {
     let mut agents = agents_of(alloc, net)?;
-    let went_on = go_on(net.network(), agents.as_mut_slice());
+    let went_on = takes(net.network(), agents.as_mut_slice(), DEEDS);
     let is_so = went_on && gives(&mut agents, &[0, 22, 0, 0]);
     drop(agents);
     Ok(is_so)

@@ -235,6 +235,7 @@ fn ends(rt: &HostRuntime, ending: &Ending, steps: u64) -> Result<bool, Fail> {
     holds_of(rt.alloc(), ending.table, Trial::Ends(ending, steps))
 }
 
+/// A record is sent before it is received.
 const SENT_FIRST: &[Tried] = &[
     (Event::Receive(LaneNo(0)), false, 14),
     (Event::Send(LaneNo(0)), true, 13),
@@ -242,13 +243,7 @@ const SENT_FIRST: &[Tried] = &[
     (Event::Plan(PairNo(0)), false, 13),
 ];
 
-#[test]
-fn a_record_is_sent_before_it_is_received(rt: HostRuntime) -> Result<(), Fail> {
-    let figures = [(100, 108, 100), (108, 108, 108)];
-    assert!(rt; goes(&rt, TWO_PLANTS, 1, SENT_FIRST, &figures)?);
-    Ok(())
-}
-
+/// A pair is planned once its block has ended.
 const PLANNED_AFTER_ITS_BLOCK: &[Tried] = &[
     (Event::Receive(LaneNo(0)), false, 14),
     (Event::Send(LaneNo(0)), true, 13),
@@ -263,13 +258,7 @@ const PLANNED_AFTER_ITS_BLOCK: &[Tried] = &[
     (Event::Plan(PairNo(1)), false, 9),
 ];
 
-#[test]
-fn a_pair_is_planned_once_its_block_has_ended(rt: HostRuntime) -> Result<(), Fail> {
-    let figures = [(100, 108, 108), (108, 108, 108)];
-    assert!(rt; goes(&rt, TWO_PLANTS, 1, PLANNED_AFTER_ITS_BLOCK, &figures)?);
-    Ok(())
-}
-
+/// A schedule is sent once its pair is planned.
 const SENT_AFTER_ITS_PLAN: &[Tried] = &[
     (Event::Send(LaneNo(1)), false, 14),
     (Event::Send(LaneNo(0)), true, 13),
@@ -281,13 +270,7 @@ const SENT_AFTER_ITS_PLAN: &[Tried] = &[
     (Event::Send(LaneNo(1)), true, 8),
 ];
 
-#[test]
-fn a_schedule_is_sent_once_its_pair_is_planned(rt: HostRuntime) -> Result<(), Fail> {
-    let figures = [(100, 108, 108), (108, 130, 108)];
-    assert!(rt; goes(&rt, TWO_PLANTS, 64, SENT_AFTER_ITS_PLAN, &figures)?);
-    Ok(())
-}
-
+/// Two plants from the first event to the last.
 const FIRST_TO_LAST: &[Tried] = &[
     (Event::Send(LaneNo(0)), true, 13),
     (Event::Receive(LaneNo(0)), true, 12),
@@ -313,13 +296,7 @@ const FIRST_TO_LAST: &[Tried] = &[
     (Event::Plan(PairNo(1)), false, 0),
 ];
 
-#[test]
-fn two_plants_from_the_first_event_to_the_last(rt: HostRuntime) -> Result<(), Fail> {
-    let figures = [(100, 108, 108), (108, 130, 130)];
-    assert!(rt; goes(&rt, TWO_PLANTS, 1, FIRST_TO_LAST, &figures)?);
-    Ok(())
-}
-
+/// A firm has no other lanes and pairs.
 const NOWHERE: &[Tried] = &[
     (Event::Send(LaneNo(2)), false, 14),
     (Event::Receive(LaneNo(2)), false, 14),
@@ -329,13 +306,7 @@ const NOWHERE: &[Tried] = &[
     (Event::Plan(PairNo(usize::MAX)), false, 14),
 ];
 
-#[test]
-fn a_firm_has_no_other_lanes_and_pairs(rt: HostRuntime) -> Result<(), Fail> {
-    let figures = [(100, 100, 100), (108, 108, 108)];
-    assert!(rt; goes(&rt, TWO_PLANTS, 1, NOWHERE, &figures)?);
-    Ok(())
-}
-
+/// A pair waits for its second source.
 const SECOND_SOURCE: &[Tried] = &[
     (Event::Send(LaneNo(0)), true, 22),
     (Event::Receive(LaneNo(0)), true, 21),
@@ -352,13 +323,7 @@ const SECOND_SOURCE: &[Tried] = &[
     (Event::Plan(PairNo(2)), false, 16),
 ];
 
-#[test]
-fn a_pair_waits_for_its_second_source(rt: HostRuntime) -> Result<(), Fail> {
-    let figures = [(0, 0, 0), (0, 4, 0), (0, 0, 0), (0, 3, 0)];
-    assert!(rt; goes(&rt, SHARED, 4, SECOND_SOURCE, &figures)?);
-    Ok(())
-}
-
+/// A source without a part has a block without lines.
 const WITHOUT_A_PART: &[Tried] = &[
     (Event::Send(LaneNo(0)), true, 20),
     (Event::Receive(LaneNo(0)), true, 19),
@@ -373,13 +338,7 @@ const WITHOUT_A_PART: &[Tried] = &[
     (Event::Send(LaneNo(1)), false, 11),
 ];
 
-#[test]
-fn a_source_without_a_part_has_a_block_without_lines(rt: HostRuntime) -> Result<(), Fail> {
-    let figures = [(0, 0, 0), (0, 0, 0), (0, 0, 0), (0, 1, 0)];
-    assert!(rt; goes(&rt, ONE_SHARED, 4, WITHOUT_A_PART, &figures)?);
-    Ok(())
-}
-
+/// A lane is closed after all its blocks.
 const CLOSED_LAST: &[Tried] = &[
     (Event::Send(LaneNo(2)), true, 31),
     (Event::Send(LaneNo(2)), true, 30),
@@ -421,32 +380,13 @@ const CLOSED_LAST: &[Tried] = &[
     (Event::Receive(LaneNo(1)), true, 0),
 ];
 
-#[test]
-fn a_lane_is_closed_after_all_its_blocks(rt: HostRuntime) -> Result<(), Fail> {
-    let figures = [
-        (0, 0, 0),
-        (0, 10, 10),
-        (0, 0, 0),
-        (0, 0, 0),
-        (0, 5, 5),
-        (0, 30, 30),
-    ];
-    assert!(rt; goes(&rt, RING, 64, CLOSED_LAST, &figures)?);
-    Ok(())
-}
-
+/// Figures start anew before the shipment.
 const BEFORE_THE_SHIPMENT: &[Tried] = &[
     (Event::Send(LaneNo(0)), true, 17),
     (Event::Receive(LaneNo(0)), true, 16),
 ];
 
-#[test]
-fn figures_start_anew_before_the_shipment(rt: HostRuntime) -> Result<(), Fail> {
-    let figures = [(100, 100, 100), (108, 108, 108)];
-    assert!(rt; goes(&rt, RESET_LATER, 8, BEFORE_THE_SHIPMENT, &figures)?);
-    Ok(())
-}
-
+/// Figures start anew after the release.
 const AFTER_THE_RELEASE: &[Tried] = &[
     (Event::Send(LaneNo(0)), true, 17),
     (Event::Send(LaneNo(0)), true, 16),
@@ -459,13 +399,7 @@ const AFTER_THE_RELEASE: &[Tried] = &[
     (Event::Send(LaneNo(1)), true, 10),
 ];
 
-#[test]
-fn figures_start_anew_after_the_release(rt: HostRuntime) -> Result<(), Fail> {
-    let figures = [(100, 108, 108), (108, 130, 108)];
-    assert!(rt; goes(&rt, RESET_LATER, 8, AFTER_THE_RELEASE, &figures)?);
-    Ok(())
-}
-
+/// Figures start anew before the release.
 const BEFORE_THE_RELEASE: &[Tried] = &[
     (Event::Send(LaneNo(0)), true, 17),
     (Event::Send(LaneNo(0)), true, 16),
@@ -477,13 +411,7 @@ const BEFORE_THE_RELEASE: &[Tried] = &[
     (Event::Send(LaneNo(1)), true, 10),
 ];
 
-#[test]
-fn figures_start_anew_before_the_release(rt: HostRuntime) -> Result<(), Fail> {
-    let figures = [(100, 108, 108), (108, 108, 108)];
-    assert!(rt; goes(&rt, RESET_AT_RELEASE, 8, BEFORE_THE_RELEASE, &figures)?);
-    Ok(())
-}
-
+/// Closed years are added.
 const CLOSED_YEARS: &[Tried] = &[
     (Event::Send(LaneNo(0)), true, 17),
     (Event::Send(LaneNo(0)), true, 16),
@@ -501,10 +429,94 @@ const CLOSED_YEARS: &[Tried] = &[
     (Event::Send(LaneNo(1)), false, 5),
 ];
 
+/// A table, how many records a mailbox holds, the events, and the figures after them.
+type Case = (&'static str, u64, &'static [Tried], &'static [Figures]);
+
+const CASES: [Case; 12] = [
+    (
+        TWO_PLANTS,
+        1,
+        SENT_FIRST,
+        &[(100, 108, 100), (108, 108, 108)],
+    ),
+    (
+        TWO_PLANTS,
+        1,
+        PLANNED_AFTER_ITS_BLOCK,
+        &[(100, 108, 108), (108, 108, 108)],
+    ),
+    (
+        TWO_PLANTS,
+        64,
+        SENT_AFTER_ITS_PLAN,
+        &[(100, 108, 108), (108, 130, 108)],
+    ),
+    (
+        TWO_PLANTS,
+        1,
+        FIRST_TO_LAST,
+        &[(100, 108, 108), (108, 130, 130)],
+    ),
+    (TWO_PLANTS, 1, NOWHERE, &[(100, 100, 100), (108, 108, 108)]),
+    (
+        SHARED,
+        4,
+        SECOND_SOURCE,
+        &[(0, 0, 0), (0, 4, 0), (0, 0, 0), (0, 3, 0)],
+    ),
+    (
+        ONE_SHARED,
+        4,
+        WITHOUT_A_PART,
+        &[(0, 0, 0), (0, 0, 0), (0, 0, 0), (0, 1, 0)],
+    ),
+    (
+        RING,
+        64,
+        CLOSED_LAST,
+        &[
+            (0, 0, 0),
+            (0, 10, 10),
+            (0, 0, 0),
+            (0, 0, 0),
+            (0, 5, 5),
+            (0, 30, 30),
+        ],
+    ),
+    (
+        RESET_LATER,
+        8,
+        BEFORE_THE_SHIPMENT,
+        &[(100, 100, 100), (108, 108, 108)],
+    ),
+    (
+        RESET_LATER,
+        8,
+        AFTER_THE_RELEASE,
+        &[(100, 108, 108), (108, 130, 108)],
+    ),
+    (
+        RESET_AT_RELEASE,
+        8,
+        BEFORE_THE_RELEASE,
+        &[(100, 108, 108), (108, 108, 108)],
+    ),
+    (
+        RESET_AT_RELEASE,
+        8,
+        CLOSED_YEARS,
+        &[(100, 108, 108), (108, 130, 130)],
+    ),
+];
+
 #[test]
-fn closed_years_are_added(rt: HostRuntime) -> Result<(), Fail> {
-    let figures = [(100, 108, 108), (108, 130, 130)];
-    assert!(rt; goes(&rt, RESET_AT_RELEASE, 8, CLOSED_YEARS, &figures)?);
+fn firms_take_what_is_enabled(rt: HostRuntime) -> Result<(), Fail> {
+    for (number, (table, capacity, tried, figures)) in CASES.iter().enumerate() {
+        assert!(rt;
+            goes(&rt, table, *capacity, tried, figures)?,
+            "case {number}"
+        );
+    }
     Ok(())
 }
 
@@ -572,69 +584,23 @@ fn lists_count_the_events_that_are_enabled(rt: HostRuntime) -> Result<(), Fail> 
 }
 
 #[test]
-fn two_plants_end(rt: HostRuntime) -> Result<(), Fail> {
-    assert!(rt; ends(&rt, &TWO_PLANTS_ENDING, 14)?);
-    Ok(())
-}
-
-#[test]
-fn two_shipments_end(rt: HostRuntime) -> Result<(), Fail> {
-    assert!(rt; ends(&rt, &TWO_SHIPMENTS_ENDING, 16)?);
-    Ok(())
-}
-
-#[test]
-fn figures_that_start_anew_end_alike(rt: HostRuntime) -> Result<(), Fail> {
-    for ending in [RESET_LATER_ENDING, RESET_AT_RELEASE_ENDING] {
-        assert!(rt; ends(&rt, &ending, 18)?);
+fn firms_are_driven_to_their_ends(rt: HostRuntime) -> Result<(), Fail> {
+    let endings = [
+        (TWO_PLANTS_ENDING, 14),
+        (TWO_SHIPMENTS_ENDING, 16),
+        (RING_ENDING, 32),
+        (IDLE_RING_ENDING, 26),
+        (TWO_CUSTOMERS_ENDING, 25),
+        (SHARED_ENDING, 23),
+        (ONE_SHARED_ENDING, 21),
+        (SHARED_AFTER_SHIPMENT_ENDING, 25),
+        (NO_LANES_ENDING, 1),
+        (NO_PLANTS_ENDING, 0),
+        (RESET_LATER_ENDING, 18),
+        (RESET_AT_RELEASE_ENDING, 18),
+    ];
+    for (ending, steps) in endings {
+        assert!(rt; ends(&rt, &ending, steps)?, "{}", ending.table);
     }
-    Ok(())
-}
-
-#[test]
-fn a_ring_ends(rt: HostRuntime) -> Result<(), Fail> {
-    assert!(rt; ends(&rt, &RING_ENDING, 32)?);
-    Ok(())
-}
-
-#[test]
-fn an_idle_ring_ends(rt: HostRuntime) -> Result<(), Fail> {
-    assert!(rt; ends(&rt, &IDLE_RING_ENDING, 26)?);
-    Ok(())
-}
-
-#[test]
-fn two_customers_end(rt: HostRuntime) -> Result<(), Fail> {
-    assert!(rt; ends(&rt, &TWO_CUSTOMERS_ENDING, 25)?);
-    Ok(())
-}
-
-#[test]
-fn shares_end(rt: HostRuntime) -> Result<(), Fail> {
-    assert!(rt; ends(&rt, &SHARED_ENDING, 23)?);
-    Ok(())
-}
-
-#[test]
-fn a_share_of_nothing_ends(rt: HostRuntime) -> Result<(), Fail> {
-    assert!(rt; ends(&rt, &ONE_SHARED_ENDING, 21)?);
-    Ok(())
-}
-
-#[test]
-fn shares_after_a_shipment_end(rt: HostRuntime) -> Result<(), Fail> {
-    assert!(rt; ends(&rt, &SHARED_AFTER_SHIPMENT_ENDING, 25)?);
-    Ok(())
-}
-
-#[test]
-fn a_firm_without_lanes_ends(rt: HostRuntime) -> Result<(), Fail> {
-    assert!(rt; ends(&rt, &NO_LANES_ENDING, 1)?);
-    Ok(())
-}
-
-#[test]
-fn a_firm_without_plants_is_at_its_end(rt: HostRuntime) -> Result<(), Fail> {
-    assert!(rt; ends(&rt, &NO_PLANTS_ENDING, 0)?);
     Ok(())
 }

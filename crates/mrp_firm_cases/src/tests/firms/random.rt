@@ -208,27 +208,15 @@ fn table_keeps_on(rt: &HostRuntime, table: &str, lists: u64) -> Result<bool, Fai
 }
 
 #[test]
-fn a_ring_in_any_order(rt: HostRuntime) -> Result<(), Fail> {
-    assert!(rt; table_keeps_on(&rt, RING, ORDERS)?);
-    Ok(())
-}
-
-#[test]
-fn shares_in_any_order(rt: HostRuntime) -> Result<(), Fail> {
-    assert!(rt; table_keeps_on(&rt, SHARED_AFTER_SHIPMENT, ORDERS)?);
-    Ok(())
-}
-
-#[test]
-fn resets_in_any_order(rt: HostRuntime) -> Result<(), Fail> {
-    for table in [RESET_LATER, RESET_AT_RELEASE] {
-        assert!(rt; table_keeps_on(&rt, table, ORDERS)?);
+fn firms_keep_the_laws_in_any_order(rt: HostRuntime) -> Result<(), Fail> {
+    for table in [
+        RING,
+        SHARED_AFTER_SHIPMENT,
+        RESET_LATER,
+        RESET_AT_RELEASE,
+        FOUR_PLANTS,
+    ] {
+        assert!(rt; table_keeps_on(&rt, table, ORDERS)?, "{table}");
     }
-    Ok(())
-}
-
-#[test]
-fn four_plants_in_any_order(rt: HostRuntime) -> Result<(), Fail> {
-    assert!(rt; table_keeps_on(&rt, FOUR_PLANTS, ORDERS)?);
     Ok(())
 }

@@ -4,7 +4,7 @@ use Rattle.std.specs.Box.{box_value}
 use Rattle.clap.specs.Words.{found_of, rows_of}
 use Rattle.clap.specs.declared.parser.matches.ArgMatches.TheViews.{out-ArgMatches, out-SubCommand}
 use Rattle.mrp_words.specs.Values.{IsWholeCommand}
-use Rattle.mrp_words.specs.declared.words.Choice.TheVariants.{Check}
+use Rattle.mrp_choice.specs.declared.choice.Choice.TheVariants.{Check}
 use Rattle.mrp_words.proofs.CommandFacts.{meant, other_name, pair_is}
 use Rattle.mrp_words.proofs.words.chosen.Goals as goal
 

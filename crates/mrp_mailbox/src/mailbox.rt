@@ -2,16 +2,16 @@
 ghost use Rattle.std.specs.Prelude.{◌≡◌, ◌<◌, ◌++◌, ◌^◌, [], ◌∷◌, length, nat_lt, IfOk, slice_get, drop};
 ghost use Rattle.mrp_record.specs.Entries.{contents, moved};
 
-use mrp_net::ItemNo;
 use mrp_qty::Memory;
-use mrp_record::Record;
+use mrp_record::{ItemNo, Record};
 use std::alloc::Global;
 use std::collections::VecDeque;
 use std::marker::Model;
 
-/// The records that have been sent over a lane and not yet taken. It takes all its room at once.
+/// The records that have been sent over a lane and not yet taken, first in first out. It takes all its room at
+/// once, so that no call after [`Mailbox::new`] takes memory.
 #[derive(Drop)]
-pub(crate) struct Mailbox {
+pub struct Mailbox {
     records: VecDeque<Record>,
     room: usize,
 }
@@ -19,7 +19,7 @@ pub(crate) struct Mailbox {
 impl Model for Mailbox {
     ghost use Rattle.std.specs.Prelude.{◌≤◌};
     ghost use Rattle.std.specs.VecDeque.{deque_capacity};
-    ghost use Rattle.mrp_world.specs.World.{Held};
+    ghost use Rattle.mrp_mailbox.specs.Mailbox.{Held};
 
     ghost Value = { Held };
 
@@ -34,7 +34,7 @@ impl Mailbox {
     /// # Errors
     ///
     /// [`Memory`] where the room is refused.
-    pub(crate) fn new(alloc: Global, room: usize) -> Result<Mailbox, Memory>
+    pub fn new(alloc: Global, room: usize) -> Result<Mailbox, Memory>
         ensures { IfOk result (λ mailbox. mailbox ≡ record { records = []; room = room }) }
     {
         let records = VecDeque::with_capacity(alloc, room)?;
@@ -42,22 +42,22 @@ impl Mailbox {
     }
 
     /// Whether one record more has room.
-    pub(crate) fn has_room(&self) -> bool
+    pub fn has_room(&self) -> bool
         ensures { result ≡ nat_lt (length self.now.records) self.now.room }
     {
         self.records.len() < self.room
     }
 
-    /// Adds a record behind the others.
-    pub(crate) fn push(&mut self, entry: Record)
+    /// Adds a record behind the others; the caller has seen that there is room.
+    pub fn push(&mut self, entry: Record)
         requires { length self.old.records < self.old.room }
         ensures { self.new ≡ record { records = self.old.records ++ entry ∷ []; room = self.old.room } }
     {
         self.records.push_back_reserved(entry);
     }
 
-    /// The first record.
-    pub(crate) fn first(&self) -> Option<Record>
+    /// The record that was sent first, which stays; `None` where none waits.
+    pub fn first(&self) -> Option<Record>
         ensures { result ≡ slice_get self.now.records 0 }
     {
         self.records.front().copied()
@@ -65,7 +65,7 @@ impl Mailbox {
 
     /// Drops the first record. One that is alone is taken from the back, so that the next one lies where it
     /// lay, and room that is never needed is never touched.
-    pub(crate) fn drop_first(&mut self)
+    pub fn drop_first(&mut self)
         ensures { self.new ≡ record { records = drop 1 self.old.records; room = self.old.room } }
     {
         if self.records.len() == 1 {
@@ -75,8 +75,8 @@ impl Mailbox {
         let _taken = self.records.pop_front();
     }
 
-    /// The pieces of an item's lines among the records.
-    pub(crate) fn pieces(&self, item: ItemNo) -> u64
+    /// The pieces of an item's lines among the records: the caller knows that they are below 2^64.
+    pub fn pieces(&self, item: ItemNo) -> u64
         requires { moved item.0 (contents self.now.records) < 2 ^ 64 }
         ensures { result ≡ moved item.0 (contents self.now.records) }
     {

@@ -1,7 +1,7 @@
 use Rattle.std.proofs.Common.{◌+◌, ap, arith}
-use Rattle.mrp_world.specs.World.{Held}
-use Rattle.mrp_world.proofs.Pieces as piece
-use Rattle.mrp_world.proofs.mailbox.Mailbox.pieces.Goals as goal
+use Rattle.mrp_mailbox.specs.Mailbox.{Held}
+use Rattle.mrp_mailbox.proofs.Pieces as piece
+use Rattle.mrp_mailbox.proofs.mailbox.Mailbox.pieces.Goals as goal
 
 pub overflow_add-pieces : goal.overflow_add-pieces
 overflow_add-pieces c =

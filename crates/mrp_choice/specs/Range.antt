@@ -1,0 +1,12 @@
+-- What a choice may ask.
+use Rattle.std.specs.Prelude.{◌≤◌}
+use Rattle.mrp_choice.specs.declared.choice.Choice.{Choice}
+use Rattle.mrp_choice.specs.declared.choice.Choice.TheVariants.{Plan, Check, Peg, Cums}
+use Rattle.mrp_choice.specs.declared.choice.TheConstants.{MOST_WORKERS, MOST_CAPACITY, LAST_PERIOD}
+
+-- the numbers of a choice are in their ranges
+abbrev pub IsInRange : Choice → Type 0
+IsInRange (Plan workers capacity single) = (1 ≤ workers) × (workers ≤ MOST_WORKERS) × (1 ≤ capacity) × (capacity ≤ MOST_CAPACITY)
+IsInRange Check = Unit {0}
+IsInRange (Peg plant item period) = period ≤ LAST_PERIOD
+IsInRange Cums = Unit {0}

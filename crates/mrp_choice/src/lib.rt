@@ -1,0 +1,11 @@
+//! What the planner may be asked to do: the four commands with their values.
+//!
+//! A program of one's own makes a [`Choice`] and hands it to the text functions; `mrp_words` reads one from the
+//! words of a command line.
+#![tactic(auto)]
+
+mod choice;
+mod laws;
+
+pub use choice::{Choice, LAST_PERIOD, MOST_CAPACITY, MOST_WORKERS};
+pub use laws::limits_are_numbers;
