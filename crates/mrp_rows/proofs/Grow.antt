@@ -1,5 +1,5 @@
 -- Rows that are in range stay so while a table grows.
-use Rattle.std.proofs.Common.{◌≡◌, true, false, if◌then◌else◌, ℕ, ◌+◌, ◌≤◌, ◌<◌, List, [], ◌∷◌, ◌++◌, length, arith, refl, ap, sym, subst}
+use Rattle.std.proofs.Common.{◌≡◌, true, false, if◌then◌else◌, ℕ, ◌+◌, ◌≤◌, ◌<◌, List, [], ◌∷◌, ◌++◌, length, arith, refl, ap, sym, subst, Result, Ok, Err, OnOk, OnErr}
 use Rattle.std.specs.List.{All, list_any}
 use Rattle.std.specs.Str.{bytes_eq}
 use Rattle.std.proofs.lemmas.List.Elements.{All-push, All-weaker}
@@ -113,6 +113,14 @@ pub read-with_plant : (N : Table) (x : List ℕ) → IsRead N → IsName x → l
 read-with_plant N x read named room =
     let g : Grows N (with_plant N x) = record { calendar = refl; plants = omega (arith, length_push N.plants x); items = omega arith; pairs = omega arith } in
     read_grows N (with_plant N x) read g (one_more x named room) same_rows same_rows same_rows same_rows same_rows same_rows same_rows same_rows same_rows
+
+-- the plants after one more was pushed, whether it found room or not
+pub read-pushed_plant : {E : Type 0} (N : Table) (x : List ℕ) (plants : List (List ℕ)) (pushed : Result (Unit {0}) E) → IsRead N → IsName x → length N.plants < MOST_PLANTS
+    → OnOk pushed (plants ≡ N.plants ++ x ∷ []) → OnErr pushed (plants ≡ N.plants) → (let M : Table = record N { plants = plants } in IsRead M)
+read-pushed_plant N x plants (Ok _) read named room more same =
+    subst (λ (ps : List (List ℕ)). let M : Table = record N { plants = ps } in IsRead M) (sym more) (read-with_plant N x read named room)
+read-pushed_plant N x plants (Err _) read named room more same =
+    subst (λ (ps : List (List ℕ)). let M : Table = record N { plants = ps } in IsRead M) (sym same) read
 
 pub read-with_pair : (N : Table) (x : PairRow) → IsRead N → IsPairRow N x → length N.pairs < MOST_PAIRS → IsRead (with_pair N x)
 read-with_pair N x read row room =

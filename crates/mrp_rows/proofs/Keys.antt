@@ -1,18 +1,13 @@
 -- The places of keys.
-use Rattle.std.proofs.Common.{◌≡◌, ◌<◌, ℕ, get_or, ◌==◌, ◌&&◌, Bool, cond, true, false, not, ltb, if◌then◌else◌, List, [], ◌∷◌, ◌++◌, map, length, position, slice_get, unwrap_or, option_map, Option, None, Some, IsSome, IfSome, is_some, ◌↔◌, String, Global, refl, ap, sym, ◌∙◌, subst, arith, rules}
-use Rattle.std.specs.List.{All, IsDistinct, position_or_len, list_any}
-use Rattle.std.specs.Str.{bytes_eq}
-use Rattle.std.specs.String.{string_bytes, string_eq, string_eq_equiv}
+use Rattle.std.proofs.Common.{◌≡◌, ◌<◌, ℕ, get_or, ◌==◌, ◌&&◌, Bool, cond, true, false, not, ltb, List, [], ◌∷◌, map, length, position, unwrap_or, option_map, Option, None, Some, IsSome, IfSome, is_some, ◌↔◌, refl, ap, ◌∙◌, subst, arith, rules}
+use Rattle.std.specs.List.{All, position_or_len, list_any}
 use Rattle.std.proofs.lemmas.List.{length-map}
 use Rattle.std.proofs.lemmas.Bool.Decides.{nat_tests}
 use Rattle.std.proofs.lemmas.List.Folds.{list_any_at, list_any_none}
 use Rattle.std.proofs.lemmas.List.Quantifiers.{position-Some}
 use Rattle.std.proofs.lemmas.List.Sums.{fails_before_first, position_or_len_is}
 use Rattle.std.proofs.lemmas.Bool.{lt-ltb}
-use Rattle.std.proofs.lemmas.Slice.Eq.{bytes_eq-Decides}
-use Rattle.std.proofs.lemmas.Option.{get_or_from_slice_get}
-use Rattle.std.proofs.lemmas.Map.Keys.{apart_from_distinct}
-use Rattle.mrp_rows.specs.Growing.{add_item, key_of}
+use Rattle.mrp_rows.specs.Growing.{key_of}
 use Rattle.mrp_rows.specs.contracts.row_lists.PairKeyPartialEq.TheImpl.{eq-value}
 use Rattle.mrp_rows.specs.declared.rows.PairRow.{PairRow}
 use Rattle.mrp_rows.specs.declared.row_lists.PairKey.{PairKey}

@@ -1,5 +1,5 @@
 -- Names of which one more came, and where they stand.
-use Rattle.std.proofs.Common.{if◌then◌else◌, unwrap_or, ◌≡◌, ◌<◌, ℕ, Bool, true, false, cond, get_or, List, [], ◌∷◌, ◌++◌, map, length, position, Option, None, Some, IfSome, String, Global, ap, sym, subst, ◌∙◌}
+use Rattle.std.proofs.Common.{if◌then◌else◌, unwrap_or, ◌≡◌, ◌<◌, ℕ, true, false, get_or, List, [], ◌∷◌, ◌++◌, map, length, position, Option, None, Some, IfSome, String, Global, ap, sym, subst, ◌∙◌}
 use Rattle.std.specs.Cmp.Lexicographic.{nat_list_eq_equiv}
 use Rattle.std.specs.List.{IsDistinct, list_any}
 use Rattle.std.specs.Str.{bytes_eq}

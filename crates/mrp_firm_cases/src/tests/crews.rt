@@ -7,25 +7,19 @@ mod gates;
 mod refusals;
 mod workers;
 
+use crate::tests::network_of;
 use mrp_agent::{Agent, NoGate};
 use mrp_crew::{Crew, CrewFault, Gate, MOST_WORKERS};
 use mrp_loops::{SizedNet, bound, check};
 use mrp_net::{Network, PairNo, PlantNo};
 use mrp_plan::{Plan, plan_all};
 use mrp_qty::Memory;
-use mrp_tables::read_tables_uncounted;
 use mrp_view::PlantView;
 use mrp_worked::is_same_plan;
 use std::alloc::Global;
 use std::sync::Wait;
 use std::test::Fail;
 use std::thread::Threads;
-
-/// The network of a table's text.
-fn network(alloc: Global, text: &str) -> Result<Network, Fail> {
-    let tables = read_tables_uncounted(alloc, text.as_bytes())?;
-    Ok(Network::of(alloc, tables)?)
-}
 
 /// The agent of a plant, to which nothing has come.
 fn new_agent(alloc: Global, net: &SizedNet, plant: usize) -> Result<Agent, Memory>
@@ -164,7 +158,7 @@ fn plans<R: Threads + Wait + Sync, G: Gate>(
     workers: u64,
     gate: &G,
 ) -> Result<Calls, Fail> {
-    let network = network(alloc, text)?;
+    let network = network_of(alloc, text)?;
     let answer = network_plans(rt, alloc, &network, workers, gate);
     drop(network);
     answer

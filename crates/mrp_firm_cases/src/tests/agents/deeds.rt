@@ -3,7 +3,7 @@
 ghost use Rattle.mrp_firm_cases.specs.Hands.{AreAlone};
 
 use super::hands::{agents_of, hand_over, next_out, plan};
-use super::network;
+use crate::tests::network_of;
 use mrp_agent::Agent;
 use mrp_loops::{SizedNet, bound, check};
 use mrp_net::{ItemNo, LaneNo, Network, PairNo};
@@ -210,7 +210,7 @@ fn network_takes(alloc: Global, network: &Network, deeds: &[Deed]) -> Result<boo
 
 /// The same of the network of a table's text.
 pub(super) fn go(rt: &HostRuntime, table: &str, deeds: &[Deed]) -> Result<bool, Fail> {
-    let network = network(rt, table)?;
+    let network = network_of(rt.alloc(), table)?;
     let is_so = network_takes(rt.alloc(), &network, deeds);
     drop(network);
     is_so

@@ -2,7 +2,7 @@
 
 use super::deeds::{Deed, takes};
 use super::hands::agents_of;
-use super::network;
+use crate::tests::network_of;
 use mrp_agent::Agent;
 use mrp_loops::{SizedNet, bound, check};
 use mrp_net::Network;
@@ -68,7 +68,7 @@ fn network_goes_on(alloc: Global, network: &Network) -> Result<bool, Fail> {
 
 /// The same of a firm whose figures start anew later.
 fn a_firm_goes_on(rt: &HostRuntime) -> Result<bool, Fail> {
-    let network = network(rt, RESET_LATER)?;
+    let network = network_of(rt.alloc(), RESET_LATER)?;
     let is_so = network_goes_on(rt.alloc(), &network);
     drop(network);
     is_so

@@ -7,9 +7,9 @@ use super::Figures;
 use super::events::{Tried, counts_what_is_enabled, ends_at_each_capacity, goes_so};
 use super::random::keep_on;
 use super::refusals::answers_or_is_refused;
+use crate::tests::network_of;
 use mrp_loops::{Levels, SizedNet, bound, check};
 use mrp_net::Network;
-use mrp_tables::read_tables_uncounted;
 use mrp_worked::Ending;
 use std::alloc::Global;
 use std::test::Fail;
@@ -57,12 +57,6 @@ fn holds_at_levels(
 fn holds_in_network(alloc: Global, network: &Network, trial: Trial<'_>) -> Result<bool, Fail> {
     let levels = check(alloc, network)?;
     holds_at_levels(alloc, network, &levels, trial)
-}
-
-/// The network of a table's text.
-fn network_of(alloc: Global, text: &str) -> Result<Network, Fail> {
-    let tables = read_tables_uncounted(alloc, text.as_bytes())?;
-    Ok(Network::of(alloc, tables)?)
 }
 
 /// The same of the network of a table's text.
