@@ -5,14 +5,12 @@
 
 ghost use Rattle.std.specs.Prelude.{◌≡◌};
 ghost use Rattle.std.specs.Process.{exit_status};
-ghost use Rattle.clap.specs.Words.{kind_of};
 ghost use Rattle.mrp_text.specs.Ending.{Reports};
 ghost use Rattle.mrp.specs.Ending.{refusal_fault, refusal_status};
 
-use clap::error::ErrorKind;
 use mrp_report::{ReportFault, send};
 use mrp_text::{Ending, REFUSED, TextFault, after_help, answer, ended, unread};
-use mrp_words::{ChooseFault, choose, named_words};
+use mrp_words::{ChooseFault, Meaning, choose, means, named_words};
 use std::env::FillError;
 use std::io::{IsTerminal, Stderr, Write};
 use std::process::ExitCode;
@@ -34,7 +32,9 @@ fn main(rt: HostRuntime) -> ExitCode {
             let done = answer(&rt, rt.alloc(), choice, rt.reader(), &mut rt.stdout());
             ended::<Stderr>(&done, &mut rt.stderr())
         }
-        Err(ChooseFault::Words(error)) => refused::<Stderr>(&rt, &error, &mut rt.stderr()),
+        Err(ChooseFault::Words(error)) => {
+            refused::<Stderr>(&rt, means(&error), &error, &mut rt.stderr())
+        }
         Err(ChooseFault::Memory) => ended::<Stderr>(&Err(TextFault::Memory), &mut rt.stderr()),
     })
 }
@@ -89,18 +89,23 @@ fn await_table(rt: &HostRuntime) {
 /// Prints what `clap` has to say: the status is 0 after help or the version that was printed, 2 where
 /// the words are refused, 3 where memory was refused or help or the version could not be printed; of
 /// these a line is reported to this writer.
-fn refused<W: Write>(rt: &HostRuntime, error: &clap::Error, writer: &mut W) -> Ending
-    ensures status { result.status ≡ refusal_status (kind_of error.now) result.printed }
-    ensures line { Reports W.contents writer.old writer.new result.reported (refusal_fault (kind_of error.now) result.printed) }
+fn refused<W: Write>(
+    rt: &HostRuntime,
+    meaning: Meaning,
+    error: &clap::Error,
+    writer: &mut W,
+) -> Ending
+    ensures status { result.status ≡ refusal_status meaning result.printed }
+    ensures line { Reports W.contents writer.old writer.new result.reported (refusal_fault meaning result.printed) }
 {
-    if error.kind() == ErrorKind::OutOfMemory {
+    if meaning == Meaning::Memory {
         return ended(&Err(TextFault::Memory), writer);
     }
     let printed = match error.print(rt) {
         Ok(()) => Ok(()),
         Err(_) => Err(ReportFault::WriteFault),
     };
-    if error.use_stderr() {
+    if meaning == Meaning::Refused {
         return Ending {
             status: REFUSED,
             printed,

@@ -5,7 +5,8 @@ use Rattle.mrp_record.specs.declared.record.Record.{Record}
 use Rattle.mrp_events.specs.State.{State}
 use Rattle.mrp_agent.specs.State.{AgentState}
 use Rattle.mrp_world.specs.Agents.{ShowsAgent}
-use Rattle.mrp_world.specs.World.{Held, box_at, AreAt}
+use Rattle.mrp_mailbox.specs.Mailbox.{Held}
+use Rattle.mrp_world.specs.World.{box_at, AreAt}
 
 -- the agents of a network and these mailboxes show a state of its runs
 pub record AreInRun (N : Table) (agents : List AgentState) (boxes : List Held) : Type 0 where

@@ -1,8 +1,8 @@
 -- A walk upstream that comes to a pair again has a loop behind it, which may begin anywhere.
-use Rattle.std.proofs.Common.{◌≡◌, ◌≢◌, ℕ, ◌+◌, ◌<◌, ◌≤◌, ◌==◌, Bool, true, false, ⊎_elim, List, [], ◌∷◌, ◌++◌, map, reverse, length, get_or, set, take, drop, refl, sym, ap, subst, ◌∙◌, arith, All, IsPermutation}
+use Rattle.std.proofs.Common.{◌≡◌, ◌≢◌, ℕ, ◌+◌, ◌<◌, ◌≤◌, ◌==◌, Bool, true, false, ⊎_elim, List, [], ◌∷◌, ◌++◌, map, replicate, reverse, length, get_or, set, take, drop, refl, sym, ap, subst, ◌∙◌, arith, All, IsPermutation}
 use Rattle.std.specs.List.{IsDistinct, AllPairs}
 use Rattle.std.proofs.lemmas.Bool.{ne_eqb, cases_eq, both_ways, eq-eqb}
-use Rattle.std.proofs.lemmas.List.{append-nil, append_assoc, map-append, reverse-append, take-append-drop, get_or-drop, get_or-map, length-map, length-drop, drop_more, get_or_default, get_or_read, take-map, drop-map, get_or-set_same, get_or-set_other, length_push}
+use Rattle.std.proofs.lemmas.List.{append-nil, append_assoc, map-append, reverse-append, take-append-drop, get_or-drop, get_or-map, length-map, length-drop, drop_more, get_or_default, get_or_read, take-map, drop-map, get_or-set_same, get_or-set_other, get_or-replicate, length_push}
 use Rattle.std.proofs.lemmas.List.Sorted.{IsPermutation-reverse, IsPermutation-append_comm, IsPermutation-trans, IsPermutation-map, All-permutation}
 use Rattle.std.proofs.lemmas.Map.Keys.{IsDistinct-from_apart, IsDistinct-IsPermutation, apart_from_distinct}
 use Rattle.mrp_rows.specs.Table.{Table, IsTable, IsPair}
@@ -172,6 +172,21 @@ pub not_seen : (N : Table) (path : List PairNo) (visited : List Bool) (x : PairN
     → mark ≡ get_or visited x.0 mark → mark ≡ false → is_in path x.0 ≡ false
 not_seen N path visited x mark size seen pair read unmarked =
     sym (seen x.0 pair) ∙ sym (get_or_read visited x.0 mark (omega (arith, size, pair)) read false) ∙ unmarked
+
+-- a walk that is about to begin
+pub none_seen : (N : Table) (visited : List Bool) (path : List PairNo) (n : ℕ) → visited ≡ replicate n false → n ≡ length N.pairs → path ≡ [] → (y : ℕ) → IsPair N y → get_or visited y false ≡ is_in path y
+none_seen N visited path n fresh size none y pair =
+    let low : y < n = omega (arith, size, pair) in
+    rw (fresh, none) (get_or-replicate n y false false low)
+
+pub Apart-none : (path : List PairNo) → path ≡ [] → IsApart path
+Apart-none path none = rw none (λ j k d low far same. omega (arith, far))
+
+-- a pair that was met
+pub seen_again : (N : Table) (path : List PairNo) (visited : List Bool) (x : PairNo) (mark : Bool) → length visited ≡ length N.pairs → ((y : ℕ) → IsPair N y → get_or visited y false ≡ is_in path y) → IsPair N x.0
+    → mark ≡ get_or visited x.0 mark → mark ≡ true → is_in path x.0 ≡ true
+seen_again N path visited x mark size seen pair read marked =
+    sym (seen x.0 pair) ∙ sym (get_or_read visited x.0 mark (omega (arith, size, pair)) read false) ∙ marked
 
 -- a path is shorter than the table while the walk comes to new pairs
 pub path_short : (N : Table) (path : List PairNo) (x : PairNo) → All (λ z. IsPair N z.0) path → IsPair N x.0 → IsApart path → is_in path x.0 ≡ false → length path < length N.pairs

@@ -312,6 +312,9 @@ module _ (N : Table) (next : ℕ) (y : PairNo) (queue : List PairNo) (left codes
   pub hand_pair : IsPair N y.0
   hand_pair = subst (λ (z : PairNo). IsPair N z.0) hand_at (taken.counted.pairs next y within)
 
+  pub hand_code : y.0 < length codes
+  hand_code = rw taken.counted.codes_size hand_pair
+
   pub hand_none : slice_index left y.0 ≡ 0
   hand_none =
       let here : is_in queue y.0 ≡ true = subst (λ (z : PairNo). is_in queue z.0 ≡ true) hand_at (is_in-at queue next y within) in
@@ -330,6 +333,9 @@ module _ (N : Table) (next : ℕ) (y : PairNo) (queue : List PairNo) (left codes
   pub hand_read : (n : ℕ) → n ≡ get_or codes y.0 n → n ≡ slice_index codes y.0
   hand_read n read = get_or_read codes y.0 n (omega (arith, taken.counted.codes_size, hand_pair)) read 0
 
+  pub hand_short : (n : ℕ) → n ≡ get_or codes y.0 n → n + 1 ≤ length queue
+  hand_short n read = omega (arith, within, hand_read n read, hand_low, length_push (take next queue) y, length-take next queue)
+
   -- the invariant of the loop over its edges as the loop has it
   pub hand_so_far : (code : ℕ) (es : List Edge) (i : ℕ) (q : List PairNo) (ls cs : List ℕ) → code ≡ get_or codes y.0 code → es ≡ suppliers N y.0
       → IsPassing N (take next queue) y (code + 1) (take i es) (drop i es) q ls cs
@@ -346,6 +352,11 @@ module _ (N : Table) (next : ℕ) (y : PairNo) (queue : List PairNo) (left codes
       let e = get_or (suppliers N y.0) i d in
       let only = suppliers_only N y.0 e (In-from_contains (suppliers N y.0) e (Contains-get_or (suppliers N y.0) i d l)) in
       (HasEdge-from_in N e y.0 e.pair.0 only.0 only.1 refl, (edge_pairs N taken.counted.table e only.0).1)
+
+  pub hand_within : (es : List Edge) (i n : ℕ) → i < length es → es ≡ suppliers N y.0 → n ≡ length N.pairs → (get_or es i no_edge).pair.0 < n
+  hand_within es i n l same size =
+      let there : i < length (suppliers N y.0) = subst (λ (zs : List Edge). i < length zs) same l in
+      rw (same, size) (hand_edge i no_edge there).1
 
   pub hand_waits : (i : ℕ) (d : Edge) (q : List PairNo) (ls cs : List ℕ) → i < length (suppliers N y.0)
       → IsPassing N (take next queue) y (slice_index codes y.0 + 1) (take i (suppliers N y.0)) (drop i (suppliers N y.0)) q ls cs

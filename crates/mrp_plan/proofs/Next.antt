@@ -1,6 +1,6 @@
 -- The next pair of an order, as the loops over the pairs read it.
-use Rattle.std.proofs.Common.{◌≡◌, ℕ, ◌+◌, ◌<◌, List, length, map, slice_index, slice_index_or, slice_set, sym, ap, ◌∙◌, subst, arith}
-use Rattle.std.proofs.lemmas.List.{get_or-map, length-map}
+use Rattle.std.proofs.Common.{◌≡◌, ℕ, ◌+◌, ◌<◌, List, ◌++◌, length, take, drop, map, slice_index, slice_index_or, slice_set, sym, ap, ◌∙◌, subst, arith}
+use Rattle.std.proofs.lemmas.List.{append-nil, drop_all, get_or-map, length-map, take_all}
 use Rattle.mrp_lot.specs.One.{PlanRows}
 use Rattle.mrp_rows.specs.Table.{Table}
 use Rattle.mrp_rows.specs.declared.numbers.PairNo.{PairNo}
@@ -51,3 +51,8 @@ module _ (N M : Table) (needs : List ℕ) (pairs : List PairNo) (k : ℕ) (table
       ∙ ap (λ (n : Table). slice_set table next (pair_plan n table next)) same
       ∙ ap (λ (x : ℕ). slice_set table x (pair_plan N table x)) (sym next_at) in
       subst (IsPlannedTo N needs order (k + 1)) (sym put) (next_planned N needs order k table sized.table are_needs (needs_within N sized needs are_needs) is next_within planned)
+
+-- a whole list that was handed out and came back
+pub handed_back : {X : Type 0} (len : ℕ) (xs ys : List X) → length xs ≡ len → length ys ≡ length xs → take len (ys ++ drop (length ys) xs) ≡ ys
+handed_back {X} len xs ys size same =
+    ap (λ (zs : List X). take len (ys ++ zs)) (drop_all (length ys) xs (omega (arith, same))) ∙ ap (take len) (append-nil ys) ∙ take_all len ys (omega (arith, size, same))

@@ -1,6 +1,6 @@
 -- What a plan that fits says of a pair's gross requirement and of its demanders' releases.
-use Rattle.std.proofs.Common.{◌≡◌, ℕ, ◌<◌, ◌≤◌, List, ◌∷◌, length, map, slice_index, slice_index_or, arith, ap, ◌∙◌, sym, subst}
-use Rattle.std.specs.List.{All}
+use Rattle.std.proofs.Common.{◌≡◌, ℕ, ◌<◌, ◌≤◌, List, [], ◌∷◌, ◌++◌, length, map, slice_index, slice_index_or, arith, ap, ◌∙◌, sym, subst}
+use Rattle.std.specs.List.{All, filter}
 use Rattle.std.proofs.lemmas.List.{get_or_default}
 use Rattle.std.proofs.lemmas.List.FromFn.{get_or-map-range_with_len}
 use Rattle.std.proofs.lemmas.List.Sums.{get_or-le-sum_by}
@@ -13,7 +13,7 @@ use Rattle.mrp_net.specs.Plan.{rows_at, gross, Fits}
 use Rattle.mrp_net.specs.declared.edge.Edge.{Edge}
 use Rattle.mrp_plan.specs.Peg.{IsPeggable, is_asked, demand_term, edge_term, peg_terms}
 use Rattle.mrp_plan.specs.declared.terms.PegTerm.{PegTerm}
-use Rattle.std.proofs.lemmas.List.Elements.{All-cons, All-filter, All-map}
+use Rattle.std.proofs.lemmas.List.Elements.{All-cons, All-filter, All-map, filter-append}
 use Rattle.mrp_plan.proofs.Asked.{no_edge}
 use Rattle.mrp_plan.proofs.Planning.{one-gross, pair_plan-release}
 
@@ -62,3 +62,9 @@ peg_pairs N table x t edges in_table are all =
     All-filter is_asked (λ term. IsPair N term.pair.0) (demand_term N x t ∷ map (edge_term N table t) (demanders N x))
     (All-cons (λ term. IsPair N term.pair.0) (demand_term N x t) (map (edge_term N table t) (demanders N x)) in_table
     (All-map (λ (term : PegTerm). IsPair N term.pair.0) (edge_term N table t) (demanders N x) (λ i d h. (joins i d h).demander)))
+
+-- what is kept of the demand rows and of the edges, one after the other
+pub pegged : (N n : Table) (table : List PlanRows) (x t : ℕ) (edges : List Edge) (term : PegTerm) (none first all : List PegTerm) → n ≡ N → edges ≡ demanders n x → term ≡ demand_term n x t → none ≡ []
+    → first ≡ none ++ filter is_asked (term ∷ []) → all ≡ first ++ filter is_asked (map (edge_term n table t) edges) → all ≡ peg_terms N table x t
+pegged N n table x t edges term none first all same es is begun one rest =
+    rw (rest, one, begun, is, es, same) (sym (filter-append is_asked (demand_term N x t ∷ []) (map (edge_term N table t) (demanders N x))))

@@ -313,10 +313,14 @@ pub shown_where : (numbers : List PairNo) (places slots : List ℕ) (begin end :
 shown_where numbers places slots begin end v are shown y =
     subst (λ (w : Chosen). Contains w.places y ↔ ((y < length slots) × (begin ≤ get_or slots y 0) × (get_or slots y 0 < end))) shown (chosen_where numbers places slots begin end are y)
 
+-- each pair has a slot
+pub has_slot : (numbers : List PairNo) (places slots : List ℕ) (begin end x : ℕ) (v : Chosen) → chosen numbers places slots begin end ≡ v → x < length v.numbers → x < length slots
+has_slot numbers places slots begin end x v shown known = omega (arith, ap (λ (w : Chosen). length w.numbers) shown, length-map slots (number_at numbers))
+
 -- a pair that isn't chosen and isn't gone stands in a later slot
 pub later_slot : (numbers : List PairNo) (places slots : List ℕ) (begin end x i : ℕ) (v : Chosen) → ArePlaced numbers places slots begin end → chosen numbers places slots begin end ≡ v → i ≡ get_or slots x i → x < length v.numbers → (Contains v.places x → ⊥) → (Contains v.gone x → ⊥) → (x < length slots) × (i ≡ get_or slots x 0) × (end ≤ i) × (i < length slots)
 later_slot numbers places slots begin end x i v are shown read known absent fresh =
-    let within : x < length slots = omega (arith, ap (λ (w : Chosen). length w.numbers) shown, length-map slots (number_at numbers)) in
+    let within = has_slot numbers places slots begin end x v shown known in
     let is : i ≡ get_or slots x 0 = get_or_read slots x i within read 0 in
     let reached : begin ≤ i = elim (cases_lt i begin) as (λ _. begin ≤ i) [
       | inl less ↦ absurd (fresh (subst (λ (w : Chosen). Contains w.gone x) shown (gone_where numbers places slots begin end are x within (omega (arith, is, less)))))

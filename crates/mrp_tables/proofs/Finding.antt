@@ -1,17 +1,17 @@
 -- What the reading finds of the names of a row on a lane is what the grammar says of them.
-use Rattle.std.proofs.Common.{◌≡◌, ℕ, ◌≤◌, ◌==◌, ◌&&◌, nat_lt, List, length, Option, Some, None, option_map, arith, Ok, Err, true, false, refl, sym, ap, ◌∙◌}
+use Rattle.std.proofs.Common.{◌≡◌, ℕ, ◌<◌, ◌≤◌, ◌==◌, ◌&&◌, nat_lt, Bool, not, List, length, Option, Some, None, IfSome, option_map, arith, Ok, Err, true, false, refl, sym, ap, ◌∙◌}
 use Rattle.std.proofs.lemmas.Bool.Decides.{nat_tests}
 use Rattle.mrp_rows.specs.declared.numbers.PairNo.{PairNo}
 use Rattle.mrp_rows.specs.declared.numbers.PlantNo.{PlantNo}
 use Rattle.mrp_rows.specs.Names.{pair_named, plant_no}
-use Rattle.mrp_rows.specs.Table.{horizon, is_taken_from, Table}
+use Rattle.mrp_rows.specs.Table.{arrivals, horizon, is_taken_from, rises_from, Table}
 use Rattle.mrp_rows.specs.declared.rows.TheConstants.{MOST_OF_A_KIND}
 use Rattle.mrp_tables.specs.declared.fault.TableFaultKind.{TableFaultKind}
 use Rattle.mrp_tables.specs.declared.fault.TableFaultKind.TheVariants as fault
 use Rattle.mrp_tables.specs.declared.lanes.KnownLane.{KnownLane}
 use Rattle.mrp_tables.specs.declared.lanes.NamedLane.{NamedLane}
 use Rattle.mrp_tables.specs.Grammar.{cum_between, cum_of, cum_terms, has_cum, has_reset, known_lane, LaneTerms, reset_between, reset_of, reset_terms, seen, ship_of, ship_terms}
-use Rattle.mrp_tables.specs.Lists.{Finds, known_found, source_at}
+use Rattle.mrp_tables.specs.Lists.{Finds, known_found, source_at, source_named}
 use Rattle.mrp_rows.proofs.Keys.{any-from_no_position, any-from_position}
 
 -- a lane without the place of its source
@@ -81,3 +81,56 @@ unfolding reset_of
 reset_unknown N row periods t l e spelled same finds new is =
     let terms = spelled ∙ ap (reset_terms row) same in
     rw (← terms, reset_fresh N t.0 l finds new, known_err N t.0 l e finds is) refl
+
+-- ---- rows of a lane that is there
+
+few : (count most : ℕ) → count < most → nat_lt count most ≡ true
+few count most lt = grind (arith, nat_tests)
+
+pub ship_full : (N : Table) (row : List (List ℕ)) (periods : ℕ) (t : LaneTerms × ℕ × ℕ) (l : NamedLane) (k : KnownLane) → Ok t ≡ ship_terms row periods → periods ≡ horizon N → Finds N t.0 l
+    → Ok k ≡ known_found l → MOST_OF_A_KIND ≤ length N.ships → Err fault.TooMany ≡ ship_of N row
+unfolding ship_of
+ship_full N row periods t l k spelled same finds is most =
+    let terms = spelled ∙ ap (ship_terms row) same in
+    rw (← terms, known_ok N t.0 l k finds is, full (length N.ships) MOST_OF_A_KIND most) refl
+
+pub ship_known : (N : Table) (row : List (List ℕ)) (periods : ℕ) (t : LaneTerms × ℕ × ℕ) (l : NamedLane) (k : KnownLane) → Ok t ≡ ship_terms row periods → periods ≡ horizon N → Finds N t.0 l
+    → Ok k ≡ known_found l → length N.ships < MOST_OF_A_KIND → Ok (record { from = k.from; pair = k.pair; period = t.1; quantity = t.2 }) ≡ ship_of N row
+unfolding ship_of
+ship_known N row periods t l k spelled same finds is room =
+    let terms = spelled ∙ ap (ship_terms row) same in
+    rw (← terms, known_ok N t.0 l k finds is, few (length N.ships) MOST_OF_A_KIND room) refl
+
+pub cum_known : (N : Table) (row : List (List ℕ)) (t : LaneTerms × ℕ) (l : NamedLane) (k : KnownLane) → Ok t ≡ cum_terms row → Finds N t.0 l
+    → false ≡ cum_between N (option_map (λ p. p.0) l.from) (option_map (λ x. x.0) l.pair) → Ok k ≡ known_found l → length N.cums < MOST_OF_A_KIND → Ok (record { from = k.from; pair = k.pair; figure = t.1 }) ≡ cum_of N row
+unfolding cum_of
+cum_known N row t l k spelled finds new is room = rw (← spelled, cum_fresh N t.0 l finds new, known_ok N t.0 l k finds is, few (length N.cums) MOST_OF_A_KIND room) refl
+
+pub reset_known : (N : Table) (row : List (List ℕ)) (periods : ℕ) (t : LaneTerms × ℕ) (l : NamedLane) (k : KnownLane) → Ok t ≡ reset_terms row periods → periods ≡ horizon N → Finds N t.0 l
+    → false ≡ reset_between N (option_map (λ p. p.0) l.from) (option_map (λ x. x.0) l.pair) → Ok k ≡ known_found l → rises_from 0 (arrivals N k.from.0 k.pair.0) ≡ true
+    → Ok (record { from = k.from; pair = k.pair; period = t.1 }) ≡ reset_of N row
+unfolding reset_of
+reset_known N row periods t l k spelled same finds new is rises =
+    let terms = spelled ∙ ap (reset_terms row) same in
+    rw (← terms, reset_fresh N t.0 l finds new, known_ok N t.0 l k finds is, rises) refl
+
+pub reset_falls : (N : Table) (row : List (List ℕ)) (periods : ℕ) (t : LaneTerms × ℕ) (l : NamedLane) (k : KnownLane) → Ok t ≡ reset_terms row periods → periods ≡ horizon N → Finds N t.0 l
+    → false ≡ reset_between N (option_map (λ p. p.0) l.from) (option_map (λ x. x.0) l.pair) → Ok k ≡ known_found l → rises_from 0 (arrivals N k.from.0 k.pair.0) ≡ false
+    → Err fault.ResetOrder ≡ reset_of N row
+unfolding reset_of
+reset_falls N row periods t l k spelled same finds new is falls =
+    let terms = spelled ∙ ap (reset_terms row) same in
+    rw (← terms, reset_fresh N t.0 l finds new, known_ok N t.0 l k finds is, falls) refl
+
+pub from_not : (b s : Bool) → s ≡ not b → b ≡ not s
+from_not true s is = ap not (sym is)
+from_not false s is = ap not (sym is)
+
+-- ---- what is known of the lane that was found
+
+pub of_found : {A : Type 0} (o : Option A) (x : A) (P : A → Type 0) → IfSome o P → o ≡ Some x → P x
+of_found o x P holds is = rw is at holds
+
+pub placed : (N : Table) (l : NamedLane) (k : KnownLane) → l.place ≡ source_named N (option_map (λ p. p.0) l.from) (option_map (λ x. x.0) l.pair) → l.from ≡ Some k.from → l.pair ≡ Some k.pair → l.place ≡ Some k.place
+    → source_at N k.from.0 k.pair.0 ≡ Some k.place
+placed N l k named from pair place = sym (rw (from, pair) at named) ∙ place

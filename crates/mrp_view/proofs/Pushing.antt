@@ -1,16 +1,21 @@
 -- The loops that make a plant's view: what passes a test is pushed, in order.
-use Rattle.std.proofs.Common.{◌≡◌, ◌≢◌, ◌==◌, ℕ, ◌+◌, ◌<◌, Bool, true, false, cond, List, [], ◌∷◌, ◌++◌, length, get_or, map, take, sym, ap, ◌∙◌, add-one}
-use Rattle.std.specs.List.{filter, flat_map, range_with_len}
+use Rattle.std.proofs.Common.{◌≡◌, ◌≢◌, ◌==◌, ℕ, ◌+◌, ◌<◌, ◌≤◌, Bool, true, false, cond, List, [], ◌∷◌, ◌++◌, length, get_or, map, take, refl, sym, ap, subst, ◌∙◌, add-one, arith}
+use Rattle.std.specs.List.{Contains, filter, flat_map, range_with_len}
 use Rattle.std.proofs.lemmas.Bool.{eq-eqb, ne_eqb}
-use Rattle.std.proofs.lemmas.List.{append-nil, append_assoc, map-append}
-use Rattle.std.proofs.lemmas.List.Elements.{filter-append, filter_more}
+use Rattle.std.proofs.lemmas.Grind.{flat_map-append}
+use Rattle.std.proofs.lemmas.List.{append-nil, append_assoc, map-append, take_all, take_more}
+use Rattle.std.proofs.lemmas.List.Elements.{Contains-get_or, filter-append, filter_more}
 use Rattle.mrp_rows.specs.Table.{Table, horizon}
+use Rattle.mrp_net.specs.declared.lane.Lane.{Lane}
+use Rattle.mrp_net.specs.Lanes.{lane_at, lane_items}
+use Rattle.mrp_view.specs.Loads.{Load}
+use Rattle.mrp_view.specs.declared.view.IncomingItem.{IncomingItem}
 use Rattle.mrp_view.specs.declared.view.IncomingLane.{IncomingLane}
 use Rattle.mrp_view.specs.declared.view.OutgoingLane.{OutgoingLane}
 use Rattle.mrp_view.specs.declared.view.PlantEdge.{PlantEdge}
 use Rattle.mrp_view.specs.declared.view.PlantPair.{PlantPair}
 use Rattle.mrp_net.specs.Sums.{row_of, demand, received}
-use Rattle.mrp_view.specs.View.{PlantRows, plant_pairs, plant_edges, plant_amounts, edges_to, incoming_lanes, outgoing_lanes, plant_rows}
+use Rattle.mrp_view.specs.View.{PlantRows, plant_pairs, plant_edges, plant_amounts, edges_to, incoming_item, incoming_lane, incoming_lanes, outgoing_item, outgoing_lane, outgoing_lanes, plant_rows}
 use Rattle.mrp_group.proofs.Grouping.{range-suc}
 
 -- one number more of a range
@@ -57,6 +62,33 @@ pub taken_passed : {X Y : Type 0} (f : X → Y) (p : X → Bool) (xs : List X) (
 taken_passed {X} {Y} f p xs i d first now lt fails was =
     was
     ∙ ap (λ (z : List Y). first ++ z) (sym (append-nil (map f (filter p (take i xs)))) ∙ sym (take_more_passing f p xs i d false lt fails))
+
+pub flat_pushed : {X Y : Type 0} (f : X → List Y) (xs : List X) (i : ℕ) (x : X) (now next : List Y) → i < length xs → x ≡ get_or xs i x → now ≡ flat_map f (take i xs) → next ≡ now ++ f x → next ≡ flat_map f (take (i + 1) xs)
+flat_pushed {X} {Y} f xs i x now next lt read was new =
+    new
+    ∙ ap (λ (z : List Y). z ++ f x) was
+    ∙ ap (λ (z : List Y). flat_map f (take i xs) ++ z) (sym (append-nil (f x)) ∙ ap (λ (z : X). flat_map f (z ∷ [])) read)
+    ∙ sym (ap (flat_map f) (take_more xs i x lt) ∙ flat_map-append f (take i xs) (get_or xs i x ∷ []))
+
+-- and all of them
+pub taken_all : {X Y : Type 0} (f : List X → List Y) (xs : List X) (i : ℕ) (now : List Y) → length xs ≤ i → now ≡ f (take i xs) → now ≡ f xs
+taken_all f xs i now end was = was ∙ ap f (take_all i xs end)
+
+pub ended : (k end count : ℕ) → k ≤ end → end ≤ k → end ≡ count → k ≡ count
+ended k end count within over same = omega (arith, within, over, same)
+
+-- an element of a list that equals another
+pub at_index : {X : Type 0} (xs ys : List X) (i : ℕ) (d : X) → i < length ys → ys ≡ xs → Contains xs (get_or ys i d)
+at_index {X} xs ys i d lt same = subst (λ (zs : List X). Contains zs (get_or ys i d)) same (Contains-get_or ys i d lt)
+
+-- a lane of the view
+pub is_incoming : (N : Table) (l : ℕ) (lane : Lane) (items : List IncomingItem) → lane ≡ lane_at N l → items ≡ map (incoming_item N (lane_at N l)) (lane_items N (lane_at N l))
+    → ◌≡◌ {A = IncomingLane} (record { number = record { 0 = l }; kind = lane.kind; items = items }) (incoming_lane N l)
+is_incoming N l lane items same its = rw (same, its) refl
+
+pub is_outgoing : (N : Table) (l : ℕ) (lane : Lane) (items : List Load) → lane ≡ lane_at N l → items ≡ map (outgoing_item N (lane_at N l)) (lane_items N (lane_at N l))
+    → ◌≡◌ {A = OutgoingLane} (record { number = record { 0 = l }; kind = lane.kind; items = items }) (outgoing_lane N l)
+is_outgoing N l lane items same its = rw (same, its) refl
 
 -- all parts of the view
 abbrev rows : ℕ → List PlantPair → List PlantEdge → List ℕ → List ℕ → List IncomingLane → List OutgoingLane → PlantRows

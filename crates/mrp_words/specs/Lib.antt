@@ -1,3 +1,4 @@
 pub mod CommandLine
 pub mod Choice
 pub mod Values
+pub mod Meaning

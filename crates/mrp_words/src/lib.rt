@@ -5,10 +5,12 @@
 #![tactic(auto)]
 
 mod laws;
+mod meaning;
 mod named;
 mod words;
 
 pub use laws::version_is_asked_for;
+pub use meaning::{Meaning, means};
 pub use mrp_choice::{Choice, LAST_PERIOD, MOST_CAPACITY, MOST_WORKERS};
 pub use named::named_words;
 pub use words::{ChooseFault, choose};

@@ -1,5 +1,5 @@
 use Rattle.std.proofs.Common.{length, ap, arith}
-use Rattle.mrp_loops.proofs.Steps.{hand_begins, hand_waits, hand_more, hand_ends, hand_long, hand_read, hand_so_far, no_edge}
+use Rattle.mrp_loops.proofs.Steps.{hand_begins, hand_code, hand_waits, hand_more, hand_ends, hand_long, hand_read, hand_pair, hand_short, hand_so_far, hand_within, no_edge}
 use Rattle.mrp_loops.proofs.taking.pass.Goals as goal
 
 pub loop-edge-init : goal.loop-edge-init
@@ -44,3 +44,31 @@ returns-clause-within c =
     let p = hand_so_far c.args.network.now c.args.next c.args.demander state.queue.items state.left.items state.codes.items c.requires.within c.requires.at c.requires.taken c.index.result.now _ c.loop-edge.edge-index c.loop-edge.state.queue.items c.loop-edge.state.left.items c.loop-edge.state.codes.items c.index.ensures c.suppliers-edge-items.ensures.value c.loop-edge.invariant in
     hand_long c.args.network.now c.args.next c.args.demander state.queue.items state.left.items state.codes.items c.requires.within c.requires.at c.requires.taken
     c.loop-edge.edge-index c.loop-edge.state.queue.items c.loop-edge.state.left.items c.loop-edge.state.codes.items p
+
+pub lower-requires-clause-left : goal.lower-requires-clause-left
+lower-requires-clause-left c =
+    let state = c.args.state.now in
+    hand_within c.args.network.now c.args.next c.args.demander state.queue.items state.left.items state.codes.items c.requires.within c.requires.at c.requires.taken
+    c.suppliers-edge-items.result.now c.loop-edge.edge-index _ c.loop-edge-test.true c.suppliers-edge-items.ensures.value c.loop-edge.invariant.counted.left_size
+
+pub lower-requires-clause-codes : goal.lower-requires-clause-codes
+lower-requires-clause-codes c =
+    let state = c.args.state.now in
+    hand_within c.args.network.now c.args.next c.args.demander state.queue.items state.left.items state.codes.items c.requires.within c.requires.at c.requires.taken
+    c.suppliers-edge-items.result.now c.loop-edge.edge-index _ c.loop-edge-test.true c.suppliers-edge-items.ensures.value c.loop-edge.invariant.counted.codes_size
+
+pub suppliers-edge-items-requires : goal.suppliers-edge-items-requires
+suppliers-edge-items-requires c =
+    let state = c.args.state.now in
+    hand_pair c.args.network.now c.args.next c.args.demander state.queue.items state.left.items state.codes.items c.requires.within c.requires.at c.requires.taken
+
+pub index-requires : goal.index-requires
+index-requires c =
+    let state = c.args.state.now in
+    rw state.codes.ok.0 (hand_code c.args.network.now c.args.next c.args.demander state.queue.items state.left.items state.codes.items c.requires.within c.requires.at c.requires.taken)
+
+pub overflow_add-code : goal.overflow_add-code
+overflow_add-code c =
+    let state = c.args.state.now in
+    let short = hand_short c.args.network.now c.args.next c.args.demander state.queue.items state.left.items state.codes.items c.requires.within c.requires.at c.requires.taken c.index.result.now c.index.ensures in
+    omega (arith, short, state.queue.ok, state.queue.small)

@@ -1,4 +1,5 @@
-use Rattle.std.proofs.Common.{◌≡◌, ◌*◌, slice_index, slice_index_or, sum, arith, ap, ◌∙◌}
+use Rattle.std.proofs.Common.{◌≡◌, ◌*◌, ◌<◌, length, slice_index, slice_index_or, sum, arith, ap, ◌∙◌}
+use Rattle.std.proofs.lemmas.List.{take_all}
 use Rattle.std.proofs.lemmas.List.Sums.{sum_by_more_le, sum_by_more}
 use Rattle.mrp_net.specs.Plan.{rows_at}
 use Rattle.mrp_net.specs.Edges.{edge_need}
@@ -46,3 +47,23 @@ loop-edge-preserved c =
             sum_by_more (λ (f : Edge). f.per * sum (rows_at c.args.plans.now f.demander.0).release) c.args.edges.now c.loop-edge.edge-index no_edge c.loop-edge-test.true,
           );
     }
+
+pub bounds-plans-edge : goal.bounds-plans-edge
+bounds-plans-edge c = (c.requires.edges c.loop-edge.edge-index no_edge c.loop-edge-test.true).demander
+
+pub explode-requires-clause-shares : goal.explode-requires-clause-shares
+explode-requires-clause-shares c = (c.requires.edges c.loop-edge.edge-index no_edge c.loop-edge-test.true).shares
+
+pub explode-requires-clause-whole : goal.explode-requires-clause-whole
+explode-requires-clause-whole c = (c.requires.edges c.loop-edge.edge-index no_edge c.loop-edge-test.true).whole
+
+pub returns-clause-each : goal.returns-clause-each
+returns-clause-each c = λ t h.
+    let here : t < length c.loop-edge.gross = rw c.loop-edge.invariant.size h in
+    rw (take_all c.loop-edge.edge-index c.args.edges.now c.loop-edge-test.false) at (c.loop-edge.invariant.each t here)
+
+pub returns-clause-total : goal.returns-clause-total
+returns-clause-total c = rw (take_all c.loop-edge.edge-index c.args.edges.now c.loop-edge-test.false) at c.loop-edge.invariant.total
+
+pub returns-clause-size : goal.returns-clause-size
+returns-clause-size c = c.loop-edge.invariant.size

@@ -1,4 +1,4 @@
-use Rattle.std.proofs.Common.{◌≡◌, ◌<◌, ◌≤◌, ℕ, List, length, slice_index, arith, ap, ◌∙◌, sym, subst, rules}
+use Rattle.std.proofs.Common.{◌≡◌, ◌<◌, ◌≤◌, ℕ, List, length, slice_index, arith, ap, ◌∙◌, sym, subst}
 use Rattle.mrp_qty.specs.declared.quantity.TheConstants.{MOST}
 use Rattle.mrp_lot.specs.One.{PlanRows}
 use Rattle.mrp_rows.specs.Table.{Table, IsPair, horizon}
@@ -8,7 +8,7 @@ use Rattle.std.specs.List.{All}
 use Rattle.mrp_net.specs.Edges.{demanders, IsEdge}
 use Rattle.mrp_plan.specs.Peg.{peg_terms}
 use Rattle.mrp_plan.specs.declared.terms.PegTerm.{PegTerm}
-use Rattle.mrp_plan.proofs.Pegs.{fitting_gross, peggable, peg_pairs}
+use Rattle.mrp_plan.proofs.Pegs.{fitting_gross, peggable, peg_pairs, pegged}
 use Rattle.mrp_plan.proofs.Planning.{length-row_of}
 use Rattle.mrp_plan.proofs.pegging.peg.Goals as goal
 
@@ -44,5 +44,27 @@ returns-clause-pairs c =
     let are : c.demanders.result.now ≡ demanders N c.args.x.0 = c.demanders.ensures.value ∙ ap (λ (m : Table). demanders m c.args.x.0) c.network-network.ensures.value in
     let P : Table → Type 0 = λ m. All (IsEdge m) c.demanders.result.now in
     let T : List PegTerm → Type 0 = λ terms. All (λ term. IsPair N term.pair.0) terms in
-    let is : c.push_edges.new.terms.items ≡ peg_terms N c.args.plan.now c.args.x.0 c.args.t = search rules in
+    let is : c.push_edges.new.terms.items ≡ peg_terms N c.args.plan.now c.args.x.0 c.args.t =
+    pegged c.args.net.now.network c.network-network.result.now c.args.plan.now c.args.x.0 c.args.t c.demanders.result.now c.demand_term.result _ c.push_term.new.terms.items c.push_edges.new.terms.items
+    c.network-network.ensures.value c.demanders.ensures.value c.demand_term.ensures c.new-terms.ensures.items c.in_ok-push_term.ensures c.in_ok-push_edges.ensures in
     subst T (sym is) (peg_pairs N c.args.plan.now c.args.x.0 c.args.t c.demanders.result.now c.requires.pair are (subst P c.network-network.ensures.value c.demanders.ensures.edges))
+
+pub pair-requires : goal.pair-requires
+pair-requires c = rw c.requires.fits.size c.requires.pair
+
+pub demand_term-requires-clause-pair : goal.demand_term-requires-clause-pair
+demand_term-requires-clause-pair c = rw c.network-network.ensures.value c.requires.pair
+
+pub demand_term-requires-clause-period : goal.demand_term-requires-clause-period
+demand_term-requires-clause-period c = rw c.network-network.ensures.value c.requires.period
+
+pub demanders-requires : goal.demanders-requires
+demanders-requires c = rw c.network-network.ensures.value c.requires.pair
+
+pub push_edges-requires-clause-size : goal.push_edges-requires-clause-size
+push_edges-requires-clause-size c = rw c.network-network.ensures.value c.requires.fits.size
+
+pub returns-clause-terms : goal.returns-clause-terms
+returns-clause-terms c =
+    pegged c.args.net.now.network c.network-network.result.now c.args.plan.now c.args.x.0 c.args.t c.demanders.result.now c.demand_term.result _ c.push_term.new.terms.items c.push_edges.new.terms.items
+    c.network-network.ensures.value c.demanders.ensures.value c.demand_term.ensures c.new-terms.ensures.items c.in_ok-push_term.ensures c.in_ok-push_edges.ensures

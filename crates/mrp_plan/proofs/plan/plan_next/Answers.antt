@@ -7,3 +7,18 @@ plan_one-requires-clause-can c = next_can c.args.net.now.network _ c.args.net.no
 pub returns-clause-after : goal.returns-clause-after
 returns-clause-after c =
     planned_with c.args.net.now.network _ c.args.net.now.needs c.args.order.now c.args.k c.args.plans.now c.network.ensures.value c.requires.sized c.requires.needs c.requires.order c.requires.place c.requires.before _ c.plan_one.ensures.planned
+
+pub bounds-order-k : goal.bounds-order-k
+bounds-order-k c = c.requires.place
+
+pub plan_one-requires-clause-incoming_room : goal.plan_one-requires-clause-incoming_room
+plan_one-requires-clause-incoming_room c = rw c.network.ensures.value c.requires.incoming_room
+
+pub plan_one-requires-clause-gross_room : goal.plan_one-requires-clause-gross_room
+plan_one-requires-clause-gross_room c = rw c.network.ensures.value c.requires.gross_room
+
+pub returns-clause-incoming_room : goal.returns-clause-incoming_room
+returns-clause-incoming_room c = rw (← c.network.ensures.value) c.plan_one.ensures.incoming_room
+
+pub returns-clause-gross_room : goal.returns-clause-gross_room
+returns-clause-gross_room c = rw (← c.network.ensures.value) c.plan_one.ensures.gross_room

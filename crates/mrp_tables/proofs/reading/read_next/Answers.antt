@@ -1,9 +1,18 @@
+use Rattle.std.proofs.Common.{◌≡◌, ℕ, Result, Ok, Err, MatchResult, OnOk, refl, true≢false}
+use Rattle.std.proofs.lemmas.Bool.{false≢true}
+use Rattle.mrp_tables.specs.declared.fault.TableFault.{TableFault}
+use Rattle.mrp_tables.specs.declared.fault.TableFaultKind.{TableFaultKind}
 use Rattle.csv.specs.Records.{fields_of}
 use Rattle.mrp_tables.specs.Left.{left_of, state_of}
 use Rattle.mrp_tables.proofs.Keeping.{row_after_keeps}
 use Rattle.mrp_tables.proofs.Loop.{added, bad_there, ends_there, goes_row, none_there, refused, refused_at, refused_own, some_there}
 use Rattle.mrp_tables.proofs.KeepingSteps.{handed_on}
 use Rattle.mrp_tables.proofs.reading.read_next.Goals as goal
+
+-- what holds where the row was added holds here
+went : (added : Result (Unit {0}) TableFaultKind) (told : Result (Unit {0}) TableFault) (u : Unit {0}) (number : ℕ) (P : Type 0) → MatchResult added (λ v. told ≡ Ok v) (λ k. told ≡ Err (record { row = number; kind = k })) → told ≡ Ok u → OnOk added P → P
+went (Ok v) told u number P same is holds = holds
+went (Err k) told u number P same is holds = absurd (cc)
 
 pub returns-in_err-next_row-clause-exact : goal.returns-in_err-next_row-clause-exact
 returns-in_err-next_row-clause-exact g c =
@@ -50,4 +59,88 @@ returns-then-not-branch-clause-last g c = λ none.
     none_there c.in_ok-next_row.field-0 (left_of g.R.Read.remaining c.args.rows.now) (left_of g.R.Read.remaining c.next_row.new.rows) c.args.number (fields_of c.next_row.new.row) c.if-not-branch.true c.in_ok-next_row.ensures.exact
 
 pub returns-clause-last : goal.returns-clause-last
-returns-clause-last g c = λ none. absurd (cc)
+returns-clause-last g c = λ none. absurd (true≢false none)
+
+pub returns-in_err-next_row-clause-gives : goal.returns-in_err-next_row-clause-gives
+returns-in_err-next_row-clause-gives g c = rw (handed_on c.from_residual.result _ c.from_residual.ensures.1) tt
+
+pub returns-in_err-next_row-clause-last : goal.returns-in_err-next_row-clause-last
+returns-in_err-next_row-clause-last g c = rw (handed_on c.from_residual.result _ c.from_residual.ensures.1) tt
+
+pub returns-in_err-next_row-clause-draft : goal.returns-in_err-next_row-clause-draft
+returns-in_err-next_row-clause-draft g c = rw (handed_on c.from_residual.result _ c.from_residual.ensures.1) tt
+
+pub returns-in_err-next_row-clause-kept : goal.returns-in_err-next_row-clause-kept
+returns-in_err-next_row-clause-kept g c = rw (handed_on c.from_residual.result _ c.from_residual.ensures.1) tt
+
+pub returns-in_err-next_row-clause-rows : goal.returns-in_err-next_row-clause-rows
+returns-in_err-next_row-clause-rows g c = rw (handed_on c.from_residual.result _ c.from_residual.ensures.1) tt
+
+pub returns-in_err-next_row-clause-ended : goal.returns-in_err-next_row-clause-ended
+returns-in_err-next_row-clause-ended g c = rw (handed_on c.from_residual.result _ c.from_residual.ensures.1) tt
+
+pub returns-then-not-branch-clause-gives : goal.returns-then-not-branch-clause-gives
+returns-then-not-branch-clause-gives g c = c.in_ok-next_row.ensures.gives
+
+pub returns-then-not-branch-clause-number : goal.returns-then-not-branch-clause-number
+returns-then-not-branch-clause-number g c = tt
+
+pub returns-then-not-branch-clause-failed : goal.returns-then-not-branch-clause-failed
+returns-then-not-branch-clause-failed g c = tt
+
+pub returns-then-not-branch-clause-draft : goal.returns-then-not-branch-clause-draft
+returns-then-not-branch-clause-draft g c = c.requires.draft
+
+pub returns-then-not-branch-clause-kept : goal.returns-then-not-branch-clause-kept
+returns-then-not-branch-clause-kept g c = c.requires.kept
+
+pub returns-then-not-branch-clause-rows : goal.returns-then-not-branch-clause-rows
+returns-then-not-branch-clause-rows g c = λ found. absurd (false≢true found)
+
+pub returns-then-not-branch-clause-ended : goal.returns-then-not-branch-clause-ended
+returns-then-not-branch-clause-ended g c = λ none. refl
+
+pub add-requires-clause-draft : goal.add-requires-clause-draft
+add-requires-clause-draft g c = c.requires.draft
+
+pub add-requires-clause-room : goal.add-requires-clause-room
+add-requires-clause-room g c = c.requires.room
+
+pub add-requires-clause-text : goal.add-requires-clause-text
+add-requires-clause-text g c = c.in_ok-next_row.ensures.text
+
+pub returns-in_err-at_row-clause-gives : goal.returns-in_err-at_row-clause-gives
+returns-in_err-at_row-clause-gives g c = rw (handed_on c.from_residual-in_err-at_row.result _ c.from_residual-in_err-at_row.ensures.1) tt
+
+pub returns-in_err-at_row-clause-last : goal.returns-in_err-at_row-clause-last
+returns-in_err-at_row-clause-last g c = rw (handed_on c.from_residual-in_err-at_row.result _ c.from_residual-in_err-at_row.ensures.1) tt
+
+pub returns-in_err-at_row-clause-draft : goal.returns-in_err-at_row-clause-draft
+returns-in_err-at_row-clause-draft g c = rw (handed_on c.from_residual-in_err-at_row.result _ c.from_residual-in_err-at_row.ensures.1) tt
+
+pub returns-in_err-at_row-clause-kept : goal.returns-in_err-at_row-clause-kept
+returns-in_err-at_row-clause-kept g c = rw (handed_on c.from_residual-in_err-at_row.result _ c.from_residual-in_err-at_row.ensures.1) tt
+
+pub returns-in_err-at_row-clause-rows : goal.returns-in_err-at_row-clause-rows
+returns-in_err-at_row-clause-rows g c = rw (handed_on c.from_residual-in_err-at_row.result _ c.from_residual-in_err-at_row.ensures.1) tt
+
+pub returns-in_err-at_row-clause-ended : goal.returns-in_err-at_row-clause-ended
+returns-in_err-at_row-clause-ended g c = rw (handed_on c.from_residual-in_err-at_row.result _ c.from_residual-in_err-at_row.ensures.1) tt
+
+pub returns-clause-gives : goal.returns-clause-gives
+returns-clause-gives g c = c.in_ok-next_row.ensures.gives
+
+pub returns-clause-number : goal.returns-clause-number
+returns-clause-number g c = tt
+
+pub returns-clause-failed : goal.returns-clause-failed
+returns-clause-failed g c = tt
+
+pub returns-clause-draft : goal.returns-clause-draft
+returns-clause-draft g c = went c.add.result c.at_row.result _ _ _ c.at_row.ensures.same c.in_ok-at_row.was c.add.ensures.draft
+
+pub returns-clause-rows : goal.returns-clause-rows
+returns-clause-rows g c = λ found. went c.add.result c.at_row.result _ _ _ c.at_row.ensures.same c.in_ok-at_row.was c.add.ensures.rows
+
+pub returns-clause-ended : goal.returns-clause-ended
+returns-clause-ended g c = λ none. absurd (true≢false none)

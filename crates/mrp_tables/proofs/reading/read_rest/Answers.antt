@@ -1,9 +1,22 @@
-use borrow.Author.Rules.{rules}
-use Rattle.std.proofs.Common.{arith}
+use Rattle.std.proofs.Common.{◌≡◌, ℕ, ◌+◌, ◌≤◌, refl, ap, ◌∙◌, arith}
+use Rattle.mrp_tables.specs.declared.draft.Draft.{Draft}
+use Rattle.mrp_tables.specs.Lists.{IsDraft}
 use Rattle.mrp_tables.specs.Left.{left_of, state_of}
-use Rattle.mrp_tables.proofs.Loop.{goes_to_fault, next_true, read_all}
+use Rattle.mrp_tables.proofs.Loop.{goes_nowhere, goes_to_fault, next_false, next_true, read_all}
 use Rattle.mrp_tables.proofs.KeepingSteps.{handed_on}
+use Rattle.mrp_tables.proofs.TurnCount.{draft_rows-le}
 use Rattle.mrp_tables.proofs.reading.read_rest.Goals as goal
+
+-- how many turns there were, where the last one found no row, and where it found one
+steps_at_end : (old steps number rows new ended : ℕ) → steps + 2 ≡ old + number → rows + 1 ≡ number → new ≡ steps + 1 → ended ≡ rows → new ≡ old + ended
+steps_at_end old steps number rows new ended turns row tick none = omega arith
+
+steps_more : (old steps number new : ℕ) → steps + 2 ≡ old + number → new ≡ steps + 1 → new + 2 ≡ old + (number + 1)
+steps_more old steps number new turns tick = omega arith
+
+-- there are fewer rows than turns
+no_more : (d : Draft) (number : ℕ) → IsDraft d → d.rows + 1 ≡ number → 4300067 ≤ number → ⊥
+no_more d number is rows far = omega (arith, draft_rows-le d is)
 
 pub returns-in_err-read_next-clause-exact : goal.returns-in_err-read_next-clause-exact
 returns-in_err-read_next-clause-exact g c =
@@ -27,8 +40,8 @@ returns-then-not-branch-clause-all g c =
 pub loop-number-preserved : goal.loop-number-preserved
 loop-number-preserved g c = record {
   draft = c.in_ok-read_next.ensures.draft;
-  rows = let more = c.in_ok-read_next.ensures.rows c.if-not-branch.false in omega arith;
-  steps = omega arith;
+  rows = ap (λ n. n + 1) (c.in_ok-read_next.ensures.rows c.if-not-branch.false ∙ c.loop-number.invariant.rows);
+  steps = steps_more _ _ _ _ c.loop-number.invariant.steps c.tick.ensures;
   gives = c.in_ok-read_next.ensures.gives;
   kept = c.in_ok-read_next.ensures.kept;
   goes = next_true c.in_ok-read_next.field-0 (left_of g.R.Read.remaining c.args.rows.now) (left_of g.R.Read.remaining c.loop-number.rows) (left_of g.R.Read.remaining c.read_next.new.rows) 2 c.loop-number.number
@@ -36,16 +49,59 @@ loop-number-preserved g c = record {
 }
 
 pub returns-in_err-read_next-clause-draft : goal.returns-in_err-read_next-clause-draft
-returns-in_err-read_next-clause-draft g c = search rules
+returns-in_err-read_next-clause-draft g c = rw (handed_on c.from_residual.result _ c.from_residual.ensures.1) tt
 
 pub returns-in_err-read_next-clause-kept : goal.returns-in_err-read_next-clause-kept
-returns-in_err-read_next-clause-kept g c = search rules
+returns-in_err-read_next-clause-kept g c = rw (handed_on c.from_residual.result _ c.from_residual.ensures.1) tt
 
 pub returns-in_err-read_next-clause-counted : goal.returns-in_err-read_next-clause-counted
-returns-in_err-read_next-clause-counted g c = search rules
+returns-in_err-read_next-clause-counted g c = rw (handed_on c.from_residual.result _ c.from_residual.ensures.1) tt
 
 pub returns-in_err-read_next-clause-all : goal.returns-in_err-read_next-clause-all
-returns-in_err-read_next-clause-all g c = search rules
+returns-in_err-read_next-clause-all g c = rw (handed_on c.from_residual.result _ c.from_residual.ensures.1) tt
 
-pub returns-in_err-read_next-clause-turns : goal.returns-in_err-read_next-clause-turns
-returns-in_err-read_next-clause-turns g c = search rules
+pub loop-number-init : goal.loop-number-init
+loop-number-init g c = record {
+  draft = c.requires.draft;
+  rows = ap (λ n. n + 1) c.requires.first;
+  steps = refl;
+  gives = c.requires.gives;
+  kept = c.requires.kept;
+  goes = goes_nowhere (left_of g.R.Read.remaining c.args.rows.now) 2 (state_of c.args.draft.now);
+}
+
+pub read_next-requires-clause-gives : goal.read_next-requires-clause-gives
+read_next-requires-clause-gives g c = c.loop-number.invariant.gives
+
+pub read_next-requires-clause-draft : goal.read_next-requires-clause-draft
+read_next-requires-clause-draft g c = c.loop-number.invariant.draft
+
+pub read_next-requires-clause-kept : goal.read_next-requires-clause-kept
+read_next-requires-clause-kept g c = c.loop-number.invariant.kept
+
+pub returns-then-not-branch-clause-exact : goal.returns-then-not-branch-clause-exact
+returns-then-not-branch-clause-exact g c =
+    next_false c.in_ok-read_next.field-0 (left_of g.R.Read.remaining c.args.rows.now) (left_of g.R.Read.remaining c.loop-number.rows) (left_of g.R.Read.remaining c.read_next.new.rows) 2 c.loop-number.number
+    (state_of c.args.draft.now) (state_of c.loop-number.draft) (state_of c.read_next.new.draft) c.if-not-branch.true c.loop-number.invariant.goes c.in_ok-read_next.ensures.exact
+
+pub returns-then-not-branch-clause-failed : goal.returns-then-not-branch-clause-failed
+returns-then-not-branch-clause-failed g c = tt
+
+pub returns-then-not-branch-clause-draft : goal.returns-then-not-branch-clause-draft
+returns-then-not-branch-clause-draft g c = c.in_ok-read_next.ensures.draft
+
+pub returns-then-not-branch-clause-kept : goal.returns-then-not-branch-clause-kept
+returns-then-not-branch-clause-kept g c = c.in_ok-read_next.ensures.kept
+
+pub returns-then-not-branch-clause-later : goal.returns-then-not-branch-clause-later
+returns-then-not-branch-clause-later g c = tt
+
+pub returns-then-not-branch-clause-least : goal.returns-then-not-branch-clause-least
+returns-then-not-branch-clause-least g c = tt
+
+pub returns-then-not-branch-clause-counted : goal.returns-then-not-branch-clause-counted
+returns-then-not-branch-clause-counted g c =
+    steps_at_end _ _ _ _ _ _ c.loop-number.invariant.steps c.loop-number.invariant.rows c.tick.ensures (c.in_ok-read_next.ensures.ended c.if-not-branch.true)
+
+pub unreachable-requires : goal.unreachable-requires
+unreachable-requires g c = no_more c.loop-number.draft c.loop-number.number c.loop-number.invariant.draft c.loop-number.invariant.rows c.loop-number-test.false

@@ -1,15 +1,16 @@
-use borrow.Author.Rules.{rules}
 use Rattle.std.proofs.Common.{◌≡◌, ◌+◌, ◌≤◌, max, ℕ, Result, Ok, Err, IfOk, IfErr, ap, arith}
 use Rattle.csv.specs.Records.{fields_of}
 use Rattle.mrp_tables.specs.Left.{left_of, OfLeft}
+use Rattle.mrp_tables.specs.declared.fault.TableFaultKind.TheVariants as fault
 use Rattle.mrp_tables.specs.Steps.{StepsTo}
 use Rattle.mrp_rows.specs.Table.{Table}
 use Rattle.mrp_tables.specs.declared.fault.TableFault.{TableFault}
 use Rattle.mrp_rows.specs.Turns.{row_count}
+use Rattle.mrp_tables.specs.declared.reading.TheConstants.{MAX_TURNS}
 use Rattle.mrp_tables.proofs.Listed.{first_no_read_fault}
-use Rattle.mrp_tables.proofs.Loop.{some_there}
+use Rattle.mrp_tables.proofs.Loop.{none_there, some_there}
 use Rattle.mrp_tables.proofs.StepCount.{first_step, later_step, of_each, of_missing, steps_all, steps_named, when_missing}
-use Rattle.mrp_tables.proofs.Whole.{bad_first, first_fault, rest_fault, whole, whole_own}
+use Rattle.mrp_tables.proofs.Whole.{bad_first, first_fault, no_first, rest_fault, whole, whole_own}
 use Rattle.mrp_tables.proofs.KeepingSteps.{handed_on}
 use Rattle.mrp_tables.proofs.reading.read_rows.Goals as goal
 
@@ -37,6 +38,9 @@ returns-in-Ok-clause-counted g c =
     let rest = c.in-Ok.ensures in
     counted c.accept.result c.read_rest.new.draft.lists _ _ _ _ c.accept.ensures.same c.tick.ensures rest.counted rest.draft.count
 
+empty_read : fault.Empty ≡ fault.ReadFault → ⊥
+empty_read e = cc
+
 pub returns-in_err-next_row-clause-failed : goal.returns-in_err-next_row-clause-failed
 returns-in_err-next_row-clause-failed g c = rw (handed_on c.from_residual.result _ c.from_residual.ensures.1) c.in_err-next_row.ensures.failed
 
@@ -49,11 +53,14 @@ returns-in-Ok-clause-failed g c = whole_own c.read_rest.new.draft.lists c.accept
 
 -- ---- the turns at a fault
 
+least_named : (old new row : ℕ) → row ≡ 1 → new ≡ old + 1 → old + max 1 row ≤ new
+least_named old new row first tick = omega (arith, first, tick)
+
 pub returns-in_err-next_row-clause-least : goal.returns-in_err-next_row-clause-least
-returns-in_err-next_row-clause-least g c = rw (handed_on c.from_residual.result _ c.from_residual.ensures.1) (omega (arith, c.in_err-next_row.ensures.number, c.tick.ensures))
+returns-in_err-next_row-clause-least g c = rw (handed_on c.from_residual.result _ c.from_residual.ensures.1) (least_named _ _ _ c.in_err-next_row.ensures.number c.tick.ensures)
 
 pub returns-in_err-draft-clause-least : goal.returns-in_err-draft-clause-least
-returns-in_err-draft-clause-least g c = rw (handed_on c.from_residual-in_err-draft.result _ c.from_residual-in_err-draft.ensures.1) (omega (arith, c.in_err-draft.ensures.exact.1, c.tick.ensures))
+returns-in_err-draft-clause-least g c = rw (handed_on c.from_residual-in_err-draft.result _ c.from_residual-in_err-draft.ensures.1) (least_named _ _ _ c.in_err-draft.ensures.exact.1 c.tick.ensures)
 
 -- the table is all read, so the row that waits is one of those that were counted
 waited : (r : Result Table TableFault) (N : Table) (new mid old rows : ℕ) → IfErr r (λ e. e.row ≤ row_count N) → mid ≡ old + 1 → new ≡ mid + rows → rows ≡ row_count N → IfErr r (λ e. old + max 1 e.row ≤ new)
@@ -80,7 +87,7 @@ pub returns-in_err-next_row-clause-ends : goal.returns-in_err-next_row-clause-en
 returns-in_err-next_row-clause-ends g c = rw (handed_on c.from_residual.result _ c.from_residual.ensures.1) (steps_named (left_of g.R.Read.remaining c.args.rows.now) _ _ _ (first_step _ _ _ c.in_err-next_row.ensures.number c.tick.ensures))
 
 pub returns-then-not-branch-clause-ends : goal.returns-then-not-branch-clause-ends
-returns-then-not-branch-clause-ends g c = steps_named (left_of g.R.Read.remaining c.args.rows.now) c.args.steps.now c.tick.new.self 0 (omega (arith, c.tick.ensures))
+returns-then-not-branch-clause-ends g c = steps_named (left_of g.R.Read.remaining c.args.rows.now) c.args.steps.now c.tick.new.self 0 c.tick.ensures
 
 pub returns-in_err-draft-clause-ends : goal.returns-in_err-draft-clause-ends
 returns-in_err-draft-clause-ends g c =
@@ -107,23 +114,80 @@ pub returns-clause-ends : goal.returns-clause-ends
 returns-clause-ends g c =
     steps_named (left_of g.R.Read.remaining c.args.rows.now) _ _ _ (later_step _ _ _ _ c.in-Err.ensures.later c.tick.ensures c.in-Err.ensures.least)
 
+-- ---- the turns so far
+
+turns_first : (old new : ℕ) → new ≡ old + 1 → new ≤ old + MAX_TURNS
+turns_first old new tick = omega (arith, tick)
+
+least_first : (old new : ℕ) → new ≡ old + 1 → old + 1 ≤ new
+least_first old new tick = omega (arith, tick)
+
+turns_rest : (old mid new : ℕ) → mid ≡ old + 1 → new + 1 ≤ mid + MAX_TURNS → new ≤ old + MAX_TURNS
+turns_rest old mid new tick turns = omega (arith, tick, turns)
+
+least_rest : (old mid new row : ℕ) → 2 ≤ row → mid ≡ old + 1 → new + 1 ≡ mid + row → old + max 1 row ≤ new
+least_rest old mid new row later tick turns = omega (arith, later, tick, turns)
+
 pub returns-in_err-next_row-clause-counted : goal.returns-in_err-next_row-clause-counted
-returns-in_err-next_row-clause-counted g c = search rules
+returns-in_err-next_row-clause-counted g c = rw (handed_on c.from_residual.result _ c.from_residual.ensures.1) tt
 
 pub returns-in_err-next_row-clause-turns : goal.returns-in_err-next_row-clause-turns
-returns-in_err-next_row-clause-turns g c = search rules
+returns-in_err-next_row-clause-turns g c = turns_first _ _ c.tick.ensures
 
 pub returns-in_err-draft-clause-counted : goal.returns-in_err-draft-clause-counted
-returns-in_err-draft-clause-counted g c = search rules
+returns-in_err-draft-clause-counted g c = rw (handed_on c.from_residual-in_err-draft.result _ c.from_residual-in_err-draft.ensures.1) tt
 
 pub returns-in_err-draft-clause-turns : goal.returns-in_err-draft-clause-turns
-returns-in_err-draft-clause-turns g c = search rules
+returns-in_err-draft-clause-turns g c = turns_first _ _ c.tick.ensures
 
 pub returns-in-Ok-clause-turns : goal.returns-in-Ok-clause-turns
-returns-in-Ok-clause-turns g c = search rules
+returns-in-Ok-clause-turns g c = turns_rest _ _ _ c.tick.ensures c.in-Ok.ensures.turns
 
 pub returns-clause-turns : goal.returns-clause-turns
-returns-clause-turns g c = search rules
+returns-clause-turns g c = turns_rest _ _ _ c.tick.ensures c.in-Err.ensures.turns
 
 pub returns-clause-least : goal.returns-clause-least
-returns-clause-least g c = search rules
+returns-clause-least g c = least_rest _ _ _ _ c.in-Err.ensures.later c.tick.ensures c.in-Err.ensures.least
+
+pub returns-then-not-branch-clause-table : goal.returns-then-not-branch-clause-table
+returns-then-not-branch-clause-table g c =
+    no_first (left_of g.R.Read.remaining c.args.rows.now) (none_there c.in_ok-next_row.field-0 (left_of g.R.Read.remaining c.args.rows.now) (left_of g.R.Read.remaining c.next_row.new.rows) 1 (fields_of c.next_row.new.row) c.if-not-branch.true c.in_ok-next_row.ensures.exact)
+
+pub returns-then-not-branch-clause-failed : goal.returns-then-not-branch-clause-failed
+returns-then-not-branch-clause-failed g c = λ failed. absurd (empty_read failed)
+
+pub returns-then-not-branch-clause-counted : goal.returns-then-not-branch-clause-counted
+returns-then-not-branch-clause-counted g c = tt
+
+pub returns-then-not-branch-clause-named : goal.returns-then-not-branch-clause-named
+returns-then-not-branch-clause-named g c = c.tick.ensures
+
+pub returns-then-not-branch-clause-least : goal.returns-then-not-branch-clause-least
+returns-then-not-branch-clause-least g c = least_first _ _ c.tick.ensures
+
+pub returns-then-not-branch-clause-turns : goal.returns-then-not-branch-clause-turns
+returns-then-not-branch-clause-turns g c = turns_first _ _ c.tick.ensures
+
+pub read_rest-requires-clause-gives : goal.read_rest-requires-clause-gives
+read_rest-requires-clause-gives g c = c.in_ok-next_row.ensures.gives
+
+pub read_rest-requires-clause-draft : goal.read_rest-requires-clause-draft
+read_rest-requires-clause-draft g c = c.in_ok-draft.ensures.draft
+
+pub read_rest-requires-clause-kept : goal.read_rest-requires-clause-kept
+read_rest-requires-clause-kept g c = c.in_ok-draft.ensures.kept
+
+pub read_rest-requires-clause-first : goal.read_rest-requires-clause-first
+read_rest-requires-clause-first g c = c.in_ok-draft.ensures.rows
+
+pub accept-requires-clause-draft : goal.accept-requires-clause-draft
+accept-requires-clause-draft g c = c.in-Ok.ensures.draft
+
+pub accept-requires-clause-kept : goal.accept-requires-clause-kept
+accept-requires-clause-kept g c = c.in-Ok.ensures.kept
+
+pub returns-clause-failed : goal.returns-clause-failed
+returns-clause-failed g c = c.in-Err.ensures.failed
+
+pub returns-clause-counted : goal.returns-clause-counted
+returns-clause-counted g c = tt

@@ -1,5 +1,5 @@
 use Rattle.std.proofs.Common.{◌≡◌, ◌<◌, ◌≤◌, length, get_or, arith}
-use Rattle.std.proofs.lemmas.Bool.{ltb-true, lt-ltb, leb-true}
+use Rattle.std.proofs.lemmas.Bool.{false≢true, ltb-true, lt-ltb, leb-true}
 use Rattle.std.proofs.lemmas.List.{get_or_read}
 use Rattle.mrp_ready.proofs.Placing.{shown_where}
 use Rattle.mrp_ready.proofs.pair_set.PairSet.contains.Goals as goal
@@ -22,3 +22,13 @@ returns-else-self-slot c =
       λ t. let reached : c.self.inside.begin ≤ c.index-slot.result.now = leb-true c.self.inside.begin c.index-slot.result.now t in absurd (omega (arith, c.if-self-slot.false)),
       λ h. let reached : c.self.inside.begin ≤ get_or s.slots.items c.args.x 0 = (is.0 h).1 in absurd (omega (arith, read, c.if-self-slot.false)),
     )
+
+pub returns-then-x-len : goal.returns-then-x-len
+returns-then-x-len c =
+    let s = c.self.inside.slots in
+    let is = shown_where s.numbers.items s.places.items s.slots.items c.self.inside.begin c.self.inside.end c.args.self.now c.self.invariant c.self.view_is c.args.x in
+    let short : length s.slots.items ≤ c.args.x = omega (arith, c.if-x-len.true, c.len.ensures) in
+    (λ t. absurd (false≢true t), λ h. absurd (omega (arith, (is.0 h).0, short)))
+
+pub index-slot-requires : goal.index-slot-requires
+index-slot-requires c = rw c.len.ensures at c.if-x-len.false

@@ -1,5 +1,5 @@
 use Rattle.std.proofs.Common.{◌<◌, ◌≤◌, length, arith}
-use Rattle.mrp_ready.proofs.Placing.{later_slot, inserted}
+use Rattle.mrp_ready.proofs.Placing.{has_slot, later_slot, inserted}
 use Rattle.mrp_ready.proofs.pair_set.PairSet.insert.Goals as goal
 use Rattle.mrp_ready.proofs.pair_set.PairSet.insert.Goals.{After-exchange-arg-1}
 
@@ -40,3 +40,8 @@ returns c =
     let s = c.self.inside.slots in
     let is = inserted s.numbers.items s.places.items s.slots.items c.self.inside.begin c.self.inside.end c.args.x c.index-slot.result.now c.args.self.now _ _ _ c.self.invariant c.self.view_is c.index-slot.ensures c.requires.known c.requires.absent c.requires.fresh c.exchange.ensures.numbers c.exchange.ensures.places c.exchange.ensures.slots in
     record { numbers = is.1; gone = is.2; added = is.3 }
+
+pub index-slot-requires : goal.index-slot-requires
+index-slot-requires c =
+    let s = c.self.inside.slots in
+    rw s.slots.ok.0 (has_slot s.numbers.items s.places.items s.slots.items c.self.inside.begin c.self.inside.end c.args.x c.args.self.now c.self.view_is c.requires.known)

@@ -1,5 +1,5 @@
 use Rattle.std.proofs.Common.{◌<◌, ◌≤◌, length, arith}
-use Rattle.mrp_ready.proofs.Placing.{chosen_slot, removed}
+use Rattle.mrp_ready.proofs.Placing.{chosen_slot, removed, shown_where}
 use Rattle.mrp_ready.proofs.pair_set.PairSet.remove.Goals as goal
 use Rattle.mrp_ready.proofs.pair_set.PairSet.remove.Goals.{After-exchange-arg-1}
 
@@ -40,3 +40,9 @@ returns c =
     let s = c.self.inside.slots in
     let is = removed s.numbers.items s.places.items s.slots.items c.self.inside.begin c.self.inside.end c.args.x c.index-slot.result.now c.args.self.now _ _ _ c.self.invariant c.self.view_is c.index-slot.ensures c.requires c.exchange.ensures.numbers c.exchange.ensures.places c.exchange.ensures.slots in
     record { numbers = is.1; gone = is.2; others = is.3 }
+
+pub index-slot-requires : goal.index-slot-requires
+index-slot-requires c =
+    let s = c.self.inside.slots in
+    let is = shown_where s.numbers.items s.places.items s.slots.items c.self.inside.begin c.self.inside.end c.args.self.now c.self.invariant c.self.view_is c.args.x in
+    rw s.slots.ok.0 (is.0 c.requires).0

@@ -7,6 +7,8 @@ use Rattle.mrp_rows.specs.Turns.{row_count}
 use Rattle.mrp_rows.specs.Growing.{with_ship}
 use Rattle.mrp_rows.specs.Table.{Table}
 use Rattle.mrp_tables.proofs.Arrivals.{states_ship}
+use Rattle.mrp_tables.proofs.KeepingSteps.{handed_on}
+use Rattle.mrp_tables.proofs.Starting.{told}
 use Rattle.mrp_tables.proofs.draft.Draft.add_ship.Goals as goal
 
 pub returns-clause-adds : goal.returns-clause-adds
@@ -43,3 +45,21 @@ returns-clause-adds c =
       counted = refl;
       count = subst (λ (M : Table). row_count M ≡ row_count N + 1) made count;
     }
+
+pub returns-in_err-ship-clause-exact : goal.returns-in_err-ship-clause-exact
+returns-in_err-ship-clause-exact c = rw (handed_on c.from_residual.result _ c.from_residual.ensures.1) (told _ _ (rw (sym c.in_err-ship.ensures.exact) refl))
+
+pub returns-in_err-ship-clause-adds : goal.returns-in_err-ship-clause-adds
+returns-in_err-ship-clause-adds c = rw (handed_on c.from_residual.result _ c.from_residual.ensures.1) tt
+
+pub returns-in_err-add_ship-clause-adds : goal.returns-in_err-add_ship-clause-adds
+returns-in_err-add_ship-clause-adds c = rw (handed_on c.from_residual-in_err-add_ship.result _ c.from_residual-in_err-add_ship.ensures.1) tt
+
+pub add_ship-requires-clause-row : goal.add_ship-requires-clause-row
+add_ship-requires-clause-row c = c.in_ok-ship.ensures.row
+
+pub add_ship-requires-clause-room : goal.add_ship-requires-clause-room
+add_ship-requires-clause-room c = c.in_ok-ship.ensures.room
+
+pub returns-clause-exact : goal.returns-clause-exact
+returns-clause-exact c = rw (sym c.in_ok-ship.ensures.exact, c.in_ok-add_ship.ensures.table) refl

@@ -1,10 +1,10 @@
 use borrow.Author.Rules.{rules}
-use Rattle.std.proofs.Common.{◌≡◌, ◌==◌, ◌&&◌, false, position, unwrap_or, ◌∙◌, sym, ap, subst, length-append, arith}
+use Rattle.std.proofs.Common.{◌≡◌, ◌==◌, ◌&&◌, false, position, unwrap_or, ◌∙◌, sym, ap, subst, length, length-append, arith}
 use Rattle.std.specs.List.{list_any}
 use Rattle.std.specs.Str.{bytes_eq}
 use Rattle.std.proofs.lemmas.Grind.{common_steps}
 use Rattle.mrp_rows.specs.Table.{Table}
-use Rattle.mrp_tables.proofs.NewPair.{fresh_pair}
+use Rattle.mrp_tables.proofs.NewPair.{fresh_pair, pair_new}
 use Rattle.mrp_tables.proofs.draft.Draft.add_spelled.Goals as goal
 
 pub add_pair-requires-clause-fresh : goal.add_pair-requires-clause-fresh
@@ -47,3 +47,33 @@ add_sources-requires-clause-fits c = grind (arith, common_steps)
 
 pub returns-clause-adds : goal.returns-clause-adds
 returns-clause-adds c = grind (arith, common_steps)
+
+pub add_sources-requires-clause-rows : goal.add_sources-requires-clause-rows
+add_sources-requires-clause-rows c = c.in_ok-add_pair.ensures.rows
+
+pub returns-clause-memory : goal.returns-clause-memory
+returns-clause-memory c = c.add_sources.ensures.memory
+
+pub add_pair-requires-clause-row : goal.add_pair-requires-clause-row
+add_pair-requires-clause-row c = record {
+  plant = rw c.in_ok-item.ensures.table c.requires.fits.within;
+  item = c.in_ok-item.ensures.within;
+  rule = c.requires.spelled.rule;
+  lead = c.requires.spelled.lead;
+  on_hand = rw c.of.ensures c.requires.spelled.on_hand;
+  safety = rw c.of-2.ensures c.requires.spelled.safety;
+}
+
+pub add_pair-requires-clause-room : goal.add_pair-requires-clause-room
+add_pair-requires-clause-room c = rw c.in_ok-item.ensures.table c.requires.fits.room
+
+pub add_sources-requires-clause-sources : goal.add_sources-requires-clause-sources
+add_sources-requires-clause-sources c = c.named_sources.ensures.sources c.requires.spelled.supply
+
+pub add_sources-requires-clause-known : goal.add_sources-requires-clause-known
+add_sources-requires-clause-known c = rw (c.named_sources.ensures.exact, c.in_ok-add_pair.ensures.table, c.in_ok-item.ensures.table) c.requires.fits.known
+
+pub add_sources-requires-clause-fresh : goal.add_sources-requires-clause-fresh
+add_sources-requires-clause-fresh c =
+    let at = ap length c.pairs.ensures.value ∙ ap (λ (T : Table). length T.pairs) c.in_ok-item.ensures.table in
+    pair_new c.args.self.now.lists c.item_no.new.self c.add_pair.new.self _ _ _ c.in_ok-item.ensures.table c.in_ok-add_pair.ensures.table at c.requires.draft.holds.rows

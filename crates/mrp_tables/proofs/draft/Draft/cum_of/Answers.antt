@@ -1,8 +1,12 @@
-use Rattle.std.proofs.Common.{◌≤◌, length, ap, arith}
+use Rattle.std.proofs.Common.{◌<◌, ◌≤◌, List, length, ap, subst, arith}
 use Rattle.csv.specs.Records.{fields_of}
+use Rattle.mrp_rows.specs.Table.{IsPair}
+use Rattle.mrp_rows.specs.declared.numbers.PairNo.{PairNo}
+use Rattle.mrp_rows.specs.declared.numbers.PlantNo.{PlantNo}
+use Rattle.mrp_rows.specs.declared.rows.CumRow.{CumRow}
 use Rattle.mrp_tables.specs.Spelled.{lane_view}
 use Rattle.mrp_rows.specs.declared.rows.TheConstants.{MOST_OF_A_KIND}
-use Rattle.mrp_tables.proofs.Finding.{cum_full, cum_unknown}
+use Rattle.mrp_tables.proofs.Finding.{cum_full, cum_known, cum_unknown, of_found}
 use Rattle.mrp_tables.proofs.KeepingSteps.{handed_on}
 use Rattle.mrp_tables.proofs.draft.Draft.cum_of.Goals as goal
 
@@ -17,3 +21,58 @@ returns-then-cums-ge-MOST_OF_A_KIND-clause-exact c =
     let many : MOST_OF_A_KIND ≤ length c.args.self.now.lists.cums = omega (arith, ap length c.cums.ensures.value, c.if-cums-ge-MOST_OF_A_KIND.true) in
     cum_full c.args.self.now.lists (fields_of c.args.row.now) (lane_view c.in_ok-names.names, c.in_ok-names.figure) c.lane_named-named.result _ c.in_ok-names.ensures.exact c.lane_named-named.ensures.exact c.if-has_cum.ensures.exact
     c.in_ok-lane.ensures.exact many
+
+pub returns-in_err-names-clause-row : goal.returns-in_err-names-clause-row
+returns-in_err-names-clause-row c = rw (handed_on c.from_residual.result _ c.from_residual.ensures.1) tt
+
+pub returns-in_err-names-clause-fresh : goal.returns-in_err-names-clause-fresh
+returns-in_err-names-clause-fresh c = rw (handed_on c.from_residual.result _ c.from_residual.ensures.1) tt
+
+pub returns-in_err-names-clause-room : goal.returns-in_err-names-clause-room
+returns-in_err-names-clause-room c = rw (handed_on c.from_residual.result _ c.from_residual.ensures.1) tt
+
+pub returns-then-has_cum-clause-row : goal.returns-then-has_cum-clause-row
+returns-then-has_cum-clause-row c = tt
+
+pub returns-then-has_cum-clause-fresh : goal.returns-then-has_cum-clause-fresh
+returns-then-has_cum-clause-fresh c = tt
+
+pub returns-then-has_cum-clause-room : goal.returns-then-has_cum-clause-room
+returns-then-has_cum-clause-room c = tt
+
+pub returns-in_err-lane-clause-row : goal.returns-in_err-lane-clause-row
+returns-in_err-lane-clause-row c = rw (handed_on c.from_residual-in_err-lane.result _ c.from_residual-in_err-lane.ensures.1) tt
+
+pub returns-in_err-lane-clause-fresh : goal.returns-in_err-lane-clause-fresh
+returns-in_err-lane-clause-fresh c = rw (handed_on c.from_residual-in_err-lane.result _ c.from_residual-in_err-lane.ensures.1) tt
+
+pub returns-in_err-lane-clause-room : goal.returns-in_err-lane-clause-room
+returns-in_err-lane-clause-room c = rw (handed_on c.from_residual-in_err-lane.result _ c.from_residual-in_err-lane.ensures.1) tt
+
+pub returns-then-cums-ge-MOST_OF_A_KIND-clause-row : goal.returns-then-cums-ge-MOST_OF_A_KIND-clause-row
+returns-then-cums-ge-MOST_OF_A_KIND-clause-row c = tt
+
+pub returns-then-cums-ge-MOST_OF_A_KIND-clause-fresh : goal.returns-then-cums-ge-MOST_OF_A_KIND-clause-fresh
+returns-then-cums-ge-MOST_OF_A_KIND-clause-fresh c = tt
+
+pub returns-then-cums-ge-MOST_OF_A_KIND-clause-room : goal.returns-then-cums-ge-MOST_OF_A_KIND-clause-room
+returns-then-cums-ge-MOST_OF_A_KIND-clause-room c = tt
+
+pub returns-clause-exact : goal.returns-clause-exact
+returns-clause-exact c =
+    let room = subst (λ (xs : List CumRow). length xs < MOST_OF_A_KIND) c.cums.ensures.value c.if-cums-ge-MOST_OF_A_KIND.false in
+    rw c.of.ensures
+    (cum_known c.args.self.now.lists (fields_of c.args.row.now) (lane_view c.in_ok-names.names, c.in_ok-names.figure) c.lane_named-named.result c.in_ok-lane.lane c.in_ok-names.ensures.exact c.lane_named-named.ensures.exact c.if-has_cum.ensures.exact
+    c.in_ok-lane.ensures.exact room)
+
+pub returns-clause-row : goal.returns-clause-row
+returns-clause-row c =
+    let N = c.args.self.now.lists in
+    record {
+      from = of_found _ c.in_ok-lane.lane.from (λ (p : PlantNo). p.0 < length N.plants) c.lane_named-named.ensures.named.from c.in_ok-lane.ensures.from;
+      pair = of_found _ c.in_ok-lane.lane.pair (λ (x : PairNo). IsPair N x.0) c.lane_named-named.ensures.named.pair c.in_ok-lane.ensures.pair;
+      figure = rw c.of.ensures c.in_ok-names.ensures.figure;
+    }
+
+pub returns-clause-room : goal.returns-clause-room
+returns-clause-room c = subst (λ (xs : List CumRow). length xs < MOST_OF_A_KIND) c.cums.ensures.value c.if-cums-ge-MOST_OF_A_KIND.false

@@ -1,0 +1,23 @@
+use Rattle.std.proofs.Common.{arith}
+use Rattle.mrp_plan.proofs.pegging.edge_term.Goals as goal
+
+pub pair-requires : goal.pair-requires
+pair-requires c = rw c.requires.size c.requires.edge.edge.demander
+
+pub get-released-requires : goal.get-released-requires
+get-released-requires c = rw (c.release.ensures, c.pair.ensures) c.requires.edge.period
+
+pub part_of-release-requires-clause-shares : goal.part_of-release-requires-clause-shares
+part_of-release-requires-clause-shares c = omega (arith, c.requires.edge.edge.rises)
+
+pub part_of-release-requires-clause-whole : goal.part_of-release-requires-clause-whole
+part_of-release-requires-clause-whole c = c.requires.edge.edge.ends
+
+pub part_of-release-requires-clause-within : goal.part_of-release-requires-clause-within
+part_of-release-requires-clause-within c = c.get.ensures.within
+
+pub pair-demander-requires : goal.pair-demander-requires
+pair-demander-requires c = c.requires.edge.edge.demander
+
+pub pair-requires-2 : goal.pair-requires-2
+pair-requires-2 c = c.requires.edge.edge.pair
