@@ -7,8 +7,8 @@ ghost use Rattle.mrp_text.specs.Text.{Writes, OfTable, IsTextRefusal};
 
 use crate::fault::{TextFault, status};
 use crate::text::{check_text, cums_text, drive_text, peg_text, plan_text};
-use mrp_run::{NoGate, Settings};
 use mrp_choice::Choice;
+use mrp_run::{NoGate, Settings};
 use std::alloc::Global;
 use std::io::{Read, Write};
 use std::sync::Wait;

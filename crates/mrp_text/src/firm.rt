@@ -9,9 +9,9 @@ ghost use Rattle.mrp_choice.specs.declared.choice.TheConstants.{MOST_CAPACITY};
 
 use crate::fault::TextFault;
 use mrp_book::LaneFigure;
+use mrp_choice::MOST_CAPACITY;
 use mrp_loops::SizedNet;
 use mrp_plan::Plan;
-use mrp_choice::MOST_CAPACITY;
 use mrp_world::Firm;
 use std::alloc::Global;
 

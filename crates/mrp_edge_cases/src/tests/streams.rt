@@ -2,12 +2,12 @@
 
 ghost use Rattle.mrp_choice.specs.Range.{IsInRange};
 
+use super::is_report;
 use super::outcomes::outcome;
 use super::reports::{BICYCLE_PLAN, TWO_PLANTS_CUMS};
-use super::is_report;
+use mrp_choice::Choice;
 use mrp_tables::TableFaultKind;
 use mrp_text::{TextFault, answer, check_text, drive_text, status};
-use mrp_choice::Choice;
 use mrp_worked::{BICYCLE, TWO_PLANTS};
 use std::alloc::{AllocError, Global};
 use std::io;
