@@ -21,7 +21,7 @@ use Rattle.mrp_words.specs.Choice.{IsCommand, IsMeantBy, number_at}
 use Rattle.mrp_words.specs.CommandLine.{check_words, cums_words, mrp, peg_words, plan_words, program_words}
 use Rattle.mrp_choice.specs.declared.choice.TheConstants.{MOST_WORKERS, MOST_CAPACITY, LAST_PERIOD}
 use Rattle.mrp_choice.specs.declared.choice.Choice.{Choice}
-use Rattle.mrp_words.specs.Values.{HasFlag, HasNumber, HasPegValues, HasPlanValues, HasText, IsWholeCommand, IsWithin}
+use Rattle.mrp_words.specs.Values.{HasFlag, HasNumber, HasPegValues, HasPlanValues, HasText, IsWhole, IsWholeCommand, IsWithin}
 use Rattle.mrp_words.proofs.RowFacts.{asks_at, defaults_gain, either, first_none, given_row, next_none, no_kind, rows_good, unfailed, value_found, walk_good}
 
 -- ---- the command as clap builds it
@@ -234,6 +234,11 @@ pair_is (Some b) f g name rows e h =
     let named : name ≡ f b = ap (λ o. unwrap_or o name) e in
     let rowed : rows ≡ g b = ap (λ o. unwrap_or o rows) h in
     ap₂ (λ n r. Some (n, r)) (sym named) (sym rowed)
+
+-- the command that was found is whole, where the words' is
+pub found_whole : {B : Type 0} (o : Option B) (f : B → Text) (g : B → List Row) (name : Text) (rows : List Row) → Some name ≡ option_map f o
+    → Some rows ≡ option_map second (paired f g o) → IsWholeCommand (paired f g o) → IsWhole name rows
+found_whole o f g name rows e h whole = subst IsWholeCommand (pair_is o f g name rows e h) whole
 
 pub other_name : (name other : Text) (r : Bool) → r ≡ bytes_eq name other → r ≡ false → name ≡ other → ⊥
 other_name name other r e off is = true≢false (sym ((bytes_eq-Decides name other).1 is) ∙ (sym e ∙ off))

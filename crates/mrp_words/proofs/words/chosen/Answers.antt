@@ -1,18 +1,16 @@
-use Rattle.std.proofs.Common.{◌∙◌, ap, codes, inl, inr, refl, subst, sym, true≢false}
+use Rattle.std.proofs.Common.{◌∙◌, ap, codes, inl, inr, refl, sym, true≢false}
 use Rattle.std.specs.Str.{bytes_eq}
 use Rattle.std.specs.Box.{box_value}
 use Rattle.clap.specs.Words.{found_of, rows_of}
 use Rattle.clap.specs.declared.parser.matches.ArgMatches.TheViews.{out-ArgMatches, out-SubCommand}
-use Rattle.mrp_words.specs.Values.{IsWholeCommand}
 use Rattle.mrp_choice.specs.declared.choice.Choice.TheVariants.{Check}
-use Rattle.mrp_words.proofs.CommandFacts.{meant, other_name, pair_is}
+use Rattle.mrp_words.proofs.CommandFacts.{meant, other_name, found_whole}
 use Rattle.mrp_words.proofs.words.chosen.Goals as goal
 
 pub planning-requires : goal.planning-requires
 planning-requires c =
-    let is = pair_is (out-ArgMatches c.args.matches.now).subcommand (λ b. (out-SubCommand (box_value b)).name.now) (λ b. rows_of (found_of (out-SubCommand (box_value b)).matches))
-    c.in-Some.name.now (rows_of (found_of c.in-Some.values.now)) c.in-Some.ensures.name c.in-Some.ensures.rows in
-    let whole = subst IsWholeCommand is c.requires in
+    let whole = found_whole (out-ArgMatches c.args.matches.now).subcommand (λ b. (out-SubCommand (box_value b)).name.now) (λ b. rows_of (found_of (out-SubCommand (box_value b)).matches))
+    c.in-Some.name.now (rows_of (found_of c.in-Some.values.now)) c.in-Some.ensures.name c.in-Some.ensures.rows c.requires in
     elim whole [
       | inl p ↦ p.1
       | inr (inl p) ↦ absurd (true≢false (sym c.if-eq.true ∙ c.eq.ensures ∙ ap (λ n. bytes_eq n (codes "plan")) p))
@@ -22,9 +20,8 @@ planning-requires c =
 
 pub pegging-requires : goal.pegging-requires
 pegging-requires c =
-    let is = pair_is (out-ArgMatches c.args.matches.now).subcommand (λ b. (out-SubCommand (box_value b)).name.now) (λ b. rows_of (found_of (out-SubCommand (box_value b)).matches))
-    c.in-Some.name.now (rows_of (found_of c.in-Some.values.now)) c.in-Some.ensures.name c.in-Some.ensures.rows in
-    let whole = subst IsWholeCommand is c.requires in
+    let whole = found_whole (out-ArgMatches c.args.matches.now).subcommand (λ b. (out-SubCommand (box_value b)).name.now) (λ b. rows_of (found_of (out-SubCommand (box_value b)).matches))
+    c.in-Some.name.now (rows_of (found_of c.in-Some.values.now)) c.in-Some.ensures.name c.in-Some.ensures.rows c.requires in
     elim whole [
       | inl p ↦ absurd (other_name c.in-Some.name.now (codes "plan") c.eq.result c.eq.ensures c.if-eq.false p.0)
       | inr (inl p) ↦ absurd (other_name c.in-Some.name.now (codes "check") c.eq-else-eq.result c.eq-else-eq.ensures c.if-eq-2.false p)
