@@ -11,7 +11,7 @@ use Rattle.mrp_rows.specs.declared.rows.PairRow.{PairRow}
 use Rattle.mrp_rows.specs.declared.rows.ShipRow.{ShipRow}
 use Rattle.mrp_rows.specs.declared.rows.SourceRow.{SourceRow}
 use Rattle.mrp_rows.specs.declared.rows.TheConstants.{MOST_PLANTS}
-use Rattle.mrp_rows.specs.Table.{Table, IsTable, IsPair, IsPairRow, item_at, source_pair}
+use Rattle.mrp_rows.specs.Table.{Table, IsTable, IsPair, IsPairRow, IsSourceRow, item_at, source_pair}
 use Rattle.mrp_group.specs.Added.{AddsTotals, sum_of}
 use Rattle.mrp_net.specs.declared.edge.Edge.{Edge}
 use Rattle.mrp_net.specs.declared.lanes.Taken.{Taken}
@@ -19,7 +19,7 @@ use Rattle.mrp_net.specs.declared.lanes.Sent.{Sent}
 use Rattle.mrp_net.specs.Edges.{source_edge}
 use Rattle.mrp_net.specs.Lanes.{shipment_of}
 use Rattle.mrp_net.specs.Routes.{taken, route_no}
-use Rattle.mrp_net.specs.Sources.{sent, source_no}
+use Rattle.mrp_net.specs.Sources.{no_source, sent, source_no}
 use Rattle.mrp_net.specs.Sums.{pair_at, no_pair}
 use Rattle.mrp_net.proofs.Local.{item_is}
 
@@ -87,6 +87,15 @@ route_fits N customer supplier plants is h g size =
     let few : length N.plants ≤ MOST_PLANTS = is.read.limits.plants in
     let place : customer * plants + supplier ≡ route_no N customer supplier = ap (λ (z : ℕ). customer * z + supplier) size in
     omega (arith, place, mul-add-lt customer (length N.plants) supplier (length N.plants) h g, mul-le-mul_left (length N.plants) few, few)
+
+-- so does the route of a source that was read, to the pair that was
+pub source_fits : (N : Table) (rows : List SourceRow) (pairs : List PairRow) (i plants : ℕ) (p : PairRow) → IsTable N → rows ≡ N.sources → i < length rows
+    → pairs ≡ N.pairs → p ≡ get_or pairs (get_or rows i no_source).pair.0 p → plants ≡ length N.plants → p.plant.0 * plants + (get_or rows i no_source).plant.0 + 1 < 2 ^ 32
+source_fits N rows pairs i plants p table same within read is size =
+    let s : SourceRow = get_or rows i no_source in
+    let row = read_within (IsSourceRow N) rows N.sources same table.read.sources i no_source within in
+    let plant = ap (λ (z : PairRow). z.plant.0) (pair_read N pairs s.pair.0 p row.pair read is) in
+    route_fits N p.plant.0 s.plant.0 plants table (omega (arith, plant, (table.read.pairs s.pair.0 no_pair row.pair).plant)) row.plant size
 
 -- one amount more
 sum_of-more : {R : Type 0} (key amount : R → ℕ) (k : ℕ) (rows : List R) (i : ℕ) (r : R) → i < length rows → r ≡ get_or rows i r → (b : Bool) → eqb (key r) k ≡ b → sum_of key amount k (take (i + 1) rows) ≡ sum_of key amount k (take i rows) + cond b (amount r) 0

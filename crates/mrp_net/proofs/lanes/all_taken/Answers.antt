@@ -1,10 +1,9 @@
-use Rattle.std.proofs.Common.{ℕ, length, get_or, map, ap, ◌∙◌, arith}
+use Rattle.std.proofs.Common.{length, get_or, map, ap, ◌∙◌, arith}
 use Rattle.mrp_rows.specs.declared.rows.SourceRow.{SourceRow}
 use Rattle.mrp_rows.specs.Table.{IsSourceRow}
 use Rattle.mrp_net.specs.Routes.{taken}
 use Rattle.mrp_net.specs.Sources.{no_source}
-use Rattle.mrp_net.specs.Sums.{no_pair}
-use Rattle.mrp_net.proofs.Growing.{map_pushed, taken_whole, read_within, pair_read, taken_read, route_fits}
+use Rattle.mrp_net.proofs.Growing.{map_pushed, taken_whole, read_within, source_fits, taken_read}
 use Rattle.mrp_net.proofs.lanes.all_taken.Goals as goal
 
 pub offset_bounds-pairs-source : goal.offset_bounds-pairs-source
@@ -21,23 +20,19 @@ bounds-pairs-source c =
 
 pub overflow_mul-pair : goal.overflow_mul-pair
 overflow_mul-pair c =
-    let N = c.args.tables.now in
-    let table = c.sources-sources.ensures.table in
-    let row = read_within (IsSourceRow N) c.sources-sources.result.now N.sources c.sources-sources.ensures.value table.read.sources c.loop-source.source-index no_source c.loop-source-test.true in
-    let x : ℕ = (get_or c.sources-sources.result.now c.loop-source.source-index no_source).pair.0 in
-    let supplier : ℕ = (get_or c.sources-sources.result.now c.loop-source.source-index no_source).plant.0 in
-    let plant = ap (λ z. z.plant.0) (pair_read N c.pairs-pairs.result.now x c.index-pairs-source.result row.pair c.pairs-pairs.ensures.value c.index-pairs-source.is) in
-    omega (arith, route_fits N c.index-pairs-source.result.plant.0 supplier c.plants-plants.result table (omega (arith, plant, (table.read.pairs x no_pair row.pair).plant)) row.plant c.plants-plants.ensures.value)
+    omega (
+      arith,
+      source_fits c.args.tables.now c.sources-sources.result.now c.pairs-pairs.result.now c.loop-source.source-index c.plants-plants.result c.index-pairs-source.result c.sources-sources.ensures.table
+          c.sources-sources.ensures.value c.loop-source-test.true c.pairs-pairs.ensures.value c.index-pairs-source.is c.plants-plants.ensures.value,
+    )
 
 pub overflow_add-pair : goal.overflow_add-pair
 overflow_add-pair c =
-    let N = c.args.tables.now in
-    let table = c.sources-sources.ensures.table in
-    let row = read_within (IsSourceRow N) c.sources-sources.result.now N.sources c.sources-sources.ensures.value table.read.sources c.loop-source.source-index no_source c.loop-source-test.true in
-    let x : ℕ = (get_or c.sources-sources.result.now c.loop-source.source-index no_source).pair.0 in
-    let supplier : ℕ = (get_or c.sources-sources.result.now c.loop-source.source-index no_source).plant.0 in
-    let plant = ap (λ z. z.plant.0) (pair_read N c.pairs-pairs.result.now x c.index-pairs-source.result row.pair c.pairs-pairs.ensures.value c.index-pairs-source.is) in
-    omega (arith, route_fits N c.index-pairs-source.result.plant.0 supplier c.plants-plants.result table (omega (arith, plant, (table.read.pairs x no_pair row.pair).plant)) row.plant c.plants-plants.ensures.value)
+    omega (
+      arith,
+      source_fits c.args.tables.now c.sources-sources.result.now c.pairs-pairs.result.now c.loop-source.source-index c.plants-plants.result c.index-pairs-source.result c.sources-sources.ensures.table
+          c.sources-sources.ensures.value c.loop-source-test.true c.pairs-pairs.ensures.value c.index-pairs-source.is c.plants-plants.ensures.value,
+    )
 
 pub loop-source-preserved : goal.loop-source-preserved
 loop-source-preserved c =
