@@ -21,7 +21,7 @@ items=${3:-1}
 folder=$(mktemp -d)
 trap 'rm -rf "$folder"' EXIT
 
-below="qty cal lot spell rows tables group net view loops record cursor book events lane"
+below="qty cal lot spell rows grammar tables group net view loops record cursor book events lane"
 mkdir "$folder/crates"
 for name in $below; do
     cp -a "$top/crates/mrp_$name" "$folder/crates/"

@@ -4,7 +4,7 @@ use Rattle.std.specs.Global.{Global}
 use Rattle.mrp_rows.specs.declared.numbers.PairNo.{PairNo}
 use Rattle.mrp_agent.specs.Drafts.{CanDraft, drafted}
 use Rattle.mrp_agent.specs.State.{AgentState}
-use Rattle.mrp_crew.specs.declared.crew.TheConstants.{MOST_WORKERS}
+use Rattle.mrp_qty.specs.declared.limits.TheConstants.{MOST_WORKERS}
 use Rattle.mrp_crew.specs.declared.room.Room.{Room}
 use Rattle.mrp_crew.specs.declared.work.Order.{Order}
 use Rattle.mrp_crew.specs.declared.work.Work.{Work}

@@ -1,6 +1,6 @@
 -- For whom a gate was shut.
 use Rattle.std.specs.Prelude.{◌≡◌, ◌≤◌, ℕ, false, List, All}
-use Rattle.mrp_crew.specs.declared.crew.TheConstants.{MOST_WORKERS}
+use Rattle.mrp_qty.specs.declared.limits.TheConstants.{MOST_WORKERS}
 use Rattle.mrp_crew.specs.declared.work.Work.{Work}
 
 -- the gate was shut to some worker of the plant, by a number that a crew gives

@@ -6,7 +6,7 @@ ghost use Rattle.mrp_crew.specs.Planning.{IsPlannable};
 ghost use Rattle.mrp_crew.specs.Rooms.{IsRoom};
 ghost use Rattle.mrp_crew.specs.Settled.{AreToSettle};
 ghost use Rattle.mrp_crew.specs.Shut.{AreLetIn, WasShut};
-ghost use Rattle.mrp_crew.specs.declared.crew.TheConstants.{MOST_WORKERS};
+ghost use Rattle.mrp_qty.specs.declared.limits.TheConstants.{MOST_WORKERS};
 ghost use Rattle.mrp_crew.specs.declared.fault.CrewFault.{CrewFault};
 
 use crate::fault::CrewFault;
@@ -21,9 +21,6 @@ use std::marker::Model;
 use std::mem;
 use std::sync::Wait;
 use std::thread::Threads;
-
-/// The greatest number of workers.
-pub const MOST_WORKERS: u64 = 64;
 
 /// The workers of a plant.
 ///
@@ -40,7 +37,7 @@ impl Model for Crew {
     ghost use Rattle.std.specs.Prelude.{◌≤◌, All};
     ghost use Rattle.mrp_crew.specs.Rooms.{IsRoom};
     ghost use Rattle.mrp_crew.specs.State.{CrewState};
-    ghost use Rattle.mrp_crew.specs.declared.crew.TheConstants.{MOST_WORKERS};
+    ghost use Rattle.mrp_qty.specs.declared.limits.TheConstants.{MOST_WORKERS};
 
     ghost Value = { CrewState };
 

@@ -1,14 +1,6 @@
 //! Laws of planning by a crew. Each is the contract of a function that does nothing.
 
-ghost use Rattle.std.specs.Prelude.{◌≡◌};
 ghost use Rattle.mrp_crew.specs.Laws.{PlanningKeepsAtWork};
-
-use crate::MOST_WORKERS;
-
-/// The limit of a crew as a number.
-pub fn limits_are_numbers()
-    ensures workers { MOST_WORKERS ≡ 64 }
-{}
 
 /// Where an agent of a plant of a network, to which legal beginnings have come, has planned some pairs and
 /// done nothing else, it is still one, with these pairs planned.

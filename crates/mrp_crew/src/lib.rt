@@ -14,6 +14,7 @@ mod settling;
 mod threads;
 mod work;
 
-pub use crew::{Crew, MOST_WORKERS};
+pub use crew::Crew;
 pub use fault::CrewFault;
 pub use mrp_agent::{Agent, Gate, NoGate};
+pub use mrp_qty::MOST_WORKERS;

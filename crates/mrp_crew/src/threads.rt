@@ -6,7 +6,7 @@ ghost use Rattle.mrp_agent.specs.Drafts.{CanDraft};
 ghost use Rattle.mrp_agent.specs.State.{AgentState};
 ghost use Rattle.mrp_crew.specs.Rooms.{AreDrafts, IsRoom, IsWave, WorkedFor, pairs_of};
 ghost use Rattle.mrp_crew.specs.Shut.{AreLetIn, IsLetIn, WasShut};
-ghost use Rattle.mrp_crew.specs.declared.crew.TheConstants.{MOST_WORKERS};
+ghost use Rattle.mrp_qty.specs.declared.limits.TheConstants.{MOST_WORKERS};
 ghost use Rattle.mrp_crew.specs.Started.{IsAt, IsFor, IsStarted, ordered};
 
 use crate::room::{Room, put_back};

@@ -3,7 +3,7 @@ ghost use Rattle.std.specs.Prelude.{◌≡◌, ◌≤◌};
 ghost use Rattle.mrp_agent.specs.Drafts.{CanDraft};
 ghost use Rattle.mrp_crew.specs.Rooms.{IsRoom, WorkedFor};
 ghost use Rattle.mrp_crew.specs.Shut.{IsLetIn, WasShut};
-ghost use Rattle.mrp_crew.specs.declared.crew.TheConstants.{MOST_WORKERS};
+ghost use Rattle.mrp_qty.specs.declared.limits.TheConstants.{MOST_WORKERS};
 
 use crate::room::Room;
 use mrp_agent::{Agent, Gate};

@@ -1,14 +1,6 @@
 //! Laws of a lane's mailbox. Each is the contract of a function that does nothing.
 
-ghost use Rattle.std.specs.Prelude.{◌≡◌};
 ghost use Rattle.mrp_lane.specs.Laws.{MailboxesKeepOrder};
-
-use crate::MOST_ROOM;
-
-/// The limit of a mailbox as a number of records.
-pub fn limits_are_numbers()
-    ensures room { MOST_ROOM ≡ 65536 }
-{}
 
 /// Wherever the rule of a lane's mailbox holds, and that is before and after each step of either thread,
 /// what the sender's end has sent is what the receiver's end has taken and then what the mailbox holds. It

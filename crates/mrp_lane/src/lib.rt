@@ -15,9 +15,10 @@ mod tally;
 mod view;
 
 pub use joining::{Reconciled, reconcile};
-pub use making::{MOST_ROOM, lane};
+pub use making::lane;
 pub use mrp_book::LaneFigure;
 pub use mrp_net::{ItemNo, LaneNo};
+pub use mrp_qty::MOST_ROOM;
 pub use mrp_record::Record;
 pub use send::SendEnd;
 pub use take::TakeEnd;

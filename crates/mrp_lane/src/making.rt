@@ -5,7 +5,7 @@ ghost use Rattle.crossbeam_queue.specs.Passes.{view, IsPassOf, IsSamePass, ruled
 ghost use Rattle.mrp_net.specs.Lanes.{lanes, lane_at};
 ghost use Rattle.mrp_net.specs.Texts.{longest_text};
 ghost use Rattle.mrp_lane.specs.Views.{sending, taking, unnamed};
-ghost use Rattle.mrp_lane.specs.declared.making.TheConstants.{MOST_ROOM};
+ghost use Rattle.mrp_qty.specs.declared.limits.TheConstants.{MOST_ROOM};
 
 use crate::send::SendEnd;
 use crate::take::TakeEnd;
@@ -17,9 +17,6 @@ use mrp_qty::Memory;
 use std::alloc::Global;
 use std::marker::Brand;
 use std::sync::Arc;
-
-/// The greatest capacity of a mailbox, in records.
-pub const MOST_ROOM: u64 = 65_536;
 
 /// The two ends of a new mailbox for a lane of the network.
 ///

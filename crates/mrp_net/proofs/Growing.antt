@@ -10,7 +10,7 @@ use Rattle.mrp_rows.specs.declared.numbers.PairNo.{PairNo}
 use Rattle.mrp_rows.specs.declared.rows.PairRow.{PairRow}
 use Rattle.mrp_rows.specs.declared.rows.ShipRow.{ShipRow}
 use Rattle.mrp_rows.specs.declared.rows.SourceRow.{SourceRow}
-use Rattle.mrp_rows.specs.declared.rows.TheConstants.{MOST_PLANTS}
+use Rattle.mrp_qty.specs.declared.limits.TheConstants.{MOST_PLANTS}
 use Rattle.mrp_rows.specs.Table.{Table, IsTable, IsPair, IsPairRow, IsSourceRow, item_at, source_pair}
 use Rattle.mrp_group.specs.Added.{AddsTotals, sum_of}
 use Rattle.mrp_net.specs.declared.edge.Edge.{Edge}

@@ -3,7 +3,7 @@ use Rattle.std.specs.Prelude.{ℕ, ◌-◌, ◌*◌, ◌/◌, ◌<◌, ◌≤◌
 use Rattle.mrp_group.specs.Groups.{group, sorted_by}
 use Rattle.mrp_rows.specs.declared.rows.BillRow.{BillRow}
 use Rattle.mrp_rows.specs.declared.rows.SourceRow.{SourceRow}
-use Rattle.mrp_rows.specs.declared.rows.TheConstants.{MOST_PER}
+use Rattle.mrp_qty.specs.declared.limits.TheConstants.{MOST_PER}
 use Rattle.mrp_rows.specs.Table.{Table, source_pair}
 use Rattle.mrp_net.specs.declared.edge.Edge.{Edge}
 

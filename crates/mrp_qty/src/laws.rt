@@ -1,12 +1,31 @@
 //! Laws of the limits, each the contract of a function that does nothing.
-ghost use Rattle.std.specs.Prelude.{◌≡◌};
+ghost use Rattle.std.specs.Prelude.{◌≡◌, ◌+◌, ◌*◌, ◌^◌};
 ghost use Rattle.mrp_qty.specs.declared.horizon.TheConstants.{LONGEST};
 ghost use Rattle.mrp_qty.specs.declared.quantity.TheConstants.{MOST};
+ghost use Rattle.mrp_qty.specs.declared.limits.TheConstants.{MAX_TURNS, MOST_BILLS, MOST_IN_ROW, MOST_OF_A_KIND, MOST_PAIRS, MOST_PER, MOST_PLANTS};
+ghost use Rattle.mrp_qty.specs.declared.limits.TheConstants.{MOST_RECORDS, MOST_ROOM, MOST_SHARE, MOST_SOURCES, MOST_SOURCES_OF_PAIR, MOST_TURNS, MOST_WORKERS};
 
-use crate::{LONGEST, MOST};
-
-/// The limits as numbers: a quantity is at most 10^15 pieces, and a horizon has at most 104 periods.
+/// The limits as numbers: a quantity is at most 10^15 pieces, a horizon has at most 104 periods, and
+/// the others are those of a table, of a text of records and of a run.
 pub fn limits_are_numbers()
     ensures most { MOST ≡ 1000000000000000 }
     ensures longest { LONGEST ≡ 104 }
+    ensures plants { MOST_PLANTS ≡ 64 }
+    ensures pairs { MOST_PAIRS ≡ 20000 }
+    ensures sources_of_pair { MOST_SOURCES_OF_PAIR ≡ 4 }
+    ensures sources { MOST_SOURCES ≡ MOST_SOURCES_OF_PAIR * MOST_PAIRS }
+    ensures bills { MOST_BILLS ≡ 200000 }
+    ensures of_a_kind { MOST_OF_A_KIND ≡ 1000000 }
+    ensures in_row { MOST_IN_ROW ≡ 1000000000000 }
+    ensures per { MOST_PER ≡ 1000000 }
+    ensures share { MOST_SHARE ≡ 1000 }
+    ensures records { MOST_RECORDS ≡ 4000000 }
+    ensures room { MOST_ROOM ≡ 65536 }
+    ensures workers { MOST_WORKERS ≡ 64 }
+    ensures turns { MOST_TURNS ≡ 2 ^ 62 }
+{}
+
+/// The most turns of reading: the run, each other kind of row up to its limit, and the end.
+pub fn turns_are_rows()
+    ensures { MAX_TURNS ≡ 1 + MOST_PLANTS + MOST_PAIRS + MOST_BILLS + 4 * MOST_OF_A_KIND + MOST_SOURCES + 1 }
 {}

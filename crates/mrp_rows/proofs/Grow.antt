@@ -5,7 +5,7 @@ use Rattle.std.specs.Str.{bytes_eq}
 use Rattle.std.proofs.lemmas.List.Elements.{All-push, All-weaker}
 use Rattle.std.proofs.lemmas.List.{length_push}
 use Rattle.mrp_cal.specs.Calendar.{CalendarTerms, IsCalendar}
-use Rattle.mrp_rows.specs.declared.rows.TheConstants.{MOST_BILLS, MOST_OF_A_KIND, MOST_PAIRS, MOST_PLANTS, MOST_SOURCES}
+use Rattle.mrp_qty.specs.declared.limits.TheConstants.{MOST_BILLS, MOST_OF_A_KIND, MOST_PAIRS, MOST_PLANTS, MOST_SOURCES}
 use Rattle.mrp_rows.specs.Table.{Table, IsName, IsRead, horizon, IsPairRow, IsSourceRow, IsBillRow, IsDemandRow, IsReceiptRow, IsShipRow, IsCumRow, IsResetRow}
 use Rattle.mrp_rows.specs.Growing.{add_item, with_plant, with_item, with_pair, with_source, with_bill, with_demand, with_receipt, with_ship, with_cum, with_reset}
 use Rattle.mrp_rows.specs.declared.rows.PairRow.{PairRow}

@@ -1,31 +1,10 @@
-//! The rows of a table, with names as numbers, and how many there may be.
+//! The rows of a table, with names as numbers.
 
 ghost use Rattle.std.specs.Prelude.{◌≡◌};
 
 use crate::{ItemNo, PairNo, PlantNo};
 use mrp_lot::{PairParams, Rule};
 use mrp_qty::Qty;
-
-/// The most plants of a table.
-pub const MOST_PLANTS: usize = 64;
-
-/// The most pairs of a table.
-pub const MOST_PAIRS: usize = 20_000;
-
-/// The most sources of all pairs together: four of each.
-pub const MOST_SOURCES: usize = 80_000;
-
-/// The most bill rows of a table.
-pub const MOST_BILLS: usize = 200_000;
-
-/// The most demand rows of a table, and the most receipt, ship and cum rows.
-pub const MOST_OF_A_KIND: usize = 1_000_000;
-
-/// The greatest quantity in a row: 10^12 pieces.
-pub const MOST_IN_ROW: u64 = 1_000_000_000_000;
-
-/// The greatest quantity of a component in one parent.
-pub const MOST_PER: u64 = 1_000_000;
 
 /// Where a pair comes from.
 #[derive(Clone, Copy, Debug, PartialEq, Eq)]

@@ -1,7 +1,7 @@
 -- How a network is run.
 use Rattle.std.specs.Prelude.{ℕ, ◌≤◌}
-use Rattle.mrp_crew.specs.declared.crew.TheConstants.{MOST_WORKERS}
-use Rattle.mrp_lane.specs.declared.making.TheConstants.{MOST_ROOM}
+use Rattle.mrp_qty.specs.declared.limits.TheConstants.{MOST_WORKERS}
+use Rattle.mrp_qty.specs.declared.limits.TheConstants.{MOST_ROOM}
 
 -- how many workers each plant has, and how many records a mailbox has room for
 pub record Limits : Type 0 where

@@ -3,7 +3,7 @@ ghost use Rattle.std.specs.Prelude.{◌≡◌, ◌+◌, ◌≤◌, ◌<◌, [], 
 ghost use Rattle.mrp_rows.specs.Table.{Table};
 ghost use Rattle.mrp_net.specs.Lanes.{lanes, lane_at};
 ghost use Rattle.mrp_loops.specs.Sized.{IsSized};
-ghost use Rattle.mrp_lane.specs.declared.making.TheConstants.{MOST_ROOM};
+ghost use Rattle.mrp_qty.specs.declared.limits.TheConstants.{MOST_ROOM};
 ghost use Rattle.mrp_lane.specs.Ends.{Name};
 ghost use Rattle.mrp_run.specs.Ends.{AreIdle, AreReady, HasRooms, HaveFirst, IsEmpty, IsIdle};
 

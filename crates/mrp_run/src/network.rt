@@ -3,7 +3,7 @@ ghost use Rattle.std.specs.Prelude.{◌≡◌, IfErr, IfOk};
 ghost use Rattle.mrp_loops.specs.Sized.{IsSized};
 ghost use Rattle.mrp_run.specs.Ends.{AreThrough};
 ghost use Rattle.mrp_run.specs.declared.fault.RunFault.{RunFault};
-ghost use Rattle.mrp_run.specs.declared.network.TheConstants.{MOST_TURNS};
+ghost use Rattle.mrp_qty.specs.declared.limits.TheConstants.{MOST_TURNS};
 ghost use Rattle.mrp_run.specs.Faults.{WasShut, WasSpent};
 ghost use Rattle.mrp_run.specs.Outcome.{IsOutcome};
 ghost use Rattle.mrp_run.specs.Worst.{IsFaultIn};
@@ -20,13 +20,11 @@ use mrp_lane::Reconciled;
 use mrp_loops::SizedNet;
 use mrp_net::Network;
 use mrp_netting::PairPlan;
+use mrp_qty::MOST_TURNS;
 use std::alloc::Global;
 use std::marker::Brand;
 use std::sync::Wait;
 use std::thread::Threads;
-
-/// The most turns that [`run_network`] gives a plant: more than any run uses.
-pub const MOST_TURNS: u64 = 1 << 62;
 
 /// What a run comes to.
 #[derive(Drop)]

@@ -1,7 +1,7 @@
 -- What the reader of plants with their shares answers part by part. How they are spelled is said in Supplies.
 use Rattle.std.specs.Prelude.{ℕ, ◌+◌, ◌-◌, ◌==◌, ◌&&◌, not, nat_le, Bool, if◌then◌else◌, List, ◌++◌, length, Option, Some, None}
 use Rattle.std.specs.List.{list_all, slice_split, sum_by}
-use Rattle.mrp_spell.specs.declared.supplies.TheConstants.{MOST_SHARE}
+use Rattle.mrp_qty.specs.declared.limits.TheConstants.{MOST_SHARE}
 use Rattle.mrp_spell.specs.Spelling.{cut, is_colon, is_name, number_within}
 use Rattle.mrp_spell.specs.Supplies.{are_different, in_a_row, names_plant, plant_shares, PlantShare, SourceTerms}
 

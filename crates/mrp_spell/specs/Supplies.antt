@@ -3,7 +3,7 @@ use Rattle.std.specs.Prelude.{◌≡◌, ◌≤◌, ◌<◌, ℕ, ◌+◌, ◌-�
 use Rattle.std.specs.Prelude.{if◌then◌else◌, List, [], ◌∷◌, ◌++◌, codes, length, Option, Some, None, option_map, All}
 use Rattle.std.specs.List.{IsDistinct, join_with_byte, list_all, list_any, slice_split, sum_by}
 use Rattle.std.specs.Str.{bytes_eq}
-use Rattle.mrp_spell.specs.declared.supplies.TheConstants.{MOST_SHARE, MOST_SOURCES_OF_PAIR}
+use Rattle.mrp_qty.specs.declared.limits.TheConstants.{MOST_SHARE, MOST_SOURCES_OF_PAIR}
 use Rattle.mrp_spell.specs.Spelling.{cut, is_colon, is_name, number_text, number_within}
 
 -- one plant that a pair is taken from; its share goes from low to high

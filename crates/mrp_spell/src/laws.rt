@@ -5,8 +5,6 @@ ghost use Rattle.mrp_lot.specs.Lot.{IsRule};
 ghost use Rattle.mrp_spell.specs.Spelling.{IsShort, number_of, number_text, rule_of, rule_text};
 ghost use Rattle.mrp_spell.specs.Supplies.{IsWholeSupply, supply_of, supply_text, SupplyTerms};
 
-use crate::supplies::{MOST_SHARE, MOST_SOURCES_OF_PAIR};
-
 /// What is spelled after `from:` is at most four plants, all different, each with a share, and their
 /// shares are together the whole.
 pub fn supplies_are_whole()
@@ -31,11 +29,4 @@ pub fn rules_have_one_text()
 pub fn numbers_have_one_text()
     ensures read { (n : ℕ) → IsShort n → number_of (number_text n) ≡ Some n }
     ensures text { (text : List ℕ) (n : ℕ) → number_of text ≡ Some n → (text ≡ number_text n) × IsShort n }
-{}
-
-/// The limits of a supply as numbers: at most four plants, whose shares are together a thousand
-/// thousandths.
-pub fn limits_are_numbers()
-    ensures sources_of_pair { MOST_SOURCES_OF_PAIR ≡ 4 }
-    ensures share { MOST_SHARE ≡ 1000 }
 {}

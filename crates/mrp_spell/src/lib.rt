@@ -8,13 +8,10 @@ mod rules;
 mod supplies;
 
 pub use laws::{
-    limits_are_numbers, numbers_have_one_text, rules_have_one_text, supplies_are_whole,
-    supplies_have_one_text,
+    numbers_have_one_text, rules_have_one_text, supplies_are_whole, supplies_have_one_text,
 };
+pub use mrp_qty::{MOST_SHARE, MOST_SOURCES_OF_PAIR};
 pub use names::is_name;
 pub use numbers::{number, number_within};
 pub use rules::rule;
-pub use supplies::{
-    MOST_SHARE, MOST_SOURCES_OF_PAIR, SpelledSource, SpelledSupply, SupplyFault, names_plant,
-    supply,
-};
+pub use supplies::{SpelledSource, SpelledSupply, SupplyFault, names_plant, supply};

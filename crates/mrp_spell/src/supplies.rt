@@ -7,20 +7,15 @@ ghost use Rattle.mrp_spell.specs.Spelled.{share_view, source_view, supply_view, 
 ghost use Rattle.mrp_spell.specs.Spelling.{number_within};
 ghost use Rattle.mrp_spell.specs.Steps.{share_of, shared_source, sources_with};
 ghost use Rattle.mrp_spell.specs.Supplies.{BeginsFrom, names_plant, sources_of, supply_of};
-ghost use Rattle.mrp_spell.specs.declared.supplies.TheConstants.{MOST_SHARE};
+ghost use Rattle.mrp_qty.specs.declared.limits.TheConstants.{MOST_SHARE};
 ghost use Rattle.mrp_spell.specs.declared.supplies.SupplyFault.TheVariants.{Memory};
 
 use crate::names::is_name;
 use crate::numbers::number_within;
 use crate::rules::cut;
+use mrp_qty::{MOST_SHARE, MOST_SOURCES_OF_PAIR};
 use std::alloc::{AllocError, AllocFailed, Global};
 use thiserror::Error;
-
-/// The most sources of one pair.
-pub const MOST_SOURCES_OF_PAIR: usize = 4;
-
-/// All shares of one pair together, in thousandths.
-pub const MOST_SHARE: u64 = 1000;
 
 /// Why there is no supply.
 #[derive(Clone, Copy, Debug, PartialEq, Eq, Error)]

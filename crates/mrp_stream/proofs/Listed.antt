@@ -5,8 +5,8 @@ use Rattle.std.specs.Str.{is_utf8}
 use Rattle.mrp_spell.specs.Spelling.{number_of}
 use Rattle.mrp_rows.specs.Table.{Table}
 use Rattle.mrp_record.specs.declared.record.Record.{Record}
-use Rattle.mrp_tables.specs.Grammar.{field}
-use Rattle.mrp_tables.proofs.KeepingSteps.{chosen, found, steps, tested}
+use Rattle.mrp_grammar.specs.Grammar.{field}
+use Rattle.mrp_grammar.proofs.KeepingSteps.{chosen, found, steps, tested}
 use Rattle.mrp_stream.specs.declared.fault.RecordFaultKind.{RecordFaultKind}
 use Rattle.mrp_stream.specs.declared.fault.RecordFaultKind.TheVariants as fault
 use Rattle.mrp_stream.specs.declared.kind.Kind.{Kind}

@@ -15,7 +15,7 @@ use Rattle.mrp_rows.specs.declared.numbers.ItemNo.{ItemNo}
 use Rattle.mrp_rows.specs.Table.{IsName, IsTable, Table}
 use Rattle.mrp_record.specs.declared.record.Record.{Record}
 use Rattle.mrp_record.specs.declared.record.Record.TheVariants.{Line, ItemEnd, Reset, Close}
-use Rattle.mrp_tables.proofs.Records.{none_left, one_left}
+use Rattle.mrp_grammar.proofs.Records.{none_left, one_left}
 use Rattle.mrp_stream.specs.Rows.{HasRow, item_name, record_fields, record_text, records_text, row}
 use Rattle.mrp_stream.specs.Grammar.{close_of, end_of, item_named, line_of, record_of, reset_of, row_kind, spelled_record}
 use Rattle.mrp_stream.proofs.Bytes.{IsPlain, name_plain, number_text_plain, plain_unquoted, plain_utf8}

@@ -5,7 +5,7 @@ use Rattle.mrp_record.specs.declared.record.Record.{Record}
 use Rattle.mrp_stream.specs.declared.fault.RecordFault.{RecordFault}
 use Rattle.mrp_stream.specs.declared.fault.RecordFaultKind.{RecordFaultKind}
 use Rattle.mrp_stream.specs.declared.fault.RecordFaultKind.TheVariants as fault
-use Rattle.mrp_stream.specs.declared.reading.TheConstants.{MOST_RECORDS}
+use Rattle.mrp_qty.specs.declared.limits.TheConstants.{MOST_RECORDS}
 use Rattle.mrp_stream.specs.Rows.{HasRow, record_fields}
 use Rattle.mrp_stream.specs.Grammar.{record_of}
 

@@ -1,15 +1,7 @@
 //! Laws of the text of records. Each is the contract of a function that does nothing.
 
-ghost use Rattle.std.specs.Prelude.{◌≡◌};
 ghost use Rattle.mrp_stream.specs.Laws.{RecordsHaveOneRow, RowsHaveListedFaults, WrittenHasNoFault, WrittenReadsBack, WrittenRowsAreRead};
 ghost use Rattle.mrp_stream.specs.Tests.{RowsHaveTheirFirstFault};
-
-use crate::MOST_RECORDS;
-
-/// The limit of a text of records as a number.
-pub fn limits_are_numbers()
-    ensures records { MOST_RECORDS ≡ 4000000 }
-{}
 
 /// Each record has one row, and only that row is read as it.
 pub fn records_have_one_row()

@@ -11,6 +11,7 @@ mod spelled;
 mod writing;
 
 pub use fault::{RecordFault, RecordFaultKind};
+pub use mrp_qty::MOST_RECORDS;
 pub use mrp_record::Record;
-pub use reading::{MOST_RECORDS, read_records};
+pub use reading::read_records;
 pub use writing::write_record;

@@ -3,8 +3,8 @@
 ghost use Rattle.std.specs.Prelude.{true, false, ◌≡◌, ◌+◌, ◌≤◌, [], length, IfOk, IfErr, OnOk, OnErr, option_map};
 ghost use Rattle.csv.specs.Reading.{has_failed, strip_bom};
 ghost use Rattle.csv.specs.Records.{AllText, fields_of};
-ghost use Rattle.mrp_tables.specs.Left.{GivesAll, MayCome, OfLeft, left_of};
-ghost use Rattle.mrp_tables.specs.Reading.{OfRecords};
+ghost use Rattle.mrp_grammar.specs.Left.{GivesAll, MayCome, OfLeft, left_of};
+ghost use Rattle.mrp_grammar.specs.Reading.{OfRecords};
 ghost use Rattle.mrp_stream.specs.Left.{fault_of, is_of_row, StopsReading, TellsNext, TellsTaken};
 ghost use Rattle.mrp_rows.specs.Table.{Table};
 ghost use Rattle.mrp_stream.specs.Reading.{AreRowsOf, HasFault};
@@ -13,12 +13,10 @@ use crate::spelled::spelled_record;
 use crate::{RecordFault, RecordFaultKind};
 use csv::{ErrorKind, Reader, ReaderBuilder, StringRecord};
 use mrp_net::Network;
+use mrp_qty::MOST_RECORDS;
 use mrp_record::Record;
 use std::alloc::Global;
 use std::io::Read;
-
-/// The most records of one text.
-pub const MOST_RECORDS: u64 = 4_000_000;
 
 /// Reads the records of a text, a row each, at most [`MOST_RECORDS`]. A text without rows has none.
 ///

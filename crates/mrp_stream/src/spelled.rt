@@ -2,7 +2,7 @@
 
 ghost use Rattle.std.specs.Prelude.{◌≡◌, IfOk};
 ghost use Rattle.csv.specs.Records.{fields_of};
-ghost use Rattle.mrp_tables.specs.Grammar.{field, is_free};
+ghost use Rattle.mrp_grammar.specs.Grammar.{field, is_free};
 ghost use Rattle.mrp_stream.specs.Grammar.{close_of, end_of, is_empty_from, item_at, item_named, line_of, number_at, reset_of, row_kind, spelled_record};
 
 use crate::RecordFaultKind;

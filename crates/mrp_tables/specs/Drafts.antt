@@ -1,17 +1,19 @@
 -- What the steps of reading answer, in the words of the grammar.
 use Rattle.std.specs.Prelude.{◌≡◌, ℕ, ◌<◌, true, List, ◌++◌, length, map, All, Some, None, Result, Ok, Err}
 use Rattle.mrp_tables.specs.declared.draft.Draft.{Draft}
-use Rattle.mrp_tables.specs.declared.fault.TableFaultKind.{TableFaultKind}
-use Rattle.mrp_tables.specs.declared.kind.Kind.TheVariants as kind
+use Rattle.mrp_grammar.specs.declared.fault.TableFault.{TableFault}
+use Rattle.mrp_grammar.specs.declared.fault.TableFaultKind.{TableFaultKind}
+use Rattle.mrp_grammar.specs.declared.kind.Kind.{Kind}
+use Rattle.mrp_grammar.specs.declared.kind.Kind.TheVariants as kind
 use Rattle.mrp_cal.specs.Calendar.{CalendarTerms}
 use Rattle.mrp_rows.specs.declared.numbers.PlantNo.{PlantNo}
-use Rattle.mrp_rows.specs.declared.rows.TheConstants.{MOST_PAIRS}
+use Rattle.mrp_qty.specs.declared.limits.TheConstants.{MOST_PAIRS}
 use Rattle.mrp_rows.specs.Table.{Table, empty_table}
 use Rattle.mrp_spell.specs.Supplies.{SourceTerms}
-use Rattle.mrp_tables.specs.Grammar.{knows_sources, PairTerms, run_terms, seen, source_row, TellsFault}
+use Rattle.mrp_grammar.specs.Grammar.{knows_sources, PairTerms, run_terms, seen, source_row, TellsFault}
 use Rattle.mrp_spell.specs.Supplies.{named_sources}
 use Rattle.mrp_rows.specs.Names.{pair_named, plant_no}
-use Rattle.mrp_tables.specs.Reading.{row_after, Starts, StartsWith, UnlessMemory}
+use Rattle.mrp_grammar.specs.Reading.{IsReadSoFar, row_after, Starts, StartsWith, UnlessMemory}
 
 -- a pair row that fits the rows before it, at that plant
 pub record FitsPair (N : Table) (p : PlantNo) (t : PairTerms) : Type 0 where
@@ -43,3 +45,16 @@ TellsFirst (Err e) row = UnlessMemory e (Starts row (Err e))
 abbrev pub TellsAdded : Draft → Draft → Result (Unit {0}) TableFaultKind → List (List ℕ) → Type 0
 TellsAdded old new (Ok u) row = row_after (old.lists, old.last) row ≡ Ok (new.lists, new.last)
 TellsAdded old new (Err e) row = TellsFault (row_after (old.lists, old.last) row) e
+
+-- what the first row makes, or its fault
+abbrev pub TellsFirstAt : Result Draft TableFault → List (List ℕ) → Type 0
+TellsFirstAt (Ok d) row = Starts row (Ok d.lists) × (d.last ≡ kind.Run)
+TellsFirstAt (Err e) row = UnlessMemory e.kind (Starts row (Err e.kind)) × (e.row ≡ 1)
+
+-- the table so far and the kind of its last row
+abbrev pub state_of : Draft → Table × Kind
+state_of d = (d.lists, d.last)
+
+-- what the rows read so far say of the state of the reading
+abbrev pub IsKept : Draft → Type 0
+IsKept d = IsReadSoFar d.lists d.last

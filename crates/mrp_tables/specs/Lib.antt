@@ -1,11 +1,4 @@
 pub mod Drafts
-pub mod Faults
-pub mod Grammar
-pub mod Left
 pub mod Lists
-pub mod Missing
-pub mod Reading
 pub mod Spelled
 pub mod Steps
-pub mod Tests
-pub mod Written

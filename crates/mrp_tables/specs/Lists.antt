@@ -5,21 +5,21 @@ use Rattle.std.specs.List.{IsDistinct, list_all, list_any}
 use Rattle.mrp_rows.specs.Names.{pair_named, plant_no}
 use Rattle.mrp_rows.specs.Table.{Table, IsRead, arrivals_of, rises_from}
 use Rattle.mrp_rows.specs.Turns.{row_count}
-use Rattle.mrp_spell.specs.declared.supplies.TheConstants.{MOST_SOURCES_OF_PAIR}
+use Rattle.mrp_qty.specs.declared.limits.TheConstants.{MOST_SOURCES_OF_PAIR}
 use Rattle.mrp_rows.specs.declared.rows.SourceRow.{SourceRow}
 use Rattle.mrp_rows.specs.declared.rows.BillRow.{BillRow}
 use Rattle.mrp_rows.specs.declared.rows.ShipRow.{ShipRow}
 use Rattle.mrp_rows.specs.declared.rows.CumRow.{CumRow}
 use Rattle.mrp_rows.specs.declared.rows.ResetRow.{ResetRow}
-use Rattle.mrp_tables.specs.declared.fault.TableFaultKind.{TableFaultKind}
-use Rattle.mrp_tables.specs.declared.fault.TableFaultKind.TheVariants as fault
+use Rattle.mrp_grammar.specs.declared.fault.TableFaultKind.{TableFaultKind}
+use Rattle.mrp_grammar.specs.declared.fault.TableFaultKind.TheVariants as fault
 use Rattle.mrp_tables.specs.declared.draft.LaneKey.{LaneKey}
 use Rattle.mrp_tables.specs.declared.draft.BillKey.{BillKey}
 use Rattle.mrp_tables.specs.declared.draft.Draft.{Draft}
 use Rattle.mrp_tables.specs.declared.draft.Lane.{Lane}
 use Rattle.mrp_tables.specs.declared.lanes.KnownLane.{KnownLane}
 use Rattle.mrp_tables.specs.declared.lanes.NamedLane.{NamedLane}
-use Rattle.mrp_tables.specs.Grammar.{◌>>=◌, check, LaneTerms}
+use Rattle.mrp_grammar.specs.Grammar.{◌>>=◌, check, LaneTerms}
 
 abbrev pub lane_of : SourceRow → LaneKey
 lane_of s = record { from = s.plant; pair = s.pair }

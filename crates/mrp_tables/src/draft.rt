@@ -2,11 +2,11 @@
 
 ghost use Rattle.std.specs.Prelude.{◌≡◌, ◌+◌, OnOk, IfOk};
 
-use crate::TableFaultKind;
-use crate::kind::Kind;
+use crate::kind::may_follow;
 use crate::spelled::{row_kind, spelled_run};
 use csv::StringRecord;
 use indexmap::IndexSet;
+use mrp_grammar::{Kind, TableFaultKind};
 use mrp_rows::{PairNo, PlantNo, RowLists};
 use std::alloc::Global;
 
@@ -68,9 +68,9 @@ pub(crate) struct Draft {
 impl Draft {
     ghost use Rattle.std.specs.Prelude.{◌≡◌, ◌+◌, ◌<◌, OnOk, IfOk};
     ghost use Rattle.csv.specs.Records.{AllText, fields_of};
-    ghost use Rattle.mrp_tables.specs.Grammar.{Tells};
+    ghost use Rattle.mrp_grammar.specs.Grammar.{Tells};
     ghost use Rattle.mrp_tables.specs.Lists.{IsDraft, AddsRow};
-    ghost use Rattle.mrp_tables.specs.Reading.{row_of_kind};
+    ghost use Rattle.mrp_grammar.specs.Reading.{row_of_kind};
     ghost use Rattle.mrp_tables.specs.Drafts.{TellsAdded, TellsFirst};
 
     /// What a first row makes.
@@ -108,7 +108,7 @@ impl Draft {
         ensures rows { OnOk result (self.new.rows ≡ self.old.rows + 1) }
     {
         let kind = row_kind(row)?;
-        if !kind.may_follow(self.last) {
+        if !may_follow(kind, self.last) {
             return Err(TableFaultKind::KindOrder);
         }
         self.add_row(alloc, kind, row)?;
@@ -118,7 +118,7 @@ impl Draft {
     }
 
     /// Adds a row of that kind, which is not counted yet.
-    #[tactic(auto, unfolding(crate::specs::Reading::row_of_kind))]
+    #[tactic(auto, unfolding(mrp_grammar::specs::Reading::row_of_kind))]
     fn add_row(
         &mut self,
         alloc: Global,

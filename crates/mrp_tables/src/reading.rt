@@ -4,23 +4,23 @@ ghost use Rattle.std.specs.Prelude.{◌≡◌, ◌+◌, ◌≤◌, ◌<◌, max,
 ghost use Rattle.csv.specs.Reading.{has_failed, strip_bom};
 ghost use Rattle.csv.specs.Records.{AllText, fields_of};
 ghost use Rattle.mrp_tables.specs.Lists.{IsDraft};
-ghost use Rattle.mrp_tables.specs.Reading.{OfRecords, TellsRows, waiting};
+ghost use Rattle.mrp_grammar.specs.Reading.{OfRecords, TellsRows, waiting};
 ghost use Rattle.mrp_tables.specs.Steps.{StepsTo, UnlessMissing};
 ghost use Rattle.mrp_rows.specs.Turns.{row_count};
-ghost use Rattle.mrp_tables.specs.Left.{fault_of, GivesAll, IsKept, MayCome, OfLeft, TellsFirstAt, TellsNext, TellsRest, TellsTaken, left_of, state_of};
+ghost use Rattle.mrp_grammar.specs.Left.{fault_of, GivesAll, MayCome, OfLeft, TellsNext, TellsRest, TellsTaken, left_of};
+ghost use Rattle.mrp_tables.specs.Drafts.{IsKept, TellsFirstAt, state_of};
 
+use crate::Steps;
 use crate::draft::Draft;
-use crate::{Steps, TableFault, TableFaultKind};
 use csv::{ErrorKind, Reader, ReaderBuilder, StringRecord};
+use mrp_grammar::{TableFault, TableFaultKind};
+use mrp_qty::MAX_TURNS;
 use mrp_rows::Tables;
 use std::alloc::Global;
 use std::io::Read;
 use std::marker::Brand;
 use std::mem;
 use std::sync::ledger::{Blank, Ledger};
-
-/// The most turns of reading: a row of each kind up to its limit, and the end.
-pub const MAX_TURNS: u64 = 4_300_066;
 
 /// Reads a table. Each turn of reading is one step: one a row, and one for the end of the table. At a
 /// fault there was a step for each row up to the one that it names, and one at least; where the pair of a

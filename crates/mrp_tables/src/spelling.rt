@@ -2,9 +2,9 @@
 
 ghost use Rattle.std.specs.Prelude.{◌≡◌, ◌≤◌, IfOk};
 ghost use Rattle.mrp_rows.specs.Table.{IsName};
-ghost use Rattle.mrp_tables.specs.Grammar.{name_of, ranged, seen};
+ghost use Rattle.mrp_grammar.specs.Grammar.{name_of, ranged, seen};
 
-use crate::TableFaultKind;
+use mrp_grammar::TableFaultKind;
 use mrp_spell::{is_name, number_within};
 
 /// The text itself, where it is a name.

@@ -6,11 +6,11 @@ use Rattle.mrp_qty.specs.declared.quantity.TheConstants.{MOST}
 use Rattle.mrp_lot.specs.One.{PlanRows}
 use Rattle.mrp_rows.specs.Table.{Table, IsTable, pair_no}
 use Rattle.mrp_net.specs.Sums.{pair_at}
-use Rattle.mrp_tables.specs.declared.fault.TableFault.{TableFault}
-use Rattle.mrp_tables.specs.declared.fault.TableFaultKind.{TableFaultKind}
-use Rattle.mrp_tables.specs.declared.fault.TableFaultKind.TheVariants as kind
-use Rattle.mrp_tables.specs.Reading.{OfRows, Reads}
-use Rattle.mrp_tables.proofs.OneWay.{reads_one_way}
+use Rattle.mrp_grammar.specs.declared.fault.TableFault.{TableFault}
+use Rattle.mrp_grammar.specs.declared.fault.TableFaultKind.{TableFaultKind}
+use Rattle.mrp_grammar.specs.declared.fault.TableFaultKind.TheVariants as kind
+use Rattle.mrp_grammar.specs.Reading.{OfRows, Reads}
+use Rattle.mrp_grammar.proofs.OneWay.{reads_one_way}
 use Rattle.mrp_net.specs.Names.{IsNamed}
 use Rattle.mrp_net.specs.Plan.{Fits, plan_of}
 use Rattle.mrp_net.specs.Sums.{supply}

@@ -2,7 +2,7 @@
 use Rattle.std.proofs.Common.{◌≡◌, ℕ, List, ◌++◌, Option, None, Some, Result, Ok, Err, IfErr, inl, inr, ⊎_elim, subst, sym, refl}
 use Rattle.std.specs.Io.KnownBytes.{Appends, Keeps}
 use Rattle.mrp_rows.specs.Table.{Table, IsTable}
-use Rattle.mrp_tables.specs.declared.fault.TableFault.{TableFault}
+use Rattle.mrp_grammar.specs.declared.fault.TableFault.{TableFault}
 use Rattle.mrp_report.specs.Sending.{Sends}
 use Rattle.mrp_report.specs.declared.fault.ReportFault.{ReportFault}
 use Rattle.mrp_report.specs.declared.fault.ReportFault.TheVariants as report

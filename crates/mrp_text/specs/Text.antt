@@ -3,7 +3,7 @@ use Rattle.std.specs.Prelude.{◌≡◌, ℕ, ◌<◌, ◌≤◌, ◌⊎◌, Lis
 use Rattle.std.specs.Io.KnownBytes.{Appends, Keeps}
 use Rattle.csv.specs.Reading.{strip_bom}
 use Rattle.mrp_rows.specs.Table.{Table, IsTable, horizon}
-use Rattle.mrp_tables.specs.Reading.{OfRecords, Reads, TellsRows}
+use Rattle.mrp_grammar.specs.Reading.{OfRecords, Reads, TellsRows}
 use Rattle.mrp_net.specs.Names.{IsNamed}
 use Rattle.mrp_net.specs.Plan.{plan_of}
 use Rattle.mrp_loops.specs.Loop.{AreCodes, IsLoopFree}

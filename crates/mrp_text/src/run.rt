@@ -3,7 +3,7 @@
 ghost use Rattle.std.specs.Prelude.{◌<◌, IfOk, IfErr, length};
 ghost use Rattle.mrp_net.specs.Plan.{Fits};
 ghost use Rattle.mrp_run.specs.Faults.{WasShut, WasSpent};
-ghost use Rattle.mrp_run.specs.declared.network.TheConstants.{MOST_TURNS};
+ghost use Rattle.mrp_qty.specs.declared.limits.TheConstants.{MOST_TURNS};
 ghost use Rattle.mrp_text.specs.Runs.{IsInNetwork, IsOfRun, IsShutFor};
 ghost use Rattle.mrp_text.specs.Text.{IsPlannable, IsRunFault};
 

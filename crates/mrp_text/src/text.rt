@@ -8,7 +8,7 @@
 
 ghost use Rattle.std.specs.Prelude.{◌≡◌, ◌≢◌, ◌≤◌, IfErr};
 ghost use Rattle.mrp_run.specs.Faults.{WasShut, WasSpent};
-ghost use Rattle.mrp_run.specs.declared.network.TheConstants.{MOST_TURNS};
+ghost use Rattle.mrp_qty.specs.declared.limits.TheConstants.{MOST_TURNS};
 ghost use Rattle.mrp_text.specs.Fault.{IsBeforeWriting};
 ghost use Rattle.mrp_text.specs.Text.{Writes, OfTable, IsPlanReport, IsCodeReport};
 ghost use Rattle.mrp_text.specs.Text.{IsPegReport, IsCumReport};

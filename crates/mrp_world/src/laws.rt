@@ -1,13 +1,12 @@
 //! What every world says, whatever has happened in it. Each law is the contract of a function that does
 //! nothing.
-ghost use Rattle.std.specs.Prelude.{◌≡◌};
 ghost use Rattle.mrp_events.specs.State.{State, IsFinished};
 ghost use Rattle.mrp_world.specs.Figures.{FiguresAreOfLanes, FinishedFiguresAreLast};
 ghost use Rattle.mrp_world.specs.Headline.{OrderIsKept, NothingIsLost, ClosedLanesAreWhole, PlansAreThePlan, IsComplete};
 ghost use Rattle.mrp_world.specs.World.{WorldShows};
 
 use crate::plant::Plant;
-use crate::world::{MOST_ROOM, World};
+use crate::world::World;
 
 /// The headline. A network without loops, any capacity, any list of events: a world always shows some state
 /// of the network's runs, and in each state that it shows
@@ -39,9 +38,4 @@ pub fn figures_are_of_lanes()
 /// carries of it, those of closed years too.
 pub fn finished_figures_are_last()
     ensures { FinishedFiguresAreLast }
-{}
-
-/// The limit of a mailbox as a number of records.
-pub fn limits_are_numbers()
-    ensures room { MOST_ROOM ≡ 65536 }
 {}

@@ -26,6 +26,7 @@ pub use agents::Firm;
 pub use mrp_book::{BookFault, LaneFigure};
 pub use mrp_events::Event;
 pub use mrp_net::{ItemNo, LaneNo, PairNo};
+pub use mrp_qty::MOST_ROOM;
 pub use mrp_record::Record;
 pub use plant::Plant;
-pub use world::{MOST_ROOM, World};
+pub use world::World;

@@ -2,7 +2,7 @@
 
 ghost use Rattle.std.specs.Prelude.{◌≡◌, ◌+◌, ℕ, ◌-◌, ◌≤◌, true, false, All, List, IfOk, IfSome, IfNone, MatchBool, IsTrue, ◌↔◌};
 ghost use Rattle.mrp_rows.specs.Table.{IsPair};
-ghost use Rattle.mrp_world.specs.declared.world.TheConstants.{MOST_ROOM};
+ghost use Rattle.mrp_qty.specs.declared.limits.TheConstants.{MOST_ROOM};
 
 use crate::acting::act_on;
 use crate::counting::steps;
@@ -22,9 +22,6 @@ use mrp_plan::Plan;
 use mrp_qty::Memory;
 use std::alloc::Global;
 use std::marker::Model;
-
-/// The greatest capacity of a mailbox, in records.
-pub const MOST_ROOM: u64 = 65_536;
 
 /// All plants of a network with the mailboxes between them.
 ///

@@ -3,7 +3,7 @@ use Rattle.std.proofs.lemmas.List.{length_push, map-append}
 use Rattle.std.proofs.lemmas.Result.{IfOk-weaker}
 use Rattle.mrp_spell.specs.declared.supplies.SpelledSource.{SpelledSource}
 use Rattle.mrp_spell.specs.Spelled.{source_view, AreSources, IsSource, TellsSpelled}
-use Rattle.mrp_spell.specs.declared.supplies.TheConstants.{MOST_SHARE}
+use Rattle.mrp_qty.specs.declared.limits.TheConstants.{MOST_SHARE}
 use Rattle.mrp_spell.specs.Steps.{sources_with}
 use Rattle.mrp_spell.specs.Supplies.{SourceTerms, names_plant}
 use Rattle.mrp_spell.proofs.Apart.{sources_push}

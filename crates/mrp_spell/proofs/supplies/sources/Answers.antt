@@ -1,6 +1,6 @@
 use Rattle.std.proofs.Common.{◌++◌, ◌∷◌, [], List, Option, map, refl, sym, ap, ◌∙◌, subst, arith, Vec, Global}
 use Rattle.mrp_spell.specs.declared.supplies.SpelledSource.{SpelledSource}
-use Rattle.mrp_spell.specs.declared.supplies.TheConstants.{MOST_SOURCES_OF_PAIR}
+use Rattle.mrp_qty.specs.declared.limits.TheConstants.{MOST_SOURCES_OF_PAIR}
 use Rattle.mrp_spell.specs.Spelled.{AreSources, IsSource, source_view, TellsSpelled}
 use Rattle.mrp_spell.specs.Steps.{sources_with}
 use Rattle.mrp_spell.specs.Supplies.{SourceTerms}

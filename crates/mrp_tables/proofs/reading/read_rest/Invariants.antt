@@ -1,5 +1,6 @@
 use Rattle.std.proofs.Common.{◌≡◌, ◌+◌}
-use Rattle.mrp_tables.specs.Left.{GivesAll, GoesOn, IsKept, left_of, state_of}
+use Rattle.mrp_grammar.specs.Left.{GivesAll, GoesOn, left_of}
+use Rattle.mrp_tables.specs.Drafts.{IsKept, state_of}
 use Rattle.mrp_tables.specs.Lists.{IsDraft}
 use Rattle.mrp_tables.proofs.reading.read_rest.Given as goal
 

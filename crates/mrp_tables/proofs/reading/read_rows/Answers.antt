@@ -1,17 +1,17 @@
 use Rattle.std.proofs.Common.{◌≡◌, ◌+◌, ◌≤◌, max, ℕ, Result, Ok, Err, IfOk, IfErr, ap, arith}
 use Rattle.csv.specs.Records.{fields_of}
-use Rattle.mrp_tables.specs.Left.{left_of, OfLeft}
-use Rattle.mrp_tables.specs.declared.fault.TableFaultKind.TheVariants as fault
+use Rattle.mrp_grammar.specs.Left.{left_of, OfLeft}
+use Rattle.mrp_grammar.specs.declared.fault.TableFaultKind.TheVariants as fault
 use Rattle.mrp_tables.specs.Steps.{StepsTo}
 use Rattle.mrp_rows.specs.Table.{Table}
-use Rattle.mrp_tables.specs.declared.fault.TableFault.{TableFault}
+use Rattle.mrp_grammar.specs.declared.fault.TableFault.{TableFault}
 use Rattle.mrp_rows.specs.Turns.{row_count}
-use Rattle.mrp_tables.specs.declared.reading.TheConstants.{MAX_TURNS}
-use Rattle.mrp_tables.proofs.Listed.{first_no_read_fault}
-use Rattle.mrp_tables.proofs.Loop.{none_there, some_there}
+use Rattle.mrp_qty.specs.declared.limits.TheConstants.{MAX_TURNS}
+use Rattle.mrp_grammar.proofs.Listed.{first_no_read_fault}
+use Rattle.mrp_grammar.proofs.Loop.{none_there, some_there}
 use Rattle.mrp_tables.proofs.StepCount.{first_step, later_step, of_each, of_missing, steps_all, steps_named, when_missing}
-use Rattle.mrp_tables.proofs.Whole.{bad_first, first_fault, no_first, rest_fault, whole, whole_own}
-use Rattle.mrp_tables.proofs.KeepingSteps.{handed_on}
+use Rattle.mrp_grammar.proofs.Whole.{bad_first, first_fault, no_first, rest_fault, whole, whole_own}
+use Rattle.mrp_grammar.proofs.KeepingSteps.{handed_on}
 use Rattle.mrp_tables.proofs.reading.read_rows.Goals as goal
 
 pub returns-in_err-next_row-clause-table : goal.returns-in_err-next_row-clause-table
@@ -25,7 +25,7 @@ returns-in_err-draft-clause-table g c =
 pub returns-in-Ok-clause-table : goal.returns-in-Ok-clause-table
 returns-in-Ok-clause-table g c =
     let takes = some_there c.in_ok-next_row.field-0 (left_of g.R.Read.remaining c.args.rows.now) (left_of g.R.Read.remaining c.next_row.new.rows) 1 (fields_of c.next_row.new.row) c.if-not-branch.false c.in_ok-next_row.ensures.exact in
-    whole (left_of g.R.Read.remaining c.args.rows.now) (left_of g.R.Read.remaining c.next_row.new.rows) (fields_of c.next_row.new.row) c.in_ok-draft.draft c.read_rest.new.draft.lists _
+    whole (left_of g.R.Read.remaining c.args.rows.now) (left_of g.R.Read.remaining c.next_row.new.rows) (fields_of c.next_row.new.row) c.in_ok-draft.draft.lists c.in_ok-draft.draft.last c.read_rest.new.draft.lists _
     takes c.in_ok-draft.ensures.exact c.in-Ok.ensures.exact c.accept.ensures.exact
 
 -- a turn for the first row, and so many more
@@ -105,7 +105,7 @@ returns-in-Ok-clause-ends g c =
 pub returns-clause-table : goal.returns-clause-table
 returns-clause-table g c =
     let takes = some_there c.in_ok-next_row.field-0 (left_of g.R.Read.remaining c.args.rows.now) (left_of g.R.Read.remaining c.next_row.new.rows) 1 (fields_of c.next_row.new.row) c.if-not-branch.false c.in_ok-next_row.ensures.exact in
-    rest_fault (left_of g.R.Read.remaining c.args.rows.now) (left_of g.R.Read.remaining c.next_row.new.rows) (fields_of c.next_row.new.row) c.in_ok-draft.draft c.in-Err.fault takes c.in_ok-draft.ensures.exact c.in-Err.ensures.exact
+    rest_fault (left_of g.R.Read.remaining c.args.rows.now) (left_of g.R.Read.remaining c.next_row.new.rows) (fields_of c.next_row.new.row) c.in_ok-draft.draft.lists c.in_ok-draft.draft.last c.in-Err.fault takes c.in_ok-draft.ensures.exact c.in-Err.ensures.exact
 
 pub returns-clause-named : goal.returns-clause-named
 returns-clause-named g c = of_missing _ _ (later_step _ _ _ _ c.in-Err.ensures.later c.tick.ensures c.in-Err.ensures.least)

@@ -1,4 +1,4 @@
-use Rattle.mrp_run.specs.declared.network.TheConstants.{MOST_TURNS}
+use Rattle.mrp_qty.specs.declared.limits.TheConstants.{MOST_TURNS}
 use Rattle.mrp_run.specs.Faults.{WasShut, WasSpent}
 use Rattle.mrp_text.specs.Text.{IsPlanReport, IsRunRefusal}
 use Rattle.mrp_text.proofs.TextFacts.{refuses-of, writes-of}

@@ -1,7 +1,7 @@
 use Rattle.std.proofs.Common.{◌≡◌, ◌<◌, subst, sym, false, length}
 use Rattle.mrp_rows.specs.Names.{has_plant}
 use Rattle.mrp_rows.specs.contracts.row_lists.RowLists.{the_view}
-use Rattle.mrp_rows.specs.declared.rows.TheConstants.{MOST_PLANTS}
+use Rattle.mrp_qty.specs.declared.limits.TheConstants.{MOST_PLANTS}
 use Rattle.mrp_rows.specs.Table.{Table}
 use Rattle.mrp_rows.proofs.Grow.{read-pushed_plant}
 use Rattle.mrp_rows.proofs.row_lists.RowLists.add_plant.Goals as goal

@@ -7,7 +7,7 @@ use Rattle.std.proofs.Math.ListN.{get_or-map}
 use Rattle.mrp_spell.specs.declared.supplies.SpelledSource.{SpelledSource}
 use Rattle.mrp_rows.specs.Names.{has_plant}
 use Rattle.mrp_tables.specs.Drafts.{IsNewPair, with_sources}
-use Rattle.mrp_tables.specs.Grammar.{knows_sources, source_row}
+use Rattle.mrp_grammar.specs.Grammar.{knows_sources, source_row}
 use Rattle.mrp_rows.specs.Growing.{with_source}
 use Rattle.mrp_spell.specs.Spelled.{is_same_plant, source_view}
 use Rattle.mrp_spell.specs.Supplies.{SourceTerms}
