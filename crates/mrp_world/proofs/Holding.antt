@@ -3,7 +3,7 @@ use Rattle.mrp_events.specs.State.{State, IsFinished}
 use Rattle.mrp_events.proofs.Ordering.{lanes_keep_order, closed_lanes_are_whole}
 use Rattle.mrp_events.proofs.Planned.{reached_plans_are_the_plan}
 use Rattle.mrp_world.specs.Headline.{OrderIsKept, NothingIsLost, ClosedLanesAreWhole, PlansAreThePlan, IsComplete}
-use Rattle.mrp_world.specs.Moments.{Showing}
+use Rattle.mrp_plant.specs.Moments.{Showing}
 use Rattle.mrp_world.specs.World.{WorldState, WorldShows}
 use Rattle.mrp_world.proofs.Pieces.{shipped_is}
 

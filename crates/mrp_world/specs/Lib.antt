@@ -1,9 +1,4 @@
-pub mod Moments
-pub mod World
+pub mod Driving
 pub mod Figures
 pub mod Headline
-pub mod Gathering
-pub mod Agents
-pub mod Owned
-pub mod AgentStays
-pub mod Driving
+pub mod World

@@ -6,10 +6,10 @@ ghost use Rattle.mrp_events.specs.declared.event.Event.TheVariants.{Send, Receiv
 ghost use Rattle.mrp_mailbox.specs.Mailbox.{Held};
 ghost use Rattle.mrp_world.specs.World.{Acts, AreSomewhere, Lead, LeadNowhere};
 
-use crate::plant::Plant;
 use mrp_events::Event;
 use mrp_mailbox::Mailbox;
 use mrp_net::{LaneNo, Network, PairNo};
+use mrp_plant::Plant;
 
 /// Sends the next record of a lane, if there is one and the mailbox has room.
 pub(crate) fn send<P: Plant>(

@@ -6,10 +6,10 @@ ghost use Rattle.mrp_world.specs.Driving.{LeadOn};
 
 use crate::acting::act_on;
 use crate::looking::look;
-use crate::plant::Plant;
 use mrp_events::Event;
 use mrp_mailbox::Mailbox;
 use mrp_net::Network;
+use mrp_plant::Plant;
 
 /// Where the last event happened: the next one is looked for from there on.
 #[derive(Clone, Copy)]

@@ -5,10 +5,10 @@ ghost use Rattle.mrp_events.specs.State.{State};
 ghost use Rattle.mrp_world.specs.Figures.{figure_at, figures_on, figures_of};
 ghost use Rattle.mrp_world.specs.World.{AreAt, AreSomewhere};
 
-use crate::plant::Plant;
 use mrp_book::LaneFigure;
 use mrp_mailbox::Mailbox;
 use mrp_net::{ItemNo, LaneNo, Network};
+use mrp_plant::Plant;
 use mrp_qty::{Memory, Qty};
 use std::alloc::Global;
 

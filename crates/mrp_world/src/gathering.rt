@@ -5,9 +5,9 @@ ghost use Rattle.mrp_gather.specs.Given.{HaveGiven};
 ghost use Rattle.mrp_mailbox.specs.Mailbox.{Held};
 ghost use Rattle.mrp_world.specs.World.{AreAt};
 
-use crate::plant::Plant;
 use mrp_net::Network;
 use mrp_netting::PairPlan;
+use mrp_plant::Plant;
 use mrp_qty::Memory;
 use std::alloc::Global;
 

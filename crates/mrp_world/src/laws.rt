@@ -5,8 +5,8 @@ ghost use Rattle.mrp_world.specs.Figures.{FiguresAreOfLanes, FinishedFiguresAreL
 ghost use Rattle.mrp_world.specs.Headline.{OrderIsKept, NothingIsLost, ClosedLanesAreWhole, PlansAreThePlan, IsComplete};
 ghost use Rattle.mrp_world.specs.World.{WorldShows};
 
-use crate::plant::Plant;
 use crate::world::World;
+use mrp_plant::Plant;
 
 /// The headline. A network without loops, any capacity, any list of events: a world always shows some state
 /// of the network's runs, and in each state that it shows

@@ -11,7 +11,6 @@
 #![tactic(auto)]
 
 mod acting;
-mod agents;
 mod counting;
 mod driving;
 mod figures;
@@ -19,14 +18,12 @@ mod gathering;
 pub mod laws;
 mod looking;
 mod making;
-mod plant;
 mod world;
 
-pub use agents::Firm;
 pub use mrp_book::{BookFault, LaneFigure};
 pub use mrp_events::Event;
 pub use mrp_net::{ItemNo, LaneNo, PairNo};
+pub use mrp_plant::Plant;
 pub use mrp_qty::MOST_ROOM;
 pub use mrp_record::Record;
-pub use plant::Plant;
-pub use world::World;
+pub use world::{Firm, World};

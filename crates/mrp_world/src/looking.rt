@@ -5,10 +5,10 @@ ghost use Rattle.mrp_events.specs.declared.event.Event.TheVariants.{Plan};
 ghost use Rattle.mrp_mailbox.specs.Mailbox.{Held};
 ghost use Rattle.mrp_world.specs.World.{AreSomewhere, MayLead, LaneRests, PlantRests, AllRests};
 
-use crate::plant::Plant;
 use mrp_events::Event;
 use mrp_mailbox::Mailbox;
 use mrp_net::{LaneNo, Network};
+use mrp_plant::Plant;
 
 /// An event over a lane that is enabled: its receiver takes what waits before its sender sends more.
 fn moving<P: Plant>(

@@ -3,10 +3,10 @@ ghost use Rattle.std.specs.Prelude.{◌≡◌, ◌≤◌, IfOk};
 ghost use Rattle.mrp_events.specs.State.{opening_state};
 ghost use Rattle.mrp_world.specs.World.{PlantsShow, BoxesHold};
 
-use crate::plant::Plant;
 use mrp_loops::SizedNet;
 use mrp_mailbox::Mailbox;
 use mrp_net::{LaneNo, PlantNo};
+use mrp_plant::Plant;
 use mrp_qty::Memory;
 use mrp_view::PlantView;
 use std::alloc::Global;

@@ -11,7 +11,6 @@ use crate::figures::figures;
 use crate::gathering::plans_by_plant;
 use crate::looking::look;
 use crate::making::{new_boxes, new_plants};
-use crate::plant::Plant;
 use mrp_book::LaneFigure;
 use mrp_events::Event;
 use mrp_loops::SizedNet;
@@ -19,9 +18,13 @@ use mrp_mailbox::Mailbox;
 use mrp_net::{Network, PairNo};
 use mrp_netting::PairPlan;
 use mrp_plan::Plan;
+use mrp_plant::{Agent, Plant};
 use mrp_qty::Memory;
 use std::alloc::Global;
 use std::marker::Model;
+
+/// The firm: all plants of a network, each with its agent, and the mailboxes between them.
+pub type Firm<'a> = World<'a, Agent>;
 
 /// All plants of a network with the mailboxes between them.
 ///

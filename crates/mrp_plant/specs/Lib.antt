@@ -1,0 +1,5 @@
+pub mod AgentStays
+pub mod Agents
+pub mod Gathering
+pub mod Moments
+pub mod Owned
