@@ -58,7 +58,7 @@ pairs=${2:-20000}
 folder=$(mktemp -d)
 trap 'rm -rf "$folder"' EXIT
 
-below="qty cal lot spell rows grammar tables group ready net view loops netting gather plan record cursor book events local agent crew world"
+below="qty cal lot spell rows grammar tables group ready net view loops netting gather plan record cursor book events local agent crew plant world"
 mkdir "$folder/crates"
 for name in $below; do
     cp -a "$top/crates/mrp_$name" "$folder/crates/"
