@@ -1,4 +1,5 @@
-//! Worked cases of calls that no command makes: what fits, and records as text, booked and written again.
+//! Worked cases of calls that no command makes: which plan fits, records as text, booked and written again, and
+//! the text functions at their edges: readers and writers that fail, memory that is refused, gates that are shut.
 #![tactic(auto)]
 
 #[cfg(test)]

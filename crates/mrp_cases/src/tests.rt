@@ -1,12 +1,20 @@
-//! Calls that no command makes, each on cases that were worked by hand: what fits, and the texts of records.
+//! Calls that no command makes: what fits and the texts of records, on cases that were worked by hand, and the text
+//! functions at their edges.
 
+mod endings;
 mod fitting;
+mod gates;
+mod memory;
+mod outcomes;
 mod record_faults;
 mod records;
+mod reports;
+mod streams;
 
 use mrp_net::Network;
 use mrp_tables::read_tables_uncounted;
 use std::alloc::Global;
+use std::process::Abort;
 use std::test::Fail;
 
 /// The network of a table's text.
@@ -19,4 +27,10 @@ fn network(alloc: Global, text: &str) -> Result<Network, Fail> {
 fn network_of(alloc: Global, text: &str) -> Option<Network> {
     let tables = read_tables_uncounted(alloc, text.as_bytes()).ok()?;
     Network::of(alloc, tables).ok()
+}
+
+/// Asserts that this is the report, or the line of the fault. A test calls it, and has no assertion of
+/// its own for each report: what an assertion lets go where it fails is proved once.
+pub(crate) fn is_report<R: Abort>(rt: &R, written: String, report: &str) {
+    assert_eq!(rt; written.as_str(), report);
 }

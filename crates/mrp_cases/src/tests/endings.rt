@@ -40,22 +40,24 @@ fn ends_at_row(alloc: Global, kind: TableFaultKind, status: u8, line: &str) -> b
     )
 }
 
+/// Faults of a row, each with its status and its line.
+const ROW_FAULTS: &[(TableFaultKind, u8, &str)] = &[
+    (TableFaultKind::ReadFault, 3, "mrp: row 3: ReadFault\n"),
+    (TableFaultKind::NotUtf8, 1, "mrp: row 3: NotUtf8\n"),
+    (TableFaultKind::UnknownKind, 1, "mrp: row 3: UnknownKind\n"),
+    (TableFaultKind::BadName, 1, "mrp: row 3: BadName\n"),
+    (TableFaultKind::BadRule, 1, "mrp: row 3: BadRule\n"),
+    (TableFaultKind::NotMade, 1, "mrp: row 3: NotMade\n"),
+    (TableFaultKind::NotSourced, 1, "mrp: row 3: NotSourced\n"),
+    (TableFaultKind::TooMany, 1, "mrp: row 3: TooMany\n"),
+    (TableFaultKind::ResetOrder, 1, "mrp: row 3: ResetOrder\n"),
+    (TableFaultKind::Memory, 3, "mrp: Memory\n"),
+];
+
 #[test]
 fn faults_of_rows_are_reported(rt: HostRuntime) {
-    let named = [
-        (TableFaultKind::ReadFault, 3, "mrp: row 3: ReadFault\n"),
-        (TableFaultKind::NotUtf8, 1, "mrp: row 3: NotUtf8\n"),
-        (TableFaultKind::UnknownKind, 1, "mrp: row 3: UnknownKind\n"),
-        (TableFaultKind::BadName, 1, "mrp: row 3: BadName\n"),
-        (TableFaultKind::BadRule, 1, "mrp: row 3: BadRule\n"),
-        (TableFaultKind::NotMade, 1, "mrp: row 3: NotMade\n"),
-        (TableFaultKind::NotSourced, 1, "mrp: row 3: NotSourced\n"),
-        (TableFaultKind::TooMany, 1, "mrp: row 3: TooMany\n"),
-        (TableFaultKind::ResetOrder, 1, "mrp: row 3: ResetOrder\n"),
-        (TableFaultKind::Memory, 3, "mrp: Memory\n"),
-    ];
-    for (kind, status, line) in named {
-        assert!(rt; ends_at_row(rt.alloc(), kind, status, line));
+    for (kind, status, line) in ROW_FAULTS {
+        assert!(rt; ends_at_row(rt.alloc(), *kind, *status, line));
     }
 }
 
