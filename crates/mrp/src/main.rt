@@ -33,7 +33,12 @@ fn main(rt: HostRuntime) -> ExitCode {
             ended::<Stderr>(&done, &mut rt.stderr())
         }
         Err(ChooseFault::Words(error)) => {
-            refused::<Stderr>(&rt, means(&error), &error, &mut rt.stderr())
+            let meaning = means(&error);
+            let printed = match meaning {
+                Meaning::Memory => Ok(()),
+                _ => error.print(&rt),
+            };
+            refused::<Stderr>(meaning, printed, &mut rt.stderr())
         }
         Err(ChooseFault::Memory) => ended::<Stderr>(&Err(TextFault::Memory), &mut rt.stderr()),
     })
@@ -86,31 +91,24 @@ fn await_table(rt: &HostRuntime) {
     }
 }
 
-/// Prints what `clap` has to say: the status is 0 after help or the version that was printed, 2 where
-/// the words are refused, 3 where memory was refused or help or the version could not be printed; of
-/// these a line is reported to this writer.
-fn refused<W: Write>(
-    rt: &HostRuntime,
-    meaning: Meaning,
-    error: &clap::Error,
-    writer: &mut W,
-) -> Ending
-    ensures status { result.status ≡ refusal_status meaning result.printed }
-    ensures line { Reports W.contents writer.old writer.new result.reported (refusal_fault meaning result.printed) }
+/// The end where no choice was made, after what `clap` had to say was printed or could not be: the
+/// status is 0 after help or the version that was printed, 2 where the words are refused, 3 where memory
+/// was refused or help or the version could not be printed; of these a line is reported to this writer.
+fn refused<W: Write>(meaning: Meaning, said: io::Result<()>, writer: &mut W) -> Ending
+    ensures status { result.status ≡ refusal_status meaning said }
+    ensures line { Reports W.contents writer.old writer.new result.reported (refusal_fault meaning said) }
 {
-    if meaning == Meaning::Memory {
-        return ended(&Err(TextFault::Memory), writer);
-    }
-    let printed = match error.print(rt) {
+    let printed = match said {
         Ok(()) => Ok(()),
         Err(_) => Err(ReportFault::WriteFault),
     };
-    if meaning == Meaning::Refused {
-        return Ending {
+    match meaning {
+        Meaning::Memory => ended(&Err(TextFault::Memory), writer),
+        Meaning::Asked => after_help(printed, writer),
+        Meaning::Refused => Ending {
             status: REFUSED,
             printed,
             reported: Ok(()),
-        };
+        },
     }
-    after_help(printed, writer)
 }
