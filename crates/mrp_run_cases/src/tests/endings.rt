@@ -155,26 +155,28 @@ fn ends<R: Threads + Wait + Sync>(rt: &R, alloc: Global, ending: &Ending) -> Res
     holds_of(rt, alloc, ending.table, Trial::Ends(ending), &NoGate)
 }
 
+/// The endings that every run of their tables comes to.
+const ENDINGS: &[Ending] = &[
+    TWO_PLANTS_ENDING,
+    TWO_SHIPMENTS_ENDING,
+    RING_ENDING,
+    IDLE_RING_ENDING,
+    LONG_RING_ENDING,
+    TWO_CUSTOMERS_ENDING,
+    SHARED_ENDING,
+    ONE_SHARED_ENDING,
+    SHARED_AFTER_SHIPMENT_ENDING,
+    FOUR_PLANTS_ENDING,
+    NO_LANES_ENDING,
+    NO_PLANTS_ENDING,
+    RESET_LATER_ENDING,
+    RESET_AT_RELEASE_ENDING,
+];
+
 #[test]
 fn runs_come_to_their_endings(rt: HostRuntime) -> Result<(), Fail> {
-    let endings = [
-        TWO_PLANTS_ENDING,
-        TWO_SHIPMENTS_ENDING,
-        RING_ENDING,
-        IDLE_RING_ENDING,
-        LONG_RING_ENDING,
-        TWO_CUSTOMERS_ENDING,
-        SHARED_ENDING,
-        ONE_SHARED_ENDING,
-        SHARED_AFTER_SHIPMENT_ENDING,
-        FOUR_PLANTS_ENDING,
-        NO_LANES_ENDING,
-        NO_PLANTS_ENDING,
-        RESET_LATER_ENDING,
-        RESET_AT_RELEASE_ENDING,
-    ];
-    for ending in endings {
-        assert!(&rt; ends(&rt, rt.alloc(), &ending)?, "{}", ending.table);
+    for ending in ENDINGS {
+        assert!(&rt; ends(&rt, rt.alloc(), ending)?, "{}", ending.table);
     }
     Ok(())
 }

@@ -583,24 +583,26 @@ fn lists_count_the_events_that_are_enabled(rt: HostRuntime) -> Result<(), Fail> 
     Ok(())
 }
 
+/// Firms that are driven to their ends, each with the steps that it takes.
+const ENDINGS: &[(Ending, u64)] = &[
+    (TWO_PLANTS_ENDING, 14),
+    (TWO_SHIPMENTS_ENDING, 16),
+    (RING_ENDING, 32),
+    (IDLE_RING_ENDING, 26),
+    (TWO_CUSTOMERS_ENDING, 25),
+    (SHARED_ENDING, 23),
+    (ONE_SHARED_ENDING, 21),
+    (SHARED_AFTER_SHIPMENT_ENDING, 25),
+    (NO_LANES_ENDING, 1),
+    (NO_PLANTS_ENDING, 0),
+    (RESET_LATER_ENDING, 18),
+    (RESET_AT_RELEASE_ENDING, 18),
+];
+
 #[test]
 fn firms_are_driven_to_their_ends(rt: HostRuntime) -> Result<(), Fail> {
-    let endings = [
-        (TWO_PLANTS_ENDING, 14),
-        (TWO_SHIPMENTS_ENDING, 16),
-        (RING_ENDING, 32),
-        (IDLE_RING_ENDING, 26),
-        (TWO_CUSTOMERS_ENDING, 25),
-        (SHARED_ENDING, 23),
-        (ONE_SHARED_ENDING, 21),
-        (SHARED_AFTER_SHIPMENT_ENDING, 25),
-        (NO_LANES_ENDING, 1),
-        (NO_PLANTS_ENDING, 0),
-        (RESET_LATER_ENDING, 18),
-        (RESET_AT_RELEASE_ENDING, 18),
-    ];
-    for (ending, steps) in endings {
-        assert!(rt; ends(&rt, &ending, steps)?, "{}", ending.table);
+    for (ending, steps) in ENDINGS {
+        assert!(rt; ends(&rt, ending, *steps)?, "{}", ending.table);
     }
     Ok(())
 }
