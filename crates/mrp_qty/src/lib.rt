@@ -1,8 +1,8 @@
-//! Quantities, planning horizons, and rows of one quantity a period: the numbers that every other
-//! crate plans with.
+//! Quantities, planning horizons, rows of one quantity a period, and the limits of tables, records and
+//! runs: the numbers that every other crate plans with.
 //!
 //! Contracts see a [`Qty`] and a [`Horizon`] as the number, and a [`Row`] as the list of its
-//! quantities, period by period.
+//! quantities, period by period. What each limit is says one law, [`limits_are_numbers`].
 #![tactic(auto)]
 
 mod horizon;

@@ -1,4 +1,5 @@
 use Rattle.std.proofs.Common.{length, suc, refl, sym, arith}
+use Rattle.std.proofs.lemmas.Grind.{common_steps}
 use Rattle.std.proofs.lemmas.Bool.{false≢true}
 use Rattle.std.proofs.lemmas.List.{get_or_read}
 use Rattle.std.proofs.lemmas.List.FromFn.{fill_by_all}
@@ -46,3 +47,6 @@ returns c =
       ),
       λ are. refl,
     )
+
+pub loop-t-preserved : goal.loop-t-preserved
+loop-t-preserved c = grind (arith, common_steps)

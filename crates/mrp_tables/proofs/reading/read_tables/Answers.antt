@@ -1,4 +1,4 @@
-use Rattle.std.proofs.Common.{◌≡◌, ℕ, List, Option, option_map, Result, Ok, Err, IfErr}
+use Rattle.std.proofs.Common.{rules, ◌≡◌, ℕ, List, Option, option_map, Result, Ok, Err, IfErr}
 use Rattle.csv.specs.declared.parser.State.{State}
 use Rattle.csv.specs.declared.parser.State.TheVariants as state
 use Rattle.mrp_grammar.specs.declared.fault.TableFault.{TableFault}
@@ -31,3 +31,6 @@ returns-clause-least g c = c.read_rows.ensures.least
 
 pub returns-clause-turns : goal.returns-clause-turns
 returns-clause-turns g c = c.read_rows.ensures.turns
+
+pub read_rows-requires : goal.read_rows-requires
+read_rows-requires g c = search rules

@@ -1,4 +1,4 @@
-use Rattle.std.proofs.Common.{subst}
+use Rattle.std.proofs.Common.{rules, subst}
 use Rattle.mrp_rows.specs.Table.{Table}
 use Rattle.mrp_text.specs.Text.{IsPegReport, IsPegs}
 use Rattle.mrp_text.proofs.TextFacts.{writes-of}
@@ -9,3 +9,6 @@ pub returns-clause-text : goal.returns-clause-text
 returns-clause-text g c =
     writes-of _ _ c.report_pegs.result (IsPegs c.in_ok-net.net.network c.in-Some.x.0 c.args.period) (IsPegReport c.args.plant.now c.args.item.now c.args.period c.args.network.now)
     (λ text is. (c.in-Some.x.0, c.in-Some.ensures.found, subst (λ (N : Table). IsPegs N c.in-Some.x.0 c.args.period text) c.in_ok-net.ensures.network is)) c.report_pegs.ensures.text
+
+pub returns-then-period-get-clause-refusal : goal.returns-then-period-get-clause-refusal
+returns-then-period-get-clause-refusal g c = search rules

@@ -1,4 +1,4 @@
-use Rattle.std.proofs.Common.{◌≤◌, List, length, get_or, arith, ap}
+use Rattle.std.proofs.Common.{rules, ◌≤◌, List, length, get_or, arith, ap}
 use Rattle.std.proofs.lemmas.List.Sums.{sum_by_more}
 use Rattle.mrp_rows.specs.declared.numbers.ItemNo.{ItemNo}
 use Rattle.mrp_net.specs.declared.lane.Lane.{Lane}
@@ -27,3 +27,6 @@ loop-item-preserved c =
       sum = omega (arith, c.loop-item.invariant.sum, c.longest_block-records.ensures, sum_by_more (longest_block M lane) items c.loop-item.item-index (record { 0 = 0 }) c.loop-item-test.true);
       few = omega (arith, c.loop-item.invariant.few, short);
     }
+
+pub loop-item-init : goal.loop-item-init
+loop-item-init c = search rules

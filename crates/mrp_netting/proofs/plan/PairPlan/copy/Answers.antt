@@ -1,4 +1,4 @@
-use Rattle.std.proofs.Common.{◌≡◌, ℕ, length, IfSome, Option, ◌∙◌, ap, subst}
+use Rattle.std.proofs.Common.{rules, ◌≡◌, ℕ, length, IfSome, Option, ◌∙◌, ap, subst}
 use Rattle.std.proofs.lemmas.List.{length-replicate}
 use Rattle.mrp_lot.specs.One.{PlanRows}
 use Rattle.mrp_netting.proofs.plan.PairPlan.copy.Goals as goal
@@ -12,3 +12,6 @@ copy_from-requires c =
     ∙ counted
     ∙ c.len.ensures.value
     ∙ ap (λ (rows : PlanRows). length rows.gross) c.self.view_is
+
+pub returns : goal.returns
+returns c = search rules

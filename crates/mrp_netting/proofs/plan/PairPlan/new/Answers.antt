@@ -1,5 +1,4 @@
-use borrow.Author.Rules.{rules}
-use Rattle.std.proofs.Common.{arith}
+use Rattle.std.proofs.Common.{rules, arith}
 use Rattle.std.proofs.lemmas.Grind.{common_steps}
 use Rattle.mrp_netting.proofs.plan.PairPlan.new.Goals as goal
 
@@ -23,3 +22,6 @@ returns-in_err-late c = search rules
 
 pub invariant_of-result : goal.invariant_of-result
 invariant_of-result c = grind (arith, common_steps)
+
+pub returns : goal.returns
+returns c = search rules

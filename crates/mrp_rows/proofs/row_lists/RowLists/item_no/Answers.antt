@@ -1,4 +1,4 @@
-use Rattle.std.proofs.Common.{◌∙◌, ap, sym, subst, List, ℕ}
+use Rattle.std.proofs.Common.{rules, ◌∙◌, ap, sym, subst, List, ℕ}
 use Rattle.mrp_rows.specs.contracts.row_lists.RowLists.{the_view}
 use Rattle.mrp_rows.specs.Growing.{with_item}
 use Rattle.mrp_rows.specs.Table.{IsRead, Table}
@@ -41,3 +41,6 @@ invariant_of-self c = (
 
 pub returns-in-Some-clause-rows : goal.returns-in-Some-clause-rows
 returns-in-Some-clause-rows c = subst IsRead c.self.view_is c.self.invariant.0
+
+pub returns-in-Some-clause-place : goal.returns-in-Some-clause-place
+returns-in-Some-clause-place c = search rules
