@@ -14,6 +14,7 @@
 # are: they are copied with what is proved of them.
 set -eu
 top=$(CDPATH='' cd -- "$(dirname -- "$0")/.." && pwd)
+. "$top/bench/room.sh"
 
 # Item k stands at each plant. It begins at plant k modulo PLANTS, its root: the plant at distance d from the
 # root takes it from the root where k is below PLANTS, so that each two plants take from each other, and
@@ -58,18 +59,8 @@ pairs=${2:-20000}
 folder=$(mktemp -d)
 trap 'rm -rf "$folder"' EXIT
 
-below="qty cal lot spell rows grammar tables group ready net view loops netting gather plan record cursor book events local agent crew plant world"
-mkdir "$folder/crates"
-for name in $below; do
-    cp -a "$top/crates/mrp_$name" "$folder/crates/"
-done
-cp -a "$top/bench/firm" "$folder/crates/bench_firm"
-# its files end in .in, so that no check of the project looks for a crate in bench/
-find "$folder/crates/bench_firm" -name '*.in' | while read -r file; do mv "$file" "${file%.in}"; done
-any=$(echo "$below" | tr ' ' '|')
-grep -E "^(#|mrp_($any):)" "$top/crates.txt" >"$folder/crates.txt"
-uses=$(echo "$below" | sed 's/[a-z][a-z]*/mrp_&/g')
-echo "bench_firm: $uses" >>"$folder/crates.txt"
+make_room "$folder" firm mrp_qty mrp_rows mrp_tables mrp_net mrp_view mrp_loops mrp_plan mrp_record mrp_ready mrp_events \
+    mrp_agent mrp_crew mrp_world
 if [ "${alone:-}" ]; then make_plant "$pairs"; else make_table "$plants" "$pairs"; fi >"$folder/table.csv"
 (cd "$folder/crates/bench_firm" && rt run -- plan <"$folder/table.csv" >/dev/null)
 program=$folder/crates/bench_firm/out/bench_firm

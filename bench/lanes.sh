@@ -15,24 +15,15 @@
 # copied with what is proved of them.
 set -eu
 top=$(CDPATH='' cd -- "$(dirname -- "$0")/.." && pwd)
+. "$top/bench/room.sh"
 records=${1:-1000000}
 runs=${2:-40}
 items=${3:-1}
 folder=$(mktemp -d)
 trap 'rm -rf "$folder"' EXIT
 
-below="qty cal lot spell rows grammar tables group net view loops record cursor book events lane"
-mkdir "$folder/crates"
-for name in $below; do
-    cp -a "$top/crates/mrp_$name" "$folder/crates/"
-done
-cp -a "$top/bench/lanes" "$folder/crates/bench_lanes"
-# its files end in .in, so that no check of the project looks for a crate in bench/
-find "$folder/crates/bench_lanes" -name '*.in' | while read -r file; do mv "$file" "${file%.in}"; done
-any=$(echo "$below" | tr ' ' '|')
-grep -E "^(#|mrp_($any):)" "$top/crates.txt" >"$folder/crates.txt"
-cp "$top/HANDLES" "$folder/"
-echo "bench_lanes: mrp_qty mrp_rows mrp_tables mrp_net mrp_loops mrp_record mrp_events mrp_cursor mrp_lane atomic_table crossbeam_queue" >>"$folder/crates.txt"
+make_room "$folder" lanes mrp_qty mrp_rows mrp_tables mrp_net mrp_loops mrp_record mrp_events mrp_cursor mrp_lane \
+    atomic_table crossbeam_queue
 
 # Two plants: A takes X and the other items from B, and B ships X one by one. The last records are the ends of
 # the items and the closing record.

@@ -8,20 +8,13 @@
 # they are: they are copied with what is proved of them.
 set -eu
 top=$(CDPATH='' cd -- "$(dirname -- "$0")/.." && pwd)
+. "$top/bench/room.sh"
 lines=${1:-10000000}
 rows=${2:-4000000}
 folder=$(mktemp -d)
 trap 'rm -rf "$folder"' EXIT
 
-mkdir "$folder/crates"
-for name in qty cal lot spell rows grammar tables group net record stream book; do
-    cp -a "$top/crates/mrp_$name" "$folder/crates/"
-done
-cp -a "$top/bench/records" "$folder/crates/bench_records"
-# its files end in .in, so that no check of the project looks for a crate in bench/
-find "$folder/crates/bench_records" -name '*.in' | while read -r file; do mv "$file" "${file%.in}"; done
-grep -E '^(#|mrp_(qty|cal|lot|spell|rows|grammar|tables|group|net|record|stream|book):)' "$top/crates.txt" >"$folder/crates.txt"
-echo "bench_records: mrp_qty mrp_rows mrp_tables mrp_net mrp_record mrp_stream mrp_book csv" >>"$folder/crates.txt"
+make_room "$folder" records mrp_qty mrp_rows mrp_tables mrp_net mrp_record mrp_stream mrp_book csv
 (cd "$folder/crates/bench_records" && rt run -- book 1 1 >/dev/null)
 program=$folder/crates/bench_records/out/bench_records
 rustc --edition 2021 -C opt-level=3 -C panic=abort -o "$folder/counters" "$top/bench/records/counters.rs"

@@ -1,7 +1,7 @@
 """What mrp has to answer of a table, by a second planner: for bin/torture, which compares.
 
 It is written for shortness from the manual (docs/tables.md, docs/reports.md, docs/faults.md) and the definitions
-(docs/definitions.md): it plans the whole network at once, on one thread, and has no lanes, records or limits of its own.
+(docs/definitions.md): it plans the whole network at once, on one thread, and drives no lanes or records.
 """
 import re
 from datetime import date, timedelta

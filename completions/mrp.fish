@@ -7,5 +7,5 @@ complete -c mrp -n __fish_use_subcommand -a check -d 'Write the low-level code o
 complete -c mrp -n __fish_use_subcommand -a peg -d 'Write what a gross requirement consists of'
 complete -c mrp -n __fish_use_subcommand -a cums -d 'Write the cumulative figures between plants'
 complete -c mrp -n '__fish_seen_subcommand_from plan' -l single -d 'Plan all plants on one thread'
-complete -c mrp -n '__fish_seen_subcommand_from plan' -l workers -x -d 'Worker threads of each plant, 1 to 64'
+complete -c mrp -n '__fish_seen_subcommand_from plan' -l workers -x -d 'Workers of each plant, 1 to 64'
 complete -c mrp -n '__fish_seen_subcommand_from plan' -l capacity -x -d 'Records that wait between two plants at most, 1 to 65536'

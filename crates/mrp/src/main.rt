@@ -6,7 +6,7 @@
 ghost use Rattle.std.specs.Prelude.{◌≡◌};
 ghost use Rattle.std.specs.Process.{exit_status};
 ghost use Rattle.mrp_text.specs.Ending.{Reports};
-ghost use Rattle.mrp.specs.Ending.{refusal_fault, refusal_status};
+ghost use Rattle.mrp.specs.Ending.{refusal_fault, refusal_printed, refusal_status};
 
 use mrp_report::{ReportFault, send};
 use mrp_text::{Ending, REFUSED, TextFault, after_help, answer, ended, unread};
@@ -96,6 +96,7 @@ fn await_table(rt: &HostRuntime) {
 /// was refused or help or the version could not be printed; of these a line is reported to this writer.
 fn refused<W: Write>(meaning: Meaning, said: io::Result<()>, writer: &mut W) -> Ending
     ensures status { result.status ≡ refusal_status meaning said }
+    ensures printed { result.printed ≡ refusal_printed meaning said }
     ensures line { Reports W.contents writer.old writer.new result.reported (refusal_fault meaning said) }
 {
     let printed = match said {

@@ -1,6 +1,6 @@
 //! What a program over the planner may be asked to do, and the limits of what it may be asked.
 
-/// The most worker threads of a plant.
+/// The most workers of a plant.
 pub const MOST_WORKERS: u64 = 64;
 
 /// The most records that a mailbox between two plants may hold.
@@ -14,7 +14,7 @@ pub const LAST_PERIOD: u64 = 103;
 pub enum Choice<'a> {
     /// Write the plan.
     Plan {
-        /// Worker threads of each plant, 1 to [`MOST_WORKERS`].
+        /// Workers of each plant, 1 to [`MOST_WORKERS`].
         workers: u64,
         /// Records that the mailbox between two plants holds, 1 to [`MOST_CAPACITY`].
         capacity: u64,

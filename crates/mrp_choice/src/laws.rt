@@ -4,7 +4,7 @@ ghost use Rattle.mrp_choice.specs.declared.choice.TheConstants.{MOST_WORKERS, MO
 
 use crate::{LAST_PERIOD, MOST_CAPACITY, MOST_WORKERS};
 
-/// The limits as numbers: a plant has at most 64 worker threads, a mailbox between two plants holds at
+/// The limits as numbers: a plant has at most 64 workers, a mailbox between two plants holds at
 /// most 65,536 records, and the last period that may be asked about is 103.
 pub fn limits_are_numbers()
     ensures workers { MOST_WORKERS ≡ 64 }

@@ -1,11 +1,14 @@
 -- Where the fault of a wave is a shut gate, one of its workers wasn't let in.
-use Rattle.std.proofs.Common.{◌≡◌, ◌⊎◌, inl, inr, ⊎_elim, Bool, true, false, List, [], ◌∷◌, All, sym, ◌∙◌, subst, refl}
+use Rattle.std.proofs.Common.{◌≡◌, ◌≤◌, ◌⊎◌, inl, inr, ⊎_elim, Bool, true, false, ℕ, List, [], ◌∷◌, All, arith, sym, ◌∙◌, subst, refl}
+use Rattle.std.specs.declared.thread.PromisedHandle.{PromisedHandle}
 use Rattle.std.proofs.lemmas.Bool.{false≢true}
 use Rattle.std.proofs.lemmas.List.Elements.{All-nil, All-cons, All-head, All-tail}
 use Rattle.mrp_crew.specs.declared.fault.CrewFault.{CrewFault}
 use Rattle.mrp_crew.specs.declared.fault.CrewFault.TheVariants.{Memory, ThreadRefused, GateShut}
+use Rattle.mrp_crew.specs.declared.work.Order.{Order}
 use Rattle.mrp_crew.specs.declared.work.Work.{Work}
-use Rattle.mrp_crew.specs.Shut.{AreLetIn, IsLetIn}
+use Rattle.mrp_crew.specs.Shut.{AreLetIn, IsLetIn, WasShut}
+use Rattle.mrp_crew.specs.Started.{IsAt}
 
 abbrev IsOpen : Work → Type 0
 IsOpen work = work.open ≡ true
@@ -22,6 +25,30 @@ memory_is_no_gate fault is shut = subst is_shut (sym shut ∙ is) tt
 
 pub refusal_is_no_gate : (fault : CrewFault) → fault ≡ ThreadRefused → fault ≡ GateShut → ⊥
 refusal_is_no_gate fault is shut = subst is_shut (sym shut ∙ is) tt
+
+-- ---- and refused memory is no refused thread
+
+abbrev is_refused : CrewFault → Type 0
+is_refused Memory = ⊥
+is_refused ThreadRefused = Unit {0}
+is_refused GateShut = ⊥
+
+pub memory_is_no_thread : (fault : CrewFault) → fault ≡ Memory → fault ≡ ThreadRefused → ⊥
+memory_is_no_thread fault is refused = subst is_refused (sym refused ∙ is) tt
+
+-- ---- the worker to whom it was shut
+
+-- is that of the order
+pub let_in_at : {G : Type 0} (Shut : ℕ → ℕ → Type 0) (plant workers : ℕ) (worker : PromisedHandle Work (Order G)) (work : Work) → IsAt plant workers worker
+    → IsLetIn (Shut worker.promise.plant worker.promise.number) work → IsLetIn (WasShut Shut workers plant) work
+let_in_at Shut plant workers worker work at shut = λ closed. (worker.promise.number, at.first, at.last, subst (λ (p : ℕ). Shut p worker.promise.number) at.plant_is (shut closed))
+
+-- and one of so many is one of more
+pub one_of_more : (Shut : ℕ → ℕ → Type 0) (few many plant : ℕ) → few ≤ many → WasShut Shut few plant → WasShut Shut many plant
+one_of_more Shut few many plant more shut = (shut.0, shut.1, omega (arith, shut.2, more), shut.3)
+
+pub let_in_of_more : (Shut : ℕ → ℕ → Type 0) (few many plant : ℕ) (works : List Work) → few ≤ many → AreLetIn (WasShut Shut few plant) works → AreLetIn (WasShut Shut many plant) works
+let_in_of_more Shut few many plant works more shut = λ k d within closed. one_of_more Shut few many plant more (shut k d within closed)
 
 -- ---- all were let in, or it was shut to one
 

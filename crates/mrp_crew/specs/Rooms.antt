@@ -35,11 +35,11 @@ pub record WorkedFor (A : AgentState) (work : Work) : Type 0 where
   pub plan : work.open ≡ true → work.room.plan ≡ drafted A work.pair
 
 -- what the thread of an order brings back is of the order's pair, for the order's agent; where the gate
--- was shut to it, this holds of the order's plant
-pub record Fulfils {G : Type 0} (Shut : ℕ → Type 0) (order : Order G) (work : Work) : Type 0 where
+-- was shut to it, this holds of the order's plant and worker
+pub record Fulfils {G : Type 0} (Shut : ℕ → ℕ → Type 0) (order : Order G) (work : Work) : Type 0 where
   pub pair : work.pair ≡ order.pair
   pub worked : WorkedFor order.agent.value work
-  pub shut : IsLetIn (Shut order.plant) work
+  pub shut : IsLetIn (Shut order.plant order.number) work
 
 -- the pairs of some results
 abbrev pub pairs_of : List Work → List PairNo

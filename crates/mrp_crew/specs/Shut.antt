@@ -1,11 +1,10 @@
 -- For whom a gate was shut.
 use Rattle.std.specs.Prelude.{◌≡◌, ◌≤◌, ℕ, false, List, All}
-use Rattle.mrp_qty.specs.declared.limits.TheConstants.{MOST_WORKERS}
 use Rattle.mrp_crew.specs.declared.work.Work.{Work}
 
--- the gate was shut to some worker of the plant, by a number that a crew gives
-abbrev pub WasShut : (ℕ → ℕ → Type 0) → ℕ → Type 0
-WasShut shut plant = (worker : ℕ) × (1 ≤ worker) × (worker ≤ MOST_WORKERS) × shut plant worker
+-- the gate was shut to one of so many workers of the plant, by its number
+abbrev pub WasShut : (ℕ → ℕ → Type 0) → ℕ → ℕ → Type 0
+WasShut shut workers plant = (worker : ℕ) × (1 ≤ worker) × (worker ≤ workers) × shut plant worker
 
 -- the worker was let in, or this holds
 abbrev pub IsLetIn : Type 0 → Work → Type 0

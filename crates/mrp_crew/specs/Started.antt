@@ -1,5 +1,5 @@
 -- The threads of a wave.
-use Rattle.std.specs.Prelude.{◌≡◌, ℕ, List, map}
+use Rattle.std.specs.Prelude.{◌≡◌, ◌≤◌, ℕ, List, map}
 use Rattle.std.specs.declared.thread.PromisedHandle.{PromisedHandle}
 use Rattle.mrp_rows.specs.declared.numbers.PairNo.{PairNo}
 use Rattle.mrp_agent.specs.State.{AgentState}
@@ -14,12 +14,15 @@ ordered workers = map (λ worker. worker.promise.pair) workers
 abbrev pub IsFor : {G : Type 0} → AgentState → PromisedHandle Work (Order G) → Type 0
 IsFor A worker = worker.promise.agent.value ≡ A
 
--- for a worker of the plant
-abbrev pub IsAt : {G : Type 0} → ℕ → PromisedHandle Work (Order G) → Type 0
-IsAt plant worker = worker.promise.plant ≡ plant
+-- for one of so many workers of the plant
+pub record IsAt {G : Type 0} (plant workers : ℕ) (worker : PromisedHandle Work (Order G)) : Type 0 where
+  pub plant_is : worker.promise.plant ≡ plant
+  pub first : 1 ≤ worker.promise.number
+  pub last : worker.promise.number ≤ workers
 
--- and for a pair
-pub record IsStarted {G : Type 0} (A : AgentState) (plant : ℕ) (pair : PairNo) (worker : PromisedHandle Work (Order G)) : Type 0 where
+-- for a worker of the plant by its number, and for a pair
+pub record IsStarted {G : Type 0} (A : AgentState) (plant number : ℕ) (pair : PairNo) (worker : PromisedHandle Work (Order G)) : Type 0 where
   pub agent : IsFor A worker
-  pub plant_is : IsAt plant worker
+  pub plant_is : worker.promise.plant ≡ plant
+  pub number_is : worker.promise.number ≡ number
   pub pair_is : worker.promise.pair ≡ pair

@@ -88,9 +88,9 @@ impl Crew {
     /// In this order, and after any of them each pair is planned rightly or not planned:
     ///
     /// - [`CrewFault::Memory`] where a growth is refused.
-    /// - [`CrewFault::ThreadRefused`] where a thread could not be started; no further ones of the wave are
-    ///   started then, and the calling thread drafts nothing.
-    /// - [`CrewFault::GateShut`] where the gate answered false to a worker.
+    /// - [`CrewFault::ThreadRefused`] where a thread could not be started, never by a crew of one; no further ones
+    ///   of the wave are started then, and the calling thread drafts nothing.
+    /// - [`CrewFault::GateShut`] where the gate answered false to one of these workers.
     pub fn plan_ready<R: Threads + Wait + Sync, G: Gate>(
         &mut self,
         rt: &R,
@@ -104,7 +104,8 @@ impl Crew {
         ensures crew { self.new ≡ self.old }
         ensures planned { (xs : List PairNo) × PlansAll agent.old agent.new xs
             × IfOk result (λ count. (count ≡ length xs) × (ready_numbers agent.new ≡ [])) }
-        ensures shut { IfErr result (λ fault. fault ≡ CrewFault.GateShut → WasShut G.worker_shut plant) }
+        ensures shut { IfErr result (λ fault. fault ≡ CrewFault.GateShut → WasShut G.worker_shut self.old.workers plant) }
+        ensures refused { IfErr result (λ fault. fault ≡ CrewFault.ThreadRefused → 2 ≤ self.old.workers) }
     {
         let before = agent.left();
         while agent.ready().is_some() {
@@ -127,7 +128,8 @@ impl Crew {
         requires ready { 0 < length (ready_numbers agent.old) }
         ensures crew { self.new ≡ self.old }
         ensures planned { (xs : List PairNo) × PlansAll agent.old agent.new xs × OnOk result (0 < length xs) }
-        ensures shut { IfErr result (λ fault. fault ≡ CrewFault.GateShut → WasShut G.worker_shut plant) }
+        ensures shut { IfErr result (λ fault. fault ≡ CrewFault.GateShut → WasShut G.worker_shut self.old.workers plant) }
+        ensures refused { IfErr result (λ fault. fault ≡ CrewFault.ThreadRefused → 2 ≤ self.old.workers) }
     {
         refill(alloc, &mut self.rooms, self.horizon, self.workers)?;
         let drafts = draft_ready(rt, alloc, agent, plant, gate, self.workers, &mut self.rooms)?;
@@ -157,7 +159,8 @@ fn draft_ready<R: Threads + Wait + Sync, G: Gate>(
     ensures drafts { IfOk result (λ drafts. AreToSettle agent.now (reverse drafts.works.items)) }
     ensures some { IfOk result (λ drafts. drafts.all ≡ true → 0 < length drafts.works.items) }
     ensures free { IfOk result (λ drafts. All (IsRoom agent.now.view.horizon) drafts.rooms.items) }
-    ensures shut { IfOk result (λ drafts. AreLetIn (WasShut G.worker_shut plant) drafts.works.items) }
+    ensures shut { IfOk result (λ drafts. AreLetIn (WasShut G.worker_shut workers plant) drafts.works.items) }
+    ensures refused { IfOk result (λ drafts. drafts.all ≡ false → 2 ≤ workers) }
 {
     let pairs = agent.ready_pairs();
     let others = others_of(pairs.len(), workers);
@@ -173,6 +176,7 @@ fn draft_ready<R: Threads + Wait + Sync, G: Gate>(
 fn wave_end(all: bool, let_in: bool) -> Result<(), CrewFault>
     ensures planned { OnOk result ((all ≡ true) × (let_in ≡ true)) }
     ensures shut { IfErr result (λ fault. fault ≡ CrewFault.GateShut → let_in ≡ false) }
+    ensures refused { IfErr result (λ fault. fault ≡ CrewFault.ThreadRefused → all ≡ false) }
 {
     if all && let_in {
         return Ok(());
@@ -184,6 +188,7 @@ fn wave_end(all: bool, let_in: bool) -> Result<(), CrewFault>
 fn wave_fault(all: bool) -> CrewFault
     ensures refused { all ≡ false → result ≡ CrewFault.ThreadRefused }
     ensures shut { all ≡ true → result ≡ CrewFault.GateShut }
+    ensures threads { result ≡ CrewFault.ThreadRefused → all ≡ false }
 {
     if all {
         CrewFault::GateShut

@@ -1,5 +1,5 @@
 //! The threads of a wave: started, and joined.
-ghost use Rattle.std.specs.Prelude.{◌≡◌, ◌+◌, ◌++◌, ◌<◌, ◌≤◌, List, [], ◌∷◌, length, reverse, All, IfSome, ℕ, vec_capacity};
+ghost use Rattle.std.specs.Prelude.{◌≡◌, ◌+◌, ◌++◌, ◌<◌, ◌≤◌, false, List, [], ◌∷◌, length, reverse, All, IfSome, ℕ, vec_capacity};
 ghost use Rattle.std.specs.Bool.{OnTrue};
 ghost use Rattle.mrp_rows.specs.declared.numbers.PairNo.{PairNo};
 ghost use Rattle.mrp_agent.specs.Drafts.{CanDraft};
@@ -37,7 +37,8 @@ pub(crate) fn draft_wave<R: Threads + Wait + Sync, G: Gate>(
 ) -> Drafts
     requires wave { IsWave agent.now others.now own rooms.items workers works }
     ensures drafts { AreDrafts agent.now (others.now ++ own ∷ []) result }
-    ensures shut { AreLetIn (WasShut G.worker_shut plant) result.works.items }
+    ensures shut { AreLetIn (WasShut G.worker_shut (length others.now + 1) plant) result.works.items }
+    ensures refused { result.all ≡ false → 0 < length others.now }
 {
     thread::scope(
         thread::scope_env(),
@@ -45,7 +46,8 @@ pub(crate) fn draft_wave<R: Threads + Wait + Sync, G: Gate>(
         move |scope| -> Drafts
             requires wave { IsWave agent.now others.now own rooms.items workers works }
             ensures drafts { AreDrafts agent.entry.now (others.entry.now ++ own ∷ []) result }
-            ensures shut { AreLetIn (WasShut G.worker_shut plant) result.works.items }
+            ensures shut { AreLetIn (WasShut G.worker_shut (length others.entry.now + 1) plant) result.works.items }
+            ensures refused { result.all ≡ false → 0 < length others.entry.now }
         {
             draft_beside(
                 scope, rt, agent, plant, gate, others, own, rooms, workers, works,
@@ -69,7 +71,8 @@ fn draft_beside<'s, E, R: Threads, G: Gate>(
 ) -> Drafts
     requires wave { IsWave agent.now others.now own rooms.items workers works }
     ensures drafts { AreDrafts agent.now (others.now ++ own ∷ []) result }
-    ensures shut { AreLetIn (WasShut G.worker_shut plant) result.works.items }
+    ensures shut { AreLetIn (WasShut G.worker_shut (length others.now + 1) plant) result.works.items }
+    ensures refused { result.all ≡ false → 0 < length others.now }
 {
     let room = rooms.take_last();
     let all = start_all(scope, agent, plant, gate, others, &mut rooms, &mut workers);
@@ -104,7 +107,8 @@ fn start_all<'s, E, G: Gate>(
     ensures started { (rest : List PairNo) × (pairs.now ≡ ordered workers.new.items ++ rest) × OnTrue result (rest ≡ []) }
     ensures few { length workers.new.items ≤ length pairs.now }
     ensures agent { All (IsFor agent.now) workers.new.items }
-    ensures plant { All (IsAt plant) workers.new.items }
+    ensures plant { All (IsAt plant (length pairs.now + 1)) workers.new.items }
+    ensures refused { result ≡ false → 0 < length pairs.now }
 {
     for pair in pairs {
         let room = rooms.take_last();
@@ -130,12 +134,13 @@ fn start<'s, E, G: Gate>(
     requires can { CanDraft agent.now pair }
     requires room { IsRoom agent.now.view.horizon room }
     requires number { (1 ≤ number) × (number ≤ MOST_WORKERS) }
-    ensures { IfSome result (IsStarted agent.now plant pair) }
+    ensures { IfSome result (IsStarted agent.now plant number pair) }
 {
     let order = Order {
         agent: Snapshot::of(agent),
         pair,
         plant,
+        number,
         gate: PhantomData,
     };
     let started = scope.spawn_with(
@@ -146,7 +151,7 @@ fn start<'s, E, G: Gate>(
             requires number { (1 ≤ number) × (number ≤ MOST_WORKERS) }
             ensures pair { result.pair ≡ pair }
             ensures worked { WorkedFor agent.entry.now result }
-            ensures shut { IsLetIn (WasShut G.worker_shut plant) result }
+            ensures shut { IsLetIn (G.worker_shut plant number) result }
         { draft_pair(agent, plant, gate, number, pair, room) },
     );
     started.ok()
@@ -157,8 +162,8 @@ fn join_all<R: Threads, G: Gate>(rt: &R, mut workers: Vec<Worker<G>>, works: &mu
     requires room { length workers.items + length works.old.items ≤ vec_capacity works.old }
     ensures pairs { pairs_of (reverse works.new.items) ≡ ordered workers.items ++ pairs_of (reverse works.old.items) }
     ensures worked { (A : AgentState) → All (IsFor A) workers.items → All (WorkedFor A) works.old.items → All (WorkedFor A) works.new.items }
-    ensures shut { (plant : ℕ) → All (IsAt plant) workers.items → AreLetIn (WasShut G.worker_shut plant) works.old.items
-        → AreLetIn (WasShut G.worker_shut plant) works.new.items }
+    ensures shut { (plant most : ℕ) → All (IsAt plant most) workers.items → AreLetIn (WasShut G.worker_shut most plant) works.old.items
+        → AreLetIn (WasShut G.worker_shut most plant) works.new.items }
 {
     while let Some(worker) = workers.pop() {
         works.push_reserved(worker.join(rt));

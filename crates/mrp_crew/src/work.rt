@@ -2,7 +2,7 @@
 ghost use Rattle.std.specs.Prelude.{◌≡◌, ◌≤◌};
 ghost use Rattle.mrp_agent.specs.Drafts.{CanDraft};
 ghost use Rattle.mrp_crew.specs.Rooms.{IsRoom, WorkedFor};
-ghost use Rattle.mrp_crew.specs.Shut.{IsLetIn, WasShut};
+ghost use Rattle.mrp_crew.specs.Shut.{IsLetIn};
 ghost use Rattle.mrp_qty.specs.declared.limits.TheConstants.{MOST_WORKERS};
 
 use crate::room::Room;
@@ -21,12 +21,13 @@ pub(crate) struct Work {
     pub(crate) room: Room,
 }
 
-/// What a thread is started for: the plan of a pair of a plant, as the agent stands then, at a gate of the
-/// kind `G`.
+/// What a thread is started for: the plan of a pair of a plant, as the agent stands then, drafted by the worker
+/// of this number, at a gate of the kind `G`.
 pub(crate) struct Order<G> {
     pub(crate) agent: Snapshot<Agent>,
     pub(crate) pair: PairNo,
     pub(crate) plant: usize,
+    pub(crate) number: u64,
     pub(crate) gate: PhantomData<G>,
 }
 
@@ -36,6 +37,7 @@ impl<G> Drop for Order<G> {
             agent: _agent,
             pair: _,
             plant: _,
+            number: _,
             gate: _,
         } = self;
     }
@@ -43,9 +45,8 @@ impl<G> Drop for Order<G> {
 
 impl<G: Gate> Promise<Work> for Order<G> {
     ghost use Rattle.mrp_crew.specs.Rooms.{Fulfils};
-    ghost use Rattle.mrp_crew.specs.Shut.{WasShut};
 
-    ghost kept_by = { λ order work. Fulfils (WasShut G.worker_shut) order work };
+    ghost kept_by = { λ order work. Fulfils G.worker_shut order work };
 }
 
 /// What the workers of a wave bring back, whether all of them could be started, and the rooms that none
@@ -71,7 +72,7 @@ pub(crate) fn draft_pair<G: Gate>(
     requires number { (1 ≤ number) × (number ≤ MOST_WORKERS) }
     ensures pair { result.pair ≡ pair }
     ensures worked { WorkedFor agent.now result }
-    ensures shut { IsLetIn (WasShut G.worker_shut plant) result }
+    ensures shut { IsLetIn (G.worker_shut plant number) result }
 {
     if !gate.worker(plant, number) {
         return Work {

@@ -1,6 +1,5 @@
 -- A plant books what was taken.
-use Rattle.std.proofs.Common.{◌≡◌, ℕ, ◌<◌, Bool, List, [], ◌∷◌, ◌++◌, inl, inr, length, get_or, set, map, refl, sym, ap, ◌∙◌, subst, arith, Contains}
-use Rattle.std.proofs.lemmas.Bool.{cases_eq}
+use Rattle.std.proofs.Common.{◌≡◌, ℕ, ◌<◌, Bool, List, [], ◌∷◌, ◌++◌, length, get_or, set, refl, sym, ap, ◌∙◌, subst, Contains}
 use Rattle.std.proofs.lemmas.List.{get_or_read}
 use Rattle.std.proofs.Math.Seq.{map-set_same}
 use Rattle.mrp_rows.specs.Table.{Table}
@@ -10,7 +9,6 @@ use Rattle.mrp_record.specs.declared.record.Record.{Record}
 use Rattle.mrp_record.specs.Form.{IsInForm}
 use Rattle.mrp_record.specs.Text.{IsBeginning}
 use Rattle.mrp_events.specs.Loads.{loads}
-use Rattle.mrp_events.specs.Local.{AreLegal}
 use Rattle.mrp_events.specs.State.{changed}
 use Rattle.mrp_events.proofs.Keeping.{changed_by}
 use Rattle.mrp_lane.specs.Ends.{End, Name, HasLegalList}
@@ -18,7 +16,7 @@ use Rattle.mrp_agent.specs.Shows.{Shows, BooksShow, form_of}
 use Rattle.mrp_agent.specs.State.{AgentState, incoming_at, incoming_place}
 use Rattle.mrp_agent.proofs.Formed.{legal_in_form}
 use Rattle.mrp_agent.proofs.Placed.{in_placed}
-use Rattle.mrp_run.specs.Plant.{AtWork, IsAtWork, Kept, lanes_to, names}
+use Rattle.mrp_run.specs.Plant.{AtWork, IsAtWork, Kept, lanes_to}
 use Rattle.mrp_run.proofs.Held.{lane_there, lanes_rise, list_is, one_more, put_back}
 use Rattle.mrp_run.proofs.Keeping.{nothing_done}
 use Rattle.mrp_run.proofs.Placed.{in_there}

@@ -1,14 +1,13 @@
 -- The ends of a plant's lanes: each lane has one of them.
-use Rattle.std.proofs.Common.{◌≡◌, ℕ, zero, suc, ◌+◌, ◌<◌, Bool, List, [], ◌∷◌, ◌++◌, inl, inr, length, get_or, set, map, refl, sym, ap, ◌∙◌, subst, arith, All, Contains}
-use Rattle.std.specs.List.{AllPairs, filter, range_with_len}
+use Rattle.std.proofs.Common.{◌≡◌, ℕ, ◌<◌, Bool, List, [], ◌∷◌, ◌++◌, inl, inr, length, get_or, set, sym, ap, ◌∙◌, subst, arith, Contains}
+use Rattle.std.specs.List.{AllPairs, filter}
 use Rattle.std.proofs.lemmas.Bool.{cases_eq, cases_lt}
 use Rattle.std.proofs.lemmas.List.{get_or-map, get_or-set_same, get_or-set_other, length-map, length-set, set-get_or}
-use Rattle.std.proofs.lemmas.List.Elements.{All-set, Contains-get_or}
-use Rattle.std.proofs.lemmas.List.Kept.{AllPairs-cons, AllPairs-filter}
+use Rattle.std.proofs.lemmas.List.Elements.{All-set}
+use Rattle.std.proofs.lemmas.List.Kept.{AllPairs-filter}
 use Rattle.std.proofs.Math.Seq.{map-set_same}
 use Rattle.mrp_rows.specs.Table.{Table}
 use Rattle.mrp_net.specs.Lanes.{lanes}
-use Rattle.mrp_net.proofs.Members.{In-from_contains, range_only}
 use Rattle.mrp_view.specs.View.{lane_numbers}
 use Rattle.mrp_record.specs.declared.record.Record.{Record}
 use Rattle.mrp_events.specs.State.{changed}

@@ -5,7 +5,7 @@ use Rattle.std.specs.Option.{option_to_list, IfSome}
 use Rattle.std.specs.Result.{IfErr, IfOk, OnOk, result_err}
 use Rattle.std.specs.declared.thread.PromisedHandle.{PromisedHandle}
 use Rattle.std.proofs.lemmas.List.{map-append}
-use Rattle.std.proofs.lemmas.List.Elements.{All-append, All-cons, All-contains, All-head, All-pop, All-push, All-tail, Contains-append_right}
+use Rattle.std.proofs.lemmas.List.Elements.{All-append, All-cons, All-contains, All-head, All-tail, Contains-append_right}
 use Rattle.mrp_run.specs.declared.fault.RunFault.{RunFault}
 use Rattle.mrp_run.specs.declared.fault.RunFault.TheVariants.{ThreadRefused}
 use Rattle.mrp_run.specs.declared.plant.Plant.{Plant}

@@ -1,5 +1,5 @@
 -- The lanes of a plant have a place in what it sees.
-use Rattle.std.proofs.Common.{◌≡◌, ℕ, Contains}
+use Rattle.std.proofs.Common.{ℕ, Contains}
 use Rattle.mrp_rows.specs.Table.{Table}
 use Rattle.mrp_net.proofs.Members.{Contains-from_in, In-from_contains, In-map}
 use Rattle.mrp_view.specs.View.{incoming_lane, incoming_lanes, outgoing_lane, outgoing_lanes}

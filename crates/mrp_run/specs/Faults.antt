@@ -1,7 +1,7 @@
 -- Whose fault it is that a run ends early, and what a crew's fault is to the run.
 use Rattle.std.specs.Prelude.{◌≡◌, ◌+◌, ◌≤◌, ◌<◌, ◌⊎◌, ℕ}
 use Rattle.mrp_rows.specs.declared.numbers.PlantNo.{PlantNo}
-use Rattle.mrp_crew.specs.Shut as workers
+use Rattle.mrp_crew.specs.Shut as crews
 use Rattle.mrp_crew.specs.declared.fault.CrewFault.{CrewFault}
 use Rattle.mrp_crew.specs.declared.fault.CrewFault.TheVariants as crew
 use Rattle.mrp_run.specs.declared.fault.RunFault.{RunFault}
@@ -11,11 +11,15 @@ use Rattle.mrp_run.specs.declared.fault.RunFault.TheVariants.{Memory, ThreadRefu
 abbrev pub WasSpent : (ℕ → ℕ → Type 0) → ℕ → ℕ → Type 0
 WasSpent Open turns plant = (turn : ℕ) → 1 ≤ turn → turn ≤ turns → Open plant turn
 
+-- a plant has taken one of so many turns or more: the gate was open to each of them
+abbrev pub HasTurned : (ℕ → ℕ → Type 0) → ℕ → ℕ → Type 0
+HasTurned Open turns plant = (used : ℕ) × (1 ≤ used) × (used ≤ turns) × WasSpent Open used plant
+
 -- the gate was shut to the turn of a plant that came after those that it had used, one of those that it was given, or
--- to some worker of it
-abbrev pub WasShut : (ℕ → ℕ → Type 0) → (ℕ → ℕ → Type 0) → (ℕ → ℕ → Type 0) → ℕ → ℕ → Type 0
-WasShut Open Shut Worker turns plant =
-    ((used : ℕ) × (used < turns) × WasSpent Open used plant × Shut plant (used + 1)) ⊎ workers.WasShut Worker plant
+-- to one of its workers, of whom there are so many
+abbrev pub WasShut : (ℕ → ℕ → Type 0) → (ℕ → ℕ → Type 0) → (ℕ → ℕ → Type 0) → ℕ → ℕ → ℕ → Type 0
+WasShut Open Shut Worker workers turns plant =
+    ((used : ℕ) × (used < turns) × WasSpent Open used plant × Shut plant (used + 1)) ⊎ crews.WasShut Worker workers plant
 
 -- no plant has used its turns
 abbrev pub never_spent : ℕ → Type 0

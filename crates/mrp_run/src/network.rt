@@ -55,7 +55,7 @@ pub fn run_network<R: Threads + Wait + Sync, G: Gate>(
     gate: &G,
 ) -> Result<Outcome, RunFault>
     ensures outcome { IfOk result (λ o. IsOutcome net.now.network o) }
-    ensures fault { IfErr result (IsFaultIn (WasShut G.turn_open G.turn_shut G.worker_shut MOST_TURNS) (WasSpent G.turn_open MOST_TURNS) net.now.network) }
+    ensures fault { IfErr result (IsFaultIn (WasShut G.turn_open G.turn_shut G.worker_shut settings.workers MOST_TURNS) (WasSpent G.turn_open MOST_TURNS) net.now.network) }
 {
     run_network_within(rt, alloc, net, settings, gate, MOST_TURNS)
 }
@@ -74,7 +74,7 @@ pub fn run_network_within<R: Threads + Wait + Sync, G: Gate>(
     turns: u64,
 ) -> Result<Outcome, RunFault>
     ensures outcome { IfOk result (λ o. IsOutcome net.now.network o) }
-    ensures fault { IfErr result (IsFaultIn (WasShut G.turn_open G.turn_shut G.worker_shut turns) (WasSpent G.turn_open turns) net.now.network) }
+    ensures fault { IfErr result (IsFaultIn (WasShut G.turn_open G.turn_shut G.worker_shut settings.workers turns) (WasSpent G.turn_open turns) net.now.network) }
 {
     let ready = ready_plants(alloc, net, settings.capacity())?;
     let through = run_plants::<R, G, Brand>(rt, alloc, ready, settings.workers(), gate, turns)?;

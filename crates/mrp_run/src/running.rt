@@ -3,7 +3,7 @@ ghost use Rattle.std.specs.Prelude.{◌≡◌, ◌≤◌, Err, IfErr, IfOk, OnOk
 ghost use Rattle.mrp_crew.specs.declared.fault.CrewFault.{CrewFault};
 ghost use Rattle.mrp_run.specs.Faults as faults;
 ghost use Rattle.mrp_crew.specs.Shut.{WasShut as WasWorkerShut};
-ghost use Rattle.mrp_run.specs.Faults.{AllowsOf, IsOf, IsToldOrOf, WasShut, WasSpent, never_spent};
+ghost use Rattle.mrp_run.specs.Faults.{AllowsOf, HasTurned, IsOf, IsToldOrOf, WasShut, WasSpent, never_spent};
 ghost use Rattle.mrp_run.specs.Plant as at;
 ghost use Rattle.mrp_run.specs.Steps.{IsAtWork, IsUnfinished, Keeps, Finishes};
 ghost use Rattle.mrp_run.specs.declared.fault.RunFault.{RunFault};
@@ -53,10 +53,11 @@ pub fn run_plant<R: Threads + Wait + Sync, G: Gate, S: StopRule>(
 ) -> Result<(Agent, Vec<SendEnd>, Vec<TakeEnd>), RunFault>
     requires work { at.IsAtWork agent sends.items takes.items }
     requires horizon { crew.old.horizon ≡ agent.view.horizon }
-    requires rule { AllowsOf S.holds (WasShut G.turn_open G.turn_shut G.worker_shut turns) (WasSpent G.turn_open turns) plant }
+    requires rule { AllowsOf S.holds (WasShut G.turn_open G.turn_shut G.worker_shut crew.old.workers turns) (WasSpent G.turn_open turns) plant }
     ensures crew { crew.new ≡ crew.old }
     ensures kept { IfOk result (λ r. at.Kept agent sends.items takes.items r.0 r.1.items r.2.items) }
     ensures finished { IfOk result (λ r. at.HasFinished agent sends.items takes.items r.0 r.1.items r.2.items) }
+    ensures turned { OnOk result (HasTurned G.turn_open turns plant.0) }
     ensures fault { IfErr result S.holds }
 {
     let mut owned = Plant {
@@ -90,7 +91,7 @@ pub(crate) fn run_owned<R: Threads + Wait + Sync, G: Gate, S: StopRule>(
 ) -> Result<Plant, RunFault>
     requires work { IsAtWork plant }
     requires horizon { crew.old.horizon ≡ plant.agent.view.horizon }
-    requires rule { AllowsOf S.holds (WasShut G.turn_open G.turn_shut G.worker_shut turns) (WasSpent G.turn_open turns) number }
+    requires rule { AllowsOf S.holds (WasShut G.turn_open G.turn_shut G.worker_shut crew.old.workers turns) (WasSpent G.turn_open turns) number }
     ensures crew { crew.new ≡ crew.old }
     ensures finishes { IfOk result (λ after. Finishes plant after) }
     ensures fault { IfErr result S.holds }
@@ -125,7 +126,8 @@ fn work<R: Threads + Wait + Sync, G: Gate, S: StopRule>(
     requires horizon { crew.old.horizon ≡ plant.old.agent.view.horizon }
     ensures crew { crew.new ≡ crew.old }
     ensures finishes { OnOk result (Finishes plant.old plant.new) }
-    ensures fault { IfErr result (IsToldOrOf S.holds (WasShut G.turn_open G.turn_shut G.worker_shut turns) (WasSpent G.turn_open turns) number) }
+    ensures turned { OnOk result (HasTurned G.turn_open turns number.0) }
+    ensures fault { IfErr result (IsToldOrOf S.holds (WasShut G.turn_open G.turn_shut G.worker_shut crew.old.workers turns) (WasSpent G.turn_open turns) number) }
     ensures unfinished { result ≡ Err RunFault.Stopped → IsUnfinished plant.old plant.new }
 {
     for turn in 0..turns {
@@ -174,7 +176,7 @@ fn take_turn<R: Threads + Wait + Sync, G: Gate>(
     requires horizon { crew.old.horizon ≡ plant.old.agent.view.horizon }
     ensures crew { crew.new ≡ crew.old }
     ensures kept { Keeps plant.old plant.new }
-    ensures fault { IfErr result (IsOf (WasWorkerShut G.worker_shut) never_spent number) }
+    ensures fault { IfErr result (IsOf (WasWorkerShut G.worker_shut crew.old.workers) never_spent number) }
 {
     let came = move_all(rt, plant, Lanes::Incoming);
     let planned = plan_all(rt, alloc, number, plant, crew, gate)?;
@@ -195,7 +197,7 @@ fn plan_all<R: Threads + Wait + Sync, G: Gate>(
     requires horizon { crew.old.horizon ≡ plant.old.agent.view.horizon }
     ensures crew { crew.new ≡ crew.old }
     ensures kept { Keeps plant.old plant.new }
-    ensures fault { IfErr result (IsOf (WasWorkerShut G.worker_shut) never_spent number) }
+    ensures fault { IfErr result (IsOf (WasWorkerShut G.worker_shut crew.old.workers) never_spent number) }
     ensures by_crew { IfErr result (λ fault. (why : CrewFault) × (fault ≡ faults.of_crew number why)) }
 {
     match crew.plan_ready(rt, alloc, &mut plant.agent, number.0, gate) {

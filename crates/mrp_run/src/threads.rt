@@ -52,7 +52,7 @@ pub(crate) fn run_plants<R: Threads + Wait + Sync, G: Gate, S: StopRule + Send +
 ) -> Result<Vec<Plant>, RunFault>
     requires work { All IsAtWork plants.items }
     requires workers { (1 ≤ workers) × (workers ≤ MOST_WORKERS) }
-    requires rule { AllowsOfFirst S.holds (WasShut G.turn_open G.turn_shut G.worker_shut turns) (WasSpent G.turn_open turns) (length plants.items) }
+    requires rule { AllowsOfFirst S.holds (WasShut G.turn_open G.turn_shut G.worker_shut workers turns) (WasSpent G.turn_open turns) (length plants.items) }
     ensures all { IfOk result (λ after. length after.items ≡ length plants.items) }
     ensures each { IfOk result (λ after. EachAt (λ p P. Finishes (slice_index_or plants.items p P) P) after.items) }
     ensures fault { IfErr result S.holds }
@@ -73,7 +73,7 @@ fn run_until<R: Threads + Wait + Sync, G: Gate, S: StopRule + Send + Sync>(
 ) -> Result<Vec<Plant>, RunFault>
     requires work { All IsAtWork plants.items }
     requires workers { (1 ≤ workers) × (workers ≤ MOST_WORKERS) }
-    requires rule { AllowsOfFirst S.holds (WasShut G.turn_open G.turn_shut G.worker_shut turns) (WasSpent G.turn_open turns) (length plants.items) }
+    requires rule { AllowsOfFirst S.holds (WasShut G.turn_open G.turn_shut G.worker_shut workers turns) (WasSpent G.turn_open turns) (length plants.items) }
     ensures each { IfOk result (λ after. AllZip Finishes plants.items after.items) }
     ensures fault { IfErr result S.holds }
 {
@@ -83,7 +83,7 @@ fn run_until<R: Threads + Wait + Sync, G: Gate, S: StopRule + Send + Sync>(
         move |scope| -> Result<Vec<Plant>, RunFault>
             requires work { All IsAtWork plants.items }
             requires workers { (1 ≤ workers) × (workers ≤ MOST_WORKERS) }
-            requires rule { AllowsOfFirst S.holds (WasShut G.turn_open G.turn_shut G.worker_shut turns) (WasSpent G.turn_open turns) (length plants.items) }
+            requires rule { AllowsOfFirst S.holds (WasShut G.turn_open G.turn_shut G.worker_shut workers turns) (WasSpent G.turn_open turns) (length plants.items) }
             ensures each { IfOk result (λ after. AllZip Finishes plants.items after.items) }
             ensures fault { IfErr result S.holds }
         { run_beside(scope, rt, alloc, plants, workers, gate, stop, turns) },
@@ -120,7 +120,7 @@ fn run_beside<'s, E, R: Threads + Wait + Sync, G: Gate, S: StopRule + Send + Syn
 ) -> Result<Vec<Plant>, RunFault>
     requires work { All IsAtWork plants.items }
     requires workers { (1 ≤ workers) × (workers ≤ MOST_WORKERS) }
-    requires rule { AllowsOfFirst S.holds (WasShut G.turn_open G.turn_shut G.worker_shut turns) (WasSpent G.turn_open turns) (length plants.items) }
+    requires rule { AllowsOfFirst S.holds (WasShut G.turn_open G.turn_shut G.worker_shut workers turns) (WasSpent G.turn_open turns) (length plants.items) }
     ensures each { IfOk result (λ after. AllZip Finishes plants.items after.items) }
     ensures fault { IfErr result S.holds }
 {
@@ -164,7 +164,7 @@ fn start_all<'s, E, R: Threads + Wait + Sync, G: Gate, S: StopRule + Send + Sync
 ) -> Result<(), RunFault>
     requires work { All IsAtWork plants.items }
     requires workers { (1 ≤ workers) × (workers ≤ MOST_WORKERS) }
-    requires rule { AllowsOfFirst S.holds (WasShut G.turn_open G.turn_shut G.worker_shut turns) (WasSpent G.turn_open turns) (length plants.items) }
+    requires rule { AllowsOfFirst S.holds (WasShut G.turn_open G.turn_shut G.worker_shut workers turns) (WasSpent G.turn_open turns) (length plants.items) }
     requires room { (threads.old.items ≡ []) × (length plants.items ≤ vec_capacity threads.old) }
     ensures started { (rest : List Plant) × (plants.items ≡ started threads.new.items ++ rest) × OnOk result (rest ≡ []) }
     ensures refused { IfErr result (λ fault. fault ≡ RunFault.ThreadRefused) }
@@ -194,7 +194,7 @@ fn start<'s, E, R: Threads + Wait + Sync, G: Gate, S: StopRule + Send + Sync>(
 ) -> Option<Running<S>>
     requires work { IsAtWork plant }
     requires workers { (1 ≤ workers) × (workers ≤ MOST_WORKERS) }
-    requires rule { AllowsOf S.holds (WasShut G.turn_open G.turn_shut G.worker_shut turns) (WasSpent G.turn_open turns) number }
+    requires rule { AllowsOf S.holds (WasShut G.turn_open G.turn_shut G.worker_shut workers turns) (WasSpent G.turn_open turns) number }
     ensures plant { IfSome result (λ thread. thread.promise.plant.value ≡ plant) }
 {
     let duty = Duty {
@@ -206,7 +206,7 @@ fn start<'s, E, R: Threads + Wait + Sync, G: Gate, S: StopRule + Send + Sync>(
         move || -> Back
             requires work { IsAtWork plant }
             requires workers { (1 ≤ workers) × (workers ≤ MOST_WORKERS) }
-            requires rule { AllowsOf S.holds (WasShut G.turn_open G.turn_shut G.worker_shut turns) (WasSpent G.turn_open turns) number }
+            requires rule { AllowsOf S.holds (WasShut G.turn_open G.turn_shut G.worker_shut workers turns) (WasSpent G.turn_open turns) number }
         { run_alone(rt, alloc, number, plant, workers, gate, stop, turns) },
     );
     started.ok()
@@ -225,7 +225,7 @@ fn run_alone<R: Threads + Wait + Sync, G: Gate, S: StopRule>(
 ) -> Back
     requires work { IsAtWork plant }
     requires workers { (1 ≤ workers) × (workers ≤ MOST_WORKERS) }
-    requires rule { AllowsOf S.holds (WasShut G.turn_open G.turn_shut G.worker_shut turns) (WasSpent G.turn_open turns) number }
+    requires rule { AllowsOf S.holds (WasShut G.turn_open G.turn_shut G.worker_shut workers turns) (WasSpent G.turn_open turns) number }
     ensures plant { Finished plant result }
     ensures fault { IfErr result S.holds }
 {
@@ -248,6 +248,7 @@ fn crew_for<S: StopRule>(
 ) -> Result<Crew, RunFault>
     requires workers { (1 ≤ workers) × (workers ≤ MOST_WORKERS) }
     requires rule { S.holds RunFault.Memory }
+    ensures workers { IfOk result (λ crew. crew.workers ≡ workers) }
     ensures horizon { IfOk result (λ crew. crew.horizon ≡ horizon) }
     ensures fault { IfErr result (λ fault. fault ≡ RunFault.Memory) }
 {

@@ -1,5 +1,5 @@
 -- What a fault of a run says of its gate, and that a gate that is always open is never answered as shut.
-use Rattle.std.proofs.Common.{◌≡◌, ◌⊎◌, ℕ, Bool, true, false, List, Option, Result, Ok, Err, IfErr, inl, inr, ⊎_elim, subst, sym}
+use Rattle.std.proofs.Common.{◌≡◌, ℕ, Bool, true, false, List, Option, Result, Ok, Err, IfErr, ⊎_elim, subst, sym}
 use Rattle.std.proofs.lemmas.Bool.{false≢true}
 use Rattle.mrp_rows.specs.Table.{Table}
 use Rattle.mrp_run.specs.declared.fault.RunFault.{RunFault}
@@ -10,7 +10,7 @@ use Rattle.mrp_text.specs.declared.fault.TextFault.{TextFault}
 use Rattle.mrp_text.specs.declared.fault.TextFault.TheVariants as fault
 use Rattle.mrp_choice.specs.declared.choice.Choice.TheVariants.{Plan}
 use Rattle.mrp_text.specs.Answer.{IsAnswerRefusal, IsNoShutGate}
-use Rattle.mrp_text.specs.Runs.{IsInNetwork, IsOfRun, IsShutFor}
+use Rattle.mrp_text.specs.Runs.{IsInNetwork, IsOfRun}
 use Rattle.mrp_text.specs.Text.{IsRunFault, IsRunRefusal, IsTextRefusal}
 
 pub in_network : (Shut Spent : ℕ → Type 0) (N : Table) (f : RunFault) → IsFaultIn Shut Spent N f → IsInNetwork N f
@@ -30,34 +30,34 @@ run_fault Shut Spent N run.Stopped said is of = subst (IsRunFault Shut Spent N) 
 -- ---- a gate that is always open
 
 -- of turns it may say anything
-never_shut : (Open : ℕ → ℕ → Type 0) (turns p : ℕ) → WasShut Open (λ _ _. ⊥) (λ _ _. ⊥) turns p → ⊥
-never_shut Open turns p shut = ⊎_elim (λ turn. turn.3) (λ worker. worker.3) shut
+never_shut : (Open : ℕ → ℕ → Type 0) (crew turns p : ℕ) → WasShut Open (λ _ _. ⊥) (λ _ _. ⊥) crew turns p → ⊥
+never_shut Open crew turns p shut = ⊎_elim (λ turn. turn.3) (λ worker. worker.3) shut
 
-abbrev IsOpenRefusal : (ℕ → ℕ → Type 0) → ℕ → (ℕ → Type 0) → Table → TextFault → Type 0
-IsOpenRefusal Open turns Spent = IsRunRefusal (WasShut Open (λ _ _. ⊥) (λ _ _. ⊥) turns) Spent
+abbrev IsOpenRefusal : (ℕ → ℕ → Type 0) → ℕ → ℕ → (ℕ → Type 0) → Table → TextFault → Type 0
+IsOpenRefusal Open crew turns Spent = IsRunRefusal (WasShut Open (λ _ _. ⊥) (λ _ _. ⊥) crew turns) Spent
 
-open_refusal : (Open : ℕ → ℕ → Type 0) (turns : ℕ) (Spent : ℕ → Type 0) (N : Table) (f : TextFault) → IsOpenRefusal Open turns Spent N f → IsRunRefusal (λ _. ⊥) (λ _. Unit {0}) N f
-open_refusal Open turns Spent N fault.ThreadRefused said = said
-open_refusal Open turns Spent N (fault.GateShut name) said = absurd (never_shut Open turns said.1.0 said.1.2)
-open_refusal Open turns Spent N fault.Stopped said = (said.0, (said.1.0, said.1.1, tt))
-open_refusal Open turns Spent N _ said = said
+open_refusal : (Open : ℕ → ℕ → Type 0) (crew turns : ℕ) (Spent : ℕ → Type 0) (N : Table) (f : TextFault) → IsOpenRefusal Open crew turns Spent N f → IsRunRefusal (λ _. ⊥) (λ _. Unit {0}) N f
+open_refusal Open crew turns Spent N fault.ThreadRefused said = said
+open_refusal Open crew turns Spent N (fault.GateShut name) said = absurd (never_shut Open crew turns said.1.0 said.1.2)
+open_refusal Open crew turns Spent N fault.Stopped said = (said.0, (said.1.0, said.1.1, tt))
+open_refusal Open crew turns Spent N _ said = said
 
-open_text : (Open : ℕ → ℕ → Type 0) (turns : ℕ) (Spent : ℕ → Type 0) (known : Option (List ℕ)) (f : TextFault) → IsTextRefusal known (IsOpenRefusal Open turns Spent) f
+open_text : (Open : ℕ → ℕ → Type 0) (crew turns : ℕ) (Spent : ℕ → Type 0) (known : Option (List ℕ)) (f : TextFault) → IsTextRefusal known (IsOpenRefusal Open crew turns Spent) f
     → IsTextRefusal known (IsRunRefusal (λ _. ⊥) (λ _. Unit {0})) f
-open_text Open turns Spent known (fault.Table e) said = said
-open_text Open turns Spent known fault.Memory said = said
-open_text Open turns Spent known f said = (said.0, said.1, said.2, open_refusal Open turns Spent said.0 f said.3)
+open_text Open crew turns Spent known (fault.Table e) said = said
+open_text Open crew turns Spent known fault.Memory said = said
+open_text Open crew turns Spent known f said = (said.0, said.1, said.2, open_refusal Open crew turns Spent said.0 f said.3)
 
-pub open_refuses : {U : Type 0} (Open : ℕ → ℕ → Type 0) (turns : ℕ) (Spent : ℕ → Type 0) (known : Option (List ℕ)) (r : Result U TextFault)
-    → IfErr r (IsTextRefusal known (IsOpenRefusal Open turns Spent)) → IfErr r (IsTextRefusal known (IsRunRefusal (λ _. ⊥) (λ _. Unit {0})))
-open_refuses Open turns Spent known (Ok u) said = tt
-open_refuses Open turns Spent known (Err f) said = open_text Open turns Spent known f said
+pub open_refuses : {U : Type 0} (Open : ℕ → ℕ → Type 0) (crew turns : ℕ) (Spent : ℕ → Type 0) (known : Option (List ℕ)) (r : Result U TextFault)
+    → IfErr r (IsTextRefusal known (IsOpenRefusal Open crew turns Spent)) → IfErr r (IsTextRefusal known (IsRunRefusal (λ _. ⊥) (λ _. Unit {0})))
+open_refuses Open crew turns Spent known (Ok u) said = tt
+open_refuses Open crew turns Spent known (Err f) said = open_text Open crew turns Spent known f said
 
 -- so of a plan that isn't asked for on one thread
-pub open_answer : {U : Type 0} (Open : ℕ → ℕ → Type 0) (turns : ℕ) (Spent : ℕ → Type 0) (known : Option (List ℕ)) (r : Result U TextFault) (workers capacity : ℕ) (single : Bool)
-    → single ≡ false → IfErr r (IsTextRefusal known (IsOpenRefusal Open turns Spent)) → IfErr r (IsTextRefusal known (IsAnswerRefusal (Plan workers capacity single)))
-open_answer Open turns Spent known r workers capacity true e said = absurd (false≢true (sym e))
-open_answer Open turns Spent known r workers capacity false e said = open_refuses Open turns Spent known r said
+pub open_answer : {U : Type 0} (Open : ℕ → ℕ → Type 0) (crew turns : ℕ) (Spent : ℕ → Type 0) (known : Option (List ℕ)) (r : Result U TextFault) (workers capacity : ℕ) (single : Bool)
+    → single ≡ false → IfErr r (IsTextRefusal known (IsOpenRefusal Open crew turns Spent)) → IfErr r (IsTextRefusal known (IsAnswerRefusal (Plan workers capacity single)))
+open_answer Open crew turns Spent known r workers capacity true e said = absurd (false≢true (sym e))
+open_answer Open crew turns Spent known r workers capacity false e said = open_refuses Open crew turns Spent known r said
 
 -- ---- a refusal that is no shut gate
 

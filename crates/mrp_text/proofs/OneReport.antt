@@ -1,8 +1,6 @@
 -- The plan of a network that can be planned is one, and so is each report of a text; one that has a report is not refused.
-use Rattle.std.proofs.Common.{◌≡◌, ℕ, ◌+◌, ◌≤◌, ◌<◌, Bool, true, false, List, ◌++◌, Result, Ok, Err, Some, refl, sym, ap, ◌∙◌, subst, arith}
-use Rattle.std.specs.Prelude.{slice_index, slice_get}
+use Rattle.std.proofs.Common.{◌≡◌, ℕ, true, false, List, ◌++◌, Ok, Err, refl, sym, ap, ◌∙◌, subst, arith}
 use Rattle.csv.specs.Reading.{strip_bom, records, default_config}
-use Rattle.mrp_qty.specs.declared.quantity.TheConstants.{MOST}
 use Rattle.mrp_lot.specs.One.{PlanRows}
 use Rattle.mrp_rows.specs.Table.{Table, IsTable, pair_no}
 use Rattle.mrp_net.specs.Sums.{pair_at}
@@ -13,7 +11,6 @@ use Rattle.mrp_grammar.specs.Reading.{OfRows, Reads}
 use Rattle.mrp_grammar.proofs.OneWay.{reads_one_way}
 use Rattle.mrp_net.specs.Names.{IsNamed}
 use Rattle.mrp_net.specs.Plan.{Fits, plan_of}
-use Rattle.mrp_net.specs.Sums.{supply}
 use Rattle.mrp_net.proofs.Naming.{same_place}
 use Rattle.mrp_net.proofs.Sharing.{pairs_are_found}
 use Rattle.mrp_loops.specs.Sized.{IsSized}
@@ -29,7 +26,7 @@ use Rattle.mrp_text.specs.declared.fault.TextFault.TheVariants as fault
 use Rattle.mrp_text.specs.Answer.{IsAnswer, IsAnswerRefusal}
 use Rattle.mrp_text.specs.Fault.{status_of, table_status_of}
 use Rattle.mrp_text.specs.Laws.{BytesMakeOneTable, ReportsAreOne, ReportsExcludeRefusals}
-use Rattle.mrp_text.specs.Text.{IsPegRefusal, IsPegReport, IsPlanReport, IsRefusal, IsRunRefusal, IsTableOf, IsTextRefusal}
+use Rattle.mrp_text.specs.Text.{IsPegRefusal, IsPegReport, IsPlanReport, IsPlanRows, IsRefusal, IsRunRefusal}
 
 -- ---- the plan
 
@@ -40,6 +37,10 @@ the_plan N plans sized fits = (one_plan N sized.table sized.loop_free).only plan
 -- so its rows are the plan report
 pub is_plan_report : (N : Table) (plans : List PlanRows) → IsSized N → Fits N plans → IsPlanReport N (plan_text N plans ++ late_text N plans)
 is_plan_report N plans sized fits = (sized, ap (λ (p : List PlanRows). plan_text N p ++ late_text N p) (the_plan N plans sized fits))
+
+-- and its plan rows those of the network
+pub are_plan_rows : (N : Table) (plans : List PlanRows) → IsSized N → Fits N plans → IsPlanRows N (plan_text N plans)
+are_plan_rows N plans sized fits = (sized, ap (plan_text N) (the_plan N plans sized fits))
 
 -- ---- one report
 

@@ -1,5 +1,5 @@
 -- The fault of a text after a fault of the loop check or of the bound, where there is memory for the names of its pairs.
-use Rattle.std.specs.Prelude.{◌≡◌, map, All}
+use Rattle.std.specs.Prelude.{map, All}
 use Rattle.mrp_rows.specs.Table.{Table, IsPair}
 use Rattle.mrp_loops.specs.declared.loops.LoopFault.{LoopFault}
 use Rattle.mrp_loops.specs.declared.loops.LoopFault.TheVariants as check

@@ -1,7 +1,9 @@
 -- With which status a program ends, and what it reports.
-use Rattle.std.specs.Prelude.{◌≡◌, ℕ, List, codes, Option, Some, None, Result, Ok, Err}
+use Rattle.std.specs.Prelude.{◌≡◌, ℕ, List, codes, Option, Some, None, Result, Ok, Err, IfErr}
 use Rattle.std.specs.declared.io.ErrorKind.{ErrorKind}
 use Rattle.std.specs.declared.io.ErrorKind.TheVariants as cause
+use Rattle.mrp_report.specs.declared.fault.ReportFault.{ReportFault}
+use Rattle.mrp_report.specs.declared.fault.ReportFault.TheVariants.{WriteFault}
 use Rattle.mrp_text.specs.declared.fault.TextFault.{TextFault}
 use Rattle.mrp_text.specs.declared.fault.TextFault.TheVariants as fault
 use Rattle.mrp_text.specs.Lines.{SendsText, fault_line}
@@ -18,10 +20,15 @@ IsStatusOfUnread _ status = status ≡ 3
 
 -- ---- what is reported
 
--- where there is a fault, its line, or a front of it where that could not be written; else nothing
-abbrev pub Reports : {W U E : Type 0} → (W → Option (List ℕ)) → W → W → Result U E → Option TextFault → Type 0
-Reports contents old new reported None = new ≡ old
-Reports contents old new reported (Some met) = SendsText (contents old) (contents new) reported (fault_line met)
+-- a line, or a front of it where a write failed
+pub record Tells (old new : Option (List ℕ)) (reported : Result (Unit {0}) ReportFault) (line : List ℕ) : Type 0 where
+  pub sent : SendsText old new reported line
+  pub failed : IfErr reported (λ met. met ≡ WriteFault)
+
+-- where there is a fault, its line; else nothing, and nothing failed
+abbrev pub Reports : {W : Type 0} → (W → Option (List ℕ)) → W → W → Result (Unit {0}) ReportFault → Option TextFault → Type 0
+Reports contents old new reported None = (new ≡ old) × (reported ≡ Ok tt)
+Reports contents old new reported (Some met) = Tells (contents old) (contents new) reported (fault_line met)
 
 -- after the work: its fault
 abbrev pub fault_in : {U : Type 0} → Result U TextFault → Option TextFault

@@ -42,6 +42,10 @@ plan_report N = plan_text N (plan_of N) ++ late_text N (plan_of N)
 abbrev pub IsPlanReport : Table → List ℕ → Type 0
 IsPlanReport N text = IsPlannable N × (text ≡ plan_report N)
 
+-- the plan rows of the network
+abbrev pub IsPlanRows : Table → List ℕ → Type 0
+IsPlanRows N rows = IsPlannable N × (rows ≡ plan_text N (plan_of N))
+
 -- the code rows of the network
 abbrev pub IsCodeReport : Table → List ℕ → Type 0
 IsCodeReport N text = IsPlannable N × ((codes : List ℕ) × AreCodes N codes × (text ≡ code_text N codes))
@@ -66,6 +70,11 @@ Writes old new (Ok _) IsText = (text : List ℕ) × IsText text × Appends old n
 Writes old new (Err fault.WriteFault) IsText = (text : List ℕ) × IsText text × AppendsFront old new text
 Writes old new (Err fault.Memory) IsText = Keeps old new ⊎ ((text : List ℕ) × IsText text × AppendsSome old new text)
 Writes old new (Err _) IsText = Keeps old new
+
+-- where memory was refused: nothing was written; or all plan rows were, and no late order
+abbrev pub WritesRows : {W U : Type 0} → (W → Option (List ℕ)) → W → W → Result U TextFault → (List ℕ → Type 0) → Type 0
+WritesRows contents old new (Err fault.Memory) IsRows = (new ≡ old) ⊎ ((rows : List ℕ) × IsRows rows × Appends (contents old) (contents new) rows)
+WritesRows contents old new _ IsRows = Unit {0}
 
 -- ---- refusals
 

@@ -3,7 +3,7 @@
 ghost use Rattle.std.specs.Prelude.{◌≡◌, IfErr};
 ghost use Rattle.mrp_choice.specs.Range.{IsInRange};
 ghost use Rattle.mrp_text.specs.Answer.{IsAnswer, IsAnswerRefusal, IsBeforeReport, IsNoShutGate, exit_status_of};
-ghost use Rattle.mrp_text.specs.Text.{Writes, OfTable, IsTextRefusal};
+ghost use Rattle.mrp_text.specs.Text.{Writes, WritesRows, OfTable, IsPlanRows, IsTextRefusal};
 
 use crate::fault::{TextFault, status};
 use crate::text::{check_text, cums_text, drive_text, peg_text, plan_text};
@@ -30,6 +30,7 @@ pub fn answer<T: Threads + Wait + Sync, R: Read + Drop, W: Write>(
 ) -> Result<(), TextFault>
     requires { IsInRange choice }
     ensures text { Writes (W.contents writer.old) (W.contents writer.new) result (λ text. OfTable (R.remaining reader) (λ N. IsAnswer choice.entry N text)) }
+    ensures rows { WritesRows W.contents writer.old writer.new result (λ rows. OfTable (R.remaining reader) (λ N. IsPlanRows N rows)) }
     ensures refusal { IfErr result (IsTextRefusal (R.remaining reader) (IsAnswerRefusal choice.entry)) }
     ensures gate { IfErr result IsNoShutGate }
     ensures untouched { IfErr result (λ fault. IsBeforeReport choice.entry fault → writer.new ≡ writer.old) }

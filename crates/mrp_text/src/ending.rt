@@ -1,10 +1,9 @@
 //! How a program ends: the status of the process, and the line that it reports.
 
-ghost use Rattle.std.specs.Prelude.{◌≡◌};
+ghost use Rattle.std.specs.Prelude.{◌≡◌, Ok};
 ghost use Rattle.std.specs.IoError.{error_kind};
 ghost use Rattle.mrp_text.specs.Answer.{exit_status_of};
-ghost use Rattle.mrp_text.specs.Ending.{IsStatusOfUnread, Reports, fault_in, help_fault, help_status, unread_line};
-ghost use Rattle.mrp_text.specs.Lines.{SendsText};
+ghost use Rattle.mrp_text.specs.Ending.{IsStatusOfUnread, Reports, Tells, fault_in, help_fault, help_status, unread_line};
 
 use crate::answers::exit_status;
 use crate::fault::TextFault;
@@ -30,6 +29,7 @@ pub struct Ending {
 /// The end after the work, with the line that reports a fault to this writer.
 pub fn ended<W: Write>(done: &Result<(), TextFault>, writer: &mut W) -> Ending
     ensures status { result.status ≡ exit_status_of done.now }
+    ensures printed { result.printed ≡ Ok tt }
     ensures line { Reports W.contents writer.old writer.new result.reported (fault_in done.now) }
 {
     let reported = match done {
@@ -63,7 +63,8 @@ pub fn after_help<W: Write>(printed: Result<(), ReportFault>, writer: &mut W) ->
 /// The end where the arguments can't be read: one that is no text is a word that is refused.
 pub fn unread<W: Write>(error: &io::Error, writer: &mut W) -> Ending
     ensures status { IsStatusOfUnread (error_kind error.now) result.status }
-    ensures line { SendsText (W.contents writer.old) (W.contents writer.new) result.reported (unread_line (error_kind error.now)) }
+    ensures printed { result.printed ≡ Ok tt }
+    ensures line { Tells (W.contents writer.old) (W.contents writer.new) result.reported (unread_line (error_kind error.now)) }
 {
     if error.kind() == io::ErrorKind::InvalidData {
         Ending {

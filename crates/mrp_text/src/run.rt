@@ -26,7 +26,7 @@ pub(crate) fn run_plan<T: Threads + Wait + Sync, G: Gate>(
 ) -> Result<Plan, TextFault>
     requires plannable { IsPlannable net.now.network }
     ensures fits { IfOk result (Fits net.now.network) }
-    ensures fault { IfErr result (IsRunFault (WasShut G.turn_open G.turn_shut G.worker_shut MOST_TURNS) (WasSpent G.turn_open MOST_TURNS) net.now.network) }
+    ensures fault { IfErr result (IsRunFault (WasShut G.turn_open G.turn_shut G.worker_shut settings.workers MOST_TURNS) (WasSpent G.turn_open MOST_TURNS) net.now.network) }
 {
     match run_network(rt, alloc, net, settings, gate) {
         Ok(outcome) => Ok(Plan::gather(net, outcome.plans)),

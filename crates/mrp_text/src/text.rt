@@ -10,7 +10,7 @@ ghost use Rattle.std.specs.Prelude.{◌≡◌, ◌≢◌, ◌≤◌, IfErr};
 ghost use Rattle.mrp_run.specs.Faults.{WasShut, WasSpent};
 ghost use Rattle.mrp_qty.specs.declared.limits.TheConstants.{MOST_TURNS};
 ghost use Rattle.mrp_text.specs.Fault.{IsBeforeWriting};
-ghost use Rattle.mrp_text.specs.Text.{Writes, OfTable, IsPlanReport, IsCodeReport};
+ghost use Rattle.mrp_text.specs.Text.{Writes, WritesRows, OfTable, IsPlanReport, IsPlanRows, IsCodeReport};
 ghost use Rattle.mrp_text.specs.Text.{IsPegReport, IsCumReport};
 ghost use Rattle.mrp_text.specs.Text.{IsRefusal, IsRunRefusal, IsPegRefusal, IsTextRefusal};
 ghost use Rattle.mrp_choice.specs.declared.choice.TheConstants.{MOST_CAPACITY};
@@ -36,7 +36,8 @@ use std::thread::Threads;
 ///
 /// As [`TextFault`] says. Nothing is written after a fault of the input, nor after
 /// [`TextFault::ThreadRefused`], [`TextFault::GateShut`] and [`TextFault::Stopped`]; after
-/// [`TextFault::WriteFault`] and [`TextFault::Memory`] a front of the text may be.
+/// [`TextFault::WriteFault`] a front of the text is written, and after [`TextFault::Memory`] nothing, or all plan
+/// rows and no late order.
 pub fn plan_text<T: Threads + Wait + Sync, R: Read + Drop, W: Write, G: Gate>(
     rt: &T,
     alloc: Global,
@@ -46,8 +47,9 @@ pub fn plan_text<T: Threads + Wait + Sync, R: Read + Drop, W: Write, G: Gate>(
     gate: &G,
 ) -> Result<(), TextFault>
     ensures text { Writes (W.contents writer.old) (W.contents writer.new) result (λ text. OfTable (R.remaining reader) (λ N. IsPlanReport N text)) }
+    ensures rows { WritesRows W.contents writer.old writer.new result (λ rows. OfTable (R.remaining reader) (λ N. IsPlanRows N rows)) }
     ensures refusal { IfErr result (IsTextRefusal (R.remaining reader)
-        (IsRunRefusal (WasShut G.turn_open G.turn_shut G.worker_shut MOST_TURNS) (WasSpent G.turn_open MOST_TURNS))) }
+        (IsRunRefusal (WasShut G.turn_open G.turn_shut G.worker_shut settings.workers MOST_TURNS) (WasSpent G.turn_open MOST_TURNS))) }
     ensures untouched { IfErr result (λ fault. IsBeforeWriting fault → writer.new ≡ writer.old) }
 {
     let network = network_of(alloc, reader)?;
@@ -63,8 +65,8 @@ pub fn plan_text<T: Threads + Wait + Sync, R: Read + Drop, W: Write, G: Gate>(
 ///
 /// # Errors
 ///
-/// As [`TextFault`] says. Nothing is written after a fault of the input; after
-/// [`TextFault::WriteFault`] and [`TextFault::Memory`] a front of the text may be.
+/// As [`TextFault`] says. Nothing is written after a fault of the input; after [`TextFault::WriteFault`] a front
+/// of the text is written, and after [`TextFault::Memory`] nothing, or all plan rows and no late order.
 ///
 /// # Examples
 ///
@@ -83,6 +85,7 @@ pub fn drive_text<R: Read + Drop, W: Write>(
     requires some { 1 ≤ capacity }
     requires within { capacity ≤ MOST_CAPACITY }
     ensures text { Writes (W.contents writer.old) (W.contents writer.new) result (λ text. OfTable (R.remaining reader) (λ N. IsPlanReport N text)) }
+    ensures rows { WritesRows W.contents writer.old writer.new result (λ rows. OfTable (R.remaining reader) (λ N. IsPlanRows N rows)) }
     ensures refusal { IfErr result (IsTextRefusal (R.remaining reader) IsRefusal) }
     ensures untouched { IfErr result (λ fault. IsBeforeWriting fault → writer.new ≡ writer.old) }
 {

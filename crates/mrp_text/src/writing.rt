@@ -7,7 +7,7 @@ ghost use Rattle.mrp_loops.specs.Loop.{AreCodes};
 ghost use Rattle.mrp_run.specs.Faults.{WasShut, WasSpent};
 ghost use Rattle.mrp_qty.specs.declared.limits.TheConstants.{MOST_TURNS};
 ghost use Rattle.mrp_text.specs.Fault.{IsBeforeWriting, IsLate};
-ghost use Rattle.mrp_text.specs.Text.{Writes, IsPlannable, IsPlanReport, IsCodeReport};
+ghost use Rattle.mrp_text.specs.Text.{Writes, WritesRows, IsPlannable, IsPlanReport, IsPlanRows, IsCodeReport};
 ghost use Rattle.mrp_text.specs.Text.{IsPegReport, IsCumReport, IsPegs};
 ghost use Rattle.mrp_text.specs.Text.{IsRefusal, IsRunRefusal, IsPegRefusal};
 ghost use Rattle.mrp_choice.specs.declared.choice.TheConstants.{MOST_CAPACITY};
@@ -36,6 +36,7 @@ pub(crate) fn write_plan<W: Write>(
 ) -> Result<(), TextFault>
     requires capacity { (1 ≤ capacity) × (capacity ≤ MOST_CAPACITY) }
     ensures text { Writes (W.contents writer.old) (W.contents writer.new) result (IsPlanReport network.now) }
+    ensures rows { WritesRows W.contents writer.old writer.new result (IsPlanRows network.now) }
     ensures refusal { IfErr result (IsRefusal network.now) }
     ensures untouched { IfErr result (λ fault. IsBeforeWriting fault → writer.new ≡ writer.old) }
 {
@@ -55,7 +56,8 @@ pub(crate) fn write_run<T: Threads + Wait + Sync, W: Write, G: Gate>(
     gate: &G,
 ) -> Result<(), TextFault>
     ensures text { Writes (W.contents writer.old) (W.contents writer.new) result (IsPlanReport network.now) }
-    ensures refusal { IfErr result (IsRunRefusal (WasShut G.turn_open G.turn_shut G.worker_shut MOST_TURNS) (WasSpent G.turn_open MOST_TURNS) network.now) }
+    ensures rows { WritesRows W.contents writer.old writer.new result (IsPlanRows network.now) }
+    ensures refusal { IfErr result (IsRunRefusal (WasShut G.turn_open G.turn_shut G.worker_shut settings.workers MOST_TURNS) (WasSpent G.turn_open MOST_TURNS) network.now) }
     ensures untouched { IfErr result (λ fault. IsBeforeWriting fault → writer.new ≡ writer.old) }
 {
     let levels = levels_of(alloc, network)?;
@@ -74,6 +76,7 @@ fn report_plan<W: Write>(
     requires plannable { IsPlannable net.now.network }
     requires fits { Fits net.now.network plan.now }
     ensures text { Writes (W.contents writer.old) (W.contents writer.new) result (IsPlanReport net.now.network) }
+    ensures rows { WritesRows W.contents writer.old writer.new result (IsPlanRows net.now.network) }
     ensures fault { IfErr result IsLate }
 {
     plan_rows(alloc, net, plan, writer)?;

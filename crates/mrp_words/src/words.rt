@@ -46,8 +46,9 @@ reset,FROM,TO,ITEM,PERIOD,,,\n\n\
 SUPPLY is make, buy, from:PLANT, or from: with two to four plants and their\n\
 shares in thousandths, as from:B:600:C:400. RULE is lot, fixed:Q, periods:K or\n\
 min:M:K. Periods count from 0.\n\n\
-Statuses: 0 done, 1 the table is refused, 2 the words are refused, 3 reading,\n\
-writing or memory failed. After 1 and 3 one line on standard error says why.";
+Statuses: 0 done, 1 the table or the question is refused, 2 the words are\n\
+refused, 3 reading, writing, memory or a thread failed. After 1 and 3 one line\n\
+on standard error says why.";
 
 const PLAN: &str = "Write the plan of each pair, period by period, and the late orders";
 

@@ -9,6 +9,7 @@ use Rattle.mrp_crew.specs.Rooms.{IsRoom}
 use Rattle.mrp_crew.proofs.Drafting.{drafts_settle, wave_can, wave_once}
 use Rattle.mrp_crew.proofs.Fronts.{All-where_none}
 use Rattle.mrp_crew.proofs.Ready.{all_can_draft}
+use Rattle.mrp_crew.proofs.ShutGates.{let_in_of_more}
 use Rattle.mrp_crew.proofs.crew.draft_ready.Goals as goal
 
 pub others_of-others-requires-clause-ready : goal.others_of-others-requires-clause-ready
@@ -120,4 +121,21 @@ pub returns-clause-free : goal.returns-clause-free
 returns-clause-free g c = c.draft_wave.ensures.drafts.rooms
 
 pub returns-clause-shut : goal.returns-clause-shut
-returns-clause-shut g c = c.draft_wave.ensures.shut
+returns-clause-shut g c =
+    let others = length-take-le c.others_of-others.result c.ready_pairs-pairs.result.now (omega (arith, c.others_of-others.ensures)) in
+    let_in_of_more g.G.Gate.worker_shut _ c.args.workers c.args.plant c.draft_wave.result.works.items (omega (arith, others, c.others_of-others.ensures)) c.draft_wave.ensures.shut
+
+pub returns-in_err-works-clause-refused : goal.returns-in_err-works-clause-refused
+returns-in_err-works-clause-refused g c =
+    let p = err_from_is_err_and c.from_residual.result c.from_residual.ensures.1 in
+    rw p.1 tt
+
+pub returns-in_err-threads-clause-refused : goal.returns-in_err-threads-clause-refused
+returns-in_err-threads-clause-refused g c =
+    let p = err_from_is_err_and c.from_residual-in_err-threads.result c.from_residual-in_err-threads.ensures.1 in
+    rw p.1 tt
+
+pub returns-clause-refused : goal.returns-clause-refused
+returns-clause-refused g c = λ refused.
+    let others = length-take-le c.others_of-others.result c.ready_pairs-pairs.result.now (omega (arith, c.others_of-others.ensures)) in
+    omega (arith, c.draft_wave.ensures.refused refused, others, c.others_of-others.ensures)

@@ -1,4 +1,4 @@
-use Rattle.std.proofs.Common.{◌≡◌, [], ◌∷◌, ◌++◌, length, List, Some, reverse, ap, ◌∙◌, arith, All, length-append}
+use Rattle.std.proofs.Common.{◌≡◌, [], ◌∷◌, ◌++◌, ◌+◌, length, List, Some, reverse, ap, ◌∙◌, arith, All, length-append}
 use Rattle.std.proofs.lemmas.List.Elements.{All-pop}
 use Rattle.mrp_rows.specs.declared.numbers.PairNo.{PairNo}
 use Rattle.mrp_agent.specs.State.{AgentState}
@@ -43,15 +43,17 @@ returns-clause-drafts g c =
 
 pub returns-then-not-all-clause-shut : goal.returns-then-not-all-clause-shut
 returns-then-not-all-clause-shut g c =
-    let Shut : Type 0 = WasShut g.G.Gate.worker_shut c.args.plant in
-    c.join_all.ensures.shut c.args.plant c.start_all-all.ensures.plant (All-where_none (IsLetIn Shut) c.args.works.items c.requires.wave.works.0)
+    let workers = length c.args.others.now + 1 in
+    let Shut : Type 0 = WasShut g.G.Gate.worker_shut workers c.args.plant in
+    c.join_all.ensures.shut c.args.plant workers c.start_all-all.ensures.plant (All-where_none (IsLetIn Shut) c.args.works.items c.requires.wave.works.0)
 
 pub returns-clause-shut : goal.returns-clause-shut
 returns-clause-shut g c =
-    let Shut : Type 0 = WasShut g.G.Gate.worker_shut c.args.plant in
+    let workers = length c.args.others.now + 1 in
+    let Shut : Type 0 = WasShut g.G.Gate.worker_shut workers c.args.plant in
     let nothing : AreLetIn Shut c.args.works.items = All-where_none (IsLetIn Shut) c.args.works.items c.requires.wave.works.0 in
-    c.join_all-2.ensures.shut c.args.plant c.start_all-all.ensures.plant
-    (All-pushed (IsLetIn Shut) c.args.works.items c.push_reserved.new.self.items c.draft_pair-drafted.result c.push_reserved.ensures.items nothing c.draft_pair-drafted.ensures.shut)
+    c.join_all-2.ensures.shut c.args.plant workers c.start_all-all.ensures.plant
+    (All-pushed (IsLetIn Shut) c.args.works.items c.push_reserved.new.self.items c.draft_pair-drafted.result c.push_reserved.ensures.items nothing (λ closed. (workers, omega arith, omega arith, c.draft_pair-drafted.ensures.shut closed)))
 
 pub take_last-room-requires : goal.take_last-room-requires
 take_last-room-requires g c = omega (arith, c.requires.wave.enough, c.args.rooms.ok.0)
@@ -100,3 +102,9 @@ join_all-requires-2-clause-room g c κs within =
       length-append c.args.works.items (c.draft_pair-drafted.result ∷ []),
       c.push_reserved.ensures.capacity,
     )
+
+pub returns-then-not-all-clause-refused : goal.returns-then-not-all-clause-refused
+returns-then-not-all-clause-refused g c = c.start_all-all.ensures.refused
+
+pub returns-clause-refused : goal.returns-clause-refused
+returns-clause-refused g c = c.start_all-all.ensures.refused

@@ -1,4 +1,4 @@
-use Rattle.std.proofs.Common.{ℕ, [], ◌∷◌, ◌++◌, length, reverse, refl, ap, sym, ◌∙◌, subst, arith, length-append}
+use Rattle.std.proofs.Common.{[], ◌∷◌, ◌++◌, length, reverse, refl, ap, sym, ◌∙◌, subst, arith, length-append}
 use Rattle.std.proofs.lemmas.List.{nil_from_length}
 use Rattle.std.proofs.lemmas.List.Elements.{All-pop}
 use Rattle.std.proofs.Common.{Some}
@@ -9,6 +9,7 @@ use Rattle.mrp_crew.specs.Shut.{IsLetIn, WasShut}
 use Rattle.mrp_crew.specs.Started.{IsAt, IsFor, ordered}
 use Rattle.mrp_crew.proofs.Fronts.{All-pushed}
 use Rattle.mrp_crew.proofs.Joining.{joined_pairs}
+use Rattle.mrp_crew.proofs.ShutGates.{let_in_at}
 use Rattle.mrp_crew.proofs.threads.join_all.Goals as goal
 
 pub loop-worker-preserved : goal.loop-worker-preserved
@@ -25,15 +26,14 @@ loop-worker-preserved g c =
       worked = λ A told worked.
           All-pushed (WorkedFor A) c.loop-worker.works.items c.push_reserved.new.self.items w pushed (before.worked A told worked)
           (subst (λ (B : AgentState). WorkedFor B w) (All-pop (IsFor A) c.loop-worker.workers.items c.pop.new.self.items (Some h) popped (before.told A told)).1 c.join.ensures.worked);
-      at = λ plant at. (All-pop (IsAt plant) c.loop-worker.workers.items c.pop.new.self.items (Some h) popped (before.at plant at)).0;
-      shut = λ plant at shut.
-          All-pushed (IsLetIn (WasShut g.G.Gate.worker_shut plant)) c.loop-worker.works.items c.push_reserved.new.self.items w pushed (before.shut plant at shut)
-          (subst (λ (p : ℕ). IsLetIn (WasShut g.G.Gate.worker_shut p) w) (All-pop (IsAt plant) c.loop-worker.workers.items c.pop.new.self.items (Some h) popped (before.at plant at)).1
-          c.join.ensures.shut);
+      at = λ plant most at. (All-pop (IsAt plant most) c.loop-worker.workers.items c.pop.new.self.items (Some h) popped (before.at plant most at)).0;
+      shut = λ plant most at shut.
+          All-pushed (IsLetIn (WasShut g.G.Gate.worker_shut most plant)) c.loop-worker.works.items c.push_reserved.new.self.items w pushed (before.shut plant most at shut)
+          (let_in_at g.G.Gate.worker_shut plant most h w (All-pop (IsAt plant most) c.loop-worker.workers.items c.pop.new.self.items (Some h) popped (before.at plant most at)).1 c.join.ensures.shut);
     }
 
 pub loop-worker-init : goal.loop-worker-init
-loop-worker-init g c = record { pairs = refl; room = c.requires.room; told = λ A told. told; worked = λ A told worked. worked; at = λ plant at. at; shut = λ plant at shut. shut }
+loop-worker-init g c = record { pairs = refl; room = c.requires.room; told = λ A told. told; worked = λ A told worked. worked; at = λ plant most at. at; shut = λ plant most at shut. shut }
 
 pub push_reserved-requires : goal.push_reserved-requires
 push_reserved-requires g c =

@@ -13,9 +13,9 @@ invariant-loop-worker g l = record {
   room : length l.workers.items + length l.works.items ≤ vec_capacity l.works;
   told : (A : AgentState) → All (IsFor A) l.initial.workers.items → All (IsFor A) l.workers.items;
   worked : (A : AgentState) → All (IsFor A) l.initial.workers.items → All (WorkedFor A) l.initial.works.items → All (WorkedFor A) l.works.items;
-  at : (plant : ℕ) → All (IsAt plant) l.initial.workers.items → All (IsAt plant) l.workers.items;
-  shut : (plant : ℕ) → All (IsAt plant) l.initial.workers.items → AreLetIn (WasShut g.G.Gate.worker_shut plant) l.initial.works.items
-      → AreLetIn (WasShut g.G.Gate.worker_shut plant) l.works.items;
+  at : (plant most : ℕ) → All (IsAt plant most) l.initial.workers.items → All (IsAt plant most) l.workers.items;
+  shut : (plant most : ℕ) → All (IsAt plant most) l.initial.workers.items → AreLetIn (WasShut g.G.Gate.worker_shut most plant) l.initial.works.items
+      → AreLetIn (WasShut g.G.Gate.worker_shut most plant) l.works.items;
 }
 
 abbrev pub decreases-loop-worker : goal.decreases-loop-worker

@@ -23,5 +23,5 @@ spawn_with-started-requires-clause-keeps g c κs within = λ r gives. record {
 
 pub returns : goal.returns
 returns g c =
-    kept _ (IsStarted c.args.agent.now c.args.plant c.args.pair) c.spawn_with-started.result c.ok.result c.ok.ensures.value c.spawn_with-started.ensures.ok
-    (λ h is. record { agent = ap (λ p. p.agent.value) is ∙ c.of.ensures; plant_is = ap (λ p. p.plant) is; pair_is = ap (λ p. p.pair) is })
+    kept _ (IsStarted c.args.agent.now c.args.plant c.args.number c.args.pair) c.spawn_with-started.result c.ok.result c.ok.ensures.value c.spawn_with-started.ensures.ok
+    (λ h is. record { agent = ap (λ p. p.agent.value) is ∙ c.of.ensures; plant_is = ap (λ p. p.plant) is; number_is = ap (λ p. p.number) is; pair_is = ap (λ p. p.pair) is })

@@ -1,4 +1,5 @@
-use Rattle.std.proofs.Common.{[], ◌∷◌, ◌++◌, length, drop, List, Some, refl, ap, sym, ◌∙◌, arith, length-append}
+use Rattle.std.proofs.Common.{[], ◌∷◌, ◌++◌, ◌+◌, length, drop, List, Some, refl, ap, sym, ◌∙◌, arith, length-append}
+use Rattle.std.proofs.lemmas.Bool.{false≢true}
 use Rattle.std.proofs.lemmas.List.{take-append-drop}
 use Rattle.std.proofs.lemmas.List.Elements.{All-pop, All-get_or}
 use Rattle.mrp_rows.specs.declared.numbers.PairNo.{PairNo}
@@ -30,7 +31,8 @@ loop-pair-preserved g c =
       places = omega (arith, before.places, c.push_reserved.ensures.capacity);
       rooms = (All-pop (IsRoom c.args.agent.now.view.horizon) c.loop-pair.rooms.items c.take_last-room.new.self.items (Some room) popped before.rooms).0;
       told = All-pushed (IsFor c.args.agent.now) c.loop-pair.workers.items c.push_reserved.new.self.items h pushed before.told c.in-Some.ensures.agent;
-      at = All-pushed (IsAt c.args.plant) c.loop-pair.workers.items c.push_reserved.new.self.items h pushed before.at c.in-Some.ensures.plant_is;
+      at = All-pushed (IsAt c.args.plant (length c.args.pairs.now + 1)) c.loop-pair.workers.items c.push_reserved.new.self.items h pushed before.at
+          (record { plant_is = c.in-Some.ensures.plant_is; first = omega (arith, c.in-Some.ensures.number_is); last = omega (arith, c.in-Some.ensures.number_is, c.len.ensures, before.number, c.loop-pair-test.true) });
     }
 
 pub loop-pair-init : goal.loop-pair-init
@@ -43,7 +45,7 @@ loop-pair-init g c =
       places = c.requires.workers.1;
       rooms = c.requires.rooms;
       told = All-where_none (IsFor c.args.agent.now) c.args.workers.now.items none;
-      at = All-where_none (IsAt c.args.plant) c.args.workers.now.items none;
+      at = All-where_none (IsAt c.args.plant (length c.args.pairs.now + 1)) c.args.workers.now.items none;
     }
 
 pub offset_bounds-pairs-pair-index : goal.offset_bounds-pairs-pair-index
@@ -99,3 +101,9 @@ returns-clause-agent g c = c.loop-pair.invariant.told
 
 pub returns-clause-plant : goal.returns-clause-plant
 returns-clause-plant g c = c.loop-pair.invariant.at
+
+pub returns-in_default-clause-refused : goal.returns-in_default-clause-refused
+returns-in_default-clause-refused g c = λ _. omega (arith, c.loop-pair-test.true)
+
+pub returns-clause-refused : goal.returns-clause-refused
+returns-clause-refused g c = λ refused. absurd (false≢true (sym refused))

@@ -13,5 +13,5 @@ invariant-loop-pair g l = record {
   places : length l.pairs ≤ vec_capacity l.workers;
   rooms : All (IsRoom l.agent.view.horizon) l.rooms.items;
   told : All (IsFor l.agent) l.workers.items;
-  at : All (IsAt l.plant) l.workers.items;
+  at : All (IsAt l.plant (length l.pairs + 1)) l.workers.items;
 }

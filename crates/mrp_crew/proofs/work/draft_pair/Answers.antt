@@ -14,4 +14,4 @@ returns-clause-worked g c = record {
 }
 
 pub returns-then-not-worker-clause-shut : goal.returns-then-not-worker-clause-shut
-returns-then-not-worker-clause-shut g c = λ closed. (c.args.number, c.requires.number.0, c.requires.number.1, c.worker.ensures.shut c.if-not-worker.true)
+returns-then-not-worker-clause-shut g c = λ closed. c.worker.ensures.shut c.if-not-worker.true

@@ -25,7 +25,7 @@ returns-in_err-ready-clause-outcome g c = IfOk-from_err c.from_residual.result (
 
 pub returns-in_err-ready-clause-fault : goal.returns-in_err-ready-clause-fault
 returns-in_err-ready-clause-fault g c =
-    let Shut = WasShut g.G.Gate.turn_open g.G.Gate.turn_shut g.G.Gate.worker_shut c.args.turns in
+    let Shut = WasShut g.G.Gate.turn_open g.G.Gate.turn_shut g.G.Gate.worker_shut c.args.settings.workers c.args.turns in
     handed_on (IsFaultIn Shut (WasSpent g.G.Gate.turn_open c.args.turns) c.args.net.now.network) c.from_residual.result Memory c.from_residual.ensures.1 tt
 
 pub run_plants-requires-clause-workers : goal.run_plants-requires-clause-workers
@@ -41,11 +41,12 @@ returns-in_err-through-clause-outcome g c = IfOk-from_err c.from_residual-in_err
 -- there are as many plants as the network has
 pub returns-in_err-through-clause-fault : goal.returns-in_err-through-clause-fault
 returns-in_err-through-clause-fault g c =
-    let Shut = WasShut g.G.Gate.turn_open g.G.Gate.turn_shut g.G.Gate.worker_shut c.args.turns in
+    let Shut : ℕ → ℕ → Type 0 = λ workers. WasShut g.G.Gate.turn_open g.G.Gate.turn_shut g.G.Gate.worker_shut workers c.args.turns in
     let Spent = WasSpent g.G.Gate.turn_open c.args.turns in
-    handed_on (IsFaultIn Shut Spent c.args.net.now.network) c.from_residual-in_err-through.result _ c.from_residual-in_err-through.ensures.1
-    (subst (λ (plants : ℕ). IsOfFirst Shut Spent plants c.in_err-through.field-0.0) c.in_ok-ready.ensures.ready.all_plants
-    (IfErr-at_err (IsOfFirst Shut Spent (length c.in_ok-ready.ready.items)) c.in_err-through.was c.run_plants.ensures.fault))
+    handed_on (IsFaultIn (Shut c.args.settings.workers) Spent c.args.net.now.network) c.from_residual-in_err-through.result _ c.from_residual-in_err-through.ensures.1
+    (subst (λ (workers : ℕ). IsOfFirst (Shut workers) Spent (length c.args.net.now.network.plants) c.in_err-through.field-0.0) c.workers.ensures.value
+    (subst (λ (plants : ℕ). IsOfFirst (Shut c.workers.result) Spent plants c.in_err-through.field-0.0) c.in_ok-ready.ensures.ready.all_plants
+    (IfErr-at_err (IsOfFirst (Shut c.workers.result) Spent (length c.in_ok-ready.ready.items)) c.in_err-through.was c.run_plants.ensures.fault)))
 
 pub outcome_of-requires-clause-sized : goal.outcome_of-requires-clause-sized
 outcome_of-requires-clause-sized g c = subst IsSized (sym c.network.ensures.value) c.network.ensures.sized
@@ -62,6 +63,6 @@ returns-clause-outcome g c = subst (λ (N : Table). IfOk c.outcome_of.result (λ
 
 pub returns-clause-fault : goal.returns-clause-fault
 returns-clause-fault g c =
-    let Shut = WasShut g.G.Gate.turn_open g.G.Gate.turn_shut g.G.Gate.worker_shut c.args.turns in
+    let Shut = WasShut g.G.Gate.turn_open g.G.Gate.turn_shut g.G.Gate.worker_shut c.args.settings.workers c.args.turns in
     let Fault = IsFaultIn Shut (WasSpent g.G.Gate.turn_open c.args.turns) c.args.net.now.network in
     IfErr-weaker c.outcome_of.result (λ fault. fault ≡ Memory) Fault (λ fault is. subst Fault (sym is) tt) c.outcome_of.ensures.fault

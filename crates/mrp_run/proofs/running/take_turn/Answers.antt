@@ -24,7 +24,7 @@ returns-in_err-planned-clause-kept g c = keeps_on c.args.plant.now c.move_all-ca
 
 pub returns-in_err-planned-clause-fault : goal.returns-in_err-planned-clause-fault
 returns-in_err-planned-clause-fault g c =
-    let Fault = IsOf (WasWorkerShut g.G.Gate.worker_shut) never_spent c.args.number in
+    let Fault = IsOf (WasWorkerShut g.G.Gate.worker_shut c.args.crew.now.workers) never_spent c.args.number in
     handed_on Fault c.from_residual.result _ c.from_residual.ensures.1 (IfErr-at_err Fault c.in_err-planned.was c.plan_all.ensures.fault)
 
 pub move_all-sent-requires : goal.move_all-sent-requires

@@ -2,8 +2,9 @@ use Rattle.std.proofs.Common.{◌≡◌, ℕ, inl, inr, refl, sym, ap, subst, �
 use Rattle.std.proofs.lemmas.Bool.{false≢true}
 use Rattle.std.proofs.lemmas.Result.{IfOk-from_err}
 use Rattle.mrp_crew.specs.Shut.{WasShut as WasWorkerShut}
+use Rattle.mrp_crew.specs.State.{CrewState}
 use Rattle.mrp_view.specs.View.{PlantRows}
-use Rattle.mrp_run.specs.Faults.{IsOf, IsToldOrOf, WasShut, WasSpent, never_spent}
+use Rattle.mrp_run.specs.Faults.{HasTurned, IsOf, IsToldOrOf, WasShut, WasSpent, never_spent}
 use Rattle.mrp_run.specs.Steps.{Finishes}
 use Rattle.mrp_run.proofs.Done.{has_finished}
 use Rattle.mrp_run.proofs.Keeping.{nothing_done, one_after_another, still_works}
@@ -59,7 +60,7 @@ returns-in_err-begin-clause-finishes g c = IfOk-from_err c.from_residual.result 
 -- the gate was open to the turns before this one
 pub returns-in_err-begin-clause-fault : goal.returns-in_err-begin-clause-fault
 returns-in_err-begin-clause-fault g c =
-    let Shut = WasShut g.G.Gate.turn_open g.G.Gate.turn_shut g.G.Gate.worker_shut c.args.turns in
+    let Shut = WasShut g.G.Gate.turn_open g.G.Gate.turn_shut g.G.Gate.worker_shut c.args.crew.now.workers c.args.turns in
     let Spent = WasSpent g.G.Gate.turn_open c.args.turns in
     handed_on (IsToldOrOf g.S.StopRule.holds Shut Spent c.args.number) c.from_residual.result _ c.from_residual.ensures.1
     (before_turn g.S.StopRule.holds (λ plant. g.G.Gate.turn_shut plant (c.loop-turn.turn + 1)) Shut Spent c.args.number _
@@ -81,15 +82,16 @@ returns-in_err-moved-clause-finishes g c =
 
 pub returns-in_err-moved-clause-fault : goal.returns-in_err-moved-clause-fault
 returns-in_err-moved-clause-fault g c =
-    let Shut = WasShut g.G.Gate.turn_open g.G.Gate.turn_shut g.G.Gate.worker_shut c.args.turns in
+    let Shut = WasShut g.G.Gate.turn_open g.G.Gate.turn_shut g.G.Gate.worker_shut c.args.crew.now.workers c.args.turns in
     let Spent = WasSpent g.G.Gate.turn_open c.args.turns in
     handed_on (IsToldOrOf g.S.StopRule.holds Shut Spent c.args.number) c.from_residual-in_err-moved.result _ c.from_residual-in_err-moved.ensures.1
-    (of_turn g.S.StopRule.holds (WasWorkerShut g.G.Gate.worker_shut) Shut Spent c.args.number _ (λ shut. inr shut) c.in_err-moved.ensures.fault)
+    (of_turn g.S.StopRule.holds (WasWorkerShut g.G.Gate.worker_shut c.loop-turn.crew.workers) Shut Spent c.args.number _
+    (λ shut. inr (subst (λ (crew : CrewState). WasWorkerShut g.G.Gate.worker_shut crew.workers c.args.number.0) c.loop-turn.invariant.crew shut)) c.in_err-moved.ensures.fault)
 
 pub returns-in_err-moved-clause-unfinished : goal.returns-in_err-moved-clause-unfinished
 returns-in_err-moved-clause-unfinished g c = λ stopped.
-    absurd (not_stopped (WasWorkerShut g.G.Gate.worker_shut) c.args.number c.from_residual-in_err-moved.result
-    (handed_on (IsOf (WasWorkerShut g.G.Gate.worker_shut) never_spent c.args.number) c.from_residual-in_err-moved.result _ c.from_residual-in_err-moved.ensures.1 c.in_err-moved.ensures.fault) stopped)
+    absurd (not_stopped (WasWorkerShut g.G.Gate.worker_shut c.loop-turn.crew.workers) c.args.number c.from_residual-in_err-moved.result
+    (handed_on (IsOf (WasWorkerShut g.G.Gate.worker_shut c.loop-turn.crew.workers) never_spent c.args.number) c.from_residual-in_err-moved.result _ c.from_residual-in_err-moved.ensures.1 c.in_err-moved.ensures.fault) stopped)
 
 pub returns-then-done-clause-crew : goal.returns-then-done-clause-crew
 returns-then-done-clause-crew g c = c.take_turn.ensures.crew ∙ c.loop-turn.invariant.crew
@@ -107,3 +109,19 @@ returns-clause-fault g c =
 
 pub returns-clause-unfinished : goal.returns-clause-unfinished
 returns-clause-unfinished g c = λ _. c.loop-turn.invariant.unfinished
+
+pub returns-in_err-begin-clause-turned : goal.returns-in_err-begin-clause-turned
+returns-in_err-begin-clause-turned g c = IfOk-from_err c.from_residual.result (λ _. HasTurned g.G.Gate.turn_open c.args.turns c.args.number.0) c.from_residual.ensures.0
+
+pub returns-in_err-moved-clause-turned : goal.returns-in_err-moved-clause-turned
+returns-in_err-moved-clause-turned g c =
+    IfOk-from_err c.from_residual-in_err-moved.result (λ _. HasTurned g.G.Gate.turn_open c.args.turns c.args.number.0) c.from_residual-in_err-moved.ensures.0
+
+-- the last turn was the one after those before it
+pub returns-then-done-clause-turned : goal.returns-then-done-clause-turned
+returns-then-done-clause-turned g c = (
+  c.loop-turn.turn + 1,
+  omega arith,
+  omega (arith, c.loop-turn-test.true),
+  next_spent g.G.Gate.turn_open c.loop-turn.turn c.args.number.0 c.loop-turn.invariant.spent c.in_ok-begin.ensures.opened,
+)

@@ -1,4 +1,4 @@
-use Rattle.std.proofs.Common.{◌≡◌, ◌⊎◌}
+use Rattle.std.proofs.Common.{◌≡◌}
 use Rattle.mrp_run.specs.Faults.{WasSpent}
 use Rattle.mrp_run.specs.Steps.{IsUnfinished, Keeps}
 use Rattle.mrp_run.proofs.running.work.Given as goal

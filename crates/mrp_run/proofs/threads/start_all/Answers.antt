@@ -21,7 +21,7 @@ start-requires-clause-rule g c = λ κs met.
     let at = c.loop-plant in
     let left = one_left at.yielded (into_iter_items at.plant-iterator) _ c.args.plants.items c.in-Some.plant at.invariant.whole c.in-Some.ensures.steps.0 in
     let size : length at.yielded ≡ length at.threads.items = sym (ap length at.invariant.started_so_far) ∙ length-map at.threads.items (λ t. t.promise.plant.value) in
-    allows_each g.S.StopRule.holds (WasShut g.G.Gate.turn_open g.G.Gate.turn_shut g.G.Gate.worker_shut c.args.turns) (WasSpent g.G.Gate.turn_open c.args.turns) (length c.args.plants.items) _ (omega (arith, left, size, c.len.ensures, at.threads.ok.0)) c.requires.rule
+    allows_each g.S.StopRule.holds (WasShut g.G.Gate.turn_open g.G.Gate.turn_shut g.G.Gate.worker_shut c.args.workers c.args.turns) (WasSpent g.G.Gate.turn_open c.args.turns) (length c.args.plants.items) _ (omega (arith, left, size, c.len.ensures, at.threads.ok.0)) c.requires.rule
 
 pub unwrap-requires : goal.unwrap-requires
 unwrap-requires g c =

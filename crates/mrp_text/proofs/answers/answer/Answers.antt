@@ -1,6 +1,7 @@
 use Rattle.std.proofs.Common.{◌≡◌, false, rules}
 use Rattle.mrp_text.specs.Text.{IsPegRefusal, IsRefusal, IsRunRefusal}
 use Rattle.mrp_text.proofs.GateFacts.{never_gate, open_answer, open_refuses}
+use Rattle.mrp_text.proofs.RowFacts.{rows-kept}
 use Rattle.mrp_text.proofs.answers.answer.Goals as goal
 
 pub returns-in-Plan-default-default-true-clause-text : goal.returns-in-Plan-default-default-true-clause-text
@@ -21,14 +22,14 @@ returns-in-Cums-clause-text g c = rw (c.in-Cums.is) c.cums_text.ensures.text
 pub returns-in-Some-clause-refusal : goal.returns-in-Some-clause-refusal
 returns-in-Some-clause-refusal g c =
     let off : c.in-Plan.single ≡ false = search rules in
-    rw (c.in-Plan.is) (open_answer _ _ _ _ c.plan_text.result c.in-Plan.workers c.in-Plan.capacity c.in-Plan.single off c.plan_text.ensures.refusal)
+    rw (c.in-Plan.is) (open_answer _ _ _ _ _ c.plan_text.result c.in-Plan.workers c.in-Plan.capacity c.in-Plan.single off c.plan_text.ensures.refusal)
 
 pub returns-in-Plan-default-default-true-clause-gate : goal.returns-in-Plan-default-default-true-clause-gate
 returns-in-Plan-default-default-true-clause-gate g c = never_gate _ IsRefusal c.drive_text.result (λ N name said. said) c.drive_text.ensures.refusal
 
 pub returns-in-Some-clause-gate : goal.returns-in-Some-clause-gate
 returns-in-Some-clause-gate g c =
-    never_gate _ (IsRunRefusal (λ _. ⊥) (λ _. Unit {0})) c.plan_text.result (λ N name said. said.1.2) (open_refuses _ _ _ _ c.plan_text.result c.plan_text.ensures.refusal)
+    never_gate _ (IsRunRefusal (λ _. ⊥) (λ _. Unit {0})) c.plan_text.result (λ N name said. said.1.2) (open_refuses _ _ _ _ _ c.plan_text.result c.plan_text.ensures.refusal)
 
 pub returns-in-Check-clause-gate : goal.returns-in-Check-clause-gate
 returns-in-Check-clause-gate g c = never_gate _ IsRefusal c.check_text.result (λ N name said. said) c.check_text.ensures.refusal
@@ -38,3 +39,18 @@ returns-in-Peg-clause-gate g c = never_gate _ (IsPegRefusal c.in-Peg.plant.now c
 
 pub returns-in-Cums-clause-gate : goal.returns-in-Cums-clause-gate
 returns-in-Cums-clause-gate g c = never_gate _ IsRefusal c.cums_text.result (λ N name said. said) c.cums_text.ensures.refusal
+
+pub returns-in-Plan-default-default-true-clause-rows : goal.returns-in-Plan-default-default-true-clause-rows
+returns-in-Plan-default-default-true-clause-rows g c = c.drive_text.ensures.rows
+
+pub returns-in-Some-clause-rows : goal.returns-in-Some-clause-rows
+returns-in-Some-clause-rows g c = c.plan_text.ensures.rows
+
+pub returns-in-Check-clause-rows : goal.returns-in-Check-clause-rows
+returns-in-Check-clause-rows g c = rows-kept g.W.Write.contents _ _ c.check_text.result _ c.check_text.ensures.untouched
+
+pub returns-in-Peg-clause-rows : goal.returns-in-Peg-clause-rows
+returns-in-Peg-clause-rows g c = rows-kept g.W.Write.contents _ _ c.peg_text.result _ c.peg_text.ensures.untouched
+
+pub returns-in-Cums-clause-rows : goal.returns-in-Cums-clause-rows
+returns-in-Cums-clause-rows g c = rows-kept g.W.Write.contents _ _ c.cums_text.result _ c.cums_text.ensures.untouched

@@ -15,4 +15,4 @@ sends old new (Err met) text line whole front same = subst (AppendsFront old new
 pub returns-then-eq-clause-line : goal.returns-then-eq-clause-line
 returns-then-eq-clause-line g c =
     let is : error_kind c.args.error.now ≡ cause.InvalidData = search rules in
-    rw is (sends (g.W.Write.contents c.args.writer.now) (g.W.Write.contents c.send.new.out) c.send.result _ (codes "mrp: a word of the command is not UTF-8\n") c.send.ensures.whole c.send.ensures.front refl)
+    record { sent = rw is (sends (g.W.Write.contents c.args.writer.now) (g.W.Write.contents c.send.new.out) c.send.result _ (codes "mrp: a word of the command is not UTF-8\n") c.send.ensures.whole c.send.ensures.front refl); failed = c.send.ensures.fault }

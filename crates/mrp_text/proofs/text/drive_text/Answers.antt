@@ -1,4 +1,5 @@
-use Rattle.mrp_text.specs.Text.{IsPlanReport, IsRefusal}
+use Rattle.mrp_text.specs.Text.{IsPlanReport, IsPlanRows, IsRefusal}
+use Rattle.mrp_text.proofs.RowFacts.{rows-of}
 use Rattle.mrp_text.proofs.TextFacts.{refuses-of, writes-of}
 use Rattle.mrp_text.proofs.text.drive_text.Goals as goal
 
@@ -10,3 +11,8 @@ returns-clause-text g c =
 pub returns-clause-refusal : goal.returns-clause-refusal
 returns-clause-refusal g c =
     refuses-of _ IsRefusal c.in_ok-network.network c.write_plan-written.result c.in_ok-network.ensures.table c.in_ok-network.ensures.rows (λ e said. said) c.write_plan-written.ensures.refusal
+
+pub returns-clause-rows : goal.returns-clause-rows
+returns-clause-rows g c =
+    rows-of g.W.Write.contents _ _ c.write_plan-written.result (IsPlanRows c.in_ok-network.network) _
+    (λ rows is. (c.in_ok-network.network, c.in_ok-network.ensures.table, c.in_ok-network.ensures.rows, is)) c.write_plan-written.ensures.rows

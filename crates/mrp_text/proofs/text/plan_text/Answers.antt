@@ -1,6 +1,7 @@
 use Rattle.mrp_qty.specs.declared.limits.TheConstants.{MOST_TURNS}
 use Rattle.mrp_run.specs.Faults.{WasShut, WasSpent}
-use Rattle.mrp_text.specs.Text.{IsPlanReport, IsRunRefusal}
+use Rattle.mrp_text.specs.Text.{IsPlanReport, IsPlanRows, IsRunRefusal}
+use Rattle.mrp_text.proofs.RowFacts.{rows-of}
 use Rattle.mrp_text.proofs.TextFacts.{refuses-of, writes-of}
 use Rattle.mrp_text.proofs.text.plan_text.Goals as goal
 
@@ -11,5 +12,10 @@ returns-clause-text g c =
 
 pub returns-clause-refusal : goal.returns-clause-refusal
 returns-clause-refusal g c =
-    refuses-of _ (IsRunRefusal (WasShut g.G.Gate.turn_open g.G.Gate.turn_shut g.G.Gate.worker_shut MOST_TURNS) (WasSpent g.G.Gate.turn_open MOST_TURNS)) c.in_ok-network.network c.write_run-written.result c.in_ok-network.ensures.table
+    refuses-of _ (IsRunRefusal (WasShut g.G.Gate.turn_open g.G.Gate.turn_shut g.G.Gate.worker_shut c.args.settings.workers MOST_TURNS) (WasSpent g.G.Gate.turn_open MOST_TURNS)) c.in_ok-network.network c.write_run-written.result c.in_ok-network.ensures.table
     c.in_ok-network.ensures.rows (λ e said. said) c.write_run-written.ensures.refusal
+
+pub returns-clause-rows : goal.returns-clause-rows
+returns-clause-rows g c =
+    rows-of g.W.Write.contents _ _ c.write_run-written.result (IsPlanRows c.in_ok-network.network) _
+    (λ rows is. (c.in_ok-network.network, c.in_ok-network.ensures.table, c.in_ok-network.ensures.rows, is)) c.write_run-written.ensures.rows

@@ -1,9 +1,13 @@
 use Rattle.std.proofs.Common.{subst}
 use Rattle.mrp_rows.specs.Table.{Table}
-use Rattle.mrp_text.specs.Text.{IsPlanReport, Writes}
+use Rattle.mrp_text.specs.Text.{IsPlanReport, IsPlanRows, Writes, WritesRows}
 use Rattle.mrp_text.proofs.writing.write_run.Goals as goal
 
 pub returns-clause-text : goal.returns-clause-text
 returns-clause-text g c =
     subst (λ (N : Table). Writes (g.W.Write.contents c.args.writer.now) (g.W.Write.contents c.report_plan.new.writer) c.report_plan.result (IsPlanReport N))
     c.in_ok-net.ensures.network c.report_plan.ensures.text
+
+pub returns-clause-rows : goal.returns-clause-rows
+returns-clause-rows g c =
+    subst (λ (N : Table). WritesRows g.W.Write.contents c.args.writer.now c.report_plan.new.writer c.report_plan.result (IsPlanRows N)) c.in_ok-net.ensures.network c.report_plan.ensures.rows

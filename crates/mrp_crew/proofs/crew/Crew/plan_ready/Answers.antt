@@ -1,7 +1,8 @@
-use Rattle.std.proofs.Common.{[], ◌++◌, refl, ap, ◌∙◌, sym, arith}
+use Rattle.std.proofs.Common.{[], ◌++◌, refl, ap, ◌∙◌, sym, subst, arith}
 use Rattle.std.proofs.lemmas.Result.{err_from_is_err_and}
 use Rattle.mrp_agent.specs.Drafts.{ready_numbers}
 use Rattle.mrp_view.specs.View.{PlantRows}
+use Rattle.mrp_crew.specs.Shut.{WasShut}
 use Rattle.mrp_crew.specs.State.{CrewState}
 use Rattle.mrp_crew.proofs.Keeping.{none_ready, some_ready}
 use Rattle.mrp_crew.proofs.PlanningLaws.{plannable_after, plans_append, plans_none}
@@ -38,7 +39,12 @@ returns-clause-planned g c =
 pub returns-in_err-plan_wave-clause-shut : goal.returns-in_err-plan_wave-clause-shut
 returns-in_err-plan_wave-clause-shut g c =
     let p = err_from_is_err_and c.from_residual.result c.from_residual.ensures.1 in
-    rw (p.1, p.2) c.in_err-plan_wave.ensures.shut
+    rw (p.1, p.2) (λ is. subst (λ (crew : CrewState). WasShut g.G.Gate.worker_shut crew.workers c.args.plant) c.loop-alloc.invariant.crew (c.in_err-plan_wave.ensures.shut is))
+
+pub returns-in_err-plan_wave-clause-refused : goal.returns-in_err-plan_wave-clause-refused
+returns-in_err-plan_wave-clause-refused g c =
+    let p = err_from_is_err_and c.from_residual.result c.from_residual.ensures.1 in
+    rw (p.1, p.2) (λ is. omega (arith, c.in_err-plan_wave.ensures.refused is, ap (λ (crew : CrewState). crew.workers) c.loop-alloc.invariant.crew))
 
 pub loop-alloc-init : goal.loop-alloc-init
 loop-alloc-init g c = record { crew = refl; planned = ([], plans_none c.args.agent.now); plannable = c.requires.plannable }

@@ -2,7 +2,7 @@ use Rattle.std.proofs.Common.{[], ap, sym, ◌∙◌, subst, arith, All}
 use Rattle.std.proofs.lemmas.Result.{err_from_is_err_and}
 use Rattle.mrp_crew.proofs.Keeping.{when_true, where_err, where_ok}
 use Rattle.mrp_crew.proofs.PlanningLaws.{plans_none}
-use Rattle.mrp_crew.proofs.ShutGates.{memory_is_no_gate, shut_to_one}
+use Rattle.mrp_crew.proofs.ShutGates.{memory_is_no_gate, memory_is_no_thread, shut_to_one}
 use Rattle.mrp_crew.specs.Rooms.{IsRoom}
 use Rattle.mrp_crew.specs.Shut.{WasShut}
 use Rattle.mrp_crew.specs.State.{CrewState}
@@ -93,5 +93,21 @@ returns-clause-planned g c =
 pub returns-clause-shut : goal.returns-clause-shut
 returns-clause-shut g c =
     where_err c.wave_end.result _ _ c.wave_end.ensures.shut (λ fault shut is.
-    shut_to_one (WasShut g.G.Gate.worker_shut c.args.plant) c.in_ok-drafts.drafts.works.items c.settle_all-open.result c.in_ok-drafts.ensures.shut
-    c.settle_all-open.ensures.let_in (shut is))
+    subst (λ (crew : CrewState). WasShut g.G.Gate.worker_shut crew.workers c.args.plant) c.self.view_is
+    (shut_to_one (WasShut g.G.Gate.worker_shut c.self.inside.workers c.args.plant) c.in_ok-drafts.drafts.works.items c.settle_all-open.result c.in_ok-drafts.ensures.shut
+    c.settle_all-open.ensures.let_in (shut is)))
+
+pub returns-in_err-refill-clause-refused : goal.returns-in_err-refill-clause-refused
+returns-in_err-refill-clause-refused g c =
+    let p = err_from_is_err_and c.from_residual.result c.from_residual.ensures.1 in
+    rw p.1 (λ is. absurd (memory_is_no_thread p.0 p.2 is))
+
+pub returns-in_err-drafts-clause-refused : goal.returns-in_err-drafts-clause-refused
+returns-in_err-drafts-clause-refused g c =
+    let p = err_from_is_err_and c.from_residual-in_err-drafts.result c.from_residual-in_err-drafts.ensures.1 in
+    rw p.1 (λ is. absurd (memory_is_no_thread p.0 p.2 is))
+
+pub returns-clause-refused : goal.returns-clause-refused
+returns-clause-refused g c =
+    where_err c.wave_end.result _ _ c.wave_end.ensures.refused (λ fault refused is.
+    omega (arith, c.in_ok-drafts.ensures.refused (refused is), ap (λ (crew : CrewState). crew.workers) c.self.view_is))
