@@ -23,9 +23,6 @@ is_shut GateShut = Unit {0}
 pub memory_is_no_gate : (fault : CrewFault) → fault ≡ Memory → fault ≡ GateShut → ⊥
 memory_is_no_gate fault is shut = subst is_shut (sym shut ∙ is) tt
 
-pub refusal_is_no_gate : (fault : CrewFault) → fault ≡ ThreadRefused → fault ≡ GateShut → ⊥
-refusal_is_no_gate fault is shut = subst is_shut (sym shut ∙ is) tt
-
 -- ---- and refused memory is no refused thread
 
 abbrev is_refused : CrewFault → Type 0
@@ -44,7 +41,7 @@ pub let_in_at : {G : Type 0} (Shut : ℕ → ℕ → Type 0) (plant workers : �
 let_in_at Shut plant workers worker work at shut = λ closed. (worker.promise.number, at.first, at.last, subst (λ (p : ℕ). Shut p worker.promise.number) at.plant_is (shut closed))
 
 -- and one of so many is one of more
-pub one_of_more : (Shut : ℕ → ℕ → Type 0) (few many plant : ℕ) → few ≤ many → WasShut Shut few plant → WasShut Shut many plant
+one_of_more : (Shut : ℕ → ℕ → Type 0) (few many plant : ℕ) → few ≤ many → WasShut Shut few plant → WasShut Shut many plant
 one_of_more Shut few many plant more shut = (shut.0, shut.1, omega (arith, shut.2, more), shut.3)
 
 pub let_in_of_more : (Shut : ℕ → ℕ → Type 0) (few many plant : ℕ) (works : List Work) → few ≤ many → AreLetIn (WasShut Shut few plant) works → AreLetIn (WasShut Shut many plant) works

@@ -11,7 +11,7 @@ use Rattle.mrp_run.specs.declared.fault.RunFault.TheVariants.{Memory, ThreadRefu
 abbrev pub WasSpent : (ℕ → ℕ → Type 0) → ℕ → ℕ → Type 0
 WasSpent Open turns plant = (turn : ℕ) → 1 ≤ turn → turn ≤ turns → Open plant turn
 
--- a plant has taken one of so many turns or more: the gate was open to each of them
+-- a plant has taken some of so many turns, at least one: the gate was open to each that it took
 abbrev pub HasTurned : (ℕ → ℕ → Type 0) → ℕ → ℕ → Type 0
 HasTurned Open turns plant = (used : ℕ) × (1 ≤ used) × (used ≤ turns) × WasSpent Open used plant
 

@@ -55,7 +55,7 @@ pub enum TextFault {
     /// A write failed or took nothing. A front of the text is written.
     #[error("the writer failed")]
     WriteFault,
-    /// A growth was refused. A front of the text may be written.
+    /// A growth was refused. Nothing is written, or of a plan all plan rows and no late order.
     #[error("out of memory")]
     Memory,
 }
