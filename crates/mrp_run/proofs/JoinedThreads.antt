@@ -15,10 +15,10 @@ use Rattle.mrp_run.specs.Joined.{AreByRule, Back, Finished, faults_in, started}
 use Rattle.mrp_run.specs.Steps.{Finishes}
 use Rattle.mrp_run.specs.Worst.{IsWorst}
 
-abbrev Running : Type 0 → Type 0
-Running S = PromisedHandle Back (Duty S)
+abbrev pub Running : Type 0 → Type 0 → Type 0
+Running G S = PromisedHandle Back (Duty G S)
 
-abbrev IsByRule : (RunFault → Type 0) → Back → Type 0
+abbrev pub IsByRule : (RunFault → Type 0) → Back → Type 0
 IsByRule Rule back = IfErr back Rule
 
 pub pairs_more : {X Y : Type 0} (R : X → Y → Type 0) (xs : List X) (ys : List Y) (x : X) (y : Y) → AllZip R xs ys → R x y → AllZip R (xs ++ x ∷ []) (ys ++ y ∷ [])
@@ -67,8 +67,8 @@ none_left before rest all whole none = sym (append-nil before) ∙ ap (λ z. bef
 
 -- ---- one thread more
 
-pub started_more : {S : Type 0} (threads : List (Running S)) (thread : Running S) → started (threads ++ thread ∷ []) ≡ started threads ++ thread.promise.plant.value ∷ []
-started_more {S} threads thread = map-append (λ (t : Running S). t.promise.plant.value) threads (thread ∷ [])
+pub started_more : {G S : Type 0} (threads : List (Running G S)) (thread : Running G S) → started (threads ++ thread ∷ []) ≡ started threads ++ thread.promise.plant.value ∷ []
+started_more {G} {S} threads thread = map-append (λ (t : Running G S). t.promise.plant.value) threads (thread ∷ [])
 
 -- ---- all of them
 

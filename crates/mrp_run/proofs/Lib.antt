@@ -11,6 +11,7 @@ pub mod Paired
 pub mod PairedSettled
 pub mod JoinedFaults
 pub mod JoinedThreads
+pub mod JoinedKept
 pub mod JoinedNetwork
 pub mod GatheredPlans
 pub mod CrewFaults

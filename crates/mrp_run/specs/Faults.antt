@@ -15,6 +15,10 @@ WasSpent Open turns plant = (turn : ℕ) → 1 ≤ turn → turn ≤ turns → O
 abbrev pub HasTurned : (ℕ → ℕ → Type 0) → ℕ → ℕ → Type 0
 HasTurned Open turns plant = (used : ℕ) × (1 ≤ used) × (used ≤ turns) × WasSpent Open used plant
 
+-- so has each of the first so many plants
+abbrev pub AllTurned : (ℕ → ℕ → Type 0) → ℕ → ℕ → Type 0
+AllTurned Open turns plants = (plant : ℕ) → plant < plants → HasTurned Open turns plant
+
 -- the gate was shut to the turn of a plant that came after those that it had used, one of those that it was given, or
 -- to one of its workers, of whom there are so many
 abbrev pub WasShut : (ℕ → ℕ → Type 0) → (ℕ → ℕ → Type 0) → (ℕ → ℕ → Type 0) → ℕ → ℕ → ℕ → Type 0

@@ -1,11 +1,13 @@
 -- The threads of the plants, and what they bring back.
-use Rattle.std.specs.Prelude.{◌≡◌, ℕ, ◌≤◌, List, [], map, Option, Some, None, Result, Ok, Err, All, IfOk, IfErr, filter_map}
+use Rattle.std.specs.Prelude.{◌≡◌, ℕ, ◌≤◌, List, [], map, Option, Some, None, Result, Ok, Err, All, IfOk, IfErr, OnOk, filter_map}
 use Rattle.std.specs.Vec.{vec_capacity}
 use Rattle.std.specs.declared.thread.PromisedHandle.{PromisedHandle}
 use Rattle.mrp_run.specs.declared.fault.RunFault.{RunFault}
 use Rattle.mrp_run.specs.declared.plant.Plant.{Plant}
 use Rattle.mrp_run.specs.declared.results.Duty.{Duty}
 use Rattle.mrp_run.specs.declared.threads.Rooms.{Rooms}
+use Rattle.mrp_run.specs.Ends.{EachAt}
+use Rattle.mrp_run.specs.Faults.{HasTurned}
 use Rattle.mrp_run.specs.Steps.{Finishes}
 
 -- ---- threads
@@ -18,14 +20,24 @@ Back = Result Plant RunFault
 abbrev pub Finished : Plant → Back → Type 0
 Finished before back = IfOk back (Finishes before)
 
--- what the thread of a duty brings back: its plant, finished, or a fault by the rule of the run's stop
-pub record Fulfils {S : Type 0} (Rule : RunFault → Type 0) (duty : Duty S) (back : Back) : Type 0 where
+-- what the thread of a duty brings back: its plant, which took some of its turns and is finished, or a fault by the
+-- rule of the run's stop
+pub record Fulfils {G S : Type 0} (Open : ℕ → ℕ → Type 0) (Rule : RunFault → Type 0) (duty : Duty G S) (back : Back) : Type 0 where
   pub finished : Finished duty.plant.value back
+  pub turned : OnOk back (HasTurned Open duty.turns duty.number.0)
   pub fault : IfErr back Rule
 
+-- it is what the thread was started for
+abbrev pub HasKept : {G S : Type 0} → (ℕ → ℕ → Type 0) → (RunFault → Type 0) → PromisedHandle Back (Duty G S) → Back → Type 0
+HasKept Open Rule thread back = Fulfils Open Rule thread.promise back
+
 -- the plants that threads were started for
-abbrev pub started : {S : Type 0} → List (PromisedHandle Back (Duty S)) → List Plant
+abbrev pub started : {G S : Type 0} → List (PromisedHandle Back (Duty G S)) → List Plant
 started threads = map (λ thread. thread.promise.plant.value) threads
+
+-- each thread has its plant's number, and the plant has so many turns
+abbrev pub AreNumbered : {G S : Type 0} → ℕ → List (PromisedHandle Back (Duty G S)) → Type 0
+AreNumbered turns threads = EachAt (λ number thread. (thread.promise.number.0 ≡ number) × (thread.promise.turns ≡ turns)) threads
 
 -- ---- faults
 

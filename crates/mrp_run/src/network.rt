@@ -1,10 +1,10 @@
 //! A whole network, run by a thread for each plant.
-ghost use Rattle.std.specs.Prelude.{◌≡◌, IfErr, IfOk};
+ghost use Rattle.std.specs.Prelude.{◌≡◌, IfErr, IfOk, OnOk, length};
 ghost use Rattle.mrp_loops.specs.Sized.{IsSized};
 ghost use Rattle.mrp_run.specs.Ends.{AreThrough};
 ghost use Rattle.mrp_run.specs.declared.fault.RunFault.{RunFault};
 ghost use Rattle.mrp_qty.specs.declared.limits.TheConstants.{MOST_TURNS};
-ghost use Rattle.mrp_run.specs.Faults.{WasShut, WasSpent};
+ghost use Rattle.mrp_run.specs.Faults.{AllTurned, WasShut, WasSpent};
 ghost use Rattle.mrp_run.specs.Outcome.{IsOutcome};
 ghost use Rattle.mrp_run.specs.Worst.{IsFaultIn};
 
@@ -38,7 +38,8 @@ pub struct Outcome {
 /// Runs a network by a thread for each plant, until each plant is done.
 ///
 /// The outcome is the one plan of the network, and each lane carried its whole text, for every number of
-/// workers and every capacity. It isn't claimed that a run ends.
+/// workers and every capacity; the gate was open to the first turns of each plant, one or more. It isn't claimed
+/// that a run ends.
 ///
 /// # Errors
 ///
@@ -55,6 +56,7 @@ pub fn run_network<R: Threads + Wait + Sync, G: Gate>(
     gate: &G,
 ) -> Result<Outcome, RunFault>
     ensures outcome { IfOk result (λ o. IsOutcome net.now.network o) }
+    ensures turned { OnOk result (AllTurned G.turn_open MOST_TURNS (length net.now.network.plants)) }
     ensures fault { IfErr result (IsFaultIn (WasShut G.turn_open G.turn_shut G.worker_shut settings.workers MOST_TURNS) (WasSpent G.turn_open MOST_TURNS) net.now.network) }
 {
     run_network_within(rt, alloc, net, settings, gate, MOST_TURNS)
@@ -74,6 +76,7 @@ pub fn run_network_within<R: Threads + Wait + Sync, G: Gate>(
     turns: u64,
 ) -> Result<Outcome, RunFault>
     ensures outcome { IfOk result (λ o. IsOutcome net.now.network o) }
+    ensures turned { OnOk result (AllTurned G.turn_open turns (length net.now.network.plants)) }
     ensures fault { IfErr result (IsFaultIn (WasShut G.turn_open G.turn_shut G.worker_shut settings.workers turns) (WasSpent G.turn_open turns) net.now.network) }
 {
     let ready = ready_plants(alloc, net, settings.capacity())?;

@@ -7,6 +7,8 @@ ghost use Rattle.mrp_run.specs.Joined.{faults_in};
 use crate::fault::RunFault;
 use crate::plant::Plant;
 use crate::stop::StopRule;
+use mrp_agent::Gate;
+use mrp_net::PlantNo;
 use std::marker::PhantomData;
 use std::snapshot::Snapshot;
 use std::thread::Promise;
@@ -14,25 +16,32 @@ use std::thread::Promise;
 /// What a plant's thread brings back: the plant; or the fault that it met, or was told by another.
 pub(crate) type Back = Result<Plant, RunFault>;
 
-/// What a thread is started for: to finish a plant, as it stands then, or to bring back a fault by the rule.
-pub(crate) struct Duty<S> {
+/// What a thread is started for: to finish the plant of this number, as it stands then, in some of its turns at
+/// a gate of the kind `G`, or to bring back a fault by the rule.
+pub(crate) struct Duty<G, S> {
+    pub(crate) number: PlantNo,
     pub(crate) plant: Snapshot<Plant>,
+    pub(crate) turns: u64,
+    pub(crate) gate: PhantomData<G>,
     pub(crate) rule: PhantomData<S>,
 }
 
-impl<S> Drop for Duty<S> {
+impl<G, S> Drop for Duty<G, S> {
     fn drop(self) {
         let Duty {
+            number: _,
             plant: _plant,
+            turns: _,
+            gate: _,
             rule: _,
         } = self;
     }
 }
 
-impl<S: StopRule> Promise<Back> for Duty<S> {
+impl<G: Gate, S: StopRule> Promise<Back> for Duty<G, S> {
     ghost use Rattle.mrp_run.specs.Joined.{Fulfils};
 
-    ghost kept_by = { λ duty back. Fulfils S.holds duty back };
+    ghost kept_by = { λ duty back. Fulfils G.turn_open S.holds duty back };
 }
 
 /// The plants of all threads, where each brought one back and no fault was met before.

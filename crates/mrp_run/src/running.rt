@@ -94,6 +94,7 @@ pub(crate) fn run_owned<R: Threads + Wait + Sync, G: Gate, S: StopRule>(
     requires rule { AllowsOf S.holds (WasShut G.turn_open G.turn_shut G.worker_shut crew.old.workers turns) (WasSpent G.turn_open turns) number }
     ensures crew { crew.new ≡ crew.old }
     ensures finishes { IfOk result (λ after. Finishes plant after) }
+    ensures turned { OnOk result (HasTurned G.turn_open turns number.0) }
     ensures fault { IfErr result S.holds }
 {
     let Plant {

@@ -5,8 +5,8 @@ ghost use Rattle.mrp_qty.specs.declared.limits.TheConstants.{MOST_WORKERS};
 ghost use Rattle.mrp_run.specs.declared.fault.RunFault.{RunFault};
 ghost use Rattle.mrp_run.specs.declared.plant.Plant.{Plant};
 ghost use Rattle.mrp_run.specs.Ends.{EachAt};
-ghost use Rattle.mrp_run.specs.Faults.{AllowsOf, WasShut, WasSpent};
-ghost use Rattle.mrp_run.specs.Joined.{AreByRule, AreRooms, Finished, started};
+ghost use Rattle.mrp_run.specs.Faults.{AllTurned, AllowsOf, HasTurned, WasShut, WasSpent};
+ghost use Rattle.mrp_run.specs.Joined.{AreNumbered, AreRooms, Finished, HasKept, started};
 ghost use Rattle.mrp_run.specs.Steps.{Finishes, IsAtWork};
 ghost use Rattle.mrp_run.specs.Worst.{AllowsOfFirst};
 
@@ -27,7 +27,7 @@ use std::thread;
 use std::thread::{PromisedHandle, Scope, Threads};
 
 /// The thread of a plant.
-pub(crate) type Running<S> = PromisedHandle<Back, Duty<S>>;
+pub(crate) type Running<G, S> = PromisedHandle<Back, Duty<G, S>>;
 
 /// Room for what the threads of all plants bring back, and for the plants again.
 #[derive(Drop)]
@@ -55,6 +55,7 @@ pub(crate) fn run_plants<R: Threads + Wait + Sync, G: Gate, S: StopRule + Send +
     requires rule { AllowsOfFirst S.holds (WasShut G.turn_open G.turn_shut G.worker_shut workers turns) (WasSpent G.turn_open turns) (length plants.items) }
     ensures all { IfOk result (λ after. length after.items ≡ length plants.items) }
     ensures each { IfOk result (λ after. EachAt (λ p P. Finishes (slice_index_or plants.items p P) P) after.items) }
+    ensures turned { OnOk result (AllTurned G.turn_open turns (length plants.items)) }
     ensures fault { IfErr result S.holds }
 {
     let stop = Stop::<S>::new();
@@ -75,6 +76,7 @@ fn run_until<R: Threads + Wait + Sync, G: Gate, S: StopRule + Send + Sync>(
     requires workers { (1 ≤ workers) × (workers ≤ MOST_WORKERS) }
     requires rule { AllowsOfFirst S.holds (WasShut G.turn_open G.turn_shut G.worker_shut workers turns) (WasSpent G.turn_open turns) (length plants.items) }
     ensures each { IfOk result (λ after. AllZip Finishes plants.items after.items) }
+    ensures turned { OnOk result (AllTurned G.turn_open turns (length plants.items)) }
     ensures fault { IfErr result S.holds }
 {
     thread::scope(
@@ -85,13 +87,17 @@ fn run_until<R: Threads + Wait + Sync, G: Gate, S: StopRule + Send + Sync>(
             requires workers { (1 ≤ workers) × (workers ≤ MOST_WORKERS) }
             requires rule { AllowsOfFirst S.holds (WasShut G.turn_open G.turn_shut G.worker_shut workers turns) (WasSpent G.turn_open turns) (length plants.items) }
             ensures each { IfOk result (λ after. AllZip Finishes plants.items after.items) }
+            ensures turned { OnOk result (AllTurned G.turn_open turns (length plants.items)) }
             ensures fault { IfErr result S.holds }
         { run_beside(scope, rt, alloc, plants, workers, gate, stop, turns) },
     )
 }
 
 /// Room for the threads of so many plants.
-fn new_threads<S: StopRule>(alloc: Global, plants: usize) -> Result<Vec<Running<S>>, Memory>
+fn new_threads<G: Gate, S: StopRule>(
+    alloc: Global,
+    plants: usize,
+) -> Result<Vec<Running<G, S>>, Memory>
     ensures { IfOk result (λ threads. (threads.items ≡ []) × (plants ≤ vec_capacity threads)) }
 {
     Ok(Vec::with_capacity(alloc, plants)?)
@@ -122,6 +128,7 @@ fn run_beside<'s, E, R: Threads + Wait + Sync, G: Gate, S: StopRule + Send + Syn
     requires workers { (1 ≤ workers) × (workers ≤ MOST_WORKERS) }
     requires rule { AllowsOfFirst S.holds (WasShut G.turn_open G.turn_shut G.worker_shut workers turns) (WasSpent G.turn_open turns) (length plants.items) }
     ensures each { IfOk result (λ after. AllZip Finishes plants.items after.items) }
+    ensures turned { OnOk result (AllTurned G.turn_open turns (length plants.items)) }
     ensures fault { IfErr result S.holds }
 {
     let mut threads = new_threads(alloc, plants.len())?;
@@ -160,13 +167,14 @@ fn start_all<'s, E, R: Threads + Wait + Sync, G: Gate, S: StopRule + Send + Sync
     gate: &'s G,
     stop: &'s Stop<S>,
     turns: u64,
-    threads: &mut Vec<Running<S>>,
+    threads: &mut Vec<Running<G, S>>,
 ) -> Result<(), RunFault>
     requires work { All IsAtWork plants.items }
     requires workers { (1 ≤ workers) × (workers ≤ MOST_WORKERS) }
     requires rule { AllowsOfFirst S.holds (WasShut G.turn_open G.turn_shut G.worker_shut workers turns) (WasSpent G.turn_open turns) (length plants.items) }
     requires room { (threads.old.items ≡ []) × (length plants.items ≤ vec_capacity threads.old) }
     ensures started { (rest : List Plant) × (plants.items ≡ started threads.new.items ++ rest) × OnOk result (rest ≡ []) }
+    ensures numbered { AreNumbered turns threads.new.items }
     ensures refused { IfErr result (λ fault. fault ≡ RunFault.ThreadRefused) }
 {
     for plant in plants {
@@ -191,14 +199,19 @@ fn start<'s, E, R: Threads + Wait + Sync, G: Gate, S: StopRule + Send + Sync>(
     gate: &'s G,
     stop: &'s Stop<S>,
     turns: u64,
-) -> Option<Running<S>>
+) -> Option<Running<G, S>>
     requires work { IsAtWork plant }
     requires workers { (1 ≤ workers) × (workers ≤ MOST_WORKERS) }
     requires rule { AllowsOf S.holds (WasShut G.turn_open G.turn_shut G.worker_shut workers turns) (WasSpent G.turn_open turns) number }
     ensures plant { IfSome result (λ thread. thread.promise.plant.value ≡ plant) }
+    ensures number { IfSome result (λ thread. thread.promise.number ≡ number) }
+    ensures turns { IfSome result (λ thread. thread.promise.turns ≡ turns) }
 {
     let duty = Duty {
+        number,
         plant: Snapshot::of(&plant),
+        turns,
+        gate: PhantomData,
         rule: PhantomData,
     };
     let started = scope.spawn_with(
@@ -227,6 +240,7 @@ fn run_alone<R: Threads + Wait + Sync, G: Gate, S: StopRule>(
     requires workers { (1 ≤ workers) × (workers ≤ MOST_WORKERS) }
     requires rule { AllowsOf S.holds (WasShut G.turn_open G.turn_shut G.worker_shut workers turns) (WasSpent G.turn_open turns) number }
     ensures plant { Finished plant result }
+    ensures turned { OnOk result (HasTurned G.turn_open turns number.0) }
     ensures fault { IfErr result S.holds }
 {
     let horizon = plant.agent.view().horizon();
@@ -260,10 +274,14 @@ fn crew_for<S: StopRule>(
 }
 
 /// Joins all threads, in the order in which they were started.
-fn join_all<R: Threads, S: StopRule>(rt: &R, threads: Vec<Running<S>>, backs: &mut Vec<Back>)
-    requires room { (backs.old.items ≡ []) × (length threads.items ≤ vec_capacity backs.old) }
-    ensures finished { AllZip Finished (started threads.items) backs.new.items }
-    ensures rule { AreByRule S.holds backs.new.items }
+fn join_all<R: Threads, G: Gate, S: StopRule>(
+    rt: &R,
+    threads: Vec<Running<G, S>>,
+    backs: &mut Vec<Back>,
+)
+    requires empty { backs.old.items ≡ [] }
+    requires room { length threads.items ≤ vec_capacity backs.old }
+    ensures kept { AllZip (HasKept G.turn_open S.holds) threads.items backs.new.items }
 {
     for thread in threads {
         backs.push(thread.join(rt)).unwrap();

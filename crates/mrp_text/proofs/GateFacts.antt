@@ -1,5 +1,5 @@
 -- What a fault of a run says of its gate, and that a gate that is always open is never answered as shut.
-use Rattle.std.proofs.Common.{◌≡◌, ℕ, Bool, true, false, List, Option, Result, Ok, Err, IfErr, ⊎_elim, subst, sym}
+use Rattle.std.proofs.Common.{◌≡◌, ℕ, Bool, true, false, List, Option, Result, Ok, Err, IfErr, OnOk, ⊎_elim, subst, sym}
 use Rattle.std.proofs.lemmas.Bool.{false≢true}
 use Rattle.mrp_rows.specs.Table.{Table}
 use Rattle.mrp_run.specs.declared.fault.RunFault.{RunFault}
@@ -69,3 +69,13 @@ pub never_gate : {U : Type 0} (known : Option (List ℕ)) (says : Table → Text
     → IfErr r (IsTextRefusal known says) → IfErr r IsNoShutGate
 never_gate known says (Ok u) never said = tt
 never_gate known says (Err f) never said = no_gate known says f never said
+
+-- ---- a gate that was open
+
+pub on_ok : {T E : Type 0} (X : Type 0) (r : Result T E) → X → OnOk r X
+on_ok X (Ok x) is = is
+on_ok X (Err f) is = tt
+
+pub on_ok_of : {T E : Type 0} (X Y : Type 0) (r : Result T E) → (X → Y) → OnOk r X → OnOk r Y
+on_ok_of X Y (Ok x) then is = then is
+on_ok_of X Y (Err f) then is = tt

@@ -6,8 +6,8 @@
 //! The network is let go by `drop` and not at the end of a scope: what lets go each of its lists is then
 //! proved once, and not in each of these functions.
 
-ghost use Rattle.std.specs.Prelude.{◌≡◌, ◌≢◌, ◌≤◌, IfErr};
-ghost use Rattle.mrp_run.specs.Faults.{WasShut, WasSpent};
+ghost use Rattle.std.specs.Prelude.{◌≡◌, ◌≢◌, ◌≤◌, IfErr, OnOk, length};
+ghost use Rattle.mrp_run.specs.Faults.{AllTurned, WasShut, WasSpent};
 ghost use Rattle.mrp_qty.specs.declared.limits.TheConstants.{MOST_TURNS};
 ghost use Rattle.mrp_text.specs.Fault.{IsBeforeWriting};
 ghost use Rattle.mrp_text.specs.Text.{Writes, WritesRows, OfTable, IsPlanReport, IsPlanRows, IsCodeReport};
@@ -29,8 +29,8 @@ use std::thread::Threads;
 /// workers: a row for each pair and period, then a row for each late order.
 ///
 /// The text is that of [`drive_text`], for every number of workers and every capacity. Before each turn
-/// of a plant and the work of each worker `gate` is asked. The call may wait, and it isn't claimed that
-/// it returns.
+/// of a plant and the work of each worker `gate` is asked; where the call ends well, the gate was open to the
+/// first turns of each plant, one or more. The call may wait, and it isn't claimed that it returns.
 ///
 /// # Errors
 ///
@@ -48,6 +48,7 @@ pub fn plan_text<T: Threads + Wait + Sync, R: Read + Drop, W: Write, G: Gate>(
 ) -> Result<(), TextFault>
     ensures text { Writes (W.contents writer.old) (W.contents writer.new) result (λ text. OfTable (R.remaining reader) (λ N. IsPlanReport N text)) }
     ensures rows { WritesRows W.contents writer.old writer.new result (λ rows. OfTable (R.remaining reader) (λ N. IsPlanRows N rows)) }
+    ensures turned { OnOk result (OfTable (R.remaining reader) (λ N. AllTurned G.turn_open MOST_TURNS (length N.plants))) }
     ensures refusal { IfErr result (IsTextRefusal (R.remaining reader)
         (IsRunRefusal (WasShut G.turn_open G.turn_shut G.worker_shut settings.workers MOST_TURNS) (WasSpent G.turn_open MOST_TURNS))) }
     ensures untouched { IfErr result (λ fault. IsBeforeWriting fault → writer.new ≡ writer.old) }

@@ -1,10 +1,10 @@
 //! What a text function writes of a network: the plan, the codes, the pegs, the figures of the lanes.
 
-ghost use Rattle.std.specs.Prelude.{◌≡◌, ◌≢◌, ◌≤◌, ◌<◌, IfErr};
+ghost use Rattle.std.specs.Prelude.{◌≡◌, ◌≢◌, ◌≤◌, ◌<◌, IfErr, OnOk, length};
 ghost use Rattle.mrp_rows.specs.Table.{IsPair, horizon};
 ghost use Rattle.mrp_net.specs.Plan.{Fits};
 ghost use Rattle.mrp_loops.specs.Loop.{AreCodes};
-ghost use Rattle.mrp_run.specs.Faults.{WasShut, WasSpent};
+ghost use Rattle.mrp_run.specs.Faults.{AllTurned, WasShut, WasSpent};
 ghost use Rattle.mrp_qty.specs.declared.limits.TheConstants.{MOST_TURNS};
 ghost use Rattle.mrp_text.specs.Fault.{IsBeforeWriting, IsLate};
 ghost use Rattle.mrp_text.specs.Text.{Writes, WritesRows, IsPlannable, IsPlanReport, IsPlanRows, IsCodeReport};
@@ -57,6 +57,7 @@ pub(crate) fn write_run<T: Threads + Wait + Sync, W: Write, G: Gate>(
 ) -> Result<(), TextFault>
     ensures text { Writes (W.contents writer.old) (W.contents writer.new) result (IsPlanReport network.now) }
     ensures rows { WritesRows W.contents writer.old writer.new result (IsPlanRows network.now) }
+    ensures turned { OnOk result (AllTurned G.turn_open MOST_TURNS (length network.now.plants)) }
     ensures refusal { IfErr result (IsRunRefusal (WasShut G.turn_open G.turn_shut G.worker_shut settings.workers MOST_TURNS) (WasSpent G.turn_open MOST_TURNS) network.now) }
     ensures untouched { IfErr result (λ fault. IsBeforeWriting fault → writer.new ≡ writer.old) }
 {

@@ -4,10 +4,11 @@ use Rattle.mrp_rows.specs.Table.{Table}
 use Rattle.mrp_loops.specs.Sized.{IsSized}
 use Rattle.mrp_run.specs.declared.fault.RunFault.TheVariants.{Memory}
 use Rattle.mrp_run.specs.Ends.{AreThrough, EachAt}
-use Rattle.mrp_run.specs.Faults.{WasShut, WasSpent}
+use Rattle.mrp_run.specs.Faults.{AllTurned, WasShut, WasSpent}
 use Rattle.mrp_run.specs.Outcome.{IsOutcome}
 use Rattle.mrp_run.specs.Steps.{Finishes}
 use Rattle.mrp_run.specs.Worst.{IsFaultIn, IsOfFirst}
+use Rattle.mrp_run.proofs.JoinedKept.{on_ok}
 use Rattle.mrp_run.proofs.JoinedNetwork.{are_through, ready_work}
 use Rattle.mrp_run.proofs.StopRules.{handed_on}
 use Rattle.mrp_run.proofs.network.run_network_within.Goals as goal
@@ -66,3 +67,17 @@ returns-clause-fault g c =
     let Shut = WasShut g.G.Gate.turn_open g.G.Gate.turn_shut g.G.Gate.worker_shut c.args.settings.workers c.args.turns in
     let Fault = IsFaultIn Shut (WasSpent g.G.Gate.turn_open c.args.turns) c.args.net.now.network in
     IfErr-weaker c.outcome_of.result (λ fault. fault ≡ Memory) Fault (λ fault is. subst Fault (sym is) tt) c.outcome_of.ensures.fault
+
+pub returns-in_err-ready-clause-turned : goal.returns-in_err-ready-clause-turned
+returns-in_err-ready-clause-turned g c =
+    IfOk-from_err c.from_residual.result (λ _. AllTurned g.G.Gate.turn_open c.args.turns (length c.args.net.now.network.plants)) c.from_residual.ensures.0
+
+pub returns-in_err-through-clause-turned : goal.returns-in_err-through-clause-turned
+returns-in_err-through-clause-turned g c =
+    IfOk-from_err c.from_residual-in_err-through.result (λ _. AllTurned g.G.Gate.turn_open c.args.turns (length c.args.net.now.network.plants)) c.from_residual-in_err-through.ensures.0
+
+pub returns-clause-turned : goal.returns-clause-turned
+returns-clause-turned g c =
+    let Turned = AllTurned g.G.Gate.turn_open c.args.turns in
+    let each : Turned (length c.in_ok-ready.ready.items) = IfOk-at_ok (λ _. Turned (length c.in_ok-ready.ready.items)) c.in_ok-through.was c.run_plants.ensures.turned in
+    on_ok (Turned (length c.args.net.now.network.plants)) c.outcome_of.result (subst Turned c.in_ok-ready.ensures.ready.all_plants each)

@@ -1,11 +1,12 @@
-use Rattle.std.proofs.Common.{◌≡◌, ◌<◌, ◌++◌, ◌∷◌, [], List, is_ok, length, vec_len, vec_capacity, refl, sym, ap, ◌∙◌, append-nil, arith}
+use Rattle.std.proofs.Common.{◌≡◌, ◌<◌, ◌++◌, ◌∷◌, [], List, is_ok, length, vec_len, vec_capacity, refl, sym, subst, ap, ◌∙◌, append-nil, arith}
 use Rattle.std.proofs.lemmas.List.{length-map}
 use Rattle.std.specs.Vec.Iter.{into_iter_items}
 use Rattle.mrp_run.specs.declared.plant.Plant.{Plant}
-use Rattle.mrp_run.specs.Joined.{started}
+use Rattle.mrp_run.specs.Joined.{AreNumbered, started}
 use Rattle.mrp_run.specs.Faults.{WasShut, WasSpent}
 use Rattle.mrp_run.specs.Steps.{IsAtWork}
 use Rattle.mrp_run.proofs.DealtLists.{pushed}
+use Rattle.mrp_run.proofs.JoinedKept.{numbered_more}
 use Rattle.mrp_run.proofs.JoinedThreads.{holds_next, none_left, started_more, whole_next, one_left}
 use Rattle.mrp_run.proofs.StopRules.{allows_each}
 use Rattle.mrp_run.specs.declared.fault.RunFault.TheVariants.{ThreadRefused}
@@ -40,6 +41,8 @@ loop-plant-preserved g c =
       whole = whole_next at.yielded (into_iter_items at.plant-iterator) _ c.args.plants.items plant at.invariant.whole c.in-Some.ensures.steps.0;
       started_so_far = ap started grown ∙ started_more at.threads.items thread ∙ ap (λ (z : List Plant). z ++ thread.promise.plant.value ∷ []) at.invariant.started_so_far
           ∙ ap (λ (z : Plant). at.yielded ++ z ∷ []) c.in-Some-start.ensures.plant;
+      numbered = subst (λ z. AreNumbered c.args.turns z) (sym grown)
+          (numbered_more c.args.turns at.threads.items thread _ (omega (arith, c.len.ensures, at.threads.ok.0)) at.invariant.numbered c.in-Some-start.ensures.number c.in-Some-start.ensures.turns);
       room = omega (arith, at.invariant.room, c.push.ensures.capacity);
     }
 
@@ -63,3 +66,9 @@ returns-clause-started g c =
     let at = c.loop-plant in
     let all : at.yielded ≡ c.args.plants.items = none_left at.yielded (into_iter_items at.plant-iterator) c.args.plants.items at.invariant.whole (omega (arith, c.in-None.ensures.steps.0, at.plant-iterator.rest.ok.0)) in
     ([], sym all ∙ sym at.invariant.started_so_far ∙ sym (append-nil (started at.threads.items)), refl)
+
+pub returns-in_default-clause-numbered : goal.returns-in_default-clause-numbered
+returns-in_default-clause-numbered g c = c.loop-plant.invariant.numbered
+
+pub returns-clause-numbered : goal.returns-clause-numbered
+returns-clause-numbered g c = c.loop-plant.invariant.numbered
