@@ -34,11 +34,15 @@ form_is V lane =
     ap (λ (b : Bool). form_with V.horizon b (map form_item_of lane.items)) (rising_is lane.kind)
     ∙ ap (form_with V.horizon (rises_on lane.kind)) (sym (map-map form_item book_item lane.items))
 
+-- it is the form by which the lane's receiver books
+pub form_same : (N : Table) (p : ℕ) (V : PlantRows) → V ≡ plant_rows N p → (l : ℕ) → Contains (incoming_lanes N p) (incoming_lane N l)
+    → lane_form N (lane_at N l) ≡ form_of V (incoming_at V (incoming_place V l))
+form_same N p V view l own =
+    let place = in_placed V N p l view own in
+    let periods : horizon N ≡ V.horizon = sym (ap (λ (z : PlantRows). z.horizon) view) in
+    forms_are_seen N l ∙ ap (λ (h : ℕ). seen_form h (incoming_lane N l)) periods ∙ form_is V (incoming_lane N l) ∙ ap (form_of V) (sym place.is)
+
 pub legal_in_form : (N : Table) → IsSized N → (p : ℕ) (V : PlantRows) → V ≡ plant_rows N p → (l : ℕ) → Contains (incoming_lanes N p) (incoming_lane N l)
     → (records : List Record) → IsBeginning (loads N (lane_at N l)) records → IsInForm (form_of V (incoming_at V (incoming_place V l))) records
 legal_in_form N sized p V view l own records legal =
-    let place = in_placed V N p l view own in
-    let periods : horizon N ≡ V.horizon = sym (ap (λ (z : PlantRows). z.horizon) view) in
-    let same : lane_form N (lane_at N l) ≡ form_of V (incoming_at V (incoming_place V l)) =
-    forms_are_seen N l ∙ ap (λ (h : ℕ). seen_form h (incoming_lane N l)) periods ∙ form_is V (incoming_lane N l) ∙ ap (form_of V) (sym place.is) in
-    subst (λ (form : LaneForm). IsInForm form records) same (legal_is_in_form N sized (lane_at N l) records legal)
+    subst (λ (form : LaneForm). IsInForm form records) (form_same N p V view l own) (legal_is_in_form N sized (lane_at N l) records legal)

@@ -187,3 +187,7 @@ agent_stays N p s t A shown agree = record {
   enough = shown.enough;
   history = shows_same A shown.enough s t (subst (λ (V : PlantRows). AgreeOn V s t) (sym shown.view) (agree_on N p s t agree)) shown.history;
 }
+
+-- the plans that an agent keeps are made from what it sees and has taken
+pub agent_is_local : (N : Table) (p : ℕ) (s : State) (A : AgentState) → ShowsAgent N p s A → IsLocal (plant_rows N p) s.taken s.planned (plans_of A)
+agent_is_local N p s A shown = subst (λ (V : PlantRows). IsLocal V s.taken s.planned (plans_of A)) shown.view shown.history.local

@@ -11,10 +11,13 @@ use mrp_view::PlantView;
 use std::alloc::Global;
 
 impl Plant for Agent {
-    ghost use Rattle.mrp_plant.specs.AgentStays.{agent_stays};
+    ghost use Rattle.mrp_agent.specs.State.{plans_of};
+    ghost use Rattle.mrp_plant.specs.AgentStays.{agent_is_local, agent_stays};
     ghost use Rattle.mrp_plant.specs.Agents.{ShowsAgent};
 
     ghost shows = { ShowsAgent };
+
+    ghost kept = { plans_of };
 
     fn new(alloc: Global, view: PlantView) -> Result<Agent, Memory> {
         Agent::new(alloc, view)
@@ -57,4 +60,6 @@ impl Plant for Agent {
     }
 
     ghost stays = { agent_stays };
+
+    ghost local = { agent_is_local };
 }

@@ -13,20 +13,28 @@ use std::alloc::Global;
 /// Its contract speaks of every moment of a run at which a plant can be: the network, the plant's number
 /// and the state that it shows, which is one that events lead to. No call but [`Plant::new`] takes memory.
 pub trait Plant: Drop {
-    ghost use Rattle.std.specs.Prelude.{◌≡◌, ◌<◌, ℕ, false, true, length, Contains, IfOk, IfSome, IfNone, OnOk, OnErr};
+    ghost use Rattle.std.specs.Prelude.{◌≡◌, ◌<◌, ◌++◌, ◌∷◌, [], ℕ, false, true, length, Contains, Some, IfOk, IfErr, IfSome, IfNone, OnOk, OnErr};
+    ghost use Rattle.mrp_lot.specs.One.{PlanRows};
     ghost use Rattle.mrp_rows.specs.Table.{Table};
     ghost use Rattle.mrp_net.specs.Lanes.{lane_at, lane_items};
     ghost use Rattle.mrp_net.specs.Plan.{plan_of, rows_at};
     ghost use Rattle.mrp_view.specs.View.{plant_rows};
     ghost use Rattle.mrp_loops.specs.Sized.{IsSized};
     ghost use Rattle.mrp_record.specs.declared.record.Record.{Record};
+    ghost use Rattle.mrp_record.specs.Form.{IsInForm};
+    ghost use Rattle.mrp_book.specs.Meanings.{first_had};
+    ghost use Rattle.mrp_local.specs.Local.{IsLocal};
     ghost use Rattle.mrp_events.specs.Laws.{cum_on};
+    ghost use Rattle.mrp_events.specs.LoadLaws.{lane_form};
     ghost use Rattle.mrp_events.specs.State.{State, opening_state, CanTake, CanPlan, after_send, after_take, after_plan};
     ghost use Rattle.mrp_plant.specs.Gathering.{HasPlannedAll, own_plans};
     ghost use Rattle.mrp_plant.specs.Moments.{Moment, IsAt, IsOut, IsIn, IsOwn, IsNext, IsSeen, Sends, Receives, Has, AgreeAt};
 
     /// Which states of a network a plant with a number shows.
     ghost shows: { Table → ℕ → State → Self → Type 0 };
+
+    /// The plan that a plant keeps of a pair, by the pair's number.
+    ghost kept: { Self → ℕ → PlanRows };
 
     /// The plant that sees this, before the first event. It takes all the room that its life needs.
     ///
@@ -52,15 +60,20 @@ pub trait Plant: Drop {
         ensures none { IfNone result ((m : Moment) (p : ℕ) → IsAt shows m p self.old → IsOut m.network p lane.0 → (r : Record) → ¬ IsNext m lane.0 r) }
         ensures unchanged { IfNone result (self.new ≡ self.old) };
 
-    /// Books the next record of a lane that comes in.
+    /// Books the next record of a lane that comes in: one with which what was taken stays in form. So the
+    /// first record of a mailbox is booked.
     ///
     /// # Errors
     ///
-    /// The first fault of the record; then nothing has changed. The first record of a mailbox has none.
+    /// The first fault of the record after those that were taken; then nothing has changed.
     fn book(&mut self, lane: LaneNo, entry: &Record) -> Result<(), BookFault>
         requires lane { Receives shows self.old lane.0 }
-        ensures booked { OnOk result ((m : Moment) (p : ℕ) → IsAt shows m p self.old → IsIn m.network p lane.0 → CanTake m.network m.state lane.0 entry.now
+        ensures fits { OnOk result ((m : Moment) (p : ℕ) → IsAt shows m p self.old → IsIn m.network p lane.0
+            → IsInForm (lane_form m.network (lane_at m.network lane.0)) (m.state.taken lane.0 ++ entry.now ∷ [])) }
+        ensures booked { OnOk result ((m : Moment) (p : ℕ) → IsAt shows m p self.old → IsIn m.network p lane.0
             → shows m.network p (after_take m.state lane.0 entry.now) self.new) }
+        ensures first { IfErr result (λ fault. (m : Moment) (p : ℕ) → IsAt shows m p self.old → IsIn m.network p lane.0
+            → first_had (lane_form m.network (lane_at m.network lane.0)) (m.state.taken lane.0) entry.now ≡ Some fault) }
         ensures refused { OnErr result ((m : Moment) (p : ℕ) → IsAt shows m p self.old
             → IsIn m.network p lane.0 → ¬ CanTake m.network m.state lane.0 entry.now) }
         ensures unchanged { OnErr result (self.new ≡ self.old) };
@@ -84,6 +97,7 @@ pub trait Plant: Drop {
     /// The plan of a pair of the plant, once it is planned.
     fn planned(&self, x: PairNo) -> Option<&PairPlan>
         requires pair { Has shows self.now x.0 }
+        ensures kept { IfSome result (λ plan. plan.now ≡ kept self.now x.0) }
         ensures planned { IfSome result (λ plan. (m : Moment) (p : ℕ) → IsAt shows m p self.now → IsOwn m.network p x.0 → m.state.planned x.0 ≡ true) }
         ensures plan { IfSome result (λ plan. (m : Moment) (p : ℕ) → IsAt shows m p self.now
             → IsOwn m.network p x.0 → plan.now ≡ rows_at (plan_of m.network) x.0) }
@@ -101,4 +115,8 @@ pub trait Plant: Drop {
 
     /// What a plant shows depends on its own part of a state alone.
     ghost stays: { (N : Table) (p : ℕ) (s t : State) (plant : Self) → shows N p s plant → AgreeAt N p s t → shows N p t plant };
+
+    /// The plan of each pair that is planned was made when nothing was missing for it, from the plant's own
+    /// rows, from the records that it has taken and from the plans that it keeps of the pair's parents.
+    ghost local: { (N : Table) (p : ℕ) (s : State) (plant : Self) → shows N p s plant → IsLocal (plant_rows N p) s.taken s.planned (kept plant) };
 }

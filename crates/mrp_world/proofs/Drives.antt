@@ -20,7 +20,7 @@ use Rattle.mrp_world.proofs.Worlds.{world}
 -- ---- steps
 
 -- a run leaves no more steps than there were
-run_leaves_no_more : (N : Table) (capacity : ℕ) (s t : State) (events : List Event) → IsReached N capacity s → Run N capacity s events t → steps_left N t ≤ steps_left N s
+pub run_leaves_no_more : (N : Table) (capacity : ℕ) (s t : State) (events : List Event) → IsReached N capacity s → Run N capacity s events t → steps_left N t ≤ steps_left N s
 run_leaves_no_more N capacity s t [] reached run = omega (arith, ap (steps_left N) run)
 run_leaves_no_more N capacity s t (event ∷ events) reached run =
     let more : steps_left N t ≤ steps_left N run.0 = run_leaves_no_more N capacity run.0 t events (reached_goes_on N capacity s run.0 event reached run.1) run.2 in

@@ -1,5 +1,6 @@
 pub mod Counts
 pub mod Drives
+pub mod Enabling
 pub mod Giving
 pub mod Holding
 pub mod Lasting

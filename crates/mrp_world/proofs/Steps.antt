@@ -312,7 +312,7 @@ none_leads_nowhere shows N plants boxes l p d within known e none capacity s at 
 pub receive_leads : {A : Type 0} (shows : Showing A) → Stays shows → (N : Table) (plants : List A) (boxes : List Held) (l p : ℕ) (d new : A) (old box : Held) (r : Record)
     → l < length (lanes N) → p < length N.plants → (lane_at N l).receiver.0 ≡ p → old ≡ box_at boxes l
     → slice_get old.records 0 ≡ Some r → box ≡ record { records = drop 1 old.records; room = old.room }
-    → ((m : Moment) (q : ℕ) → IsAt shows m q (get_or plants p d) → IsIn m.network q l → CanTake m.network m.state l r → shows m.network q (after_take m.state l r) new)
+    → ((m : Moment) (q : ℕ) → IsAt shows m q (get_or plants p d) → IsIn m.network q l → shows m.network q (after_take m.state l r) new)
     → Lead shows N plants boxes (Receive (record { 0 = l })) (set plants p new) (set boxes l box)
 receive_leads {A} shows stays N plants boxes l p d new old box r within known e same first_old emptied_old booked capacity s at =
     let rest = drop 1 (box_at boxes l).records in
@@ -321,7 +321,7 @@ receive_leads {A} shows stays N plants boxes l p d new old box r within known e 
     let emptied : box ≡ less (box_at boxes l) = emptied_old ∙ ap less same in
     let here = plant_is_at shows N capacity plants boxes s at p d known in
     let can = first_can N capacity boxes s l r rest at.held within first in
-    let shown = booked (moment N capacity s) p here (record { lane = within; plant = e }) can in (
+    let shown = booked (moment N capacity s) p here (record { lane = within; plant = e }) in (
       after_take s l r,
       (r, can, refl),
       subst (λ (b : Held). AreAt shows N capacity (set plants p new) (set boxes l b) (after_take s l r)) (sym emptied)
@@ -385,6 +385,12 @@ pub may_plan : {A : Type 0} (shows : Showing A) (N : Table) (plants : List A) (b
     → IsPair N x → p < length N.plants → (pair_at N x).plant.0 ≡ p → Has shows (get_or plants p d) x
 may_plan shows N plants boxes x p d some pair known e =
     (moment N some.0 some.1, p, plant_is_at shows N some.0 plants boxes some.1 some.2 p d known, record { pair = pair; at_plant = e })
+
+pub owner_among : {A : Type 0} (shows : Showing A) (N : Table) (plants : List A) (boxes : List Held) (x p : ℕ) → AreSomewhere shows N plants boxes
+    → IsPair N x → (pair_at N x).plant.0 ≡ p → p < length plants
+owner_among shows N plants boxes x p some pair e =
+    let known : (pair_at N x).plant.0 < length N.plants = owner_within N some.2.sized x pair in
+    omega (arith, known, e, some.2.shown.all)
 
 pub owner_known : {A : Type 0} (shows : Showing A) (N : Table) (plants : List A) (boxes : List Held) (x p : ℕ) → AreSomewhere shows N plants boxes
     → IsPair N x → (pair_at N x).plant.0 ≡ p → p < length N.plants

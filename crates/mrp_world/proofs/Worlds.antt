@@ -1,8 +1,9 @@
 -- What events do to a world.
 use Rattle.std.proofs.Common.{◌≡◌, Option, None, Some, get_or, take, ℕ, ◌+◌, ◌-◌, ◌<◌, ◌≤◌, ◌==◌, Bool, true, false, List, [], ◌∷◌, ◌++◌, inl, inr, length, refl, sym, ap, subst, ◌∙◌, arith}
-use Rattle.std.specs.Prelude.{MatchBool, IfSome, IfNone, IfOk, Result, Ok, Err}
+use Rattle.std.specs.Prelude.{slice_get, MatchBool, IfSome, IfNone, IsSome, IsSomeAnd, IfOk, Result, Ok, Err}
 use Rattle.std.proofs.lemmas.Bool.{cases_Bool, eqb-true, eq-eqb, false≢true}
 use Rattle.std.proofs.lemmas.List.{take_more}
+use Rattle.std.proofs.lemmas.Option.{slice_get_read}
 use Rattle.mrp_rows.specs.Table.{Table, IsPair}
 use Rattle.mrp_net.specs.Sums.{pair_at}
 use Rattle.mrp_events.specs.declared.event.Event.{Event}
@@ -11,7 +12,7 @@ use Rattle.mrp_events.specs.Progress.{steps_left}
 use Rattle.mrp_events.proofs.Counting.{events_are_steps, none_is_left_at_the_end}
 use Rattle.mrp_events.proofs.Finishing.{no_schedule_sticks}
 use Rattle.mrp_plant.specs.Moments.{Moment, Showing, IsAt, IsOwn, Has}
-use Rattle.mrp_world.proofs.Steps.{moment, plant_is_at, owner_known}
+use Rattle.mrp_world.proofs.Steps.{moment, plant_is_at, owner_among, owner_known}
 use Rattle.mrp_mailbox.specs.Mailbox.{Held}
 use Rattle.mrp_world.specs.World.{AreAt, AreSomewhere, Lead, LeadNowhere, AllRests, MayLead, WorldState, WorldShows, IsWorld, Runs}
 
@@ -194,6 +195,13 @@ pub runs_next : {A : Type 0} (shows : Showing A) (old w new : WorldState A) (eve
 runs_next shows old w new events i d within before one =
     subst (λ (xs : List Event). Runs shows old xs new) (sym (take_more events i d within)) (runs_on shows old w new (take i events) (get_or events i d ∷ []) before one)
 
+-- the steps that a world has less are those that its states have less
+pub fallen : {A : Type 0} (shows : Showing A) (w new : WorldState A) (s t : State) → WorldShows shows w s → WorldShows shows new t → new.network ≡ w.network
+    → (before after : ℕ) → before ≡ w.left → after ≡ new.left → before - after ≡ steps_left w.network s - steps_left w.network t
+fallen shows w new s t shown then same before after is_before is_after =
+    let moved : steps_left new.network t ≡ steps_left w.network t = ap (λ (N : Table). steps_left N t) same in
+    omega (arith, shown.left, then.left, moved, is_before, is_after)
+
 -- ---- the plant of a pair
 
 -- the plant that is asked is the one that has the pair
@@ -240,6 +248,25 @@ pub asked_always : {A : Type 0} (shows : Showing A) (N : Table) (capacity : ℕ)
     → Asked shows N capacity plants boxes left w x p plant → AtMoments shows plant x (λ M s. Says M) → Says w.network
 asked_always {A} shows N capacity plants boxes left w x p plant Says asked says =
     asked_says shows N capacity plants boxes left w x p plant (λ M s. Says M) asked says asked.is.state (subst (λ (v : WorldState A). WorldShows shows v asked.is.state) asked.same asked.is.shown)
+
+-- it stands at its number, so what holds of it holds of the plant of the pair
+pub asked_there : {A : Type 0} (shows : Showing A) (N : Table) (capacity : ℕ) (plants : List A) (boxes : List Held) (left : ℕ) (w : WorldState A) (x p : ℕ) (plant : A) (Says : A → Type 0)
+    → Asked shows N capacity plants boxes left w x p plant → Says plant → IsSomeAnd (slice_get w.plants (pair_at w.network x).plant.0) Says
+asked_there {A} shows N capacity plants boxes left w x p plant Says asked says =
+    let pair = own_pair shows N capacity plants boxes left w x p plant asked in
+    let known : p < length plants = owner_among shows N plants boxes x p (somewhere shows (world N capacity plants boxes left) asked.is) pair asked.owner in
+    let there : slice_get plants p ≡ Some plant = slice_get_read plants (length plants) p plant refl known asked.at in
+    subst (λ (v : WorldState A). IsSomeAnd (slice_get v.plants (pair_at v.network x).plant.0) Says) asked.same
+    (subst (λ (q : ℕ). IsSomeAnd (slice_get plants q) Says) (sym asked.owner) (subst (λ (o : Option A). IsSomeAnd o Says) (sym there) says))
+
+-- where no step is left each pair has a plan
+pub has_plan : {A X : Type 0} (shows : Showing A) (N : Table) (capacity : ℕ) (plants : List A) (boxes : List Held) (left : ℕ) (w : WorldState A) (x p : ℕ) (plant : A) (o : Option X)
+    → Asked shows N capacity plants boxes left w x p plant → IfNone o ((s : State) → WorldShows shows w s → s.planned x ≡ false) → w.left ≡ 0 → IsSome o
+has_plan shows N capacity plants boxes left w x p plant (Some plan) asked none end = refl
+has_plan {A} shows N capacity plants boxes left w x p plant None asked none end =
+    let shown : WorldShows shows w asked.is.state = subst (λ (v : WorldState A). WorldShows shows v asked.is.state) asked.same asked.is.shown in
+    let planned : asked.is.state.planned x ≡ true = (none_left_is_finished shows w asked.is.state shown end).planned x asked.pair in
+    absurd (false≢true (sym (none asked.is.state shown) ∙ planned))
 
 -- ---- what plants and mailboxes say
 

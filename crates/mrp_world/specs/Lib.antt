@@ -1,4 +1,5 @@
 pub mod Driving
+pub mod Enabled
 pub mod Figures
 pub mod Headline
 pub mod World

@@ -2,27 +2,29 @@
 //! nothing.
 ghost use Rattle.mrp_events.specs.State.{State, IsFinished};
 ghost use Rattle.mrp_world.specs.Figures.{FiguresAreOfLanes, FinishedFiguresAreLast};
-ghost use Rattle.mrp_world.specs.Headline.{OrderIsKept, NothingIsLost, ClosedLanesAreWhole, PlansAreThePlan, IsComplete};
+ghost use Rattle.mrp_world.specs.Headline.{OrderIsKept, NothingIsLost, ClosedLanesAreWhole, PlansAreThePlan, PlansAreLocal, IsComplete};
 ghost use Rattle.mrp_world.specs.World.{WorldShows};
 
 use crate::world::World;
 use mrp_plant::Plant;
 
-/// The headline. A network without loops, any capacity, any list of events: a world always shows some state
-/// of the network's runs, and in each state that it shows
+/// The headline. A network without loops, any capacity, any list of events: a world, once there was memory
+/// to make it, always shows some state of the network's runs, and in each state that it shows
 ///
 /// - each lane has booked its sender's records in order, at most once, none after closing;
 /// - cumulative shipped less cumulative received is the sum in the mailbox;
-/// - once a closing record is booked, every line of its lane was booked once, and a finished world has booked
-///   every line of every lane and planned every pair;
-/// - what plants have planned is the one plan of the whole network.
+/// - a lane whose closing record is booked has brought its whole text, each line once;
+/// - what a plant keeps as the plan of a planned pair are the pair's rows of the one plan of the whole network,
+///   and it was made from the plant's own rows and the records that have come to it;
+/// - where it is finished, every line of every lane was booked once, and every pair has its plan.
 pub fn headline<P: Plant>(world: &World<P>)
     ensures shows { (s : State) × WorldShows P.shows world.now s }
     ensures order { (s : State) → WorldShows P.shows world.now s → OrderIsKept world.now s }
     ensures figures { (s : State) → WorldShows P.shows world.now s → NothingIsLost world.now s }
     ensures closed { (s : State) → WorldShows P.shows world.now s → ClosedLanesAreWhole world.now s }
-    ensures finished { (s : State) → WorldShows P.shows world.now s → IsFinished world.now.network s → IsComplete world.now s }
-    ensures plans { (s : State) → WorldShows P.shows world.now s → PlansAreThePlan world.now s }
+    ensures plans { (s : State) → WorldShows P.shows world.now s → PlansAreThePlan P.kept world.now s }
+    ensures local { (s : State) → WorldShows P.shows world.now s → PlansAreLocal P.kept world.now s }
+    ensures finished { (s : State) → WorldShows P.shows world.now s → IsFinished world.now.network s → IsComplete P.kept world.now s }
 {
     let _left = world.steps_left();
 }

@@ -1,6 +1,6 @@
 //! The world: all plants and the mailboxes between them, one event at a time.
 
-ghost use Rattle.std.specs.Prelude.{◌≡◌, ◌+◌, ℕ, ◌-◌, ◌≤◌, true, false, All, List, IfOk, IfSome, IfNone, MatchBool, IsTrue, ◌↔◌};
+ghost use Rattle.std.specs.Prelude.{◌≡◌, ◌+◌, ℕ, ◌-◌, ◌≤◌, true, false, slice_get, All, List, IfOk, IfSome, IfNone, IsSome, IsSomeAnd, MatchBool, IsTrue, ◌↔◌};
 ghost use Rattle.mrp_rows.specs.Table.{IsPair};
 ghost use Rattle.mrp_qty.specs.declared.limits.TheConstants.{MOST_ROOM};
 
@@ -63,6 +63,8 @@ impl<'a, P: Plant> World<'a, P> {
     ghost use Rattle.mrp_events.specs.Loads.{steps as network_steps};
     ghost use Rattle.mrp_events.specs.Progress.{steps_left};
     ghost use Rattle.mrp_events.specs.State.{State, Step, IsEnabled, IsFinished, opening_state};
+    ghost use Rattle.mrp_net.specs.Sums.{pair_at};
+    ghost use Rattle.mrp_world.specs.Enabled.{CountsEnabled};
     ghost use Rattle.mrp_world.specs.Figures.{figures_of, last_figures, IsLaneFigure};
     ghost use Rattle.mrp_world.specs.World.{Runs, WorldShows};
 
@@ -180,12 +182,15 @@ impl<'a, P: Plant> World<'a, P> {
         self.left == 0
     }
 
-    /// The plan of a pair, once it is planned: that of the one plan of the whole network.
+    /// The plan that the plant of a pair keeps, once the pair is planned: that of the one plan of the whole
+    /// network. In a finished world each pair has one.
     pub fn planned(&self, x: PairNo) -> Option<&PairPlan>
         requires pair { IsPair self.now.network x.0 }
+        ensures kept { IfSome result (λ plan. IsSomeAnd (slice_get self.now.plants (pair_at self.now.network x.0).plant.0) (λ plant. plan.now ≡ P.kept plant x.0)) }
         ensures planned { IfSome result (λ plan. (s : State) → WorldShows P.shows self.now s → s.planned x.0 ≡ true) }
         ensures plan { IfSome result (λ plan. plan.now ≡ rows_at (plan_of self.now.network) x.0) }
         ensures none { IfNone result ((s : State) → WorldShows P.shows self.now s → s.planned x.0 ≡ false) }
+        ensures finished { self.now.left ≡ 0 → IsSome result }
     {
         let plant = self.network.pair(x).plant;
         self.plants[plant.0].planned(x)
@@ -232,9 +237,11 @@ impl<'a, P: Plant> World<'a, P> {
         Ok(Plan::gather(net, pairs))
     }
 
-    /// Lets the events happen one by one, and answers how many were enabled.
+    /// Lets the events happen one by one, and answers how many were enabled, each in its turn.
     pub fn run(&mut self, events: &[Event]) -> u64
         ensures runs { Runs P.shows self.old events.now self.new }
+        ensures enabled { (s : State) → WorldShows P.shows self.old s
+            → (t : State) × CountsEnabled self.old.network self.old.capacity s events.now result t × WorldShows P.shows self.new t }
         ensures count { result + self.new.left ≡ self.old.left }
     {
         let before = self.steps_left();

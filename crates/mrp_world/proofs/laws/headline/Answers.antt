@@ -10,8 +10,11 @@ returns-clause-figures g c = hold.nothing_is_lost g.P.Plant.shows c.args.world.n
 pub returns-clause-closed : goal.returns-clause-closed
 returns-clause-closed g c = hold.closed_are_whole g.P.Plant.shows c.args.world.now
 
-pub returns-clause-finished : goal.returns-clause-finished
-returns-clause-finished g c = hold.finished_is_complete g.P.Plant.shows c.args.world.now
-
 pub returns-clause-plans : goal.returns-clause-plans
-returns-clause-plans g c = hold.plans_are_the_plan g.P.Plant.shows c.args.world.now
+returns-clause-plans g c = hold.plans_are_the_plan g.P.Plant.shows g.P.Plant.kept g.met.P.Plant.local c.args.world.now
+
+pub returns-clause-local : goal.returns-clause-local
+returns-clause-local g c = hold.plans_are_local g.P.Plant.shows g.P.Plant.kept g.met.P.Plant.local c.args.world.now
+
+pub returns-clause-finished : goal.returns-clause-finished
+returns-clause-finished g c = hold.finished_is_complete g.P.Plant.shows g.P.Plant.kept g.met.P.Plant.local c.args.world.now

@@ -11,6 +11,16 @@ planned-requires g c = record {
       (record { same = c.self.view_is; is = c.self.invariant; pair = c.requires.pair; owner = ap (λ (row : PairRow). row.plant.0) (sym c.pair.ensures); at = c.index.ensures });
 }
 
+pub returns-clause-kept : goal.returns-clause-kept
+returns-clause-kept g c = world.some_more _ _ _ (λ (plan : Bor PairPlan) says. world.asked_there g.P.Plant.shows _ _ _ _ _ _ _ _ _ (λ plant. plan.now ≡ g.P.Plant.kept plant c.args.x.0)
+    (record { same = c.self.view_is; is = c.self.invariant; pair = c.requires.pair; owner = ap (λ (row : PairRow). row.plant.0) (sym c.pair.ensures); at = c.index.ensures }) says) c.planned.ensures.kept
+
+pub returns-clause-finished : goal.returns-clause-finished
+returns-clause-finished g c = world.has_plan g.P.Plant.shows _ _ _ _ _ _ _ _ _ _
+    (record { same = c.self.view_is; is = c.self.invariant; pair = c.requires.pair; owner = ap (λ (row : PairRow). row.plant.0) (sym c.pair.ensures); at = c.index.ensures })
+    (world.none_more _ _ _ (world.asked_says g.P.Plant.shows _ _ _ _ _ _ _ _ _ (λ N s. s.planned c.args.x.0 ≡ false)
+    (record { same = c.self.view_is; is = c.self.invariant; pair = c.requires.pair; owner = ap (λ (row : PairRow). row.plant.0) (sym c.pair.ensures); at = c.index.ensures })) c.planned.ensures.none)
+
 pub returns-clause-planned : goal.returns-clause-planned
 returns-clause-planned g c = world.some_more _ _ _ (λ plan says. world.asked_says g.P.Plant.shows _ _ _ _ _ _ _ _ _ (λ N s. s.planned c.args.x.0 ≡ true)
     (record { same = c.self.view_is; is = c.self.invariant; pair = c.requires.pair; owner = ap (λ (row : PairRow). row.plant.0) (sym c.pair.ensures); at = c.index.ensures }) says) c.planned.ensures.planned
