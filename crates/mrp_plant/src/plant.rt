@@ -11,7 +11,8 @@ use std::alloc::Global;
 /// A plant of a network, which plans from what it sees and from the records that come to it.
 ///
 /// Its contract speaks of every moment of a run at which a plant can be: the network, the plant's number
-/// and the state that it shows, which is one that events lead to. No call but [`Plant::new`] takes memory.
+/// and the state that it shows, which is one that events lead to. No call but [`Plant::new`] is given an
+/// allocator.
 pub trait Plant: Drop {
     ghost use Rattle.std.specs.Prelude.{◌≡◌, ◌<◌, ◌++◌, ◌∷◌, [], ℕ, false, true, length, Contains, Some, IfOk, IfErr, IfSome, IfNone, OnOk, OnErr};
     ghost use Rattle.mrp_lot.specs.One.{PlanRows};

@@ -28,8 +28,8 @@ pub type Firm<'a> = World<'a, Agent>;
 
 /// All plants of a network with the mailboxes between them.
 ///
-/// A world shows a state of the network's runs. It takes exactly the events that are enabled in it, and
-/// no call takes memory but those that are given an allocator.
+/// A world shows a state of the network's runs. It takes exactly the events that are enabled in it. No call
+/// takes memory but those that are given an allocator (by construction; no clause says so).
 #[derive(Drop)]
 pub struct World<'a, P: Plant> {
     network: &'a Network,
@@ -150,7 +150,7 @@ impl<'a, P: Plant> World<'a, P> {
     /// An event that is enabled, or `None` where the world is finished.
     ///
     /// It is looked for from where the last event happened, so that a run looks at a few lanes for each
-    /// event, and at all of them only where nothing more moves.
+    /// event, and at all of them only where nothing more moves (by construction; no clause says so).
     pub fn enabled(&self) -> Option<Event>
         ensures some { IfSome result (λ event. (s : State) → WorldShows P.shows self.now s → IsEnabled self.now.network self.now.capacity s event) }
         ensures none { IfNone result ((s : State) → WorldShows P.shows self.now s → IsFinished self.now.network s) }
@@ -217,7 +217,7 @@ impl<'a, P: Plant> World<'a, P> {
     }
 
     /// The plan of the whole network. A finished world is taken apart for it: the plans of its plants are
-    /// moved, not copied. `net` is the network that the world was made of.
+    /// moved, not copied (by construction; no clause says so). `net` is the network that the world was made of.
     ///
     /// # Errors
     ///
