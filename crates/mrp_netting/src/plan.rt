@@ -161,7 +161,8 @@ impl PairPlan {
         Ok(copy)
     }
 
-    /// Takes over what a plan of as many periods says, whatever this one said. Nothing is allocated.
+    /// Takes over what a plan of as many periods says, whatever this one said. Nothing is allocated
+    /// (by construction; no clause says so).
     pub fn copy_from(&mut self, other: &PairPlan)
         requires { length self.old.gross ≡ length other.now.gross }
         ensures { self.new ≡ other.now }
@@ -182,7 +183,8 @@ impl PairPlan {
 ///
 /// The three horizons are equal. The lead time is 0 to 104 periods; the rule's quantities are 1 to
 /// 10^12 pieces each and its periods of supply 1 to 104. On hand, safety stock, the rule's quantities,
-/// all receipts and all gross requirements together are at most 10^15 pieces. Nothing is allocated.
+/// all receipts and all gross requirements together are at most 10^15 pieces. Nothing is allocated
+/// (by construction; no clause says so).
 pub fn plan_pair(params: &PairParams, incoming: &Row, gross: &Row, into: &mut PairPlan)
     requires within { IsWithin params.now incoming.now gross.now }
     requires room { length into.old.gross ≡ length gross.now }
@@ -207,7 +209,8 @@ pub fn plan_pair(params: &PairParams, incoming: &Row, gross: &Row, into: &mut Pa
 ///
 /// The lead time is 0 to 104 periods; the rule's quantities are 1 to 10^12 pieces each and its periods
 /// of supply 1 to 104. On hand, safety stock, the rule's quantities, all receipts and all gross
-/// requirements together are at most 10^15 pieces. Nothing is allocated.
+/// requirements together are at most 10^15 pieces. Nothing is allocated
+/// (by construction; no clause says so).
 pub fn is_plan(params: &PairParams, plan: &PairPlan) -> bool
     requires { IsWithin params.now plan.now.incoming plan.now.gross }
     ensures { IsTrue result ↔ (plan.now ≡ one params.now plan.now.incoming plan.now.gross) }

@@ -21,7 +21,8 @@ use mrp_qty::Row;
 /// requirements are those of the network and of the demanders' releases, and its orders, releases,
 /// projected available and late orders follow from them.
 ///
-/// The plan may be one of another network. Nothing is allocated; linear in edges times periods.
+/// The plan may be one of another network. Nothing is allocated, and it takes time linear in edges times
+/// periods (by construction; no clause says so).
 pub fn fits(net: &SizedNet, plan: &Plan) -> bool
     ensures { IsTrue result ↔ Fits net.now.network plan.now }
 {

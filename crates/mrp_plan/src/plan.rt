@@ -61,7 +61,8 @@ impl Plan {
 
 /// The plan of the whole network: each pair is planned once, after all of its demanders.
 ///
-/// Linear in edges times periods; all room is taken before the first pair is planned.
+/// It takes time linear in edges times periods, and all room before the first pair is planned
+/// (by construction; no clause says so).
 ///
 /// # Errors
 ///
