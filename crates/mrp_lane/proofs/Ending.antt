@@ -1,25 +1,22 @@
--- What an end holds before the first record, after one record more, and at the end.
+-- What an end holds before the first record and after one record more.
 use Rattle.std.proofs.Common.{◌≡◌, ℕ, ◌+◌, ◌<◌, ◌≤◌, ◌^◌, Bool, true, List, [], ◌∷◌, ◌++◌, length, refl, sym, ap, subst, ◌∙◌, arith, length-append, All, Option}
-use Rattle.std.proofs.lemmas.List.{length-map}
 use Rattle.crossbeam_queue.specs.declared.array_queue.Doing.{Doing}
 use Rattle.crossbeam_queue.specs.declared.array_queue.Slotted.{Slotted}
 use Rattle.crossbeam_queue.specs.Passes.{Pass, IsPassOf, IsSamePass, view}
 use Rattle.mrp_qty.specs.declared.quantity.TheConstants.{MOST}
 use Rattle.mrp_rows.specs.Table.{Table}
-use Rattle.mrp_net.specs.declared.lane.LaneNo.{LaneNo}
-use Rattle.mrp_net.specs.Lanes.{lane_at, lane_items, lanes}
+use Rattle.mrp_net.specs.Lanes.{lanes}
 use Rattle.mrp_loops.specs.Sized.{IsSized}
 use Rattle.mrp_record.specs.declared.record.Record.{Record}
 use Rattle.mrp_lane.specs.declared.tally.ItemPieces.{ItemPieces}
 use Rattle.mrp_lane.specs.declared.view.LaneView.{LaneView}
-use Rattle.mrp_lane.specs.Ends.{End, Name, HasLegalList, Holds, end_of}
-use Rattle.mrp_lane.specs.Reconciled.{figures_of, figures_on}
-use Rattle.mrp_lane.specs.Tallies.{Counts, pieces_in, counted, counts_of, item_of}
+use Rattle.mrp_lane.specs.Ends.{End, Holds, end_of}
+use Rattle.mrp_lane.specs.Tallies.{Counts, pieces_in, counted, counts_of}
 use Rattle.mrp_lane.specs.Views.{IsLegal, sending, taking, after_send, Takes}
-use Rattle.mrp_lane.proofs.Counting.{counted_more, length_fits, record_fits, figures_fit, figures_are}
+use Rattle.mrp_lane.proofs.Counting.{counted_more, length_fits, record_fits}
 use Rattle.mrp_lane.proofs.Rule.{empty_is_legal}
 
-abbrev Box : Type 0 → Type 0 → Type 0
+abbrev pub Box : Type 0 → Type 0 → Type 0
 Box Q A = Slotted (Option Record) (Doing Record LaneView) Q A
 
 -- a pass is the mailbox's wherever that lies
@@ -148,45 +145,3 @@ pub same_name : {Q A : Type 0} (box : Box Q A) (p q : Pass Record LaneView) (l :
     → IsSamePass p q → (view q).network ≡ (view p).network → (end_of box q l list).name ≡ e.name
 same_name box p q l list e is same network =
     (λ j. record { mailbox = same.0 j; network = network j; lane = l; room = box.cap }) ∙ ap (λ (e : End). e.name) is
-
--- ---- at the end
-
-pub small_figures : {Q A : Type 0} (box : Box Q A) (p : Pass Record LaneView) (l : ℕ) (list : List Record) (counts : Counts) → Holds box p l list counts
-    → All (λ i. i.opening + i.pieces ≤ MOST) counts.items
-small_figures box p l list counts h =
-    subst (λ (t : Counts). All (λ (i : ItemPieces). i.opening + i.pieces ≤ MOST) t.items) (sym h.counted) (figures_fit (view p).network l list h.sized h.legal)
-
-pub figures_agree : {Q A : Type 0} (box box' : Box Q A) (p p' : Pass Record LaneView) (lane : LaneNo) (l' : ℕ) (sent taken : List Record) (counts counts' : Counts) (s t : End)
-    → Holds box p lane.0 sent counts → Holds box' p' l' taken counts' → end_of box p lane.0 sent ≡ s → end_of box' p' l' taken ≡ t → s.name ≡ t.name
-    → figures_of lane counts.items counts'.items ≡ figures_on s.name.network s.name.lane s.list t.list
-figures_agree box box' p p' lane l' sent taken counts counts' s t h h' is is' same =
-    let N = s.name.network in
-    let l = s.name.lane in
-    let number : lane.0 ≡ l = ap (λ (e : End). e.name.lane) is in
-    let count : counts ≡ counts_of N l s.list = h.counted ∙ ap (λ (e : End). counts_of e.name.network e.name.lane e.list) is in
-    let count' : counts' ≡ counts_of N l t.list = h'.counted ∙ ap (λ (e : End). counts_of e.name.network e.name.lane e.list) is' ∙ ap (λ (n : Name). counts_of n.network n.lane t.list) (sym same) in
-    let legal : IsLegal N l s.list = subst HasLegalList is h.legal in
-    let legal' : IsLegal N l t.list = subst (λ (n : Name). IsLegal n.network n.lane t.list) (sym same) (subst HasLegalList is' h'.legal) in
-    let sized : IsSized N = subst (λ (e : End). IsSized e.name.network) is h.sized in
-    (λ j. figures_of (record { 0 = number j }) (count j).items (count' j).items) ∙ figures_are N l s.list t.list sized.table legal legal'
-
--- the two ends count the same items
-pub sizes_agree : {Q A : Type 0} (box box' : Box Q A) (p p' : Pass Record LaneView) (l l' : ℕ) (sent taken : List Record) (counts counts' : Counts) (s t : End)
-    → Holds box p l sent counts → Holds box' p' l' taken counts' → end_of box p l sent ≡ s → end_of box' p' l' taken ≡ t → s.name ≡ t.name
-    → length counts'.items ≡ length counts.items
-sizes_agree box box' p p' l l' sent taken counts counts' s t h h' is is' same =
-    let items_of = λ (n : Name). lane_items n.network (lane_at n.network n.lane) in
-    let size : length counts.items ≡ length (items_of s.name) =
-    ap (λ (t : Counts). length t.items) h.counted ∙ length-map (lane_items (view p).network (lane_at (view p).network l)) (item_of (view p).network l sent)
-    ∙ ap (λ (e : End). length (items_of e.name)) is in
-    let size' : length counts'.items ≡ length (items_of t.name) =
-    ap (λ (t : Counts). length t.items) h'.counted ∙ length-map (lane_items (view p').network (lane_at (view p').network l')) (item_of (view p').network l' taken)
-    ∙ ap (λ (e : End). length (items_of e.name)) is' in
-    size' ∙ ap (λ (n : Name). length (items_of n)) (sym same) ∙ sym size
-
--- a mailbox's passes at two places of it
-pub both_ours : {Q A : Type 0} (box box' there : Box Q A) (p p' : Pass Record LaneView) (l l' : ℕ) (sent taken : List Record) (counts counts' : Counts) (s t : End)
-    → Holds box p l sent counts → Holds box' p' l' taken counts' → end_of box p l sent ≡ s → end_of box' p' l' taken ≡ t → s.name ≡ t.name
-    → there ≡ box → IsPassOf there p'
-both_ours box box' there p p' l l' sent taken counts counts' s t h h' is is' same at =
-    (ap (λ (e : End). e.name.mailbox) is' ∙ ap (λ (n : Name). n.mailbox) (sym same) ∙ ap (λ (e : End). e.name.mailbox) (sym is) ∙ h.ours.0 ∙ ap (λ b. b.table.shared.table_id) (sym at), h'.ours.1)

@@ -1,3 +1,4 @@
 pub mod Rule
 pub mod Counting
 pub mod Ending
+pub mod Joined

@@ -11,7 +11,7 @@ use Rattle.mrp_record.proofs.Beginnings.{empty_is_a_beginning, fronts_are_beginn
 use Rattle.mrp_events.specs.Loads.{loads}
 use Rattle.mrp_lane.specs.declared.view.LaneView.{LaneView}
 use Rattle.mrp_lane.specs.Laws.{MailboxesKeepOrder}
-use Rattle.mrp_lane.specs.Views.{IsLegal, blank, unnamed, sending, taking, joined, spent, Line, IsNamed, Fits, Carries, Keeps, after_send, after_take, Takes, EndsWith, Leaves}
+use Rattle.mrp_lane.specs.Views.{IsLegal, blank, unnamed, sending, taking, joined, spent, Line, IsNamed, Fits, Carries, Keeps, after_send, after_take, Takes, IsUntaken, Leaves}
 
 -- ---- legal beginnings
 
@@ -98,8 +98,8 @@ sends n pass v r may named legal mailbox views _ (line, kept) at =
       refl,
     )
 
-pub ends_with : (pass : ℕ) (v : LaneView) → v.sends ≡ true → Learns Keeps pass v (EndsWith v.sent)
-ends_with pass v may mailbox views (line, kept) at = (line.taken, ((kept.fits pass v at).sends may).1 ∙ kept.whole)
+pub untaken : (pass : ℕ) (v : LaneView) → v.sends ≡ true → Learns Keeps pass v (IsUntaken v.sent)
+untaken pass v may mailbox views (line, kept) at = record { taken = line.taken; whole = ((kept.fits pass v at).sends may).1 ∙ kept.whole }
 
 -- a pop
 pub takes : (pass : ℕ) (v : LaneView) → v.takes ≡ true → v.named ≡ true → Pops Keeps pass v (Takes v)

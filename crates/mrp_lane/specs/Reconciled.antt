@@ -1,13 +1,16 @@
 -- What reconciling the two ends of a lane answers.
-use Rattle.std.specs.Prelude.{ℕ, ◌+◌, List, [], ◌∷◌, map}
+use Rattle.std.specs.Prelude.{◌≡◌, ℕ, ◌+◌, ◌<◌, List, [], ◌∷◌, ◌++◌, length, map, take}
+use Rattle.crossbeam_queue.specs.Passes.{Pass, view}
 use Rattle.mrp_rows.specs.declared.numbers.ItemNo.{ItemNo}
 use Rattle.mrp_rows.specs.Table.{Table}
 use Rattle.mrp_net.specs.declared.lane.LaneNo.{LaneNo}
-use Rattle.mrp_net.specs.Lanes.{lane_at, lane_items, opening}
+use Rattle.mrp_net.specs.Lanes.{lanes, lane_at, lane_items, opening}
 use Rattle.mrp_record.specs.declared.record.Record.{Record}
 use Rattle.mrp_book.specs.declared.figure.LaneFigure.{LaneFigure}
 use Rattle.mrp_events.specs.Laws.{cum_on}
 use Rattle.mrp_lane.specs.declared.tally.ItemPieces.{ItemPieces}
+use Rattle.mrp_lane.specs.declared.view.LaneView.{LaneView}
+use Rattle.mrp_lane.specs.Views.{IsLegal}
 
 -- the figure of an item of the lane: what was sent and what was taken, closed years added
 abbrev pub figure_on : Table → ℕ → List Record → List Record → ItemNo → LaneFigure
@@ -32,3 +35,38 @@ abbrev pub figures_of : LaneNo → List ItemPieces → List ItemPieces → List 
 figures_of lane [] taken = []
 figures_of lane (s ∷ sent) [] = []
 figures_of lane (s ∷ sent) (t ∷ taken) = figure_of lane s t ∷ figures_of lane sent taken
+
+-- ---- what went over a lane
+
+-- which network's lane, the lists of all records that were sent and of those that were taken when the two ends
+-- were joined, what was left then, and the figures
+pub record Carried : Type 0 where
+  pub network : Table
+  pub lane : ℕ
+  pub sent : List Record
+  pub taken : List Record
+  pub left : List Record
+  pub figures : List LaneFigure
+
+-- the joined pass knows what was sent; what was taken before are the first so many records of that
+abbrev pub carried : Pass Record LaneView → ℕ → List Record → List LaneFigure → Carried
+carried pass count left figures = record {
+  network = (view pass).network;
+  lane = (view pass).lane;
+  sent = (view pass).sent;
+  taken = take count (view pass).sent;
+  left = left;
+  figures = figures;
+}
+
+-- the number of the lane and the counts are those of the lists, which are legal beginnings; what was sent is what
+-- was taken and then what is left, and the figures are the lists'
+pub record IsCounted (number sends takes : ℕ) (c : Carried) : Type 0 where
+  pub lane : number ≡ c.lane
+  pub there : number < length (lanes c.network)
+  pub sent : sends ≡ length c.sent
+  pub taken : takes ≡ length c.taken
+  pub legal_sent : IsLegal c.network c.lane c.sent
+  pub legal_taken : IsLegal c.network c.lane c.taken
+  pub whole : c.sent ≡ c.taken ++ c.left
+  pub figures : c.figures ≡ figures_on c.network c.lane c.sent c.taken

@@ -76,9 +76,14 @@ after_take v r = record v { taken = v.taken ++ r ∷ [] }
 abbrev pub Takes : LaneView → Record → LaneView → Type 0
 Takes v r w = (w ≡ after_take v r) × IsLegal v.network v.lane w.taken
 
--- the records end with those of the mailbox
-abbrev pub EndsWith : List Record → List Record → Type 0
-EndsWith records mailbox = (before : List Record) × (records ≡ before ++ mailbox)
+-- the pass has taken all that was sent
+abbrev pub taken_all : LaneView → LaneView
+taken_all v = record v { taken = v.sent }
+
+-- what lies in the mailbox at a moment: all that was sent is what has been taken by then, and then that
+pub record IsUntaken (sent mailbox : List Record) : Type 0 where
+  pub taken : List Record
+  pub whole : sent ≡ taken ++ mailbox
 
 -- a pass that may push and pop knows that what was sent and isn't taken is in the mailbox
 abbrev pub Leaves : LaneView → List Record → Type 0

@@ -1,9 +1,11 @@
 //! How the two ends of a lane are reconciled once both are in one thread again.
-ghost use Rattle.std.specs.Prelude.{◌≡◌, ◌+◌, ◌≤◌, ◌++◌, true, All, IfOk, length};
+ghost use Rattle.std.specs.Prelude.{◌≡◌, ◌+◌, ◌<◌, ◌≤◌, ◌++◌, true, All, IfOk, length};
 ghost use Rattle.crossbeam_queue.specs.Passes.{view, IsPassOf};
+ghost use Rattle.mrp_net.specs.Lanes.{lanes};
 ghost use Rattle.mrp_qty.specs.declared.quantity.TheConstants.{MOST};
-ghost use Rattle.mrp_lane.specs.Ends.{AreOfOneLane, HasLegalList};
+ghost use Rattle.mrp_lane.specs.Ends.{AreOfOneLane, HasLegalList, Holds};
 ghost use Rattle.mrp_lane.specs.Reconciled.{figure_of, figures_of, figures_on};
+ghost use Rattle.mrp_lane.specs.Views.{IsLegal, taken_all};
 
 use crate::send::SendEnd;
 use crate::take::{TakeEnd, pop};
@@ -14,22 +16,75 @@ use mrp_net::LaneNo;
 use mrp_qty::{Memory, Qty};
 use mrp_record::Record;
 use std::alloc::Global;
+use std::marker::Model;
 use std::sync::Wait;
 
-/// What went over a lane.
+/// What went over a lane, as its two ends showed it when they were joined.
+///
+/// Contracts see the network and the lane, the list of all records that were sent, the list of those that
+/// were taken, what is left, and the figures. The lists are what the joined pass to the mailbox knows: it is
+/// kept, and has no bytes.
 #[derive(Drop)]
 pub struct Reconciled {
-    /// The lane.
-    pub lane: LaneNo,
+    pass: LanePass,
+    lane: LaneNo,
+    sent: u64,
+    taken: u64,
+    left: Vec<Record>,
+    figures: Vec<LaneFigure>,
+}
+
+impl Model for Reconciled {
+    ghost use Rattle.mrp_lane.specs.Reconciled.{Carried, IsCounted, carried};
+
+    ghost Value = { Carried };
+
+    ghost view = { λ r. carried r.pass r.taken r.left.items r.figures.items };
+
+    ghost invariant = { λ r. IsCounted r.lane.0 r.sent r.taken (carried r.pass r.taken r.left.items r.figures.items) };
+}
+
+impl Reconciled {
+    /// The lane's number.
+    pub fn lane(&self) -> LaneNo
+        ensures value { result.0 ≡ self.now.lane }
+        ensures there { result.0 < length (lanes self.now.network) }
+    {
+        self.lane
+    }
+
     /// How many records were sent.
-    pub sent: u64,
+    pub fn sent(&self) -> u64
+        ensures value { result ≡ length self.now.sent }
+        ensures legal { IsLegal self.now.network self.now.lane self.now.sent }
+    {
+        self.sent
+    }
+
     /// How many of them were taken.
-    pub taken: u64,
+    pub fn taken(&self) -> u64
+        ensures value { result ≡ length self.now.taken }
+        ensures legal { IsLegal self.now.network self.now.lane self.now.taken }
+    {
+        self.taken
+    }
+
     /// The records that were sent and not taken, in order.
-    pub left: Vec<Record>,
-    /// The cumulative figures of the lane's items, in the lane's order: shipped by what was sent,
-    /// received by what was taken, closed years added.
-    pub figures: Vec<LaneFigure>,
+    pub fn left(&self) -> &[Record]
+        ensures value { result.now ≡ self.now.left }
+        ensures whole { self.now.sent ≡ self.now.taken ++ self.now.left }
+    {
+        self.left.as_slice()
+    }
+
+    /// The cumulative figures of the lane's items, in the lane's order: shipped by what was sent, received by
+    /// what was taken, closed years added.
+    pub fn figures(&self) -> &[LaneFigure]
+        ensures value { result.now ≡ self.now.figures }
+        ensures lists { self.now.figures ≡ figures_on self.now.network self.now.lane self.now.sent self.now.taken }
+    {
+        self.figures.as_slice()
+    }
 }
 
 /// Joins the two ends of one lane and empties the mailbox.
@@ -46,11 +101,12 @@ pub fn reconcile<R: Wait>(
     take: TakeEnd,
 ) -> Result<Reconciled, Memory>
     requires same { AreOfOneLane send take }
-    ensures lane { IfOk result (λ r. r.lane.0 ≡ send.name.lane) }
-    ensures sent { IfOk result (λ r. r.sent ≡ length send.list) }
-    ensures taken { IfOk result (λ r. r.taken ≡ length take.list) }
-    ensures left { IfOk result (λ r. send.list ≡ take.list ++ r.left.items) }
-    ensures figures { IfOk result (λ r. r.figures.items ≡ figures_on send.name.network send.name.lane send.list take.list) }
+    ensures network { IfOk result (λ r. r.network ≡ send.name.network) }
+    ensures lane { IfOk result (λ r. r.lane ≡ send.name.lane) }
+    ensures sent { IfOk result (λ r. r.sent ≡ send.list) }
+    ensures taken { IfOk result (λ r. r.taken ≡ take.list) }
+    ensures left { IfOk result (λ r. send.list ≡ take.list ++ r.left) }
+    ensures figures { IfOk result (λ r. r.figures ≡ figures_on send.name.network send.name.lane send.list take.list) }
     ensures legal_sent { HasLegalList send }
     ensures legal_taken { HasLegalList take }
 {
@@ -70,26 +126,23 @@ fn settle<R: Wait>(
     alloc: Global,
     lane: LaneNo,
     mailbox: &Mailbox,
-    pass: LanePass,
+    mut pass: LanePass,
     sent: &Tally,
     taken: &Tally,
 ) -> Result<Reconciled, Memory>
-    requires pass { IsPassOf mailbox.now pass }
-    requires sends { (view pass).sends ≡ true }
-    requires takes { (view pass).takes ≡ true }
-    requires named { (view pass).named ≡ true }
-    requires items { length taken.now.items ≡ length sent.now.items }
-    requires shipped { All (λ i. i.opening + i.pieces ≤ MOST) sent.now.items }
-    requires received { All (λ i. i.opening + i.pieces ≤ MOST) taken.now.items }
-    ensures lane { IfOk result (λ r. r.lane ≡ lane) }
-    ensures sent { IfOk result (λ r. r.sent ≡ sent.now.records) }
-    ensures taken { IfOk result (λ r. r.taken ≡ taken.now.records) }
-    ensures left { IfOk result (λ r. (view pass).sent ≡ (view pass).taken ++ r.left.items) }
-    ensures figures { IfOk result (λ r. r.figures.items ≡ figures_of lane sent.now.items taken.now.items) }
+    requires sends { ((view pass).sends ≡ true) × Holds mailbox.now pass lane.0 (view pass).sent sent.now }
+    requires takes { ((view pass).takes ≡ true) × Holds mailbox.now pass lane.0 (view pass).taken taken.now }
+    ensures network { IfOk result (λ r. r.network ≡ (view pass).network) }
+    ensures lane { IfOk result (λ r. r.lane ≡ lane.0) }
+    ensures sent { IfOk result (λ r. r.sent ≡ (view pass).sent) }
+    ensures taken { IfOk result (λ r. r.taken ≡ (view pass).taken) }
+    ensures left { IfOk result (λ r. (view pass).sent ≡ (view pass).taken ++ r.left) }
+    ensures figures { IfOk result (λ r. r.figures ≡ figures_on (view pass).network lane.0 (view pass).sent (view pass).taken) }
 {
-    let left = drained(rt, alloc, mailbox, pass)?;
+    let left = drained(rt, alloc, mailbox, &mut pass)?;
     let figures = lane_figures(alloc, lane, sent.items(), taken.items())?;
     Ok(Reconciled {
+        pass,
         lane,
         sent: sent.records(),
         taken: taken.records(),
@@ -103,17 +156,18 @@ fn drained<R: Wait>(
     rt: &R,
     alloc: Global,
     mailbox: &Mailbox,
-    mut pass: LanePass,
+    pass: &mut LanePass,
 ) -> Result<Vec<Record>, Memory>
-    requires pass { IsPassOf mailbox.now pass }
-    requires sends { (view pass).sends ≡ true }
-    requires takes { (view pass).takes ≡ true }
-    requires named { (view pass).named ≡ true }
-    ensures { IfOk result (λ left. (view pass).sent ≡ (view pass).taken ++ left.items) }
+    requires pass { IsPassOf mailbox.now pass.old }
+    requires sends { (view pass.old).sends ≡ true }
+    requires takes { (view pass.old).takes ≡ true }
+    requires named { (view pass.old).named ≡ true }
+    ensures left { IfOk result (λ left. (view pass.old).sent ≡ (view pass.old).taken ++ left.items) }
+    ensures took { IfOk result (λ left. view pass.new ≡ taken_all (view pass.old)) }
 {
     let mut left = Vec::new(alloc);
     for _ in rt.forever() {
-        match pop(rt, mailbox, &mut pass) {
+        match pop(rt, mailbox, pass) {
             Some(entry) => left.push(entry)?,
             None => break,
         }

@@ -1,10 +1,10 @@
 //! The sender's end of a lane.
-ghost use Rattle.std.specs.Prelude.{◌≡◌, ◌<◌, true, List, [], ◌∷◌, ◌++◌, length, IfErr, OnOk};
+ghost use Rattle.std.specs.Prelude.{◌≡◌, ◌<◌, true, [], ◌∷◌, ◌++◌, length, IfErr, OnOk};
+ghost use Rattle.crossbeam_queue.specs.Fifo.{Held};
 ghost use Rattle.crossbeam_queue.specs.Passes.{view, IsPassOf, IsSamePass, ruled_capacity};
 ghost use Rattle.mrp_net.specs.Lanes.{lanes};
-ghost use Rattle.mrp_record.specs.declared.record.Record.{Record};
 ghost use Rattle.mrp_lane.specs.Ends.{HasLegalList, IsNext};
-ghost use Rattle.mrp_lane.specs.Views.{after_send, EndsWith, IsLegal};
+ghost use Rattle.mrp_lane.specs.Views.{after_send, IsLegal, IsUntaken};
 
 use crate::tally::Tally;
 use crate::view::{LanePass, Mailbox, Sent};
@@ -49,21 +49,24 @@ impl SendEnd {
         self.lane
     }
 
-    /// Puts the record into the mailbox, behind those before it. It allocates nothing.
+    /// Puts the record into the mailbox, behind those before it. It allocates nothing (by construction; no
+    /// clause says so).
     ///
     /// The record has to continue what this end has sent to a legal beginning of the lane's text.
     ///
     /// # Errors
     ///
-    /// The same record, where at some moment of the call the mailbox had no room: the last records that
-    /// were sent, as many as it has room for, lay in it. Nothing is changed then.
+    /// The same record, where the queue under the mailbox finds no room; nothing is changed then. What it tells
+    /// is that at one moment of the call as many records lay in it as it has room for, and that what was sent
+    /// is what had been taken by then and these records. Of the lists that says no more than that at least so
+    /// many were sent: which moment it was no clause says.
     pub fn offer<R: Wait>(&mut self, rt: &R, entry: Record) -> Result<(), Record>
         requires legal { IsNext self.old entry }
         ensures name { self.new.name ≡ self.old.name }
         ensures sent { OnOk result (self.new.list ≡ self.old.list ++ entry ∷ []) }
         ensures back { IfErr result (λ back. back ≡ entry) }
         ensures unchanged { IfErr result (λ _. self.new.list ≡ self.old.list) }
-        ensures full { IfErr result (λ _. (mailbox : List Record) × (length mailbox ≡ self.old.name.room) × EndsWith self.old.list mailbox) }
+        ensures full { IfErr result (λ _. Held self.old.name.room (IsUntaken self.old.list)) }
     {
         if let Err(back) = push(rt, &self.mailbox, &mut self.pass, entry) {
             return Err(back);
@@ -88,7 +91,7 @@ fn push<R: Wait>(
     ensures sent { OnOk result (view pass.new ≡ after_send (view pass.old) entry) }
     ensures back { IfErr result (λ back. back ≡ entry) }
     ensures unchanged { IfErr result (λ _. view pass.new ≡ view pass.old) }
-    ensures full { IfErr result (λ _. (held : List Record) × (length held ≡ ruled_capacity mailbox.now) × EndsWith (view pass.old).sent held) }
+    ensures full { IfErr result (λ _. Held (ruled_capacity mailbox.now) (IsUntaken (view pass.old).sent)) }
 {
     mailbox.push_as::<Sent, R>(rt, pass, entry)
 }

@@ -48,8 +48,9 @@ impl TakeEnd {
         self.lane
     }
 
-    /// Takes the first record out of the mailbox, or answers `None` where at some moment of the call
-    /// there was none. It allocates nothing.
+    /// Takes the first record out of the mailbox, or answers `None` where the queue under it finds none; nothing
+    /// is changed then. That it was empty at one moment of the call is what the kit says of its queue, and no
+    /// clause of this call. It allocates nothing (by construction; no clause says so).
     pub fn take<R: Wait>(&mut self, rt: &R) -> Option<Record>
         ensures name { self.new.name ≡ self.old.name }
         ensures taken { IfSome result (λ entry. self.new.list ≡ self.old.list ++ entry ∷ []) }

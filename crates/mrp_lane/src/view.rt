@@ -42,8 +42,8 @@ pub type Mailbox = RuledArrayQueue<Record, LaneView, LaneRule>;
 /// What one end knows of the mailbox. It has no bytes.
 pub type LanePass = Pass<Record, LaneView>;
 
-/// A push appends the record to what was sent. Where there is no room, what was sent ends with what the
-/// mailbox holds.
+/// A push appends the record to what was sent. Where there is no room, what was sent is what has been taken
+/// by then and what the mailbox holds.
 pub struct Sent;
 
 impl Outcome<Record, LaneView> for Sent {
@@ -54,9 +54,9 @@ impl Outcome<Record, LaneView> for Sent {
 }
 
 impl Lesson<Record, LaneView> for Sent {
-    ghost use Rattle.mrp_lane.specs.Views.{EndsWith};
+    ghost use Rattle.mrp_lane.specs.Views.{IsUntaken};
 
-    ghost fact = { λ v mailbox. EndsWith v.sent mailbox };
+    ghost fact = { λ v mailbox. IsUntaken v.sent mailbox };
 }
 
 /// A pop appends the record to what was taken, which stays a legal beginning. Where there is nothing to
