@@ -58,11 +58,11 @@ pub joins_taking : {Q A : Type 0} (box box' there : Box Q A) (p p' q : Pass Reco
     → there ≡ box → IsSamePass p q → view q ≡ joined (view p) (view p') → ((view q).takes ≡ true) × Holds there q l (view q).taken counts'
 joins_taking box box' there p p' q l l' counts counts' s t h h' at_s at_t names at same is =
     let agree = names_agree box box' p p' l l' (view p).sent (view p').taken s t at_s at_t names in (
-  ap (λ (v : LaneView). v.takes) is,
-  subst (λ (list : List Record). Holds there q l list counts') (sym (ap (λ (v : LaneView). v.taken) is))
-      (joins h' there q l (still_ours box there p q at h.ours same) (ap (λ (v : LaneView). v.named) is) (ap (λ (v : LaneView). v.lane) is ∙ h.lane) (sym (ap (λ (n : Name). n.lane) agree))
-      (ap (λ (v : LaneView). v.network) is ∙ ap (λ (n : Name). n.network) agree)),
-)
+      ap (λ (v : LaneView). v.takes) is,
+      subst (λ (list : List Record). Holds there q l list counts') (sym (ap (λ (v : LaneView). v.taken) is))
+          (joins h' there q l (still_ours box there p q at h.ours same) (ap (λ (v : LaneView). v.named) is) (ap (λ (v : LaneView). v.lane) is ∙ h.lane) (sym (ap (λ (n : Name). n.lane) agree))
+          (ap (λ (v : LaneView). v.network) is ∙ ap (λ (n : Name). n.network) agree)),
+    )
 
 -- ---- while the mailbox is emptied
 

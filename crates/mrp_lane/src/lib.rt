@@ -1,9 +1,10 @@
 //! A lane between two threads: a mailbox of bounded room without locks, and its two ends.
 //!
 //! The sender's thread owns one end and the receiver's the other. Whatever the two threads do, and in
-//! whichever order their steps fall, the records taken are the records offered, in order and each once,
-//! but for the last ones, which lie in the mailbox; and what has been offered is a legal beginning of the
-//! lane's text. Once both ends are in one thread again they can be reconciled.
+//! whichever order their steps fall, the records taken are the records sent (offered and not refused), in
+//! order and each once, but for the last ones, which lie in the mailbox; and what has been sent is a legal
+//! beginning of the lane's text. That is the rule of the mailbox, which the kit's queue keeps at each step.
+//! Once both ends are in one thread again they can be reconciled: what that answers shows their lists.
 #![tactic(auto)]
 
 mod joining;

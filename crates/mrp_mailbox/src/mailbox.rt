@@ -9,7 +9,7 @@ use std::collections::VecDeque;
 use std::marker::Model;
 
 /// The records that have been sent over a lane and not yet taken, first in first out. It takes all its room at
-/// once, so that no call after [`Mailbox::new`] takes memory.
+/// once, so that no call after [`Mailbox::new`] takes memory (by construction; no clause says so).
 #[derive(Drop)]
 pub struct Mailbox {
     records: VecDeque<Record>,
@@ -64,7 +64,7 @@ impl Mailbox {
     }
 
     /// Drops the first record. One that is alone is taken from the back, so that the next one lies where it
-    /// lay, and room that is never needed is never touched.
+    /// lay, and room that is never needed is never touched (by construction; no clause says so).
     pub fn drop_first(&mut self)
         ensures { self.new ≡ record { records = drop 1 self.old.records; room = self.old.room } }
     {

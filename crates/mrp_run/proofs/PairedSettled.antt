@@ -9,11 +9,11 @@ use Rattle.mrp_record.specs.Text.{Load, IsBeginning, IsWhole, length_of_text}
 use Rattle.mrp_record.proofs.Beginnings.{closed_is_whole, nothing_follows_closing, texts_have_one_length}
 use Rattle.mrp_events.specs.Loads.{loads}
 use Rattle.mrp_events.proofs.Ordering.{has_closing}
-use Rattle.mrp_lane.specs.declared.joining.Reconciled.{Reconciled}
 use Rattle.mrp_lane.specs.Ends.{End, Name, HasLegalList}
-use Rattle.mrp_lane.specs.Reconciled.{figures_on}
+use Rattle.mrp_lane.specs.Reconciled.{Carried, figures_on}
 use Rattle.mrp_lane.specs.Views.{IsLegal}
 use Rattle.mrp_run.specs.Ends.{EachAt}
+use Rattle.mrp_run.specs.Laws.{SettledLanesAreCounted}
 use Rattle.mrp_run.specs.Outcome.{IsSettled, AreSettled}
 use Rattle.mrp_run.specs.Plant.{IsClosed}
 use Rattle.mrp_run.proofs.DealtLists.{each_push, each_turned}
@@ -29,7 +29,6 @@ pub record IsAll (all : List Load) (sent taken left : List Record) : Type 0 wher
   pub same : taken ≡ sent
   pub nothing : left ≡ []
   pub whole : IsWhole all sent
-  pub size : length sent ≡ length_of_text all
 
 pub all_taken : (all : List Load) (sent taken left : List Record) → IsBeginning all sent → is_closed (contents taken) ≡ true → sent ≡ taken ++ left → IsAll all sent taken left
 all_taken all sent taken left legal closed parts =
@@ -44,33 +43,39 @@ all_taken all sent taken left legal closed parts =
       same = took ∙ sym is;
       nothing = behind.1;
       whole = whole;
-      size = sym (length-map sent content) ∙ texts_have_one_length all (contents sent) whole.text;
     }
 
-pub settled : (N : Table) (l : ℕ) (n : Name) (send take : End) (r : Reconciled) → n.lane ≡ l → n.network ≡ N → send.name ≡ n → IsClosed take → HasLegalList send
-    → r.lane.0 ≡ send.name.lane → r.sent ≡ length send.list → r.taken ≡ length take.list → send.list ≡ take.list ++ r.left.items
-    → r.figures.items ≡ figures_on send.name.network send.name.lane send.list take.list → IsSettled N l r
-settled N l n send take r lane network name closed legal r_lane r_sent r_taken r_left r_figures =
+-- what reconciling two ends answers is what they showed
+pub record IsOfEnds (send take : End) (r : Carried) : Type 0 where
+  pub network : r.network ≡ send.name.network
+  pub lane : r.lane ≡ send.name.lane
+  pub sent : r.sent ≡ send.list
+  pub taken : r.taken ≡ take.list
+  pub left : send.list ≡ take.list ++ r.left
+  pub figures : r.figures ≡ figures_on send.name.network send.name.lane send.list take.list
+
+pub settled : (N : Table) (l : ℕ) (n : Name) (send take : End) (r : Carried) → n.lane ≡ l → n.network ≡ N → send.name ≡ n → IsClosed take → HasLegalList send
+    → IsOfEnds send take r → IsSettled N l r
+settled N l n send take r lane network name closed legal are =
     let on : send.name.lane ≡ l = ap (λ (x : Name). x.lane) name ∙ lane in
     let of : send.name.network ≡ N = ap (λ (x : Name). x.network) name ∙ network in
     let beginning : IsBeginning (loads N (lane_at N l)) send.list = subst (λ (x : Table × ℕ). IsLegal x.0 x.1 send.list) (λ i. (of i, on i)) legal in
-    let all = all_taken (loads N (lane_at N l)) send.list take.list r.left.items beginning closed r_left in
+    let all = all_taken (loads N (lane_at N l)) send.list take.list r.left beginning closed are.left in
     record {
-      lane = r_lane ∙ on;
-      sent = r_sent ∙ all.size;
-      taken = r_taken ∙ ap length all.same ∙ all.size;
+      network = are.network ∙ of;
+      lane = are.lane ∙ on;
+      sent = subst (IsWhole (loads N (lane_at N l))) (sym are.sent) all.whole;
+      taken = are.taken ∙ all.same ∙ sym are.sent;
       left = all.nothing;
-      text = send.list;
-      whole = all.whole;
-      figures = r_figures ∙ (λ i. figures_on (of i) (on i) send.list (all.same i));
+      figures = are.figures ∙ (λ i. figures_on (of i) (on i) (sym are.sent i) (sym are.taken i));
     }
 
-pub settled_ok : {E : Type 0} (N : Table) (l : ℕ) (n : Name) (send take : End) (o : Result Reconciled E) → n.lane ≡ l → n.network ≡ N → send.name ≡ n → IsClosed take → HasLegalList send
-    → IfOk o (λ r. r.lane.0 ≡ send.name.lane) → IfOk o (λ r. r.sent ≡ length send.list) → IfOk o (λ r. r.taken ≡ length take.list) → IfOk o (λ r. send.list ≡ take.list ++ r.left.items)
-    → IfOk o (λ r. r.figures.items ≡ figures_on send.name.network send.name.lane send.list take.list) → IfOk o (λ r. IsSettled N l r)
-settled_ok N l n send take (Err e) lane network name closed legal r_lane r_sent r_taken r_left r_figures = tt
-settled_ok N l n send take (Ok r) lane network name closed legal r_lane r_sent r_taken r_left r_figures =
-    settled N l n send take r lane network name closed legal r_lane r_sent r_taken r_left r_figures
+pub settled_ok : {E : Type 0} (N : Table) (l : ℕ) (n : Name) (send take : End) (o : Result Carried E) → n.lane ≡ l → n.network ≡ N → send.name ≡ n → IsClosed take → HasLegalList send
+    → IfOk o (λ r. r.network ≡ send.name.network) → IfOk o (λ r. r.lane ≡ send.name.lane) → IfOk o (λ r. r.sent ≡ send.list) → IfOk o (λ r. r.taken ≡ take.list)
+    → IfOk o (λ r. send.list ≡ take.list ++ r.left) → IfOk o (λ r. r.figures ≡ figures_on send.name.network send.name.lane send.list take.list) → IfOk o (λ r. IsSettled N l r)
+settled_ok N l n send take (Err e) lane network name closed legal r_network r_lane r_sent r_taken r_left r_figures = tt
+settled_ok N l n send take (Ok r) lane network name closed legal r_network r_lane r_sent r_taken r_left r_figures =
+    settled N l n send take r lane network name closed legal record { network = r_network; lane = r_lane; sent = r_sent; taken = r_taken; left = r_left; figures = r_figures }
 
 pub ok_anyway : {T E : Type 0} (o : Result T E) (P : Type 0) → P → IfOk o (λ _. P)
 ok_anyway (Ok r) P h = h
@@ -78,22 +83,22 @@ ok_anyway (Err e) P h = tt
 
 -- ---- all lanes, from the last on
 
-pub record AreSettledFrom (N : Table) (count done : ℕ) (rs : List Reconciled) : Type 0 where
+pub record AreSettledFrom (N : Table) (count done : ℕ) (rs : List Carried) : Type 0 where
   pub size : length rs ≡ done
   pub each : EachAt (λ k. IsSettled N (count - 1 - k)) rs
 
-pub settled_more : (N : Table) (size count done : ℕ) (rs new : List Reconciled) (r : Reconciled) → new ≡ rs ++ r ∷ [] → size ≡ count → IsSettled N (size - 1 - done) r → AreSettledFrom N count done rs
+pub settled_more : (N : Table) (size count done : ℕ) (rs new : List Carried) (r : Carried) → new ≡ rs ++ r ∷ [] → size ≡ count → IsSettled N (size - 1 - done) r → AreSettledFrom N count done rs
     → AreSettledFrom N count (done + 1) new
 settled_more N size count done rs new r grown same here so_far = subst (AreSettledFrom N count (done + 1)) (sym grown) record {
   size = omega (arith, so_far.size, length_push rs r);
   each = each_push (λ k. IsSettled N (count - 1 - k)) rs r done so_far.size so_far.each (subst (λ (z : ℕ). IsSettled N (z - 1 - done) r) same here);
 }
 
-pub settled_none : (N : Table) (count : ℕ) (rs : List Reconciled) → rs ≡ [] → AreSettledFrom N count 0 rs
+pub settled_none : (N : Table) (count : ℕ) (rs : List Carried) → rs ≡ [] → AreSettledFrom N count 0 rs
 settled_none N count rs is = subst (AreSettledFrom N count 0) (sym is) record { size = refl; each = λ k d h. absurd (omega (arith, h)) }
 
 -- turned round in place they are in lane order
-pub settled_all : (N : Table) (count done : ℕ) (rs now turned : List Reconciled) (len : ℕ) → count ≡ length (lanes N) → done ≡ count → now ≡ rs → turned ≡ reverse now → len ≡ length rs
+pub settled_all : (N : Table) (count done : ℕ) (rs now turned : List Carried) (len : ℕ) → count ≡ length (lanes N) → done ≡ count → now ≡ rs → turned ≡ reverse now → len ≡ length rs
     → AreSettledFrom N (length (lanes N)) done rs → AreSettled N (take len (turned ++ drop (length turned) rs))
 settled_all N count done rs now turned len is all same turns size so_far =
     let round : turned ≡ reverse rs = turns ∙ ap reverse same in
@@ -101,4 +106,18 @@ settled_all N count done rs now turned len is all same turns size so_far =
     subst (AreSettled N) (sym (take_at turned (drop (length turned) rs) len long ∙ round)) record {
       all = length-reverse rs ∙ so_far.size ∙ all ∙ is;
       each = each_turned (IsSettled N) rs (length (lanes N)) (so_far.size ∙ all ∙ is) so_far.each;
+    }
+
+-- ---- a law
+
+pub settled_lanes_are_counted : SettledLanesAreCounted
+settled_lanes_are_counted N l r h =
+    let texts = loads N (lane_at N l) in
+    let size : length r.sent ≡ length_of_text texts = sym (length-map r.sent content) ∙ texts_have_one_length texts (contents r.sent) h.sent.text in
+    record {
+      sent = size;
+      taken = ap length h.taken ∙ size;
+      text = r.sent;
+      whole = h.sent;
+      figures = h.figures ∙ ap (figures_on N l r.sent) h.taken;
     }

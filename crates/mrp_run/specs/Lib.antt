@@ -6,3 +6,4 @@ pub mod Ends
 pub mod Outcome
 pub mod Worst
 pub mod Joined
+pub mod Laws

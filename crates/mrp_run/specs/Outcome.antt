@@ -3,27 +3,25 @@ use Rattle.std.specs.Prelude.{◌≡◌, ℕ, List, [], length}
 use Rattle.mrp_rows.specs.Table.{Table}
 use Rattle.mrp_net.specs.Lanes.{lanes, lane_at}
 use Rattle.mrp_net.specs.Plan.{plan_of}
-use Rattle.mrp_record.specs.declared.record.Record.{Record}
-use Rattle.mrp_record.specs.Text.{IsWhole, length_of_text}
+use Rattle.mrp_record.specs.Text.{IsWhole}
 use Rattle.mrp_events.specs.Loads.{loads}
-use Rattle.mrp_lane.specs.declared.joining.Reconciled.{Reconciled}
-use Rattle.mrp_lane.specs.Reconciled.{figures_on}
+use Rattle.mrp_lane.specs.Reconciled.{Carried, figures_on}
 use Rattle.mrp_run.specs.declared.network.Outcome.{Outcome}
 use Rattle.mrp_run.specs.Ends.{EachAt}
 
--- A lane carried its whole text: as many records were sent and taken as its texts have, none is left, and of
--- each item shipped and received are the cumulative figure of a text of the lane.
-pub record IsSettled (N : Table) (l : ℕ) (r : Reconciled) : Type 0 where
-  pub lane : r.lane.0 ≡ l
-  pub sent : r.sent ≡ length_of_text (loads N (lane_at N l))
-  pub taken : r.taken ≡ length_of_text (loads N (lane_at N l))
-  pub left : r.left.items ≡ []
-  pub text : List Record
-  pub whole : IsWhole (loads N (lane_at N l)) text
-  pub figures : r.figures.items ≡ figures_on N l text text
+-- A lane of the network carried its whole text: the list that its sending end showed when the ends were joined is a
+-- whole text of the lane, the list that its taking end showed is the same, nothing is left, and the figures are those
+-- of these lists.
+pub record IsSettled (N : Table) (l : ℕ) (r : Carried) : Type 0 where
+  pub network : r.network ≡ N
+  pub lane : r.lane ≡ l
+  pub sent : IsWhole (loads N (lane_at N l)) r.sent
+  pub taken : r.taken ≡ r.sent
+  pub left : r.left ≡ []
+  pub figures : r.figures ≡ figures_on N l r.sent r.taken
 
 -- all lanes, in lane order
-pub record AreSettled (N : Table) (lanes_of : List Reconciled) : Type 0 where
+pub record AreSettled (N : Table) (lanes_of : List Carried) : Type 0 where
   pub all : length lanes_of ≡ length (lanes N)
   pub each : EachAt (IsSettled N) lanes_of
 

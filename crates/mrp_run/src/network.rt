@@ -31,15 +31,17 @@ use std::thread::Threads;
 pub struct Outcome {
     /// The plan of each pair, in table order.
     pub plans: Vec<PairPlan>,
-    /// What went over each lane, in lane order.
+    /// What went over each lane, as its ends showed it when they were joined, in lane order.
     pub lanes: Vec<Reconciled>,
 }
 
 /// Runs a network by a thread for each plant, until each plant is done.
 ///
-/// The outcome is the one plan of the network, and each lane carried its whole text, for every number of
-/// workers and every capacity; the gate was open to the first turns of each plant, one or more. It isn't claimed
-/// that a run ends.
+/// The outcome is the one plan of the network, and what went over its lanes: when the two ends of a lane were
+/// joined, the list of all records that had been sent was a whole text of the lane, the list of those that had
+/// been taken was the same, nothing was left, and the figures are those of these lists. So it is for every number
+/// of workers and every capacity; that a run has as many workers and as much room as `settings` says stands in
+/// no clause. The gate was open to the first turns of each plant, one or more. It isn't claimed that a run ends.
 ///
 /// # Errors
 ///

@@ -73,11 +73,11 @@ fn are_settled(figures: &[LaneFigure], wanted: &[(u64, u64)]) -> bool {
 
 /// Whether a lane of that number carried so many records with these figures, and nothing is left.
 fn is_carried(lane: &Reconciled, number: usize, records: u64, figures: &[(u64, u64)]) -> bool {
-    lane.lane.0 == number
-        && lane.sent == records
-        && lane.taken == records
-        && lane.left.is_empty()
-        && are_settled(lane.figures.as_slice(), figures)
+    lane.lane().0 == number
+        && lane.sent() == records
+        && lane.taken() == records
+        && lane.left().is_empty()
+        && are_settled(lane.figures(), figures)
 }
 
 /// Whether the lanes, in lane order, carried what the ending says.

@@ -237,7 +237,7 @@ fn ends(
 
 /// Opening figure, shipped and received of an item of the lane, by its place.
 fn figures(done: &Reconciled, place: usize) -> Option<(u64, u64, u64)> {
-    let figure = done.figures.get(place)?;
+    let figure = done.figures().get(place)?;
     Some((
         figure.opening.get(),
         figure.shipped.get(),
@@ -297,9 +297,9 @@ fn leaves_all<R: Wait>(rt: &R, alloc: Global, net: &SizedNet<'_>) -> Result<bool
     let (count, done) = offered_alone(rt, alloc, net, SCHEDULE, 4)?;
     Ok(
         count == 3
-            && done.lane == SCHEDULE
-            && (done.sent, done.taken) == (3, 0)
-            && are_block(done.left.as_slice(), 1, 22, 130)
+            && done.lane() == SCHEDULE
+            && (done.sent(), done.taken()) == (3, 0)
+            && are_block(done.left(), 1, 22, 130)
             && figures(&done, 0) == Some((108, 130, 108)),
     )
 }
@@ -329,8 +329,8 @@ fn gives_the_second_back<R: Wait>(
 
 /// Whether of two records that were sent the second is left.
 fn has_left_the_second(done: &Reconciled) -> bool {
-    (done.sent, done.taken) == (2, 1)
-        && done.left.as_slice() == [item_end(2, ItemNo(0), 108)].as_slice()
+    (done.sent(), done.taken()) == (2, 1)
+        && done.left() == [item_end(2, ItemNo(0), 108)].as_slice()
         && figures(done, 0) == Some((100, 108, 108))
 }
 
@@ -518,7 +518,10 @@ fn carried<R: Threads + Wait + Sync>(
     let ends = ends(alloc, net, l, capacity)?;
     let (send, (take, count)) = between_threads(rt, net.network(), &plan, ends, text);
     let done = reconcile(rt, alloc, send, take)?;
-    if count == text.len() && (done.sent, done.taken) == (count, count) && done.left.is_empty() {
+    if count == text.len()
+        && (done.sent(), done.taken()) == (count, count)
+        && done.left().is_empty()
+    {
         Ok(Some(done))
     } else {
         Ok(None)
@@ -535,8 +538,8 @@ fn carries_the_ring<R: Threads + Wait + Sync>(
         return Ok(false);
     };
     Ok(
-        done.lane == RING_SCHEDULE
-            && done.figures.len() == 2
+        done.lane() == RING_SCHEDULE
+            && done.figures().len() == 2
             && figures(&done, 0) == Some((0, 5, 5))
             && figures(&done, 1) == Some((0, 30, 30)),
     )

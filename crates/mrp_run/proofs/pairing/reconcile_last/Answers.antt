@@ -32,7 +32,7 @@ returns-clause-settled g c =
     let both = have_both c.args.network.now c.args.lane.0 c.args.plants.now _ _ c.lane-between.result c.in-Some.send c.in-Some-last_take.take
     c.requires.left c.lane-between.ensures.value c.in-Some.ensures.last c.in-Some-last_take.ensures.last in
     settled_ok c.args.network.now c.args.lane.0 both.last c.in-Some.send c.in-Some-last_take.take c.reconcile.result both.lane both.network both.sent both.took.1
-    c.reconcile.ensures.legal_sent c.reconcile.ensures.lane c.reconcile.ensures.sent c.reconcile.ensures.taken c.reconcile.ensures.left c.reconcile.ensures.figures
+    c.reconcile.ensures.legal_sent c.reconcile.ensures.network c.reconcile.ensures.lane c.reconcile.ensures.sent c.reconcile.ensures.taken c.reconcile.ensures.left c.reconcile.ensures.figures
 
 pub returns-clause-left : goal.returns-clause-left
 returns-clause-left g c =
