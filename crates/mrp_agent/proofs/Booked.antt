@@ -12,7 +12,7 @@ use Rattle.mrp_view.specs.declared.view.IncomingItem.{IncomingItem}
 use Rattle.mrp_view.specs.declared.view.IncomingLane.{IncomingLane}
 use Rattle.mrp_view.specs.declared.view.OutgoingLane.{OutgoingLane}
 use Rattle.mrp_view.specs.declared.view.PlantPair.{PlantPair}
-use Rattle.mrp_view.specs.Loads.{Load, load_at, no_load}
+use Rattle.mrp_view.specs.Loads.{Load, call_of, load_at, no_load}
 use Rattle.mrp_view.specs.Seen.{IsView, IsOwnOf}
 use Rattle.mrp_view.specs.View.{PlantRows}
 use Rattle.mrp_record.specs.declared.record.Record.{Record}
@@ -200,7 +200,7 @@ module _ (A : AgentState) (view : IsView A.view) (rooms : HasRooms A) (k : ℕ) 
           plan = h.plan ∙ sym (plan_same A.view taken planned k within r fits p h.ready plans);
         }
 
-    goods_stay : (planned : ℕ → Bool) (plans : ℕ → PlanRows) → IsLocal A.view taken planned plans → (i : Load) → IsOwnOf A.view i.customer i.item → (kind : LaneKind) → (kind ≡ Schedule → planned i.customer.0 ≡ true)
+    goods_stay : (planned : ℕ → Bool) (plans : ℕ → PlanRows) → IsLocal A.view taken planned plans → (i : Load) → IsOwnOf A.view (call_of i).customer i.item → (kind : LaneKind) → (kind ≡ Schedule → planned (call_of i).customer.0 ≡ true)
         → (l : ℕ) → goods_by kind A.view taken plans l i ≡ goods_by kind A.view Then plans l i
     goods_stay planned plans local i own Despatch decided l = refl
     goods_stay planned plans local i (p, there, number, its) Schedule decided l =
@@ -231,7 +231,7 @@ module _ (A : AgentState) (view : IsView A.view) (rooms : HasRooms A) (k : ℕ) 
             let lane : OutgoingLane = outgoing_at A.view i in
             let sched = is_schedule A view rooms i inside kind in
             ap (λ (z : LaneKind). goods_by z A.view taken (plans_of A) lane.number.0 (load_at lane.items j)) kind
-            ∙ goods_stay planned (plans_of A) local (load_at lane.items j) (sched.customers j no_load may.within) Schedule (λ _. may.decided kind) lane.number.0
+            ∙ goods_stay planned (plans_of A) local (load_at lane.items j) (sched.calls j no_load may.within).own Schedule (λ _. may.decided kind) lane.number.0
             ∙ sym (ap (λ (z : LaneKind). goods_by z A.view Then (plans_of A) lane.number.0 (load_at lane.items j)) kind)
 
   -- the record is appended to what was taken, and nothing else has changed

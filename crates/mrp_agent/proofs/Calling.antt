@@ -2,7 +2,7 @@
 use Rattle.std.proofs.Common.{◌≡◌, ℕ, suc, ◌+◌, ◌-◌, ◌<◌, ◌≤◌, not, true, false, Option, Some, None, option_map, List, length, map, refl, sym, ap, ◌∙◌, arith}
 use Rattle.std.specs.List.{find, range_with_len}
 use Rattle.std.proofs.lemmas.Bool.{eq-eqb, ne_eqb}
-use Rattle.mrp_view.specs.declared.view.OutgoingItem.{OutgoingItem}
+use Rattle.mrp_view.specs.declared.view.Call.{Call}
 use Rattle.mrp_events.specs.Loads.{delivery_in, has_pieces}
 use Rattle.mrp_cursor.specs.declared.remainder.NextLine.{NextLine}
 use Rattle.mrp_agent.specs.Sending.{next_called, called_by, call_line}
@@ -23,20 +23,20 @@ found_later amount period n none =
 step : (release : List ℕ) (period : ℕ) → period < length release → length release - period ≡ suc (length release - (period + 1))
 step release period within = omega arith
 
-pub call_here : (release : List ℕ) (item : OutgoingItem) (period quantity : ℕ) → period < length release → quantity ≡ called_by release item period → 0 < quantity
-    → next_called release item period ≡ Some (record { period = period; quantity = quantity; after = period + 1 })
-call_here release item period quantity within is some =
-    ap (found_in (called_by release item) period) (step release period within)
-    ∙ found_here (called_by release item) period (length release - (period + 1)) (omega (arith, is, some))
+pub call_here : (release : List ℕ) (call : Call) (period quantity : ℕ) → period < length release → quantity ≡ called_by release call period → 0 < quantity
+    → next_called release call period ≡ Some (record { period = period; quantity = quantity; after = period + 1 })
+call_here release call period quantity within is some =
+    ap (found_in (called_by release call) period) (step release period within)
+    ∙ found_here (called_by release call) period (length release - (period + 1)) (omega (arith, is, some))
     ∙ ap (λ (q : ℕ). Some (record { period = period; quantity = q; after = period + 1 })) (sym is)
 
-pub call_later : (release : List ℕ) (item : OutgoingItem) (period : ℕ) → period < length release → called_by release item period ≡ 0
-    → next_called release item period ≡ next_called release item (period + 1)
-call_later release item period within none =
-    ap (found_in (called_by release item) period) (step release period within)
-    ∙ found_later (called_by release item) period (length release - (period + 1)) none
+pub call_later : (release : List ℕ) (call : Call) (period : ℕ) → period < length release → called_by release call period ≡ 0
+    → next_called release call period ≡ next_called release call (period + 1)
+call_later release call period within none =
+    ap (found_in (called_by release call) period) (step release period within)
+    ∙ found_later (called_by release call) period (length release - (period + 1)) none
 
-pub no_call : (release : List ℕ) (item : OutgoingItem) (period : ℕ) → length release ≤ period → next_called release item period ≡ None
-no_call release item period past =
+pub no_call : (release : List ℕ) (call : Call) (period : ℕ) → length release ≤ period → next_called release call period ≡ None
+no_call release call period past =
     let none : length release - period ≡ 0 = omega arith in
-    ap (found_in (called_by release item) period) none
+    ap (found_in (called_by release call) period) none

@@ -6,10 +6,11 @@ use Rattle.std.proofs.lemmas.List.Elements.{All-contains}
 use Rattle.mrp_lot.specs.One.{PlanRows}
 use Rattle.mrp_net.specs.declared.lane.LaneKind.{LaneKind}
 use Rattle.mrp_net.specs.declared.lane.LaneKind.TheVariants.{Schedule}
+use Rattle.mrp_view.specs.declared.view.Call.{Call}
 use Rattle.mrp_view.specs.declared.view.OutgoingItem.{OutgoingItem}
 use Rattle.mrp_view.specs.declared.view.OutgoingLane.{OutgoingLane}
-use Rattle.mrp_view.specs.Loads.{bare, load_at, no_load}
-use Rattle.mrp_view.specs.Seen.{IsOwn, IsOutgoingItem, IsOutgoingLane, IsScheduleLane}
+use Rattle.mrp_view.specs.Loads.{bare, call_of, load_at, no_load}
+use Rattle.mrp_view.specs.Seen.{IsOwn, IsCalled, IsScheduleLane}
 use Rattle.mrp_record.specs.declared.record.Record.{Record}
 use Rattle.mrp_book.specs.Figures.{Figures}
 use Rattle.mrp_cursor.specs.declared.remainder.Remainder.{Remainder}
@@ -36,39 +37,41 @@ showing_at A has k within =
 -- ---- a schedule lane
 
 pub record CallFacts (A : AgentState) (lane : OutgoingLane) (j : ℕ) : Type 0 where
-  pub own : IsOwn A.view (load_at lane.items j).customer
-  pub customer : pair_place A.view (load_at lane.items j).customer.0 < length A.plans
+  pub there : (load_at lane.items j).call ≡ Some (call_of (load_at lane.items j))
+  pub own : IsOwn A.view (call_of (load_at lane.items j)).customer
+  pub customer : pair_place A.view (call_of (load_at lane.items j)).customer.0 < length A.plans
   pub before : incoming_place A.view (lane.number.0 - 1) < length A.view.incoming
   pub book : incoming_place A.view (lane.number.0 - 1) < length A.books
   pub showing : IsShowing (book_at A (incoming_place A.view (lane.number.0 - 1)))
-  pub shares : AreShares (bare (load_at lane.items j))
+  pub shares : AreShares (call_of (load_at lane.items j))
   pub after : 1 ≤ lane.number.0
 
 pub call_facts : (A : AgentState) {I : Indexes} → IsKept A I → (lane : OutgoingLane) → Contains A.view.outgoing lane → lane.kind ≡ Schedule → (j : ℕ) → j < length lane.items → CallFacts A lane j
 call_facts A kept lane there kind j within =
     let sched = All-contains (λ (z : OutgoingLane). z.kind ≡ Schedule → IsScheduleLane A.view z) A.view.outgoing lane kept.view.schedules there kind in
-    let out = All-contains (IsOutgoingLane A.view) A.view.outgoing lane kept.view.outgoing there in
-    let item : IsOutgoingItem A.view (load_at lane.items j) = out.items j no_load within in
+    let called : IsCalled A.view (load_at lane.items j) = sched.calls j no_load within in
     let own = own_of A lane j sched within in
     let at = place_before A kept.taken.taken kept.view kept.taken.books lane sched in
     record {
+      there = called.there;
       own = own;
-      customer = omega (arith, own_within A.view (load_at lane.items j).customer own, kept.rooms.plans.count);
+      customer = omega (arith, own_within A.view (call_of (load_at lane.items j)).customer own, kept.rooms.plans.count);
       before = at.0;
       book = omega (arith, at.0, kept.rooms.books);
       showing = showing_at A kept.taken (incoming_place A.view (lane.number.0 - 1)) at.0;
-      shares = record { rises = omega (arith, item.rises); ends = omega (arith, item.ends) };
+      shares = record { rises = omega (arith, called.rises); ends = omega (arith, called.ends) };
       after = sched.after;
     }
 
-pub call_is : (A : AgentState) (lane : OutgoingLane) (j mark : ℕ) (item : OutgoingItem) (b : Figures) (plan : PlanRows) (r : Remainder) → lane.kind ≡ Schedule
-    → item ≡ bare (load_at lane.items j) → b ≡ book_at A (incoming_place A.view (lane.number.0 - 1)) → plan ≡ plans_of A (load_at lane.items j).customer.0
-    → r ≡ left_to_call b plan.release item mark → r ≡ remainder A lane mark j
-call_is A lane j mark item b plan r kind i e p is =
+pub call_is : (A : AgentState) (lane : OutgoingLane) (j mark : ℕ) (item : OutgoingItem) (call : Call) (b : Figures) (plan : PlanRows) (r : Remainder) → lane.kind ≡ Schedule
+    → item ≡ bare (load_at lane.items j) → call ≡ call_of (load_at lane.items j) → b ≡ book_at A (incoming_place A.view (lane.number.0 - 1)) → plan ≡ plans_of A (call_of (load_at lane.items j)).customer.0
+    → r ≡ left_to_call b plan.release item call mark → r ≡ remainder A lane mark j
+call_is A lane j mark item call b plan r kind i c e p is =
     is
-    ∙ ap (λ (z : OutgoingItem). left_to_call b plan.release z mark) i
-    ∙ ap (λ (z : Figures). left_to_call z plan.release (bare (load_at lane.items j)) mark) e
-    ∙ ap (λ (z : PlanRows). left_to_call (book_at A (incoming_place A.view (lane.number.0 - 1))) z.release (bare (load_at lane.items j)) mark) p
+    ∙ ap (λ (z : OutgoingItem). left_to_call b plan.release z call mark) i
+    ∙ ap (λ (z : Call). left_to_call b plan.release (bare (load_at lane.items j)) z mark) c
+    ∙ ap (λ (z : Figures). left_to_call z plan.release (bare (load_at lane.items j)) (call_of (load_at lane.items j)) mark) e
+    ∙ ap (λ (z : PlanRows). left_to_call (book_at A (incoming_place A.view (lane.number.0 - 1))) z.release (bare (load_at lane.items j)) (call_of (load_at lane.items j)) mark) p
     ∙ ap (λ (z : LaneKind). remainder_by z A lane (load_at lane.items j) mark) (sym kind)
 
 -- ---- promises

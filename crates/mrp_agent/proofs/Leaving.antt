@@ -11,7 +11,7 @@ use Rattle.mrp_net.specs.declared.lane.LaneKind.TheVariants.{Despatch, Schedule}
 use Rattle.mrp_net.specs.declared.lane.Shipment.{Shipment}
 use Rattle.mrp_view.specs.declared.view.IncomingLane.{IncomingLane}
 use Rattle.mrp_view.specs.declared.view.OutgoingLane.{OutgoingLane}
-use Rattle.mrp_view.specs.Loads.{Load, load_at, no_load}
+use Rattle.mrp_view.specs.Loads.{Load, call_of, load_at, no_load}
 use Rattle.mrp_view.specs.Seen.{IsView, IsOutgoingLane, IsScheduleLane, lane_before, despatched}
 use Rattle.mrp_view.proofs.Once.{count-map}
 use Rattle.mrp_record.specs.declared.record.Record.{Record}
@@ -175,7 +175,7 @@ module _ (A : AgentState) (taken : ℕ → List Record) (view : IsView A.view) (
       IsRemainder (goods_by kind A.view taken (plans_of A) lane.number.0 (load_at lane.items j)) mark (remainder_by kind A lane (load_at lane.items j) mark)
 
   remains : (kind : LaneKind) (lane : OutgoingLane) (mark j : ℕ) → (kind ≡ Schedule → IsScheduleLane A.view lane) → IsOutgoingLane A.view lane → j < length lane.items
-      → (kind ≡ Schedule → length (plans_of A (load_at lane.items j).customer.0).release ≡ A.view.horizon) → IsOf kind lane mark j
+      → (kind ≡ Schedule → length (plans_of A (call_of (load_at lane.items j)).customer.0).release ≡ A.view.horizon) → IsOf kind lane mark j
   remains Despatch lane mark j sched out within periods =
       record { item = refl; opening = refl; reset = refl; line = shipments_left (load_at lane.items j).shipments mark }
   remains Schedule lane mark j sched out within periods =
@@ -190,7 +190,7 @@ module _ (A : AgentState) (taken : ℕ → List Record) (view : IsView A.view) (
       }
 
   pub left_is_left : (k : ℕ) → k < length A.view.outgoing → ((j : ℕ) → slice_get (out_at A k).queue (out_at A k).head ≡ Some j → j < length (outgoing_at A.view k).items)
-      → ((j : ℕ) → j < length (outgoing_at A.view k).items → (outgoing_at A.view k).kind ≡ Schedule → length (plans_of A (load_at (outgoing_at A.view k).items j).customer.0).release ≡ A.view.horizon)
+      → ((j : ℕ) → j < length (outgoing_at A.view k).items → (outgoing_at A.view k).kind ≡ Schedule → length (plans_of A (call_of (load_at (outgoing_at A.view k).items j)).customer.0).release ≡ A.view.horizon)
       → IsLeft (goods_of A.view taken (plans_of A) (outgoing_at A.view k)) (out_at A k) (left_at A k)
   left_is_left k within places periods = by (slice_get (out_at A k).queue (out_at A k).head) refl
     where

@@ -13,9 +13,11 @@ use Rattle.mrp_net.specs.declared.lane.LaneKind.TheVariants.{Schedule}
 use Rattle.mrp_net.specs.Lanes.{lane_at, lane_items, pair_on}
 use Rattle.mrp_net.proofs.Behind.{items_have_sources}
 use Rattle.mrp_net.proofs.Members.{In, In-append_right}
+use Rattle.mrp_view.specs.declared.view.Call.{Call}
 use Rattle.mrp_view.specs.declared.view.OutgoingLane.{OutgoingLane}
 use Rattle.mrp_view.specs.Loads as view
 use Rattle.mrp_view.specs.View.{goes_from, lane_numbers, outgoing_item, outgoing_lane, outgoing_lanes}
+use Rattle.mrp_view.proofs.Calling.{call_seen}
 use Rattle.mrp_record.specs.declared.record.Record.{Record}
 use Rattle.mrp_record.specs.Entries.{Entry, LineOf, EndOf, ResetOf, Closing, content, contents, is_of}
 use Rattle.mrp_record.specs.Text.{Load, IsBeginning, text_of}
@@ -92,7 +94,9 @@ module _ (N : Table) (is : IsTable N) (planned : ℕ → Bool) (l : ℕ) where
       get_or-map (outgoing_item N lane) items there.0 item view.no_load there.1 ∙ ap (outgoing_item N lane) there.2 in
       record {
         within = omega (arith, there.1, length-map items (outgoing_item N lane));
-        decided = λ kind. ap (λ (i : view.Load). planned i.customer.0) read ∙ ap planned has.taker ∙ decided kind;
+        decided = λ kind.
+            ap (λ (i : view.Load). planned (view.call_of i).customer.0) read ∙ ap (λ (c : Call). planned c.customer.0) (call_seen N lane item kind)
+            ∙ ap planned has.taker ∙ decided kind;
       }
 
   module _ (goods : ℕ → Goods) (o : OutFigures) (has : HasGoods N planned (outgoing_lane N l) goods)

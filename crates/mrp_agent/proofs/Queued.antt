@@ -12,7 +12,7 @@ use Rattle.mrp_net.specs.declared.lane.LaneKind.{LaneKind}
 use Rattle.mrp_net.specs.declared.lane.LaneKind.TheVariants.{Despatch, Schedule}
 use Rattle.mrp_view.specs.declared.view.OutgoingLane.{OutgoingLane}
 use Rattle.mrp_view.specs.declared.view.PlantPair.{PlantPair}
-use Rattle.mrp_view.specs.Loads.{Load, load_at, no_load}
+use Rattle.mrp_view.specs.Loads.{Load, call_of, load_at, no_load}
 use Rattle.mrp_view.specs.Seen.{IsView, IsOwn, IsOwnOf, IsOutgoingLane, IsScheduleLane}
 use Rattle.mrp_view.specs.View.{PlantRows}
 use Rattle.mrp_record.specs.declared.record.Record.{Record}
@@ -32,25 +32,25 @@ only_one x y (zero, within, is) = sym is
 only_one x y (suc k, within, is) = absurd (omega arith)
 
 -- goods look at the customer's plan alone
-goods_same : (kind : LaneKind) (V : PlantRows) (taken : ℕ → List Record) (plans others : ℕ → PlanRows) (l : ℕ) (i : Load) → (kind ≡ Schedule → plans i.customer.0 ≡ others i.customer.0)
+goods_same : (kind : LaneKind) (V : PlantRows) (taken : ℕ → List Record) (plans others : ℕ → PlanRows) (l : ℕ) (i : Load) → (kind ≡ Schedule → plans (call_of i).customer.0 ≡ others (call_of i).customer.0)
     → goods_by kind V taken plans l i ≡ goods_by kind V taken others l i
 goods_same Despatch V taken plans others l i same = refl
 goods_same Schedule V taken plans others l i same =
-    ap (λ (rows : PlanRows). let g : Goods = record (schedule_goods V (taken (l - 1)) plans i) { from = by_period_from (λ t. share i (slice_index rows.release t)) V.horizon } in g) (same refl)
+    ap (λ (rows : PlanRows). let g : Goods = record (schedule_goods V (taken (l - 1)) plans i) { from = by_period_from (λ t. share (call_of i) (slice_index rows.release t)) V.horizon } in g) (same refl)
 
 module _ (V : PlantRows) (view : IsView V) (lane : OutgoingLane) (is_lane : IsOutgoingLane V lane) (schedule : lane.kind ≡ Schedule → IsScheduleLane V lane) (p : PlantPair) (there : Contains V.pairs p)
     (planned : ℕ → Bool) (unplanned : planned p.number.0 ≡ false) (plans others : ℕ → PlanRows) (stay : (y : PairNo) → IsOwn V y → planned y.0 ≡ true → plans y.0 ≡ others y.0)
     (taken : ℕ → List Record) (old : OutFigures) (sent : List Record) (size : old.size ≡ length lane.items) (shows : ShowsSent (goods_of V taken plans lane) old sent)
     (queue : (j : ℕ) → Contains old.queue j ↔ IsSendable planned lane j) where
   -- the customers of a schedule lane
-  own_of : lane.kind ≡ Schedule → (j : ℕ) → j < length lane.items → IsOwnOf V (load_at lane.items j).customer (load_at lane.items j).item
-  own_of kind j within = (schedule kind).customers j no_load within
+  own_of : lane.kind ≡ Schedule → (j : ℕ) → j < length lane.items → IsOwnOf V (call_of (load_at lane.items j)).customer (load_at lane.items j).item
+  own_of kind j within = ((schedule kind).calls j no_load within).own
 
   -- the customer is the pair where the item is the pair's
-  is_its_item : lane.kind ≡ Schedule → (j : ℕ) → j < length lane.items → (load_at lane.items j).customer.0 ≡ p.number.0 ↔ (load_at lane.items j).item.0 ≡ p.item.0
+  is_its_item : lane.kind ≡ Schedule → (j : ℕ) → j < length lane.items → (call_of (load_at lane.items j)).customer.0 ≡ p.number.0 ↔ (load_at lane.items j).item.0 ≡ p.item.0
   is_its_item kind j within =
       let own = own_of kind j within in
-      let number : own.0.number.0 ≡ (load_at lane.items j).customer.0 = ap (λ (n : PairNo). n.0) own.2 in
+      let number : own.0.number.0 ≡ (call_of (load_at lane.items j)).customer.0 = ap (λ (n : PairNo). n.0) own.2 in
       let item : own.0.item.0 ≡ (load_at lane.items j).item.0 = ap (λ (n : ItemNo). n.0) own.3 in (
         λ same. sym item ∙ ap (λ (r : PlantPair). r.item.0) (same_number V view own.0 p own.1 there (number ∙ same)),
         λ same. sym number ∙ ap (λ (r : PlantPair). r.number.0) (same_item V view own.0 p own.1 there (item ∙ same)),
@@ -63,7 +63,7 @@ module _ (V : PlantRows) (view : IsView V) (lane : OutgoingLane) (is_lane : IsOu
       (λ j among.
       let sendable = (queue j).0 among in
       goods_same lane.kind V taken plans others lane.number.0 (load_at lane.items j)
-      (λ kind. let own = own_of kind j sendable.within in stay (load_at lane.items j).customer (own.0, own.1, own.2) (sendable.decided kind)))
+      (λ kind. let own = own_of kind j sendable.within in stay (call_of (load_at lane.items j)).customer (own.0, own.1, own.2) (sendable.decided kind)))
       shows
 
   abbrev Now : ℕ → Bool
@@ -75,16 +75,16 @@ module _ (V : PlantRows) (view : IsView V) (lane : OutgoingLane) (is_lane : IsOu
     pub now_queued : (j : ℕ) → Contains o.queue j ↔ IsSendable (changed planned p.number.0 true) lane j
 
   more_sendable : (j : ℕ) → IsSendable planned lane j → IsSendable (changed planned p.number.0 true) lane j
-  more_sendable j sendable = record { within = sendable.within; decided = λ kind. more_planned planned p.number.0 (load_at lane.items j).customer.0 (sendable.decided kind) }
+  more_sendable j sendable = record { within = sendable.within; decided = λ kind. more_planned planned p.number.0 (call_of (load_at lane.items j)).customer.0 (sendable.decided kind) }
 
   -- another customer was planned before
-  before : (j : ℕ) → IsSendable (changed planned p.number.0 true) lane j → (lane.kind ≡ Schedule → (load_at lane.items j).customer.0 ≡ p.number.0 → ⊥) → IsSendable planned lane j
+  before : (j : ℕ) → IsSendable (changed planned p.number.0 true) lane j → (lane.kind ≡ Schedule → (call_of (load_at lane.items j)).customer.0 ≡ p.number.0 → ⊥) → IsSendable planned lane j
   before j sendable other = record {
     within = sendable.within;
-    decided = λ kind. sym (changed_elsewhere planned p.number.0 true (load_at lane.items j).customer.0 (other kind)) ∙ sendable.decided kind;
+    decided = λ kind. sym (changed_elsewhere planned p.number.0 true (call_of (load_at lane.items j)).customer.0 (other kind)) ∙ sendable.decided kind;
   }
 
-  as_before : ((j : ℕ) → j < length lane.items → lane.kind ≡ Schedule → (load_at lane.items j).customer.0 ≡ p.number.0 → ⊥) → Shown old
+  as_before : ((j : ℕ) → j < length lane.items → lane.kind ≡ Schedule → (call_of (load_at lane.items j)).customer.0 ≡ p.number.0 → ⊥) → Shown old
   as_before none = record {
     now_size = size;
     now_sent = now_shows;
@@ -115,7 +115,7 @@ module _ (V : PlantRows) (view : IsView V) (lane : OutgoingLane) (is_lane : IsOu
       let within : place < length lane.items = omega (arith, first.0, length-map lane.items (λ (i : Load). i.item)) in
       let item : (load_at lane.items place).item.0 ≡ p.item.0 =
       sym (ap (λ (i : ItemNo). i.0) (get_or-map (λ (i : Load). i.item) lane.items place no_load none within)) ∙ eqb-true (get_or items place none).0 p.item.0 first.1 in
-      let mine : (load_at lane.items place).customer.0 ≡ p.number.0 = (is_its_item kind place within).1 item in
+      let mine : (call_of (load_at lane.items place)).customer.0 ≡ p.number.0 = (is_its_item kind place within).1 item in
       let fresh : Contains old.queue place → ⊥ = λ among. both_ways (planned p.number.0) unplanned (sym (ap planned mine) ∙ ((queue place).0 among).decided kind) in
       let more = queues_show (goods_of V taken others lane) old sent place now_shows (omega (arith, within, size)) fresh in
       record {
@@ -131,7 +131,7 @@ module _ (V : PlantRows) (view : IsView V) (lane : OutgoingLane) (is_lane : IsOu
               ],
           λ sendable.
               subst (λ (z : List ℕ). Contains z j) (sym more.0)
-              (elim (cases_eq (load_at lane.items j).customer.0 p.number.0) [
+              (elim (cases_eq (call_of (load_at lane.items j)).customer.0 p.number.0) [
                 | inl same ↦
                     let here : j ≡ place =
                     only_place (λ (i : Load). eqb i.item.0 p.item.0) lane.items j place no_load (is_lane.once p.item.0) sendable.within within

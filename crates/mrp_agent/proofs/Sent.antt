@@ -8,7 +8,7 @@ use Rattle.mrp_rows.specs.declared.numbers.PairNo.{PairNo}
 use Rattle.mrp_net.specs.declared.lane.LaneKind.TheVariants.{Schedule}
 use Rattle.mrp_view.specs.declared.view.OutgoingLane.{OutgoingLane}
 use Rattle.mrp_view.specs.declared.view.PlantPair.{PlantPair}
-use Rattle.mrp_view.specs.Loads.{load_at}
+use Rattle.mrp_view.specs.Loads.{call_of, load_at}
 use Rattle.mrp_view.specs.Seen.{IsView, IsOwn, IsOwnOf, IsScheduleLane}
 use Rattle.mrp_record.specs.declared.record.Record.{Record}
 use Rattle.mrp_cursor.specs.declared.remainder.Remainder.{Remainder}
@@ -56,10 +56,10 @@ pub periods_kept : (A : AgentState) → HasRooms A → (x : PairNo) → IsOwn A.
 periods_kept A rooms x own =
     rooms.plans.periods (pair_place A.view x.0) no_plan (omega (arith, own_place A x own, rooms.plans.count))
 
-pub own_of : (A : AgentState) (lane : OutgoingLane) (j : ℕ) → IsScheduleLane A.view lane → j < length lane.items → IsOwn A.view (load_at lane.items j).customer
-own_of A lane j sched within = by (sched.customers j _ within)
+pub own_of : (A : AgentState) (lane : OutgoingLane) (j : ℕ) → IsScheduleLane A.view lane → j < length lane.items → IsOwn A.view (call_of (load_at lane.items j)).customer
+own_of A lane j sched within = by (sched.calls j _ within).own
   where
-    by : IsOwnOf A.view (load_at lane.items j).customer (load_at lane.items j).item → IsOwn A.view (load_at lane.items j).customer
+    by : IsOwnOf A.view (call_of (load_at lane.items j)).customer (load_at lane.items j).item → IsOwn A.view (call_of (load_at lane.items j)).customer
     by (p, there, is, item) = (p, there, is)
 
 module _ (A : AgentState) (view : IsView A.view) (rooms : HasRooms A) where
@@ -73,9 +73,9 @@ module _ (A : AgentState) (view : IsView A.view) (rooms : HasRooms A) where
   is_schedule k within = All-contains (λ (z : OutgoingLane). z.kind ≡ Schedule → IsScheduleLane A.view z) A.view.outgoing (outgoing_at A.view k) view.schedules (lane_there k within)
 
   pub customer_periods : (k : ℕ) → k < length A.view.outgoing → (j : ℕ) → j < length (outgoing_at A.view k).items → (outgoing_at A.view k).kind ≡ Schedule
-      → length (plans_of A (load_at (outgoing_at A.view k).items j).customer.0).release ≡ A.view.horizon
+      → length (plans_of A (call_of (load_at (outgoing_at A.view k).items j)).customer.0).release ≡ A.view.horizon
   customer_periods k within j inside kind =
-      (periods_kept A rooms (load_at (outgoing_at A.view k).items j).customer (own_of A (outgoing_at A.view k) j (is_schedule k within kind) inside)).release
+      (periods_kept A rooms (call_of (load_at (outgoing_at A.view k).items j)).customer (own_of A (outgoing_at A.view k) j (is_schedule k within kind) inside)).release
 
   -- lanes that go out have numbers of their own
   pub lanes_apart : (i k : ℕ) → i < length A.view.outgoing → k < length A.view.outgoing → (i ≡ k → ⊥) → (outgoing_at A.view i).number.0 ≡ (outgoing_at A.view k).number.0 → ⊥

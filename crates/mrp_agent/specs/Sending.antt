@@ -4,9 +4,10 @@ use Rattle.std.specs.List.{range_with_len}
 use Rattle.mrp_net.specs.declared.lane.LaneKind.{LaneKind}
 use Rattle.mrp_net.specs.declared.lane.LaneKind.TheVariants.{Despatch, Schedule}
 use Rattle.mrp_net.specs.declared.lane.Shipment.{Shipment}
+use Rattle.mrp_view.specs.declared.view.Call.{Call}
 use Rattle.mrp_view.specs.declared.view.OutgoingLane.{OutgoingLane}
 use Rattle.mrp_view.specs.declared.view.OutgoingItem.{OutgoingItem}
-use Rattle.mrp_view.specs.Loads.{Load, bare, load, load_at}
+use Rattle.mrp_view.specs.Loads.{Load, bare, call_of, load_at}
 use Rattle.mrp_record.specs.declared.record.Record.{Record}
 use Rattle.mrp_record.specs.Entries.{Delivery, content}
 use Rattle.mrp_record.specs.Laws.{AreLoads}
@@ -44,30 +45,30 @@ abbrev pub call_line : Delivery → NextLine
 call_line line = record { period = line.period; quantity = line.quantity; after = line.period + 1 }
 
 -- the supplier's share of a release of the customer's
-abbrev pub called_by : List ℕ → OutgoingItem → ℕ → ℕ
-called_by release item period = share (load item []) (slice_index release period)
+abbrev pub called_by : List ℕ → Call → ℕ → ℕ
+called_by release call period = share call (slice_index release period)
 
-abbrev pub next_called : List ℕ → OutgoingItem → ℕ → Option NextLine
-next_called release item mark =
-    option_map call_line (find has_pieces (map (delivery_in (called_by release item)) (range_with_len mark (length release - mark))))
+abbrev pub next_called : List ℕ → Call → ℕ → Option NextLine
+next_called release call mark =
+    option_map call_line (find has_pieces (map (delivery_in (called_by release call)) (range_with_len mark (length release - mark))))
 
 -- a share of thousandths
-pub record AreShares (item : OutgoingItem) : Type 0 where
-  pub rises : item.low ≤ item.high
-  pub ends : item.high ≤ 1000
+pub record AreShares (call : Call) : Type 0 where
+  pub rises : call.low ≤ call.high
+  pub ends : call.high ≤ 1000
 
 abbrev pub left_to_ship : Load → ℕ → Remainder
 left_to_ship load mark = record { item = load.item; opening = load.figure; reset = load.reset; line = next_shipment load.shipments mark }
 
-abbrev pub left_to_call : Figures → List ℕ → OutgoingItem → ℕ → Remainder
-left_to_call before release item mark =
-    record { item = item.item; opening = figure_in before item.item.0; reset = item.reset; line = next_called release item mark }
+abbrev pub left_to_call : Figures → List ℕ → OutgoingItem → Call → ℕ → Remainder
+left_to_call before release item call mark =
+    record { item = item.item; opening = figure_in before item.item.0; reset = item.reset; line = next_called release call mark }
 
 -- what is left of the item at a place from a mark on
 abbrev pub remainder_by : LaneKind → AgentState → OutgoingLane → Load → ℕ → Remainder
 remainder_by Despatch A lane load mark = left_to_ship load mark
 remainder_by Schedule A lane load mark =
-    left_to_call (book_at A (incoming_place A.view (lane.number.0 - 1))) (plans_of A load.customer.0).release (bare load) mark
+    left_to_call (book_at A (incoming_place A.view (lane.number.0 - 1))) (plans_of A (call_of load).customer.0).release (bare load) (call_of load) mark
 
 abbrev pub remainder : AgentState → OutgoingLane → ℕ → ℕ → Remainder
 remainder A lane mark place = remainder_by lane.kind A lane (load_at lane.items place) mark

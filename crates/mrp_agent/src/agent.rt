@@ -18,7 +18,7 @@ use std::marker::Model;
 /// The agent of one plant.
 ///
 /// Its calls name a lane by the lane's number and a pair by the pair's. No call but [`Agent::new`]
-/// takes memory.
+/// takes memory (by construction; no clause says so).
 #[derive(Drop)]
 pub struct Agent {
     pub(crate) view: PlantView,
@@ -55,7 +55,6 @@ impl Agent {
     ghost use Rattle.mrp_agent.specs.State.{pair_place, plans_of};
 
     /// The agent of a plant that sees this: nothing has come, nothing was sent, and no pair is planned.
-    /// It takes all the room that its life needs.
     ///
     /// # Errors
     ///

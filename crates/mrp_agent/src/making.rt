@@ -1,4 +1,4 @@
-//! The rooms that an agent takes when it is made, for its whole life.
+//! The rooms that an agent is made of.
 
 ghost use Rattle.std.specs.Prelude.{◌≡◌, ℕ, ◌++◌, ◌<◌, ◌≤◌, ◌^◌, [], false, All, IfOk, length, map, replicate, slice_index};
 ghost use Rattle.std.specs.List.{flat_map};

@@ -1,4 +1,4 @@
-//! The parts that an agent is made of, each with the room for its whole life.
+//! The parts that an agent is made of.
 
 ghost use Rattle.std.specs.Prelude.{◌≡◌, IfOk, length, map, replicate};
 ghost use Rattle.std.specs.List.{range_with_len};

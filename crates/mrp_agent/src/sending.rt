@@ -1,8 +1,8 @@
 //! What an agent sends next on a lane, and how it goes on once that is sent.
 
-ghost use Rattle.std.specs.Prelude.{◌≡◌, ◌==◌, ◌<◌, [], length, position};
+ghost use Rattle.std.specs.Prelude.{◌≡◌, ◌==◌, ◌<◌, length, position};
 ghost use Rattle.std.specs.List.{position_or_len};
-ghost use Rattle.mrp_view.specs.Loads.{load, load_at};
+ghost use Rattle.mrp_view.specs.Loads.{load_at};
 ghost use Rattle.mrp_local.specs.Goods.{share};
 ghost use Rattle.mrp_agent.specs.Sending.{next_shipment, next_called, left_to_ship, left_to_call, figure_in, AreShares};
 ghost use Rattle.mrp_agent.specs.Kept.{IsShowing};
@@ -16,7 +16,7 @@ use mrp_netting::PairPlan;
 use mrp_qty::{Qty, Row};
 use mrp_record::Record;
 use mrp_rows::ItemNo;
-use mrp_view::{OutgoingItem, OutgoingItems, OutgoingLane};
+use mrp_view::{Call, OutgoingItem, OutgoingItems, OutgoingLane};
 
 impl Agent {
     ghost use Rattle.std.specs.Prelude.{IsSome, IfSome, IfNone, Contains, Some};
@@ -85,7 +85,10 @@ impl Agent {
         ensures { result ≡ remainder self.now lane.now mark place }
     {
         let item = lane.items.get(place);
-        let Some(customer) = self.view.place(item.customer) else {
+        let Some(call) = item.call else {
+            unreachable!()
+        };
+        let Some(customer) = self.view.place(call.customer) else {
             unreachable!()
         };
         let before = incoming_place(self.view.incoming(), LaneNo(lane.number.0 - 1));
@@ -93,6 +96,7 @@ impl Agent {
             &self.lanes.books[before],
             &self.amounts.plans[customer],
             &item,
+            &call,
             mark,
         )
     }
@@ -100,16 +104,22 @@ impl Agent {
 
 /// What a schedule lane has left to call for of an item, by the book of the despatch lane before it and
 /// the customer's plan.
-fn left_to_call(book: &Book, plan: &PairPlan, item: &OutgoingItem, mark: usize) -> Remainder
+fn left_to_call(
+    book: &Book,
+    plan: &PairPlan,
+    item: &OutgoingItem,
+    call: &Call,
+    mark: usize,
+) -> Remainder
     requires book { IsShowing book.now }
-    requires shares { AreShares item.now }
-    ensures { result ≡ left_to_call book.now plan.now.release item.now mark }
+    requires shares { AreShares call.now }
+    ensures { result ≡ left_to_call book.now plan.now.release item.now call.now mark }
 {
     Remainder {
         item: item.item,
         opening: figure_in(book, item.item),
         reset: item.reset,
-        line: next_call(plan.release(), item, mark),
+        line: next_call(plan.release(), call, mark),
     }
 }
 
@@ -169,12 +179,12 @@ fn next_shipment(shipments: &[Shipment], mark: usize) -> Option<NextLine>
 }
 
 /// The first period from a mark on in which a lane's share of a release is something.
-fn next_call(release: &Row, item: &OutgoingItem, mark: usize) -> Option<NextLine>
-    requires { AreShares item.now }
-    ensures { result ≡ next_called release.now item.now mark }
+fn next_call(release: &Row, call: &Call, mark: usize) -> Option<NextLine>
+    requires { AreShares call.now }
+    ensures { result ≡ next_called release.now call.now mark }
 {
     for period in mark..release.len() {
-        let quantity = share(item, release.get(period));
+        let quantity = share(call, release.get(period));
         if quantity > 0 {
             return Some(NextLine {
                 period: period as u64,
@@ -187,10 +197,10 @@ fn next_call(release: &Row, item: &OutgoingItem, mark: usize) -> Option<NextLine
 }
 
 /// The share of a release that a lane's supplier is called for.
-fn share(item: &OutgoingItem, release: Qty) -> u64
-    requires { AreShares item.now }
-    ensures { result ≡ share (load item.now []) release }
+fn share(call: &Call, release: Qty) -> u64
+    requires { AreShares call.now }
+    ensures { result ≡ share call.now release }
 {
     let pieces = release.get();
-    pieces * item.high / 1000 - pieces * item.low / 1000
+    pieces * call.high / 1000 - pieces * call.low / 1000
 }

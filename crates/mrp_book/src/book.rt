@@ -16,7 +16,7 @@ use std::marker::Model;
 ///
 /// It shows a list of records in form and takes the next record exactly where the list stays in form. It
 /// keeps figures only: no call but [`Book::new`] takes memory, and each is done in constant time, but for
-/// the closing record, which looks at each item once.
+/// the closing record, which looks at each item once (by construction; no clause says so).
 #[derive(Drop)]
 pub struct Book {
     rising: bool,

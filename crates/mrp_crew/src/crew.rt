@@ -25,7 +25,7 @@ use std::thread::Threads;
 /// The workers of a plant.
 ///
 /// Contracts see how many they are and for how many periods they plan. The rooms in which they draft are
-/// made once.
+/// kept from wave to wave (by construction; no clause says so).
 #[derive(Drop)]
 pub struct Crew {
     workers: u64,

@@ -14,7 +14,7 @@ use std::marker::Model;
 /// blocks go out whole, in the order of the queue, and after those of all places the closing record. The
 /// cursor stands at the head of the queue, within or before that block. It stores none of the records:
 /// only [`OutCursor::new`] and [`OutCursor::with_all`] take memory, and every other call is done in
-/// constant time.
+/// constant time (by construction; no clause says so).
 ///
 /// Numbers and figures are added up to 2^64 - 1. The laws say that within 64 bits nothing is lost.
 #[derive(Drop)]

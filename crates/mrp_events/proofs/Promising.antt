@@ -12,7 +12,10 @@ use Rattle.mrp_net.specs.PlanLaws.{released}
 use Rattle.mrp_net.specs.Plan.{rows_at, plan_of}
 use Rattle.mrp_net.specs.Sources.{source_on}
 use Rattle.mrp_net.specs.Sums.{pair_at}
+use Rattle.mrp_view.specs.declared.view.Call.{Call}
+use Rattle.mrp_view.specs.Loads as seen
 use Rattle.mrp_view.specs.View.{outgoing_item}
+use Rattle.mrp_view.proofs.Calling.{call_seen}
 use Rattle.mrp_net.proofs.Behind.{items_have_sources}
 use Rattle.mrp_net.proofs.Routing.{opening_despatch}
 use Rattle.mrp_net.proofs.Twos.{lanes_come_in_twos}
@@ -76,5 +79,7 @@ local_loads_are_the_loads N table free plant planned taken plans legal are l wit
           let both : AreBothLanes (lane_at N (l - 1)) (lane_at N l) =
           subst (λ (z : ℕ). AreBothLanes (lane_at N z) (lane_at N l)) (sym before)
           (subst (λ (z : ℕ). AreBothLanes (lane_at N (2 * k)) (lane_at N z)) (sym odd) (lanes_come_in_twos N k (omega arith)).1) in
+          let i : seen.Load = outgoing_item N (lane_at N l) item in
           by_lanes N table free plant planned taken plans legal are item (l - 1) (omega arith) (lane_at N l) both here there is_planned
+          ∙ sym (ap (λ (c : Call). schedule_load (horizon N) (cum i.figure i.item.0 (contents (taken (l - 1)))) (released plans c.customer.0) i) (call_seen N (lane_at N l) item kind))
     ]

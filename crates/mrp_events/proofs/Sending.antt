@@ -8,13 +8,18 @@ use Rattle.mrp_net.specs.declared.lane.Lane.{Lane}
 use Rattle.mrp_net.specs.declared.lane.LaneKind.{LaneKind}
 use Rattle.mrp_net.specs.declared.lane.LaneKind.TheVariants.{Despatch, Schedule}
 use Rattle.mrp_net.specs.declared.lane.Shipment.{Shipment}
+use Rattle.mrp_view.specs.declared.view.Call.{Call}
 use Rattle.mrp_view.specs.declared.view.IncomingLane.{IncomingLane}
 use Rattle.mrp_net.specs.Lanes.{lane_at, lane_items, shipments, opening, reset, pair_on, customer_of, supplier_of, figure, shipped_from}
 use Rattle.mrp_net.specs.LaneLaws.{AreBothLanes}
+use Rattle.mrp_net.specs.PlanLaws.{released}
+use Rattle.mrp_net.specs.Plan.{plan_of}
+use Rattle.mrp_net.specs.Sources.{source_on}
 use Rattle.mrp_net.specs.Sums.{pair_at}
 use Rattle.mrp_view.specs.View.{comes_to, lane_numbers, incoming_item, incoming_lane}
 use Rattle.mrp_net.proofs.Routing.{opening_despatch, opening_schedule, map-map}
 use Rattle.mrp_net.proofs.Sharing.{sum_map}
+use Rattle.mrp_view.proofs.Calling.{call_seen}
 use Rattle.mrp_group.proofs.Kept.{sum_filter}
 use Rattle.mrp_record.specs.Entries.{Delivery, contents, deliveries}
 use Rattle.mrp_record.specs.Form.{FormItem, LaneForm}
@@ -22,9 +27,9 @@ use Rattle.mrp_record.specs.Laws.{form_item, quantity_in}
 use Rattle.mrp_record.specs.Text.{Load, total}
 use Rattle.mrp_record.proofs.Beginnings.{ended_blocks_bring_totals}
 use Rattle.mrp_record.proofs.Figures.{cum_is_opening_and_moved}
-use Rattle.mrp_events.specs.Loads.{delivery_of, despatched, lines_by, load_of, loads, is_rising}
+use Rattle.mrp_events.specs.Loads.{delivery_of, by_period, despatched, lines_by, load_of, loads, is_rising}
 use Rattle.mrp_events.specs.Local.{brought_by}
-use Rattle.mrp_events.specs.Seen.{DespatchesAreSeen, SchedulesAreSeen, SchedulesOpenAfterShipments, form_item_of, FormsAreSeen, BroughtIsSeen}
+use Rattle.mrp_events.specs.Seen.{DespatchesAreSeen, SchedulesAreSeen, SchedulesOpenAfterShipments, share_of, form_item_of, FormsAreSeen, BroughtIsSeen}
 use Rattle.mrp_events.proofs.Calling.{supplier_by_kind}
 use Rattle.mrp_events.proofs.Small.{loads_stand_once, load_is_there, shipped_total}
 
@@ -43,7 +48,10 @@ despatches_are_seen N lane item kind =
     ∙ sym (ap (λ (z : List Shipment). load_with N lane item start (map delivery_of z)) sent)
 
 pub schedules_are_seen : SchedulesAreSeen
-schedules_are_seen N lane item kind = ap (λ (k : LaneKind). load_with N lane item (opening N lane item) (lines_by N k lane item)) kind
+schedules_are_seen N lane item kind =
+    let release : ℕ → ℕ = released (plan_of N) (source_on N lane item).pair.0 in
+    ap (λ (k : LaneKind). load_with N lane item (opening N lane item) (lines_by N k lane item)) kind
+    ∙ sym (ap (λ (c : Call). load_with N lane item (opening N lane item) (by_period (λ period. share_of c.low c.high (release period)) (horizon N))) (call_seen N lane item kind))
 
 -- ---- where schedules begin
 

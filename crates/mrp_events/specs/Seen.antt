@@ -32,7 +32,7 @@ use Rattle.mrp_events.specs.Local.{AreLegal, AreLocal, brought}
 abbrev pub despatch_load : seen.Load → Load
 despatch_load i = record { item = i.item.0; opening = i.figure; reset = i.reset; lines = map delivery_of i.shipments }
 
--- a schedule lane's load, from an opening figure on: the source's share of what is released for the pair
+-- a schedule lane's load, from an opening figure on: the share that is called for of what is released for the pair
 abbrev pub share_of : ℕ → ℕ → ℕ → ℕ
 share_of low high release = (release * high) / 1000 - (release * low) / 1000
 
@@ -41,7 +41,7 @@ schedule_load periods opening release i = record {
   item = i.item.0;
   opening = opening;
   reset = i.reset;
-  lines = by_period (λ period. share_of i.low i.high (release period)) periods;
+  lines = by_period (λ period. share_of (seen.call_of i).low (seen.call_of i).high (release period)) periods;
 }
 
 -- they are the loads of the lane: schedules by the plan of the customer's pair
@@ -69,7 +69,7 @@ SchedulesOpenAfterShipments =
 -- a schedule lane's load by the plans and the taken lists of its sender
 abbrev pub local_load : Table → (ℕ → List Record) → List PlanRows → ℕ → seen.Load → Load
 local_load N taken plans l i =
-    schedule_load (horizon N) (cum i.figure i.item.0 (contents (taken (l - 1)))) (released plans i.customer.0) i
+    schedule_load (horizon N) (cum i.figure i.item.0 (contents (taken (l - 1)))) (released plans (seen.call_of i).customer.0) i
 
 -- so what a plant sends by its own plans is what its lanes carry: of a planned pair each schedule lane has
 -- the load by the pair's local plan, from the figure that the despatch lane before it has reached

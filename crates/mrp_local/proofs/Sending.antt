@@ -16,9 +16,11 @@ use Rattle.mrp_net.specs.Sources.{source_on}
 use Rattle.mrp_net.specs.Texts.{most_lines}
 use Rattle.mrp_net.proofs.Behind.{items_have_sources}
 use Rattle.mrp_net.proofs.Lengths.{block_is_short, lane_items_are_few}
+use Rattle.mrp_view.specs.declared.view.Call.{Call}
 use Rattle.mrp_view.specs.declared.view.OutgoingLane.{OutgoingLane}
 use Rattle.mrp_view.specs.Loads as view
 use Rattle.mrp_view.specs.View.{goes_from, lane_numbers, outgoing_item, outgoing_lane, outgoing_lanes, plant_rows}
+use Rattle.mrp_view.proofs.Calling.{call_seen}
 use Rattle.mrp_view.proofs.Seeing.{owned}
 use Rattle.mrp_loops.specs.Loop.{IsLoopFree}
 use Rattle.mrp_loops.specs.Sized.{IsSized}
@@ -67,14 +69,16 @@ module _ (N : Table) (is : IsTable N) (free : IsLoopFree N) (plant : ℕ) (taken
       let lane : Lane = lane_at N l in
       let has = items_have_sources N is lane item there in
       let i : view.Load = outgoing_item N lane item in
+      let source : (view.call_of i).customer.0 ≡ (source_on N lane item).pair.0 = ap (λ (c : Call). c.customer.0) (call_seen N lane item kind) in
       let opening : ℕ = cum i.figure i.item.0 (contents (taken (l - 1))) in
       let mine : customer_of lane ≡ plant = customer_by_schedule lane kind ∙ here in
-      let at : IsPairAt N plant i.customer.0 = subst (IsPairAt N plant) (sym has.taker) (record { pair = has.customer.pair; at_plant = has.customer.at_plant ∙ mine }) in
-      let plan : plan_at N i.customer.0 ≡ plans i.customer.0 = sym (plans_are N is free plant taken legal planned plans local i.customer.0 at done) in
+      let at : IsPairAt N plant (view.call_of i).customer.0 = subst (IsPairAt N plant) (sym (source ∙ has.taker)) (record { pair = has.customer.pair; at_plant = has.customer.at_plant ∙ mine }) in
+      let plan : plan_at N (view.call_of i).customer.0 ≡ plans (view.call_of i).customer.0 =
+      sym (plans_are N is free plant taken legal planned plans local (view.call_of i).customer.0 at (ap planned source ∙ done)) in
       let whole : horizon N ≡ horizon N - 0 = omega arith in
       local_loads_are_the_loads N is free plant planned taken (plan_of N) legal network_is_local l within kind here item there (subst (λ (z : ℕ). planned z ≡ true) has.taker done)
       ∙ ap (λ (rows : PlanRows). schedule_load (horizon N) opening (λ t. slice_index rows.release t) i) plan
-      ∙ ap (λ (n : ℕ). schedule_load n opening (λ t. slice_index (plans i.customer.0).release t) i) whole
+      ∙ ap (λ (n : ℕ). schedule_load n opening (λ t. slice_index (plans (view.call_of i).customer.0).release t) i) whole
 
   by_kind : (kind : LaneKind) → l < length (lanes N) → (lane_at N l).sender.0 ≡ plant → (lane_at N l).kind ≡ kind → (item : ItemNo) → Contains (lane_items N (lane_at N l)) item
       → (kind ≡ Schedule → planned (source_on N (lane_at N l) item).pair.0 ≡ true) → Carried kind (lane_at N l) item
@@ -91,7 +95,8 @@ module _ (N : Table) (is : IsTable N) (free : IsLoopFree N) (plant : ℕ) (taken
       let item : ItemNo = get_or items place d in
       let read : view.load_at (outgoing_lane N l).items place ≡ outgoing_item N lane item = get_or-map (outgoing_item N lane) items place d view.no_load inside in
       let carried = by_kind lane.kind within here refl item (Contains-get_or items place d inside)
-      (λ kind. ap (λ (i : view.Load). planned i.customer.0) (sym read) ∙ sendable.decided kind) in
+      (λ kind. ap (λ (c : Call). planned c.customer.0) (sym (call_seen N lane item kind))
+      ∙ ap (λ (i : view.Load). planned (view.call_of i).customer.0) (sym read) ∙ sendable.decided kind) in
       (inside, carried ∙ ap (λ (i : view.Load). cursor.load_of (goods_by lane.kind (plant_rows N plant) taken plans l i)) (sym read))
 
   no_item : ItemNo

@@ -6,8 +6,9 @@ use Rattle.std.specs.List.{range_with_len}
 use Rattle.mrp_lot.specs.One.{PlanRows}
 use Rattle.mrp_net.specs.declared.lane.LaneKind.{LaneKind}
 use Rattle.mrp_net.specs.declared.lane.LaneKind.TheVariants.{Despatch, Schedule}
+use Rattle.mrp_view.specs.declared.view.Call.{Call}
 use Rattle.mrp_view.specs.declared.view.OutgoingLane.{OutgoingLane}
-use Rattle.mrp_view.specs.Loads.{Load, load_at}
+use Rattle.mrp_view.specs.Loads.{Load, call_of, load_at}
 use Rattle.mrp_view.specs.View.{PlantRows}
 use Rattle.mrp_record.specs.declared.record.Record.{Record}
 use Rattle.mrp_record.specs.Entries.{Delivery, contents, cum}
@@ -29,12 +30,12 @@ despatch_goods i = record {
 -- ---- schedule lanes
 
 -- the supplier's share of a release
-abbrev pub share : Load → ℕ → ℕ
-share i release = share_of i.low i.high release
+abbrev pub share : Call → ℕ → ℕ
+share call release = share_of call.low call.high release
 
 -- its part of what the customer's plan releases in a period
 abbrev pub called_for : (ℕ → PlanRows) → Load → ℕ → ℕ
-called_for plans i period = share i (slice_index (plans i.customer.0).release period)
+called_for plans i period = share (call_of i) (slice_index (plans (call_of i).customer.0).release period)
 
 -- an amount of each period from a mark on, as deliveries; a period without pieces has none
 abbrev pub by_period_from : (ℕ → ℕ) → ℕ → ℕ → List Delivery
@@ -62,4 +63,4 @@ goods_of V taken plans lane place = goods_by lane.kind V taken plans lane.number
 -- the items that may be sent: all on a despatch lane, on a schedule lane those whose customer's pair is planned
 pub record IsSendable (planned : ℕ → Bool) (lane : OutgoingLane) (place : ℕ) : Type 0 where
   pub within : place < length lane.items
-  pub decided : lane.kind ≡ Schedule → planned (load_at lane.items place).customer.0 ≡ true
+  pub decided : lane.kind ≡ Schedule → planned (call_of (load_at lane.items place)).customer.0 ≡ true

@@ -11,10 +11,12 @@ use Rattle.mrp_net.specs.declared.lane.LaneKind.{LaneKind}
 use Rattle.mrp_net.specs.declared.lane.LaneKind.TheVariants.{Despatch, Schedule}
 use Rattle.mrp_net.specs.Lanes.{lane_at, lane_items, pair_on}
 use Rattle.mrp_net.proofs.Behind.{items_have_sources}
+use Rattle.mrp_view.specs.declared.view.Call.{Call}
 use Rattle.mrp_view.specs.declared.view.OutgoingLane.{OutgoingLane}
 use Rattle.mrp_view.specs.Loads as view
 use Rattle.mrp_view.specs.Seen.{IsView}
 use Rattle.mrp_view.specs.View.{PlantRows, outgoing_item, outgoing_lane}
+use Rattle.mrp_view.proofs.Calling.{call_seen}
 use Rattle.mrp_record.specs.declared.record.Record.{Record}
 use Rattle.mrp_record.specs.Entries.{Entry, LineOf, EndOf, ResetOf, Closing, content}
 use Rattle.mrp_record.specs.Text.{IsBeginning}
@@ -51,7 +53,8 @@ sendable_decided N is planned l place sendable item same kind =
     let read : view.load_at (outgoing_lane N l).items place ≡ outgoing_item N lane (get_or items place item) = get_or-map (outgoing_item N lane) items place item view.no_load within in
     let there : get_or items place item ≡ item = sym (ap (λ (i : view.Load). i.item) read) ∙ same in
     let has = items_have_sources N is lane item (place, within, there) in
-    ap planned (sym has.taker) ∙ sym (ap (λ (i : view.Load). planned i.customer.0) (read ∙ ap (outgoing_item N lane) there)) ∙ sendable.decided kind
+    ap planned (sym has.taker) ∙ ap (λ (c : Call). planned c.customer.0) (sym (call_seen N lane item kind))
+    ∙ sym (ap (λ (i : view.Load). planned (view.call_of i).customer.0) (read ∙ ap (outgoing_item N lane) there)) ∙ sendable.decided kind
 
 module _ (N : Table) (is : IsTable N) (p : ℕ) (A : AgentState) (sent taken : ℕ → List Record) (planned : ℕ → Bool) (w : WorksIn N p A sent taken planned)
     (k l : ℕ) (within : k < length A.view.outgoing) (number : (outgoing_at A.view k).number.0 ≡ l) where

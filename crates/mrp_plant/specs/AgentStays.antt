@@ -135,10 +135,10 @@ module _ (A : AgentState) (enough : IsView A.view) (s t : State) (same : AgreeOn
       (enough.schedules k no_outgoing within kind).before
 
   customer_same : (k j : ℕ) → k < length A.view.outgoing → (outgoing_at A.view k).kind ≡ Schedule → j < length (outgoing_at A.view k).items
-      → s.planned (view.load_at (outgoing_at A.view k).items j).customer.0 ≡ t.planned (view.load_at (outgoing_at A.view k).items j).customer.0
+      → s.planned (view.call_of (view.load_at (outgoing_at A.view k).items j)).customer.0 ≡ t.planned (view.call_of (view.load_at (outgoing_at A.view k).items j)).customer.0
   customer_same k j within kind inside =
       let i : view.Load = view.load_at (outgoing_at A.view k).items j in
-      own_same i.customer (own_of_item A.view i.customer i.item ((enough.schedules k no_outgoing within kind).customers j view.no_load inside))
+      own_same (view.call_of i).customer (own_of_item A.view (view.call_of i).customer i.item ((enough.schedules k no_outgoing within kind).calls j view.no_load inside).own)
 
   sendable_there : (k j : ℕ) → k < length A.view.outgoing → IsSendable s.planned (outgoing_at A.view k) j → IsSendable t.planned (outgoing_at A.view k) j
   sendable_there k j within sendable = record {

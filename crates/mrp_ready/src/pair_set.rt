@@ -1,4 +1,4 @@
-//! A set of a plant's pairs, changed in constant time.
+//! A set of a plant's pairs.
 
 ghost use Rattle.std.specs.Prelude.{◌≡◌, ◌<◌, IfOk, IsTrue, ◌↔◌};
 
@@ -7,10 +7,10 @@ use crate::slots::Slots;
 use std::alloc::{AllocError, Global};
 use std::marker::Model;
 
-/// Some of the pairs of a plant, by their places there. Each change is done in constant time and takes
-/// no memory: the chosen pairs stand in the slots from `begin` to before `end`, and those that were taken
-/// out before them. Where always the first is taken out, the pairs come out in the order in which they
-/// were chosen; another one leaves its slot to the first.
+/// Some of the pairs of a plant, by their places there. The chosen pairs stand in the slots from `begin`
+/// to before `end`, and those that were taken out before them. Where always the first is taken out, the
+/// pairs come out in the order in which they were chosen; another one leaves its slot to the first. Each
+/// change is done in constant time and takes no memory (by construction; no clause says so).
 #[derive(Drop)]
 pub(crate) struct PairSet {
     slots: Slots,

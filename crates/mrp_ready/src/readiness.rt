@@ -11,7 +11,8 @@ use std::marker::Model;
 ///
 /// Contracts see each pair's number, how much it waits for and whether it is planned, by its place at the
 /// plant, and the list of the ready pairs. No call but [`Readiness::new`] takes memory; an event is done
-/// in constant time, and a settled pair in time linear in its components.
+/// in constant time, and a settled pair in time linear in its components (by construction; no clause says
+/// so).
 #[derive(Drop)]
 pub struct Readiness {
     waits: Vec<usize>,
@@ -40,7 +41,7 @@ impl Readiness {
     /// A plant of which no pair is planned.
     ///
     /// `numbers` are those of its pairs, and `waits` how many joins to a demander at the plant each pair
-    /// has, together with the blocks that it awaits. All the memory that is ever needed is taken here.
+    /// has, together with the blocks that it awaits.
     ///
     /// # Errors
     ///

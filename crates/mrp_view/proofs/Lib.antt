@@ -1,3 +1,4 @@
+pub mod Calling
 pub mod Loading
 pub mod PairRows
 pub mod Pushing

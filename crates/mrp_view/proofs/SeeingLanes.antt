@@ -1,5 +1,5 @@
 -- What a plant sees of an accepted table: the lanes that it receives or sends.
-use Rattle.std.proofs.Common.{◌≡◌, ℕ, ◌+◌, ◌-◌, ◌*◌, ◌/◌, ◌<◌, ◌≤◌, ◌&&◌, true, eqb, List, [], ◌∷◌, Option, Some, ◌⊎◌, inl, inr, length, get_or, map, refl, sym, ap, ◌∙◌, subst, arith}
+use Rattle.std.proofs.Common.{◌≡◌, ℕ, ◌+◌, ◌-◌, ◌*◌, ◌/◌, ◌<◌, ◌≤◌, ◌&&◌, true, eqb, List, [], ◌∷◌, Option, None, Some, ◌⊎◌, inl, inr, length, get_or, map, refl, sym, ap, ◌∙◌, subst, arith}
 use Rattle.std.specs.List.{All, Contains, count_by, filter, find}
 use Rattle.std.specs.Option.{IfSome, option_map}
 use Rattle.std.proofs.lemmas.Bool.{cond_both, eq-eqb, eqb-true}
@@ -18,14 +18,15 @@ use Rattle.mrp_view.specs.declared.view.IncomingItem.{IncomingItem}
 use Rattle.mrp_view.specs.declared.view.IncomingLane.{IncomingLane}
 use Rattle.mrp_view.specs.declared.view.OutgoingLane.{OutgoingLane}
 use Rattle.mrp_net.specs.Lanes.{lanes, lane_at, lane_items, figure, shipments, shipment_of, ships_from, is_reset_of, anew_in, reset, pair_on, supplier_of}
-use Rattle.mrp_view.specs.Loads.{Load}
-use Rattle.mrp_view.specs.Seen.{IsOwnOf, IsIncomingItem, IsIncomingLane, IsShipment, IsOutgoingItem, IsOutgoingLane, IsScheduleLane, despatched, lane_before}
+use Rattle.mrp_view.specs.Loads.{Load, call_of}
+use Rattle.mrp_view.specs.Seen.{IsOwnOf, IsIncomingItem, IsIncomingLane, IsShipment, IsOutgoingItem, IsOutgoingLane, CallsForNothing, IsCalled, IsScheduleLane, despatched, lane_before}
 use Rattle.mrp_net.specs.Sources.{source_no, source_on, no_source}
 use Rattle.mrp_net.specs.Sums.{pair_at}
 use Rattle.mrp_view.specs.View.{comes_to, goes_from, lane_numbers, incoming_item, incoming_lane, incoming_lanes, sent_on, outgoing_item, outgoing_lane, outgoing_lanes, plant_rows}
 use Rattle.mrp_net.proofs.Behind.{items_have_sources, receiver_is}
 use Rattle.mrp_net.proofs.Covering.{lane_items_stand_once}
 use Rattle.mrp_net.proofs.Members.{Contains-from_in, In-filter, In-map, In-range}
+use Rattle.mrp_view.proofs.Calling.{nothing_called}
 use Rattle.mrp_view.proofs.Once.{count-map, count-filter, count_range, count_within, count_distinct}
 use Rattle.mrp_net.proofs.Routing.{map-map}
 use Rattle.mrp_view.proofs.Seeing.{owned, is_own_of}
@@ -100,12 +101,8 @@ outgoing_item_is N plant lane is = λ k d h.
     let item : ItemNo = get_or (lane_items N lane) k d in
     let x : ℕ = pair_on N lane item in
     let p : ℕ = supplier_of lane in
-    let within = source_within N x p (item_is_taken N lane item is (Contains-get_or (lane_items N lane) k d h)) in
-    let row = is.read.sources (source_no N x p) no_source within in
     record {
       figure = figure_within N is x p;
-      rises = row.rises;
-      ends = row.ends;
       shipments = sent_by_kind N plant lane item lane.kind refl is;
       reset = reset_within N x p is;
     }
@@ -125,7 +122,6 @@ outgoing_lane_is N plant l is =
     let lane : Lane = lane_at N l in
     record {
       once = λ item. omega (arith, count-map (λ (i : Load). eqb i.item.0 item) (outgoing_item N lane) (lane_items N lane), incoming_once_of N lane item is);
-      customers_once = λ x. omega (arith, count-map (λ (i : Load). eqb i.customer.0 x) (outgoing_item N lane) (lane_items N lane), customers_once_of N lane x is);
       items = All-map (IsOutgoingItem (plant_rows N plant)) (outgoing_item N lane) (lane_items N lane) (outgoing_item_is N plant lane is);
     }
 
@@ -133,6 +129,14 @@ pub outgoing_are : (N : Table) (plant : ℕ) → IsTable N → All (IsOutgoingLa
 outgoing_are N plant is =
     All-map (IsOutgoingLane (plant_rows N plant)) (outgoing_lane N) (filter (goes_from N plant) (lane_numbers N))
     (λ k d h. outgoing_lane_is N plant (get_or (filter (goes_from N plant) (lane_numbers N)) k d) is)
+
+-- ---- despatch lanes
+
+pub despatches_are : (N : Table) (plant : ℕ) → All (λ lane. lane.kind ≡ Despatch → CallsForNothing lane) (outgoing_lanes N plant)
+despatches_are N plant =
+    All-map (λ (lane : OutgoingLane). lane.kind ≡ Despatch → CallsForNothing lane) (outgoing_lane N) (filter (goes_from N plant) (lane_numbers N))
+    (λ k d h kind. let lane : Lane = lane_at N (get_or (filter (goes_from N plant) (lane_numbers N)) k d) in
+    All-map (λ (i : Load). i.call ≡ None) (outgoing_item N lane) (lane_items N lane) (λ j e within. nothing_called N lane (get_or (lane_items N lane) j e) kind))
 
 pub outgoing_stand_once : (N : Table) (plant l : ℕ) → count_by (λ lane. eqb lane.number.0 l) (outgoing_lanes N plant) ≤ 1
 outgoing_stand_once N plant l =
@@ -210,6 +214,25 @@ stands_after N l within kind =
           }
     ]
 
+-- each of its items is called for by the pair of the customer's own
+calls_are : (N : Table) (plant : ℕ) (customer supplier : PlantNo) → IsTable N → customer.0 ≡ plant
+    → All (λ item. IsCalled (plant_rows N plant) (outgoing_item N (schedule customer supplier) item)) (lane_items N (schedule customer supplier))
+calls_are N plant customer supplier is mine = λ k d h.
+    let lane : Lane = schedule customer supplier in
+    let item : ItemNo = get_or (lane_items N lane) k d in
+    let in_lane = Contains-get_or (lane_items N lane) k d h in
+    let has = items_have_sources N is lane item in_lane in
+    let x : PairNo = record { 0 = pair_on N lane item } in
+    let within = source_within N (pair_on N lane item) (supplier_of lane) (item_is_taken N lane item is in_lane) in
+    let row = is.read.sources (source_no N (pair_on N lane item) (supplier_of lane)) no_source within in
+    record {
+      there = refl;
+      own = subst (λ (z : PairNo). IsOwnOf (plant_rows N plant) z item) (ap (λ (z : ℕ). let y : PairNo = record { 0 = z } in y) (sym has.taker))
+          (is_own_of N plant x item has.customer.pair (has.customer.at_plant ∙ mine) has.customer.of_item);
+      rises = row.rises;
+      ends = row.ends;
+    }
+
 schedule_lane_is : (N : Table) (plant l : ℕ) → IsTable N → l < length (lanes N) → (lane_at N l).sender.0 ≡ plant → (lane_at N l).kind ≡ Schedule → IsScheduleLane (plant_rows N plant) (outgoing_lane N l)
 schedule_lane_is N plant l is within here kind =
     let at = stands_after N l within kind in
@@ -228,13 +251,8 @@ schedule_lane_is N plant l is within here kind =
     (record {
       after = at.after;
       before = subst (Contains (incoming_lanes N plant)) (as_first ∙ before) comes;
-      customers = All-map (λ (i : Load). IsOwnOf (plant_rows N plant) i.customer i.item) (outgoing_item N lane) (lane_items N lane)
-          (λ k d h.
-          let item : ItemNo = get_or (lane_items N lane) k d in
-          let has = items_have_sources N is lane item (Contains-get_or (lane_items N lane) k d h) in
-          let x : PairNo = record { 0 = pair_on N lane item } in
-          subst (λ (z : PairNo). IsOwnOf (plant_rows N plant) z item) (ap (λ (z : ℕ). let y : PairNo = record { 0 = z } in y) (sym has.taker))
-          (is_own_of N plant x item has.customer.pair (has.customer.at_plant ∙ mine) has.customer.of_item));
+      calls = All-map (IsCalled (plant_rows N plant)) (outgoing_item N lane) (lane_items N lane) (calls_are N plant at.customer at.supplier is mine);
+      customers_once = λ x. omega (arith, count-map (λ (i : Load). eqb (call_of i).customer.0 x) (outgoing_item N lane) (lane_items N lane), customers_once_of N lane x is);
     })
 
 pub schedules_are : (N : Table) (plant : ℕ) → IsTable N → All (λ lane. lane.kind ≡ Schedule → IsScheduleLane (plant_rows N plant) lane) (outgoing_lanes N plant)

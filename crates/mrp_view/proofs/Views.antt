@@ -10,7 +10,7 @@ use Rattle.mrp_view.specs.Laws.{ViewsSayEnough, ViewsHaveLanesIn, ViewsHaveLanes
 use Rattle.mrp_view.proofs.OwnEdges.{numbers_rise, by_component}
 use Rattle.mrp_net.proofs.Routing.{map-map}
 use Rattle.mrp_view.proofs.Seeing.{pairs_are_few, numbers_stand_once, items_stand_once, pairs_are_planned, edges_are_own, amounts_length}
-use Rattle.mrp_view.proofs.SeeingLanes.{incoming_are, incoming_stand_once, outgoing_are, outgoing_stand_once, schedules_are}
+use Rattle.mrp_view.proofs.SeeingLanes.{incoming_are, incoming_stand_once, outgoing_are, outgoing_stand_once, despatches_are, schedules_are}
 
 pub views_say_enough : ViewsSayEnough
 views_say_enough N is plant = record {
@@ -29,6 +29,7 @@ views_say_enough N is plant = record {
   incoming = incoming_are N plant is;
   outgoing_once = outgoing_stand_once N plant;
   outgoing = outgoing_are N plant is;
+  despatches = despatches_are N plant;
   schedules = schedules_are N plant is;
 }
 

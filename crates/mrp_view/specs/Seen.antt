@@ -1,5 +1,5 @@
 -- What the view of a plant says, whatever the accepted table: all that a plant must know of it to plan alone.
-use Rattle.std.specs.Prelude.{◌≡◌, ℕ, ◌-◌, ◌*◌, ◌<◌, ◌≤◌, ◌==◌, List, length, map, count_by, Option, IfSome, All, Contains}
+use Rattle.std.specs.Prelude.{◌≡◌, ℕ, ◌-◌, ◌*◌, ◌<◌, ◌≤◌, ◌==◌, List, length, map, count_by, Option, None, Some, IfSome, All, Contains}
 use Rattle.std.specs.List.Sorted.{IsNonDecreasingBy}
 use Rattle.mrp_qty.specs.declared.quantity.TheConstants.{MOST}
 use Rattle.mrp_qty.specs.declared.horizon.TheConstants.{LONGEST}
@@ -17,7 +17,7 @@ use Rattle.mrp_view.specs.declared.view.IncomingLane.{IncomingLane}
 use Rattle.mrp_view.specs.declared.view.OutgoingLane.{OutgoingLane}
 use Rattle.mrp_view.specs.declared.view.PlantEdge.{PlantEdge}
 use Rattle.mrp_view.specs.declared.view.PlantPair.{PlantPair}
-use Rattle.mrp_view.specs.Loads.{Load}
+use Rattle.mrp_view.specs.Loads.{Load, call_of}
 use Rattle.mrp_view.specs.View.{PlantRows, NumbersRise}
 
 -- one of the plant's pairs has that number, and is of that item
@@ -71,31 +71,41 @@ pub record IsShipment (V : PlantRows) (s : Shipment) : Type 0 where
 -- an item of a lane that goes out
 pub record IsOutgoingItem (V : PlantRows) (i : Load) : Type 0 where
   pub figure : i.figure ≤ MOST
-  pub rises : i.low < i.high
-  pub ends : i.high ≤ MOST_SHARE
   pub shipments : All (IsShipment V) i.shipments
   pub reset : StartsWithin V i.reset
 
--- a lane that goes out has each of its items once, and each of the customer's pairs
+-- a lane that goes out has each of its items once
 pub record IsOutgoingLane (V : PlantRows) (lane : OutgoingLane) : Type 0 where
   pub once : (item : ℕ) → count_by (λ i. i.item.0 == item) lane.items ≤ 1
-  pub customers_once : (x : ℕ) → count_by (λ i. i.customer.0 == x) lane.items ≤ 1
   pub items : All (IsOutgoingItem V) lane.items
+
+-- a despatch lane goes to a customer, and says nothing of its pairs: it calls for none of its items
+abbrev pub CallsForNothing : OutgoingLane → Type 0
+CallsForNothing lane = All (λ i. i.call ≡ None) lane.items
+
+-- an item is called for: by the plant's own pair of it, for a share of what that releases
+pub record IsCalled (V : PlantRows) (i : Load) : Type 0 where
+  pub there : i.call ≡ Some (call_of i)
+  pub own : IsOwnOf V (call_of i).customer i.item
+  pub rises : (call_of i).low < (call_of i).high
+  pub ends : (call_of i).high ≤ MOST_SHARE
 
 -- the despatch lane of the same two plants, which stands before a schedule lane: its items begin at
 -- the figures before the shipments
 abbrev pub despatched : Load → IncomingItem
-despatched i = record { item = i.item; pair = i.customer; opening = i.figure; reset = i.reset }
+despatched i = record { item = i.item; pair = (call_of i).customer; opening = i.figure; reset = i.reset }
 
 abbrev pub lane_before : OutgoingLane → IncomingLane
 lane_before lane =
     record { number = record { 0 = lane.number.0 - 1 }; kind = Despatch; items = map despatched lane.items }
 
--- a schedule lane goes to a supplier: its customer is the plant itself, and the despatch lane before it comes in
+-- a schedule lane goes to a supplier: its customer is the plant itself, each of whose pairs calls at most
+-- once, and the despatch lane before it comes in
 pub record IsScheduleLane (V : PlantRows) (lane : OutgoingLane) : Type 0 where
   pub after : 1 ≤ lane.number.0
   pub before : Contains V.incoming (lane_before lane)
-  pub customers : All (λ i. IsOwnOf V i.customer i.item) lane.items
+  pub calls : All (IsCalled V) lane.items
+  pub customers_once : (x : ℕ) → count_by (λ i. (call_of i).customer.0 == x) lane.items ≤ 1
 
 pub record IsView (V : PlantRows) : Type 0 where
   pub some_periods : 1 ≤ V.horizon
@@ -113,4 +123,5 @@ pub record IsView (V : PlantRows) : Type 0 where
   pub incoming : All (IsIncomingLane V) V.incoming
   pub outgoing_once : (l : ℕ) → count_by (λ lane. lane.number.0 == l) V.outgoing ≤ 1
   pub outgoing : All (IsOutgoingLane V) V.outgoing
+  pub despatches : All (λ lane. lane.kind ≡ Despatch → CallsForNothing lane) V.outgoing
   pub schedules : All (λ lane. lane.kind ≡ Schedule → IsScheduleLane V lane) V.outgoing

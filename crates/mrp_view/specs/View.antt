@@ -1,5 +1,5 @@
 -- What a plant sees of a network: its own pairs and rows, and the lanes that it receives or sends.
-use Rattle.std.specs.Prelude.{ℕ, ◌<◌, ◌==◌, Bool, List, [], length, map, filter}
+use Rattle.std.specs.Prelude.{ℕ, ◌<◌, ◌==◌, Bool, List, [], length, map, filter, Option, None, Some}
 use Rattle.std.specs.List.{AllPairs, flat_map, range_with_len}
 use Rattle.mrp_rows.specs.declared.numbers.ItemNo.{ItemNo}
 use Rattle.mrp_rows.specs.Table.{Table, horizon, pair_no}
@@ -9,6 +9,7 @@ use Rattle.mrp_net.specs.declared.lane.LaneKind.TheVariants.{Despatch, Schedule}
 use Rattle.mrp_net.specs.declared.lane.Shipment.{Shipment}
 use Rattle.mrp_view.specs.declared.amounts.Amounts.{Amounts}
 use Rattle.mrp_view.specs.declared.amounts.Amounts.TheVariants.{Demands, Receipts}
+use Rattle.mrp_view.specs.declared.view.Call.{Call}
 use Rattle.mrp_view.specs.declared.view.IncomingItem.{IncomingItem}
 use Rattle.mrp_view.specs.declared.view.IncomingLane.{IncomingLane}
 use Rattle.mrp_view.specs.declared.view.OutgoingLane.{OutgoingLane}
@@ -101,14 +102,21 @@ incoming_lanes N plant = map (incoming_lane N) (filter (comes_to N plant) (lane_
 abbrev pub sent_on : Table → Lane → ItemNo → List Shipment
 sent_on N lane item = elim lane.kind [ Despatch ↦ shipments N lane item | Schedule ↦ [] ]
 
+-- the customer calls for the source's share of what its own pair releases
+abbrev pub called_on : Table → Lane → ItemNo → Call
+called_on N lane item =
+    record { customer = (source_on N lane item).pair; low = (source_on N lane item).low; high = (source_on N lane item).high }
+
+-- what the sender of a lane calls for: a supplier calls for nothing, and sees nothing of its customer's pairs
+abbrev pub call_on : Table → Lane → ItemNo → Option Call
+call_on N lane item = elim lane.kind [ Despatch ↦ None | Schedule ↦ Some (called_on N lane item) ]
+
 -- an item of a lane that it sends
 abbrev pub outgoing_item : Table → Lane → ItemNo → Load
 outgoing_item N lane item = record {
   item = item;
-  customer = (source_on N lane item).pair;
   figure = figure N (pair_on N lane item) (supplier_of lane);
-  low = (source_on N lane item).low;
-  high = (source_on N lane item).high;
+  call = call_on N lane item;
   shipments = sent_on N lane item;
   reset = reset N lane item;
 }

@@ -9,6 +9,6 @@ mod viewing;
 
 pub use mrp_net::{ItemNo, LaneKind, LaneNo, PairNo, PlantNo, Shipment};
 pub use view::{
-    IncomingItem, IncomingItems, IncomingLane, OutgoingItem, OutgoingItems, OutgoingLane,
+    Call, IncomingItem, IncomingItems, IncomingLane, OutgoingItem, OutgoingItems, OutgoingLane,
     PlantEdge, PlantPair, PlantView,
 };

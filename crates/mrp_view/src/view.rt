@@ -86,19 +86,27 @@ pub struct IncomingLane {
     pub items: IncomingItems,
 }
 
+/// What a schedule lane calls for of an item: a share of what one of the plant's own pairs releases.
+#[derive(Clone, Copy, Debug)]
+pub struct Call {
+    /// The plant's own pair that takes the item.
+    pub customer: PairNo,
+    /// Where this supplier's share of its releases begins, 0 to 999 thousandths.
+    pub low: u64,
+    /// Where it ends, 1 to 1000 thousandths.
+    pub high: u64,
+}
+
 /// What an item of an outgoing lane says beside its shipments.
 #[derive(Clone, Copy, Debug)]
 pub struct OutgoingItem {
     /// The item.
     pub item: ItemNo,
-    /// The pair of the lane's customer that takes it.
-    pub customer: PairNo,
     /// What had been shipped of it before the shipments of the table, in pieces, at most 10^15.
     pub figure: u64,
-    /// Where this supplier's share of the customer's releases begins, 0 to 999 thousandths.
-    pub low: u64,
-    /// Where it ends, 1 to 1000 thousandths.
-    pub high: u64,
+    /// What is called for of it on a schedule lane. `None` on a despatch lane: which pair takes the item
+    /// there, and how much of it from whom, is the customer's.
+    pub call: Option<Call>,
     /// The period from which its cumulative figures start anew.
     pub reset: Option<u64>,
 }
@@ -193,10 +201,10 @@ pub struct OutgoingLane {
 
 /// What one plant sees of a network: its own pairs, the components of those that are made, what their
 /// demand rows and receipt rows add up to, and the lanes that it receives or sends. It sees no row of
-/// another plant beside these lanes.
+/// another plant beside these lanes, and every pair that it names is the plant's own.
 ///
 /// Demands and receipts are kept as sums for each pair and period, since a plan looks at nothing else
-/// of them, and a plant with many rows then needs no more room than one with few.
+/// of them.
 #[derive(Drop)]
 pub struct PlantView {
     pub(crate) horizon: Horizon,
@@ -256,7 +264,7 @@ impl PlantView {
     }
 
     /// The place of a pair where the plant's pairs up to it follow one another in the table, as they mostly
-    /// do: then nothing is searched.
+    /// do.
     fn following_place(&self, x: PairNo) -> Option<usize>
         ensures { IfSome result (λ place. Some place ≡ position (λ p. p.number.0 == x.0) self.now.pairs) }
     {

@@ -7,11 +7,11 @@ ghost use Rattle.mrp_net.specs.Edges.{IsEdge};
 ghost use Rattle.mrp_net.specs.Lanes.{lanes, lane_at, lane_items};
 ghost use Rattle.mrp_net.specs.EdgeLaws.{is_local};
 ghost use Rattle.mrp_view.specs.Loads.{bare};
-ghost use Rattle.mrp_view.specs.View.{plant_pairs, plant_edge, edges_to, plant_rows, incoming_item, incoming_lanes, sent_on, outgoing_item, outgoing_lanes};
+ghost use Rattle.mrp_view.specs.View.{plant_pairs, plant_edge, edges_to, plant_rows, incoming_item, incoming_lanes, sent_on, call_on, outgoing_item, outgoing_lanes};
 
 use crate::amounts::{Amounts, plant_amounts};
 use crate::view::{
-    IncomingItem, IncomingItems, IncomingLane, OutgoingItem, OutgoingItems, OutgoingLane,
+    Call, IncomingItem, IncomingItems, IncomingLane, OutgoingItem, OutgoingItems, OutgoingLane,
     PlantEdge, PlantPair, PlantView,
 };
 use mrp_net::{Edge, ItemNo, LaneKind, LaneNo, Network, PairNo, PlantNo, Shipment};
@@ -20,7 +20,7 @@ use std::alloc::Global;
 
 impl PlantView {
     /// What a plant sees of the network. It is made in time linear in the plant's rows and in the
-    /// numbers of pairs and lanes.
+    /// numbers of pairs and lanes (by construction; no clause says so).
     ///
     /// # Errors
     ///
@@ -46,7 +46,7 @@ impl PlantView {
     }
 }
 
-/// The pairs of a plant, in table order: one look at each pair of the network.
+/// The pairs of a plant, in table order.
 fn plant_pairs(alloc: Global, network: &Network, plant: PlantNo) -> Result<Vec<PlantPair>, Memory>
     ensures value { IfOk result (λ v. v.items ≡ plant_pairs network.now plant.0) }
     ensures pairs { IfOk result (λ v. All (λ p. IsPair network.now p.number.0) v.items) }
@@ -133,7 +133,7 @@ fn incoming_items(alloc: Global, network: &Network, l: LaneNo) -> Result<Incomin
     Ok(IncomingItems::of(items))
 }
 
-/// The lanes that a plant receives: one look at each lane of the network.
+/// The lanes that a plant receives, in lane order.
 fn incoming_lanes(
     alloc: Global,
     network: &Network,
@@ -162,15 +162,30 @@ fn outgoing_item(network: &Network, l: LaneNo, item: ItemNo) -> OutgoingItem
     requires item { Contains (lane_items network.now (lane_at network.now l.0)) item }
     ensures { result ≡ bare (outgoing_item network.now (lane_at network.now l.0) item) }
 {
-    let source = network.lane_source(l, item);
+    let call = call_on(network, l, item);
     let reset = network.reset(l, item);
     OutgoingItem {
         item,
-        customer: source.pair,
         figure: network.figure(l, item),
-        low: source.low,
-        high: source.high,
+        call,
         reset,
+    }
+}
+
+/// What the sender of a lane calls for of an item: only a customer calls.
+fn call_on(network: &Network, l: LaneNo, item: ItemNo) -> Option<Call>
+    requires lane { l.0 < length (lanes network.now) }
+    requires item { Contains (lane_items network.now (lane_at network.now l.0)) item }
+    ensures { result ≡ call_on network.now (lane_at network.now l.0) item }
+{
+    let source = network.lane_source(l, item);
+    match network.lane(l).kind {
+        LaneKind::Despatch => None,
+        LaneKind::Schedule => Some(Call {
+            customer: source.pair,
+            low: source.low,
+            high: source.high,
+        }),
     }
 }
 
@@ -199,7 +214,7 @@ fn outgoing_items(alloc: Global, network: &Network, l: LaneNo) -> Result<Outgoin
     Ok(items)
 }
 
-/// The lanes that a plant sends: one look at each lane of the network.
+/// The lanes that a plant sends, in lane order.
 fn outgoing_lanes(
     alloc: Global,
     network: &Network,

@@ -1,5 +1,4 @@
-use Rattle.std.proofs.Common.{◌≡◌, ℕ, sym, ap, ◌∙◌, arith, [], refl}
-use Rattle.mrp_view.specs.Loads.{load}
+use Rattle.std.proofs.Common.{◌≡◌, ℕ, sym, ap, ◌∙◌, arith, refl}
 use Rattle.mrp_local.specs.Goods.{share}
 use Rattle.mrp_agent.specs.Sending.{called_by}
 use Rattle.mrp_agent.proofs.Calling.{call_later}
@@ -8,10 +7,10 @@ use Rattle.mrp_agent.proofs.sending.next_call.Goals as goal
 pub loop-period-preserved : goal.loop-period-preserved
 loop-period-preserved c =
     let zero : c.share-quantity.result ≡ 0 = omega (arith, c.if-quantity-gt0.false) in
-    let none : called_by c.args.release.now c.args.item.now c.loop-period.period ≡ 0 =
-    ap (λ (q : ℕ). share (load c.args.item.now []) q) (sym c.get.ensures) ∙ sym c.share-quantity.ensures ∙ zero in
+    let none : called_by c.args.release.now c.args.call.now c.loop-period.period ≡ 0 =
+    ap (λ (q : ℕ). share c.args.call.now q) (sym c.get.ensures) ∙ sym c.share-quantity.ensures ∙ zero in
     c.loop-period.invariant
-    ∙ call_later c.args.release.now c.args.item.now c.loop-period.period (omega (arith, c.loop-period-test.true, c.len-period-end.ensures.value)) none
+    ∙ call_later c.args.release.now c.args.call.now c.loop-period.period (omega (arith, c.loop-period-test.true, c.len-period-end.ensures.value)) none
 
 pub loop-period-init : goal.loop-period-init
 loop-period-init c = refl
