@@ -84,6 +84,7 @@ impl Agent {
         requires place { place < length lane.now.items }
         ensures { result ≡ remainder self.now lane.now mark place }
     {
+        let before = incoming_place(self.view.incoming(), LaneNo(lane.number.0 - 1));
         let item = lane.items.get(place);
         let Some(call) = item.call else {
             unreachable!()
@@ -91,7 +92,6 @@ impl Agent {
         let Some(customer) = self.view.place(call.customer) else {
             unreachable!()
         };
-        let before = incoming_place(self.view.incoming(), LaneNo(lane.number.0 - 1));
         left_to_call(
             &self.lanes.books[before],
             &self.amounts.plans[customer],
