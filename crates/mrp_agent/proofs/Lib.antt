@@ -21,6 +21,7 @@ pub mod Ending
 pub mod Booked
 pub mod BookCalls
 pub mod Waiting
+pub mod Plannable
 pub mod DraftLaws
 pub mod Desks
 pub mod Marked

@@ -1,12 +1,12 @@
 -- What the calls that read an agent say of each history that it shows.
 use Rattle.std.proofs.Common.{◌≡◌, ℕ, zero, suc, ◌<◌, ◌≤◌, ◌==◌, eqb, cond, not, ◌&&◌, Bool, true, false, Option, Some, None, option_map, List, [], ◌∷◌, ◌↔◌, inl, inr, length, get_or, map, position, refl, sym, ap, ◌∙◌, subst, arith}
-use Rattle.std.specs.Prelude.{IsTrue, option_and_then}
+use Rattle.std.specs.Prelude.{IsSome, IsTrue, option_and_then}
 use Rattle.std.specs.List.{Contains, count_by, slice_get, find, list_all}
-use Rattle.std.proofs.lemmas.Bool.{cases_Bool, cases_lt, eq-eqb, eqb-true, and_parts, and_from}
-use Rattle.std.proofs.lemmas.List.{get_or_default}
+use Rattle.std.proofs.lemmas.Bool.{cases_Bool, cases_lt, eq-eqb, eqb-true, false≢true, and_parts, and_from}
+use Rattle.std.proofs.lemmas.List.{ext_get_or, get_or_default, get_or_past, get_or-map, length-map}
 use Rattle.std.proofs.lemmas.List.Elements.{All-contains, Contains-get_or}
 use Rattle.std.proofs.lemmas.List.Folds.{find_at}
-use Rattle.std.proofs.lemmas.List.Sums.{AllPass-from_list_all, list_all-from_AllPass, get_or-le-sum_by}
+use Rattle.std.proofs.lemmas.List.Sums.{AllPass-from_list_all, list_all-from_AllPass, get_or-le-sum_by, passes_at_first}
 use Rattle.std.proofs.lemmas.Option.{slice_get-get_or, slice_get_past}
 use Rattle.mrp_rows.specs.declared.numbers.ItemNo.{ItemNo}
 use Rattle.mrp_rows.specs.declared.numbers.PairNo.{PairNo}
@@ -17,7 +17,7 @@ use Rattle.mrp_view.specs.declared.view.OutgoingLane.{OutgoingLane}
 use Rattle.mrp_view.specs.declared.view.PlantPair.{PlantPair}
 use Rattle.mrp_view.specs.Seen.{IsIncomingLane}
 use Rattle.mrp_view.specs.View.{PlantRows}
-use Rattle.mrp_view.proofs.Once.{count_none}
+use Rattle.mrp_view.proofs.Once.{count-map, count_none}
 use Rattle.mrp_record.specs.declared.record.Record.{Record}
 use Rattle.mrp_record.specs.Entries.{contents, cum, is_closed}
 use Rattle.mrp_record.specs.Form.{FormItem, LaneForm, item_on}
@@ -30,7 +30,7 @@ use Rattle.mrp_local.specs.Goods.{goods_of}
 use Rattle.mrp_agent.specs.State.{AgentState, incoming_at, outgoing_at, book_at, out_at, no_book, no_incoming, no_out, no_outgoing, no_pair, pair_place, plans_of, incoming_place}
 use Rattle.mrp_agent.specs.Shows.{Shows, BooksShow, book_item, form_of, is_done}
 use Rattle.mrp_agent.specs.Kept.{Indexes, IsKept}
-use Rattle.mrp_agent.specs.Reading.{HasDone, ReceivedFiguresAreCumulative, carried_by, incoming_of, received}
+use Rattle.mrp_agent.specs.Reading.{HasDone, OwnIsPlanned, ReceivedFiguresAreCumulative, carried_by, incoming_of, received, unplanned_pairs}
 use Rattle.mrp_agent.proofs.Looking.{place_at, place_found, place_is_only, place_known}
 
 -- ---- figures received
@@ -166,6 +166,45 @@ module _ (A : AgentState) (I : Indexes) (kept : IsKept A I) (sent taken : ℕ �
       let here : is_planned A.progress.planned k ≡ true = ap (is_planned A.progress.planned) (sym (own_place k inside)) ∙ sym (shows.planned_are p there) ∙ all p there in
       not_true (get_or A.progress.planned k d) (get_or_default A.progress.planned k d false within ∙ here))
 
+  -- how many aren't planned
+  pub left_unplanned : left_of A.progress.planned ≡ unplanned_pairs A.view planned
+  left_unplanned =
+      let of_pair : PlantPair → Bool = λ p. planned p.number.0 in
+      let size : length A.progress.planned ≡ length (map of_pair A.view.pairs) = kept.rooms.progress.planned ∙ sym (length-map A.view.pairs of_pair) in
+      ap left_of (ext_get_or false A.progress.planned (map of_pair A.view.pairs) size
+      (λ k within.
+      let inside : k < length A.view.pairs = omega (arith, within, kept.rooms.progress.planned) in
+      let p : PlantPair = get_or A.view.pairs k no_pair in
+      ap (is_planned A.progress.planned) (sym (own_place k inside))
+      ∙ sym (shows.planned_are p (Contains-get_or A.view.pairs k no_pair inside))
+      ∙ sym (get_or-map of_pair A.view.pairs k no_pair false inside)))
+      ∙ count-map (λ (b : Bool). not b) of_pair A.view.pairs
+
+  -- the flag of a pair, wherever it is
+  pub flag_exactly : (x : PairNo) → IsTrue (is_planned A.progress.planned (pair_place A.view x.0)) ↔ OwnIsPlanned A.view planned x
+  flag_exactly x = (there, back)
+    where
+      same_flag : (p : PlantPair) → Contains A.view.pairs p → p.number ≡ x → planned x.0 ≡ is_planned A.progress.planned (pair_place A.view x.0)
+      same_flag p in_pairs is = subst (λ (n : PairNo). planned n.0 ≡ is_planned A.progress.planned (pair_place A.view n.0)) is (shows.planned_are p in_pairs)
+
+      there : IsTrue (is_planned A.progress.planned (pair_place A.view x.0)) → OwnIsPlanned A.view planned x
+      there flag =
+          elim (cases_lt (pair_place A.view x.0) (length A.view.pairs)) [
+            | inl within ↦
+                let p : PlantPair = get_or A.view.pairs (pair_place A.view x.0) no_pair in
+                let in_pairs : Contains A.view.pairs p = Contains-get_or A.view.pairs (pair_place A.view x.0) no_pair within in
+                let found : p.number.0 ≡ x.0 = eqb-true p.number.0 x.0 (passes_at_first (λ (q : PlantPair). eqb q.number.0 x.0) A.view.pairs no_pair within) in
+                let is : p.number ≡ x = ap (λ (n : ℕ). let z : PairNo = record { 0 = n } in z) found in
+                ((p, in_pairs, is), same_flag p in_pairs is ∙ flag)
+            | inr past ↦
+                let none : is_planned A.progress.planned (pair_place A.view x.0) ≡ false =
+                get_or_past A.progress.planned (pair_place A.view x.0) false (omega (arith, past, kept.rooms.progress.planned)) in
+                absurd (false≢true (sym none ∙ flag))
+          ]
+
+      back : OwnIsPlanned A.view planned x → IsTrue (is_planned A.progress.planned (pair_place A.view x.0))
+      back own = sym (same_flag own.0.0 own.0.1 own.0.2) ∙ own.1
+
   book_closed : (k : ℕ) → k < length A.view.incoming → (book_at A k).closed ≡ is_closed (contents (taken (incoming_at A.view k).number.0))
   book_closed k within = ap (λ (b : Figures). b.closed) (shows.books k within).is
 
@@ -207,6 +246,23 @@ done_said A I kept b e sent taken planned shows =
     (λ t. done_shown A I kept sent taken planned shows (sym e ∙ t), λ h. e ∙ shown_done A I kept sent taken planned shows h)
 
 -- ---- plans
+
+pub left_said : (A : AgentState) (I : Indexes) → IsKept A I → (n : ℕ) → n ≡ left_of A.progress.planned
+    → (sent taken : ℕ → List Record) (planned : ℕ → Bool) → Shows A sent taken planned → n ≡ unplanned_pairs A.view planned
+left_said A I kept n e sent taken planned shows = e ∙ left_unplanned A I kept sent taken planned shows
+
+pub planned_said : {X : Type 0} {A S : AgentState} {I : Indexes} (x : PairNo) (o : Option X) → A ≡ S → IsKept A I
+    → IsSome o ↔ IsTrue (is_planned A.progress.planned (pair_place A.view x.0))
+    → (sent taken : ℕ → List Record) (planned : ℕ → Bool) → Shows S sent taken planned → IsSome o ↔ OwnIsPlanned S.view planned x
+planned_said {X} {A} {S} {I} x o same kept is = subst Says same said
+  where
+    Says : AgentState → Type 0
+    Says a = (sent taken : ℕ → List Record) (planned : ℕ → Bool) → Shows a sent taken planned → IsSome o ↔ OwnIsPlanned a.view planned x
+
+    said : Says A
+    said sent taken planned shows =
+        let flag = flag_exactly A I kept sent taken planned shows x in
+        (λ some. flag.0 (is.0 some), λ own. is.1 (flag.1 own))
 
 -- another plant's pair isn't planned
 pub other_unplanned : (A : AgentState) (I : Indexes) → IsKept A I → (x : PairNo) → position (λ p. p.number.0 == x.0) A.view.pairs ≡ None → is_planned A.progress.planned (pair_place A.view x.0) ≡ false

@@ -1,15 +1,37 @@
 -- What the calls that read an agent say of each history that it shows.
-use Rattle.std.specs.Prelude.{◌≡◌, ◌==◌, ℕ, Bool, true, List, find, option_map, option_and_then, Option, Some, Contains}
+use Rattle.std.specs.Prelude.{◌≡◌, ◌==◌, ℕ, Bool, true, not, List, find, count_by, option_map, option_and_then, Option, Some, Contains}
 use Rattle.mrp_rows.specs.declared.numbers.ItemNo.{ItemNo}
+use Rattle.mrp_rows.specs.declared.numbers.PairNo.{PairNo}
 use Rattle.mrp_net.specs.declared.lane.LaneNo.{LaneNo}
 use Rattle.mrp_view.specs.declared.view.IncomingItem.{IncomingItem}
 use Rattle.mrp_view.specs.declared.view.IncomingLane.{IncomingLane}
 use Rattle.mrp_view.specs.declared.view.OutgoingLane.{OutgoingLane}
 use Rattle.mrp_view.specs.declared.view.PlantPair.{PlantPair}
-use Rattle.mrp_view.specs.Seen.{IsView}
+use Rattle.mrp_view.specs.Seen.{IsOwn, IsView}
 use Rattle.mrp_view.specs.View.{PlantRows}
 use Rattle.mrp_record.specs.declared.record.Record.{Record}
 use Rattle.mrp_record.specs.Entries.{contents, cum, is_closed}
+use Rattle.mrp_local.specs.Local.{CanBePlanned}
+
+-- ---- pairs
+
+-- the pair with a number is one of the plant's, and it can be planned
+abbrev pub OwnCanBePlanned : PlantRows → (ℕ → List Record) → (ℕ → Bool) → PairNo → Type 0
+OwnCanBePlanned V taken planned x = (p : PlantPair) × (Contains V.pairs p) × (p.number ≡ x) × CanBePlanned V taken planned p
+
+-- none of the plant's pairs can be
+abbrev pub NoneCanBePlanned : PlantRows → (ℕ → List Record) → (ℕ → Bool) → Type 0
+NoneCanBePlanned V taken planned = (p : PlantPair) → Contains V.pairs p → CanBePlanned V taken planned p → ⊥
+
+-- the pair with a number is one of the plant's, and it is planned
+abbrev pub OwnIsPlanned : PlantRows → (ℕ → Bool) → PairNo → Type 0
+OwnIsPlanned V planned x = IsOwn V x × (planned x.0 ≡ true)
+
+-- how many of the plant's pairs aren't planned
+abbrev pub unplanned_pairs : PlantRows → (ℕ → Bool) → ℕ
+unplanned_pairs V planned = count_by (λ p. not (planned p.number.0)) V.pairs
+
+-- ---- figures received
 
 -- the lane of a number that comes in, and the item that a lane carries
 abbrev pub incoming_of : PlantRows → LaneNo → Option IncomingLane
@@ -30,6 +52,8 @@ ReceivedFiguresAreCumulative =
     (V : PlantRows) → IsView V → (taken : ℕ → List Record) (lane : IncomingLane) → Contains V.incoming lane
     → (i : IncomingItem) → Contains lane.items i
     → received V taken lane.number i.item ≡ Some (cum i.opening i.item.0 (contents (taken lane.number.0)))
+
+-- ---- the end
 
 -- the plant's work is done: each of its pairs is planned, and the closing record of each of its lanes was
 -- taken or sent

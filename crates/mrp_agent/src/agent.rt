@@ -41,7 +41,7 @@ impl Model for Agent {
 }
 
 impl Agent {
-    ghost use Rattle.std.specs.Prelude.{◌↔◌, ℕ, Bool, IsSome, IsTrue, List, slice_get, ◌≢◌, AllPairs, Contains, length};
+    ghost use Rattle.std.specs.Prelude.{◌↔◌, ℕ, Bool, IfNone, IsSome, IsTrue, List, slice_get, ◌≢◌, AllPairs, Contains, length};
     ghost use Rattle.mrp_events.specs.State.{opening_state};
     ghost use Rattle.mrp_ready.specs.Progress.{is_planned, left_of};
     ghost use Rattle.mrp_record.specs.declared.record.Record.{Record};
@@ -50,7 +50,7 @@ impl Agent {
     ghost use Rattle.mrp_local.specs.Local.{CanBePlanned};
     ghost use Rattle.mrp_agent.specs.Drafts.{ready_numbers};
     ghost use Rattle.mrp_agent.specs.Kept.{HasSmallOpenings};
-    ghost use Rattle.mrp_agent.specs.Reading.{HasDone, received};
+    ghost use Rattle.mrp_agent.specs.Reading.{HasDone, NoneCanBePlanned, OwnCanBePlanned, OwnIsPlanned, received, unplanned_pairs};
     ghost use Rattle.mrp_agent.specs.Shows.{Shows, is_done};
     ghost use Rattle.mrp_agent.specs.State.{pair_place, plans_of};
 
@@ -97,14 +97,20 @@ impl Agent {
 
     /// A pair that can be planned, where there is one.
     pub fn ready(&self) -> Option<PairNo>
-        ensures { result ≡ slice_get (ready_numbers self.now) 0 }
+        ensures first { result ≡ slice_get (ready_numbers self.now) 0 }
+        ensures given { (sent taken : ℕ → List Record) (planned : ℕ → Bool) → Shows self.now sent taken planned
+            → IfSome result (OwnCanBePlanned self.now.view taken planned) }
+        ensures none { (sent taken : ℕ → List Record) (planned : ℕ → Bool) → Shows self.now sent taken planned
+            → IfNone result (NoneCanBePlanned self.now.view taken planned) }
     {
         self.ready_pairs().first().copied()
     }
 
     /// How many pairs aren't planned.
     pub fn left(&self) -> usize
-        ensures { result ≡ left_of self.now.progress.planned }
+        ensures count { result ≡ left_of self.now.progress.planned }
+        ensures unplanned { (sent taken : ℕ → List Record) (planned : ℕ → Bool) → Shows self.now sent taken planned
+            → result ≡ unplanned_pairs self.now.view planned }
     {
         self.structure.progress.left()
     }
@@ -113,6 +119,8 @@ impl Agent {
     pub fn planned(&self, x: PairNo) -> Option<&PairPlan>
         ensures plan { IfSome result (λ plan. plan.now ≡ plans_of self.now x.0) }
         ensures there { IsSome result ↔ IsTrue (is_planned self.now.progress.planned (pair_place self.now.view x.0)) }
+        ensures exact { (sent taken : ℕ → List Record) (planned : ℕ → Bool) → Shows self.now sent taken planned
+            → IsSome result ↔ OwnIsPlanned self.now.view planned x }
     {
         let place = self.view.place(x)?;
         if self.structure.progress.planned(place) {

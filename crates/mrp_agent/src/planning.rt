@@ -17,6 +17,7 @@ impl Agent {
     ghost use Rattle.mrp_agent.specs.State.{pair_of, pair_place, plans_of};
     ghost use Rattle.mrp_agent.specs.Drafts.{CanDraft, drafted, drafted_gross, drafted_incoming, ready_numbers};
     ghost use Rattle.mrp_agent.specs.Marking.{IsMarked};
+    ghost use Rattle.mrp_agent.specs.Reading.{OwnCanBePlanned};
     ghost use Rattle.mrp_agent.specs.Shows.{Shows};
 
     /// Plans a pair of the plant if it can be planned: drafts its plan and keeps it. The answer is whether
@@ -27,6 +28,8 @@ impl Agent {
             → IsWithin (pair_of self.old.view x).params (drafted_incoming self.old x) (drafted_gross self.old x) }
         ensures view { self.new.view ≡ self.old.view }
         ensures can { IsTrue result ↔ Contains (ready_numbers self.old) x }
+        ensures exact { (sent taken : ℕ → List Record) (planned : ℕ → Bool) → Shows self.old sent taken planned
+            → IsTrue result ↔ OwnCanBePlanned self.old.view taken planned x }
         ensures planned { OnTrue result ((sent taken : ℕ → List Record) (planned : ℕ → Bool) → Shows self.old sent taken planned
             → Shows self.new sent taken (changed planned x.0 true)) }
         ensures kept { OnTrue result (plans_of self.new x.0 ≡ drafted self.old x) }

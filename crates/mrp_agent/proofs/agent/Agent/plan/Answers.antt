@@ -6,6 +6,7 @@ use Rattle.mrp_agent.specs.Fields.{indexes_of}
 use Rattle.mrp_agent.specs.State.{AgentState, pair_place}
 use Rattle.mrp_agent.specs.contracts.agent.Agent.{the_view}
 use Rattle.mrp_agent.proofs.Placing.{IsAtPlace, can_draft, own_is_found, place_is_found, ready_at, ready_from}
+use Rattle.mrp_agent.proofs.Plannable.{can_exactly}
 use Rattle.mrp_agent.proofs.Planned.{HasPlanned, has_planned}
 use Rattle.mrp_agent.proofs.agent.Agent.plan.Goals as goal
 use Rattle.mrp_agent.proofs.agent.Agent.plan.Goals.{After-mark_planned, After-write_plan, In-Some}
@@ -49,12 +50,24 @@ returns-then-can-clause-can c =
     let here = placed (goal.at.returns-then-can-clause-can c).In-Some in
     (λ _. ready_from c.self.view_is here (c.is_ready-can.ensures.ready.0 c.if-can.true), λ _. c.if-can.true)
 
+pub returns-then-can-clause-exact : goal.returns-then-can-clause-exact
+returns-then-can-clause-exact c =
+    let here = placed (goal.at.returns-then-can-clause-exact c).In-Some in
+    can_exactly c.self.view_is here c.ready_pairs-ready.ensures.listed c.is_ready-can.result
+    (λ _. ready_from c.self.view_is here (c.is_ready-can.ensures.ready.0 c.if-can.true), λ _. c.if-can.true)
+
 pub returns-then-can-clause-planned : goal.returns-then-can-clause-planned
 returns-then-can-clause-planned c = OnTrue_from c.is_ready-can.result _ (λ _. (planned (goal.at.returns-then-can-clause-planned c).After-mark_planned).shows)
 
 pub returns-else-can-clause-can : goal.returns-else-can-clause-can
 returns-else-can-clause-can c =
     let here = placed (goal.at.returns-else-can-clause-can c).In-Some in
+    (λ h. absurd (false≢true (sym c.if-can.false ∙ h)), λ h. c.is_ready-can.ensures.ready.1 (ready_at c.self.view_is here c.ready_pairs-ready.ensures.listed h))
+
+pub returns-else-can-clause-exact : goal.returns-else-can-clause-exact
+returns-else-can-clause-exact c =
+    let here = placed (goal.at.returns-else-can-clause-exact c).In-Some in
+    can_exactly c.self.view_is here c.ready_pairs-ready.ensures.listed c.is_ready-can.result
     (λ h. absurd (false≢true (sym c.if-can.false ∙ h)), λ h. c.is_ready-can.ensures.ready.1 (ready_at c.self.view_is here c.ready_pairs-ready.ensures.listed h))
 
 pub returns-then-can-clause-others : goal.returns-then-can-clause-others

@@ -31,8 +31,8 @@ returns-clause-planned g c =
       before.planned.0,
       before.planned.1,
       (
-        omega (arith, before.planned.1.left, c.left-before.ensures, c.left.ensures),
-        none_ready (ready_numbers c.loop-alloc.agent) c.ready.result c.ready.ensures (sym c.is_some.ensures ∙ c.loop-alloc-test.false),
+        omega (arith, before.planned.1.left, c.left-before.ensures.count, c.left.ensures.count),
+        none_ready (ready_numbers c.loop-alloc.agent) c.ready.result c.ready.ensures.first (sym c.is_some.ensures ∙ c.loop-alloc-test.false),
       ),
     )
 
@@ -59,7 +59,7 @@ plan_wave-requires-clause-horizon g c κs within =
 
 pub plan_wave-requires-clause-ready : goal.plan_wave-requires-clause-ready
 plan_wave-requires-clause-ready g c κs within =
-    some_ready (ready_numbers c.loop-alloc.agent) c.ready.result c.ready.ensures (sym c.is_some.ensures ∙ c.loop-alloc-test.true)
+    some_ready (ready_numbers c.loop-alloc.agent) c.ready.result c.ready.ensures.first (sym c.is_some.ensures ∙ c.loop-alloc-test.true)
 
 pub loop-alloc-smaller : goal.loop-alloc-smaller
 loop-alloc-smaller g c =
@@ -70,7 +70,7 @@ pub returns-in_err-plan_wave-clause-crew : goal.returns-in_err-plan_wave-clause-
 returns-in_err-plan_wave-clause-crew g c = c.plan_wave.ensures.crew ∙ c.loop-alloc.invariant.crew
 
 pub overflow_sub-result : goal.overflow_sub-result
-overflow_sub-result g c = omega (arith, c.loop-alloc.invariant.planned.1.left, c.left-before.ensures, c.left.ensures)
+overflow_sub-result g c = omega (arith, c.loop-alloc.invariant.planned.1.left, c.left-before.ensures.count, c.left.ensures.count)
 
 pub returns-clause-crew : goal.returns-clause-crew
 returns-clause-crew g c = c.loop-alloc.invariant.crew
