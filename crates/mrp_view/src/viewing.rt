@@ -7,7 +7,7 @@ ghost use Rattle.mrp_net.specs.Edges.{IsEdge};
 ghost use Rattle.mrp_net.specs.Lanes.{lanes, lane_at, lane_items};
 ghost use Rattle.mrp_net.specs.EdgeLaws.{is_local};
 ghost use Rattle.mrp_view.specs.Loads.{bare};
-ghost use Rattle.mrp_view.specs.View.{plant_pairs, plant_edge, edges_to, plant_rows, incoming_item, incoming_lanes, sent_on, call_on, outgoing_item, outgoing_lanes};
+ghost use Rattle.mrp_view.specs.View.{plant_pairs, plant_edge, edges_to, plant_rows, incoming_item, incoming_lanes, sent_on, called_on, call_on, outgoing_item, outgoing_lanes};
 
 use crate::amounts::{Amounts, plant_amounts};
 use crate::view::{
@@ -172,20 +172,29 @@ fn outgoing_item(network: &Network, l: LaneNo, item: ItemNo) -> OutgoingItem
     }
 }
 
-/// What the sender of a lane calls for of an item: only a customer calls.
+/// What the customer of a lane calls for of an item: the source's share of what its own pair releases.
+fn called_on(network: &Network, l: LaneNo, item: ItemNo) -> Call
+    requires lane { l.0 < length (lanes network.now) }
+    requires item { Contains (lane_items network.now (lane_at network.now l.0)) item }
+    ensures { result ≡ called_on network.now (lane_at network.now l.0) item }
+{
+    let source = network.lane_source(l, item);
+    Call {
+        customer: source.pair,
+        low: source.low,
+        high: source.high,
+    }
+}
+
+/// What the sender of a lane calls for of an item: a supplier calls for nothing.
 fn call_on(network: &Network, l: LaneNo, item: ItemNo) -> Option<Call>
     requires lane { l.0 < length (lanes network.now) }
     requires item { Contains (lane_items network.now (lane_at network.now l.0)) item }
     ensures { result ≡ call_on network.now (lane_at network.now l.0) item }
 {
-    let source = network.lane_source(l, item);
     match network.lane(l).kind {
         LaneKind::Despatch => None,
-        LaneKind::Schedule => Some(Call {
-            customer: source.pair,
-            low: source.low,
-            high: source.high,
-        }),
+        LaneKind::Schedule => Some(called_on(network, l, item)),
     }
 }
 
