@@ -2,10 +2,16 @@
 import argparse
 import os
 import re
+import shutil
 import sys
 from typing import NamedTuple
 
-TOP = os.path.dirname(os.path.dirname(os.path.realpath(__file__)))
+HERE = os.path.dirname(os.path.realpath(__file__))
+TOP = os.path.dirname(HERE)
+# (bin/install puts the tools elsewhere, and links to them)
+TOOL = ("bin/" if os.path.basename(HERE) == "bin" else "") + os.path.basename(sys.argv[0])
+LABELS = ("Gross requirements", "Scheduled receipts", "Projected available", "Planned order receipts", "Planned order releases")
+WITH_DELAYS = "Available with delays"
 NAME, NUMBER, DATE = r"([A-Za-z0-9._-]{1,20})", r"(0|[1-9][0-9]{0,15})", r"([0-9]{4}-[0-9]{2}-[0-9]{2})"
 
 
@@ -38,6 +44,14 @@ class Record(NamedTuple):
     def on_hand(self):
         """Returns the stock before period 0: what is left of it in the balance of period 0."""
         return self.available[0] + self.gross[0] - self.incoming[0] - self.order[0]
+
+    def with_delays(self, late):
+        """Returns available with delays: projected available without the pair's late orders, each from where it is due until it comes."""
+        left = list(self.available)
+        for it in late:
+            for period in range(it.period, min(it.period + it.by, len(left))):
+                left[period] -= it.quantity
+        return left
 
 
 class Late(NamedTuple):
@@ -138,7 +152,8 @@ class Words(argparse.ArgumentParser):
 
     def __init__(self, usage, text):
         name = usage.split()[0]
-        super().__init__(prog=name, usage=usage, description=text, formatter_class=argparse.RawDescriptionHelpFormatter)
+        usage, text = usage.replace(name, TOOL), text.replace(name, TOOL)
+        super().__init__(prog=TOOL, usage=usage, description=text, formatter_class=argparse.RawDescriptionHelpFormatter)
 
     def error(self, message):
         print(f"{self.prog}: {message}", file=sys.stderr)
@@ -157,6 +172,11 @@ def count(text):
     return int(text)
 
 
+def program():
+    """Returns the path of mrp: the one that MRP names, else the one on the path, else bin/mrp."""
+    return os.environ.get("MRP") or shutil.which("mrp") or f"{HERE}/mrp"
+
+
 def run(main):
     """Runs a tool and ends with its status: 0, or 1 with a line on standard error where the input is refused."""
     try:
@@ -167,7 +187,7 @@ def run(main):
             # (who reads the output wants no more of it)
             os.dup2(os.open(os.devnull, os.O_WRONLY), sys.stdout.fileno())
             sys.exit(0)
-        print(f"bin/{os.path.basename(sys.argv[0])}: {fault}", file=sys.stderr)
+        print(f"{TOOL}: {fault}", file=sys.stderr)
         sys.exit(1)
     except KeyboardInterrupt:
         sys.exit(130)
