@@ -37,7 +37,7 @@ pub trait Plant: Drop {
     /// The plan that a plant keeps of a pair, by the pair's number.
     ghost kept: { Self → ℕ → PlanRows };
 
-    /// The plant that sees this, before the first event. It takes all the room that its life needs.
+    /// The plant that sees this, before the first event.
     ///
     /// # Errors
     ///
@@ -117,7 +117,7 @@ pub trait Plant: Drop {
     /// What a plant shows depends on its own part of a state alone.
     ghost stays: { (N : Table) (p : ℕ) (s t : State) (plant : Self) → shows N p s plant → AgreeAt N p s t → shows N p t plant };
 
-    /// The plan of each pair that is planned was made when nothing was missing for it, from the plant's own
-    /// rows, from the records that it has taken and from the plans that it keeps of the pair's parents.
+    /// Nothing was missing for a pair that is planned, and its plan is what the plant's own rows, the records
+    /// that it has taken and the plans that it keeps of the pair's parents give.
     ghost local: { (N : Table) (p : ℕ) (s : State) (plant : Self) → shows N p s plant → IsLocal (plant_rows N p) s.taken s.planned (kept plant) };
 }

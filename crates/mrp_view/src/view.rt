@@ -293,14 +293,14 @@ impl PlantView {
         self.edges.as_slice()
     }
 
-    /// The sums of the demand rows, in pieces, each at most 10^18: pair by pair, period by period.
+    /// The sums of the demand rows, in pieces: pair by pair, period by period.
     pub fn demands(&self) -> &[u64]
         ensures { result.now ≡ self.now.demands }
     {
         self.demands.as_slice()
     }
 
-    /// The sums of the receipt rows, in pieces, each at most 10^18: pair by pair, period by period.
+    /// The sums of the receipt rows, in pieces: pair by pair, period by period.
     pub fn receipts(&self) -> &[u64]
         ensures { result.now ≡ self.now.receipts }
     {

@@ -8,14 +8,14 @@ ghost use Rattle.mrp_world.specs.World.{WorldShows};
 use crate::world::World;
 use mrp_plant::Plant;
 
-/// The headline. A network without loops, any capacity, any list of events: a world, once there was memory
-/// to make it, always shows some state of the network's runs, and in each state that it shows
+/// The headline. A network without loops and within the bound, any capacity, any list of events: a world, once
+/// there was memory to make it, always shows some state of the network's runs, and in each state that it shows
 ///
 /// - each lane has booked its sender's records in order, at most once, none after closing;
 /// - cumulative shipped less cumulative received is the sum in the mailbox;
 /// - a lane whose closing record is booked has brought its whole text, each line once;
 /// - what a plant keeps as the plan of a planned pair are the pair's rows of the one plan of the whole network,
-///   and it was made from the plant's own rows and the records that have come to it;
+///   and what its own rows, the records that have come to it and the plans of the pair's parents give;
 /// - where it is finished, every line of every lane was booked once, and every pair has its plan.
 pub fn headline<P: Plant>(world: &World<P>)
     ensures shows { (s : State) × WorldShows P.shows world.now s }
