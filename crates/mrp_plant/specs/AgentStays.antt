@@ -134,11 +134,15 @@ module _ (A : AgentState) (enough : IsView A.view) (s t : State) (same : AgreeOn
       All-contains (λ (lane : IncomingLane). s.taken lane.number.0 ≡ t.taken lane.number.0) A.view.incoming (lane_before (outgoing_at A.view k)) same.ins
       (enough.schedules k no_outgoing within kind).before
 
+  abbrev customer_at : ℕ → ℕ → PairNo
+  customer_at k j = (view.call_of (view.load_at (outgoing_at A.view k).items j)).customer
+
   customer_same : (k j : ℕ) → k < length A.view.outgoing → (outgoing_at A.view k).kind ≡ Schedule → j < length (outgoing_at A.view k).items
-      → s.planned (view.call_of (view.load_at (outgoing_at A.view k).items j)).customer.0 ≡ t.planned (view.call_of (view.load_at (outgoing_at A.view k).items j)).customer.0
+      → s.planned (customer_at k j).0 ≡ t.planned (customer_at k j).0
   customer_same k j within kind inside =
       let i : view.Load = view.load_at (outgoing_at A.view k).items j in
-      own_same (view.call_of i).customer (own_of_item A.view (view.call_of i).customer i.item ((enough.schedules k no_outgoing within kind).calls j view.no_load inside).own)
+      let called = (enough.schedules k no_outgoing within kind).calls j view.no_load inside in
+      own_same (customer_at k j) (own_of_item A.view (customer_at k j) i.item called.own)
 
   sendable_there : (k j : ℕ) → k < length A.view.outgoing → IsSendable s.planned (outgoing_at A.view k) j → IsSendable t.planned (outgoing_at A.view k) j
   sendable_there k j within sendable = record {

@@ -7,7 +7,8 @@ ghost use Rattle.mrp_net.specs.Edges.{IsEdge};
 ghost use Rattle.mrp_net.specs.Lanes.{lanes, lane_at, lane_items};
 ghost use Rattle.mrp_net.specs.EdgeLaws.{is_local};
 ghost use Rattle.mrp_view.specs.Loads.{bare};
-ghost use Rattle.mrp_view.specs.View.{plant_pairs, plant_edge, edges_to, plant_rows, incoming_item, incoming_lanes, sent_on, called_on, call_on, outgoing_item, outgoing_lanes};
+ghost use Rattle.mrp_view.specs.View.{plant_pairs, plant_edge, edges_to, plant_rows, incoming_item, incoming_lanes};
+ghost use Rattle.mrp_view.specs.View.{sent_on, called_on, call_on, outgoing_item, outgoing_lanes};
 
 use crate::amounts::{Amounts, plant_amounts};
 use crate::view::{

@@ -1,6 +1,5 @@
 use Rattle.std.proofs.Common.{◌≡◌, ℕ, Bool, List, subst, rules}
 use Rattle.mrp_record.specs.declared.record.Record.{Record}
-use Rattle.mrp_ready.specs.Progress.{left_of}
 use Rattle.mrp_agent.specs.Fields.{indexes_of}
 use Rattle.mrp_agent.specs.Reading.{unplanned_pairs}
 use Rattle.mrp_agent.specs.Shows.{Shows}

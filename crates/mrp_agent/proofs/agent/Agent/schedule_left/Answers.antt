@@ -1,10 +1,10 @@
-use Rattle.std.proofs.Common.{◌≡◌, ℕ, ◌<◌, ◌-◌, ◌==◌, Option, Some, List, length, get_or, position, sym, ap, ◌∙◌, subst, arith}
+use Rattle.std.proofs.Common.{◌≡◌, ℕ, ◌<◌, ◌-◌, ◌==◌, Some, List, length, get_or, position, sym, ap, ◌∙◌, subst, arith}
 use Rattle.std.specs.List.{Contains, position_or_len}
 use Rattle.mrp_view.specs.declared.view.Call.{Call}
 use Rattle.mrp_view.specs.declared.view.IncomingLane.{IncomingLane}
 use Rattle.mrp_view.specs.declared.view.OutgoingItem.{OutgoingItem}
 use Rattle.mrp_view.specs.declared.view.PlantPair.{PlantPair}
-use Rattle.mrp_view.specs.Loads.{bare, call_of, load_at}
+use Rattle.mrp_view.specs.Loads.{call_of, load_at}
 use Rattle.mrp_agent.specs.State.{AgentState, book_at, incoming_place, pair_place, plans_of, no_book, no_plan}
 use Rattle.mrp_agent.specs.Kept.{IsShowing}
 use Rattle.mrp_agent.specs.Sending.{AreShares, remainder}
