@@ -1,0 +1,5 @@
+pub mod Amounts
+pub mod Carried
+pub mod Periods
+pub mod Planned
+pub mod Released

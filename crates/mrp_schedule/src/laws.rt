@@ -1,0 +1,21 @@
+//! Laws of schedules. Each is the contract of a function that does nothing.
+
+ghost use Rattle.mrp_schedule.specs.Laws.{TextsCarrySchedules, FiguresAddUp, CallsAreReleased};
+
+/// A schedule is what the lane carries: behind its opening stand exactly the lines and the reset of the item's
+/// records in every whole text of the lane, in whatever order the text has its items.
+pub fn texts_carry_schedules()
+    ensures { TextsCarrySchedules }
+{}
+
+/// At the end of a lane the cumulative figure of an item, closed years added, is the opening figure of its
+/// schedule and the pieces of all its calls.
+pub fn figures_add_up()
+    ensures { FiguresAddUp }
+{}
+
+/// Of a pair that is taken from other plants the schedules call for what the plan releases and no more: in each
+/// period the calls to all its sources add up to the planned order release.
+pub fn calls_are_released()
+    ensures { CallsAreReleased }
+{}
