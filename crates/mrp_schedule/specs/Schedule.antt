@@ -11,7 +11,7 @@ use Rattle.mrp_events.specs.Loads.{load_of}
 use Rattle.mrp_schedule.specs.declared.line.ScheduleLine.{ScheduleLine}
 use Rattle.mrp_schedule.specs.declared.line.ScheduleLine.TheVariants.{Opening, Call, Reset}
 
--- a line is a call, a reset is one at the period from which the figures start anew, and ends and closings are none
+-- a line is a call, a reset stands at the period from which the figures start anew, and an end and a closing are no line
 abbrev pub line_of : Option ℕ → Entry → Option ScheduleLine
 line_of reset (LineOf item period quantity cumulative) = Some (Call period quantity cumulative)
 line_of reset (EndOf item lines cumulative) = None
