@@ -25,8 +25,9 @@ pub(crate) fn add_calls(
     requires reset { IfSome reset (λ from. from ≤ length release.now) }
     requires room { length lines.old.items + length release.now + 1 ≤ vec_capacity lines.old }
     requires small { figure + total (calls_by source release.now 0 (length release.now)) ≤ MOST }
-    ensures { (item : ℕ) → lines.new.items
+    ensures lines { (item : ℕ) → lines.new.items
         ≡ lines.old.items ++ filter_map (line_of reset) (body item figure reset (calls_by source release.now 0 (length release.now))) }
+    ensures capacity { vec_capacity lines.new ≡ vec_capacity lines.old }
 {
     let periods = release.len();
     let Some(from) = reset else {

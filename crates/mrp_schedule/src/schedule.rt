@@ -20,7 +20,7 @@ use mrp_qty::{Memory, Qty};
 /// fits the network, in rising periods, and its reset before the first call that is counted anew.
 ///
 /// Linear in periods: a schedule has at most two lines more than there are periods, and where the list has room
-/// for so many none is asked for.
+/// for so many none is asked for. No room of the list is given back.
 ///
 /// # Errors
 ///
@@ -39,6 +39,7 @@ pub fn add_schedule(
     ensures lines { IfOk result (λ _. lines.new.items ≡ lines.old.items ++ schedule_of net.now.network (lane_at net.now.network lane.0) item) }
     ensures refused { IfErr result (λ _. lines.new.items ≡ lines.old.items) }
     ensures room { length lines.old.items + horizon net.now.network + 2 ≤ vec_capacity lines.old → IsOk result }
+    ensures capacity { vec_capacity lines.old ≤ vec_capacity lines.new }
 {
     let network = net.network();
     let periods = network.horizon().get() as usize;
@@ -61,7 +62,8 @@ fn add_lines(
     requires schedule { (lane_at network.now lane.0).kind ≡ Schedule }
     requires item { Contains (lane_items network.now (lane_at network.now lane.0)) item }
     requires room { length lines.old.items + horizon network.now + 2 ≤ vec_capacity lines.old }
-    ensures { lines.new.items ≡ lines.old.items ++ schedule_of network.now (lane_at network.now lane.0) item }
+    ensures lines { lines.new.items ≡ lines.old.items ++ schedule_of network.now (lane_at network.now lane.0) item }
+    ensures capacity { vec_capacity lines.new ≡ vec_capacity lines.old }
 {
     let source = network.lane_source(lane, item);
     let release = plan.pair(source.pair).release();

@@ -5,8 +5,8 @@ use Rattle.mrp_schedule.specs.Calls.{call_lines, calls_by}
 use Rattle.mrp_schedule.proofs.Periods as period
 use Rattle.mrp_schedule.proofs.calls.add_calls.Goals as goal
 
-pub returns-in_default : goal.returns-in_default
-returns-in_default c item =
+pub returns-in_default-clause-lines : goal.returns-in_default-clause-lines
+returns-in_default-clause-lines c item =
     let s = c.args.source in
     let row = c.args.release.now in
     let first = c.args.lines.now.items in
@@ -32,8 +32,8 @@ add_calls_in-requires-2-clause-small c =
     let last = ap (λ (n : ℕ). total (calls_by c.args.source row c.in-Some.from n)) c.len-periods.ensures.value in
     omega (arith, c.requires.small, last, period.parted c.args.source row c.in-Some.from (length row) within)
 
-pub returns : goal.returns
-returns c item =
+pub returns-clause-lines : goal.returns-clause-lines
+returns-clause-lines c item =
     let s = c.args.source in
     let row = c.args.release.now in
     let from : ℕ = c.in-Some.from in

@@ -66,16 +66,16 @@ add_calls-requires-clause-small c =
     let small = planned.calls_within N c.requires.sized lane c.args.item c.requires.item c.requires.schedule c.args.plan.now c.requires.fits release is in
     omega (arith, c.opening-figure.ensures, small, ap (λ (s : SourceRow). total (calls_by s release 0 (length release))) c.lane_source-source.ensures)
 
-pub returns : goal.returns
-returns c =
+pub returns-clause-lines : goal.returns-clause-lines
+returns-clause-lines c =
     let N = c.args.network.now in
     let lane = lane_at N c.args.lane.0 in
     let item = c.args.item in
     let release = c.release-release.result.now in
-    let is = released (goal.at.returns c).After-release-release in
+    let is = released (goal.at.returns-clause-lines c).After-release-release in
     let second = c.push_reserved.new.self.items in
     planned.scheduled N c.requires.sized lane item c.requires.item c.requires.schedule c.args.plan.now c.requires.fits release is
     c.args.lines.now.items second c.add_calls.new.lines.items c.opening-figure.result c.reset.result c.opening-figure.ensures c.reset.ensures
     (c.push_reserved.ensures.items ∙ ap (λ (line : ScheduleLine). c.args.lines.now.items ++ line ∷ []) c.opening_line.ensures)
-    (c.add_calls.ensures item.0
+    (c.add_calls.ensures.lines item.0
     ∙ ap (λ (s : SourceRow). second ++ filter_map (line_of c.reset.result) (body item.0 c.opening-figure.result c.reset.result (calls_by s release 0 (length release)))) c.lane_source-source.ensures)
