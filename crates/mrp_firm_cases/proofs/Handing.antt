@@ -122,7 +122,7 @@ sent N agents l p d new r within known e alone next goes_on =
 
 pub booked : (N : Table) (agents : List AgentState) (l p : ℕ) (d new : AgentState) (r : Record) → l < length (lanes N) → p < length N.plants → (lane_at N l).receiver.0 ≡ p
     → IsHanded N agents l r
-    → ((m : Moment) (q : ℕ) → IsAt ShowsAgent m q (get_or agents p d) → IsIn m.network q l → CanTake m.network m.state l r → ShowsAgent m.network q (after_take m.state l r) new)
+    → ((m : Moment) (q : ℕ) → IsAt ShowsAgent m q (get_or agents p d) → IsIn m.network q l → ShowsAgent m.network q (after_take m.state l r) new)
     → AreAlone N (set agents p new)
 booked N agents l p d new r within known e handed goes_on =
     let old : Held = box_at handed.boxes l in
