@@ -1,4 +1,6 @@
 pub mod Explosion
+pub mod OrderLaws
+pub mod Orders
 pub mod Peg
 pub mod PegLaws
 pub mod Progress

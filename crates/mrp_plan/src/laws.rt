@@ -1,5 +1,6 @@
-//! Laws of pegging, each the contract of a function that does nothing.
+//! Laws of pegging and of planned orders, each the contract of a function that does nothing.
 
+ghost use Rattle.mrp_plan.specs.OrderLaws.{LateOrdersAreOrders, OrdersMakeReleases};
 ghost use Rattle.mrp_plan.specs.PegLaws.{TermsAddUp, TermsAreProducts, TermsHaveRows};
 
 /// In a plan that fits the terms of a pair in a period add up to its gross requirement there, in
@@ -13,4 +14,11 @@ pub fn terms_add_up()
 /// parent's whole release, or a source for its share of the release of the pair that takes from it.
 pub fn terms_have_rows()
     ensures { TermsHaveRows }
+{}
+
+/// In a plan that fits the planned orders of a pair that are released in a period add up to its planned
+/// order release there, and those to which periods are missing are its late orders, in their order.
+pub fn orders_make_releases()
+    ensures releases { OrdersMakeReleases }
+    ensures late { LateOrdersAreOrders }
 {}

@@ -1,15 +1,18 @@
-//! The plan of a whole network: each pair planned after all of its demanders, and pegging.
+//! The plan of a whole network: each pair planned after all of its demanders, pegging, and planned
+//! orders.
 #![tactic(auto)]
 
 mod explosion;
 mod fitting;
 mod laws;
+mod orders;
 mod pegging;
 mod plan;
 mod terms;
 
 pub use fitting::fits;
-pub use laws::{terms_add_up, terms_have_rows};
+pub use laws::{orders_make_releases, terms_add_up, terms_have_rows};
+pub use orders::{PlannedOrder, planned_order};
 pub use pegging::peg;
 pub use plan::{Plan, plan_all};
 pub use terms::{PegSource, PegTerm};

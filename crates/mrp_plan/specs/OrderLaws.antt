@@ -1,0 +1,22 @@
+-- Laws of planned orders: together they are the planned order releases, and those that are late are the late orders.
+use Rattle.std.specs.Prelude.{◌≡◌, ℕ, ◌<◌, ◌==◌, nat_lt, List, map, filter, sum_by, slice_index}
+use Rattle.mrp_lot.specs.One.{PlanRows}
+use Rattle.mrp_lot.specs.declared.params.Late.{Late}
+use Rattle.mrp_rows.specs.Table.{Table, IsPair, horizon}
+use Rattle.mrp_net.specs.Plan.{Fits, rows_at}
+use Rattle.mrp_plan.specs.declared.orders.PlannedOrder.{PlannedOrder}
+use Rattle.mrp_plan.specs.Orders.{orders_of}
+
+-- the orders of a pair that are released in a period add up to its planned order release there
+abbrev pub OrdersMakeReleases : Type 0
+OrdersMakeReleases = (N : Table) (table : List PlanRows) → Fits N table → (x r : ℕ) → IsPair N x → r < horizon N
+    → sum_by (λ o. o.quantity) (filter (λ o. o.release == r) (orders_of N table x)) ≡ slice_index (rows_at table x).release r
+
+-- the late order that a planned order is
+abbrev pub late_of : PlannedOrder → Late
+late_of o = record { period = o.due; quantity = o.quantity; by = o.late }
+
+-- the orders of a pair to which periods are missing are its late orders, in their order
+abbrev pub LateOrdersAreOrders : Type 0
+LateOrdersAreOrders = (N : Table) (table : List PlanRows) → Fits N table → (x : ℕ) → IsPair N x
+    → map late_of (filter (λ o. nat_lt 0 o.late) (orders_of N table x)) ≡ (rows_at table x).late
