@@ -9,6 +9,15 @@ pub const MOST_CAPACITY: u64 = 65_536;
 /// The last period that may be asked about: that of the longest horizon, counted from 0.
 pub const LAST_PERIOD: u64 = 103;
 
+/// Whether a report begins with a row that names its columns.
+#[derive(Clone, Copy, Debug, PartialEq, Eq)]
+pub enum Heading {
+    /// It has its rows alone.
+    Without,
+    /// It begins with the names of its columns.
+    Names,
+}
+
 /// What the program is asked to do.
 #[derive(Clone, Copy, Debug, PartialEq, Eq)]
 pub enum Choice<'a> {
@@ -22,7 +31,10 @@ pub enum Choice<'a> {
         single: bool,
     },
     /// Write the low-level codes.
-    Check,
+    Check {
+        /// Whether the names of the columns stand above them.
+        heading: Heading,
+    },
     /// Write what a gross requirement consists of.
     Peg {
         /// The name of the plant.
@@ -31,7 +43,20 @@ pub enum Choice<'a> {
         item: &'a str,
         /// The period, 0 to [`LAST_PERIOD`].
         period: u64,
+        /// Whether the names of the columns stand above the terms.
+        heading: Heading,
     },
     /// Write the cumulative figures of the lanes between plants.
-    Cums,
+    Cums {
+        /// Whether the names of the columns stand above them.
+        heading: Heading,
+    },
+    /// Write the planned orders.
+    Orders {
+        /// The last period of a release, 0 to [`LAST_PERIOD`]: orders that are released later are left
+        /// out. Without it none is.
+        until: Option<u64>,
+        /// Whether the names of the columns stand above them.
+        heading: Heading,
+    },
 }

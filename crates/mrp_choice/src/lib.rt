@@ -1,4 +1,4 @@
-//! What the planner may be asked to do: the four commands with their values.
+//! What the planner may be asked to do: the five commands with their values.
 //!
 //! A program of one's own makes a [`Choice`] and hands it to the text functions; `mrp_words` reads one from the
 //! words of a command line.
@@ -7,5 +7,5 @@
 mod choice;
 mod laws;
 
-pub use choice::{Choice, LAST_PERIOD, MOST_CAPACITY, MOST_WORKERS};
+pub use choice::{Choice, Heading, LAST_PERIOD, MOST_CAPACITY, MOST_WORKERS};
 pub use laws::limits_are_numbers;

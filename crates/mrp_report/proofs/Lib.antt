@@ -6,3 +6,6 @@ pub mod PlainFacts
 pub mod ReadBack
 pub mod SheetFacts
 pub mod RoomFacts
+pub mod SupplyTexts
+pub mod SupplyFacts
+pub mod OrderFacts

@@ -127,3 +127,10 @@ whole_text before now text none so_far = so_far ∙ ap (λ xs. xs ++ text) none
 pub all_rows : {E : Type 0} (r : Result (Vec ℕ Global) E) (before now text : List ℕ) → IfOk r (λ v. v.items ≡ now) → now ≡ before ++ text → before ≡ []
     → IfOk r (λ v. v.items ≡ text)
 all_rows r before now text whole so_far none = IfOk-weaker r _ _ (λ v e. e ∙ whole_text before now text none so_far) whole
+
+-- the same after the names of the columns
+pub headed_rows : {E : Type 0} (r : Result (Vec ℕ Global) E) (first before now names text : List ℕ) → IfOk r (λ v. v.items ≡ now) → now ≡ before ++ text
+    → before ≡ first ++ names → first ≡ [] → IfOk r (λ v. v.items ≡ names ++ text)
+headed_rows r first before now names text whole so_far headed none =
+    let at_first : before ≡ names = headed ∙ ap (λ xs. xs ++ names) none in
+    IfOk-weaker r _ _ (λ v e. e ∙ so_far ∙ ap (λ xs. xs ++ text) at_first) whole

@@ -1,5 +1,5 @@
 -- Each report is the rows of its sheet.
-use Rattle.std.proofs.Common.{◌≡◌, ◌-◌, ◌++◌, ◌∙◌, ℕ, List, [], ◌∷◌, length, map, All, decimal, refl, sym, ap, arith}
+use Rattle.std.proofs.Common.{◌≡◌, ◌-◌, ◌++◌, ◌∙◌, ℕ, List, [], ◌∷◌, Option, length, map, All, decimal, refl, sym, ap, arith}
 use Rattle.std.specs.Prelude.{slice_index}
 use Rattle.std.specs.List.{flat_map, range_with_len}
 use Rattle.std.proofs.lemmas.List.Elements.{All-append, All-cons, All-nil}
@@ -8,24 +8,31 @@ use Rattle.csv.specs.Reading.{strip_bom}
 use Rattle.mrp_lot.specs.One.{PlanRows}
 use Rattle.mrp_lot.specs.declared.params.Late.{Late}
 use Rattle.mrp_rows.specs.Table.{IsTable, Table}
+use Rattle.mrp_choice.specs.declared.choice.Heading.{Heading}
+use Rattle.mrp_choice.specs.declared.choice.Heading.TheVariants.{Without, Names}
 use Rattle.mrp_net.specs.Lanes.{lane_at}
 use Rattle.mrp_net.specs.Plan.{rows_at}
 use Rattle.mrp_net.specs.Sums.{pair_at}
 use Rattle.mrp_net.specs.declared.lane.Lane.{Lane}
 use Rattle.mrp_net.specs.declared.lane.LaneKind.{LaneKind}
 use Rattle.mrp_net.specs.declared.lane.LaneKind.TheVariants.{Despatch, Schedule}
+use Rattle.mrp_plan.specs.Orders.{orders_by}
+use Rattle.mrp_plan.specs.declared.orders.PlannedOrder.{PlannedOrder}
 use Rattle.mrp_plan.specs.declared.terms.PegTerm.{PegTerm}
 use Rattle.mrp_plan.specs.declared.terms.PegSource.{PegSource}
 use Rattle.mrp_plan.specs.declared.terms.PegSource.TheVariants.{Demand, Bill, Plant}
 use Rattle.mrp_book.specs.declared.figure.LaneFigure.{LaneFigure}
 use Rattle.mrp_report.specs.declared.plan.Period.{Period}
 use Rattle.mrp_report.specs.Dates.{dates_of}
+use Rattle.mrp_report.specs.Headings.{code_names, header_row, lane_names, order_names, peg_names}
 use Rattle.mrp_report.specs.Lanes.{figure_fields, figure_row, kind_word, lane_text}
-use Rattle.mrp_report.specs.Laws.{CodesAreReadBack, FiguresAreReadBack, LateOrdersAreReadBack, PlanIsReadBack, PlanWithLateOrdersIsReadBack, TermsAreReadBack}
+use Rattle.mrp_report.specs.Laws.{CodesAreReadBack, FiguresAreReadBack, LateOrdersAreReadBack, OrdersAreReadBack, PlanIsReadBack, PlanWithLateOrdersIsReadBack, TermsAreReadBack}
+use Rattle.mrp_report.specs.Orders.{order_fields, order_row, order_text, orders_text, pair_orders_text, supply_at}
 use Rattle.mrp_report.specs.Report.{code_fields, code_row, code_text, date_at, item_of, late_fields, late_row, late_text, pair_text, pairs_of, peg_fields, peg_row, peg_text, period_at, plan_fields, plan_row, plan_text, plant_of, source_word}
 use Rattle.mrp_report.specs.Rows.{row}
-use Rattle.mrp_report.specs.Sheets.{IsPlain, code_sheet, lane_sheet, late_sheet, pair_sheet, peg_sheet, plan_sheet}
+use Rattle.mrp_report.specs.Sheets.{IsPlain, IsReadAs, Sheet, code_sheet, header_sheet, lane_sheet, late_sheet, pair_orders_sheet, pair_sheet, peg_sheet, plan_sheet}
 use Rattle.mrp_report.proofs.PlainFacts.{dates_plain, item_plain, number_plain, plant_plain}
+use Rattle.mrp_report.proofs.SupplyTexts.{supply_plain}
 use Rattle.mrp_report.proofs.ReadBack.{IsRow, all_each, all_map, row_each, rows_each, sheet_read}
 
 -- plain fields, one by one
@@ -119,6 +126,14 @@ together_is_read N is table =
     (ap (λ t. t ++ late_text N table) (plan_is_sheet N table) ∙ ap (λ t. flat_map row plan ++ t) (late_is_sheet N table) ∙ sym (flat_map-append row plan late))
     (All-append IsRow plan late (plan_rows_are N is table) (late_rows_are N is table))
 
+-- ---- the names of columns
+
+headed_read : (heading : Heading) (names : List (List ℕ)) → IsRow names → (text : List ℕ) (sheet : Sheet) → text ≡ flat_map row sheet → All IsRow sheet
+    → IsReadAs (header_row heading names ++ text) (header_sheet heading names ++ sheet)
+headed_read Without names is text sheet same rows = sheet_read text sheet same rows
+headed_read Names names is text sheet same rows =
+    sheet_read (row names ++ text) (names ∷ sheet) (ap (λ t. row names ++ t) same) (All-cons IsRow names sheet is rows)
+
 -- ---- terms of a gross requirement
 
 source_plain : (source : PegSource) → IsPlain (source_word source)
@@ -142,8 +157,17 @@ peg_is_sheet : (N : Table) (terms : List PegTerm) → peg_text N terms ≡ flat_
 unfolding peg_text peg_row
 peg_is_sheet N terms = row_each (peg_fields N) terms
 
+peg_names_are_row : IsRow peg_names
+unfolding row strip_bom
+peg_names_are_row = record {
+  plain = let are : ArePlain peg_names = more refl (more refl (more refl (more refl (more refl (more refl (more refl none)))))) in are.all;
+  many = omega arith;
+  front = λ rest. refl;
+}
+
 pub peg_is_read : TermsAreReadBack
-peg_is_read N is terms = sheet_read (peg_text N terms) (peg_sheet N terms) (peg_is_sheet N terms) (all_map (peg_fields N) (peg_is_row N is) terms)
+peg_is_read N is heading terms =
+    headed_read heading peg_names peg_names_are_row (peg_text N terms) (peg_sheet N terms) (peg_is_sheet N terms) (all_map (peg_fields N) (peg_is_row N is) terms)
 
 -- ---- low-level codes
 
@@ -159,9 +183,17 @@ code_is_sheet : (N : Table) (levels : List ℕ) → code_text N levels ≡ flat_
 unfolding code_text code_row
 code_is_sheet N levels = row_each (λ x. code_fields (plant_of N x) (item_of N x) (slice_index levels x)) (pairs_of N)
 
+code_names_are_row : IsRow code_names
+unfolding row strip_bom
+code_names_are_row = record {
+  plain = let are : ArePlain code_names = more refl (more refl (more refl (more refl none))) in are.all;
+  many = omega arith;
+  front = λ rest. refl;
+}
+
 pub code_is_read : CodesAreReadBack
-code_is_read N is levels =
-    sheet_read (code_text N levels) (code_sheet N levels) (code_is_sheet N levels)
+code_is_read N is heading levels =
+    headed_read heading code_names code_names_are_row (code_text N levels) (code_sheet N levels) (code_is_sheet N levels)
     (all_map (λ x. code_fields (plant_of N x) (item_of N x) (slice_index levels x))
     (λ x. code_is_row (plant_of N x) (item_of N x) (slice_index levels x) (plant_plain N is (pair_at N x).plant.0) (item_plain N is (pair_at N x).item.0))
     (pairs_of N))
@@ -188,7 +220,65 @@ lane_is_sheet : (N : Table) (figures : List LaneFigure) → lane_text N figures 
 unfolding lane_text figure_row
 lane_is_sheet N figures = row_each (λ figure. figure_fields N (lane_at N figure.lane.0) figure) figures
 
+lane_names_are_row : IsRow lane_names
+unfolding row strip_bom
+lane_names_are_row = record {
+  plain =
+      let are : ArePlain lane_names =
+      more refl (more refl (more refl (more refl (more refl (more refl (more refl (more refl (more refl none)))))))) in
+      are.all;
+  many = omega arith;
+  front = λ rest. refl;
+}
+
 pub lane_is_read : FiguresAreReadBack
-lane_is_read N is figures =
-    sheet_read (lane_text N figures) (lane_sheet N figures) (lane_is_sheet N figures)
+lane_is_read N is heading figures =
+    headed_read heading lane_names lane_names_are_row (lane_text N figures) (lane_sheet N figures) (lane_is_sheet N figures)
     (all_map (λ figure. figure_fields N (lane_at N figure.lane.0) figure) (λ figure. figure_is_row N is (lane_at N figure.lane.0) figure) figures)
+
+-- ---- planned orders
+
+order_is_row : (plant item supply : List ℕ) (dates : List (List ℕ)) (order : PlannedOrder) → IsPlain plant → IsPlain item → IsPlain supply
+    → ((t : ℕ) → IsPlain (date_at dates t)) → IsRow (order_fields plant item supply dates order)
+unfolding row strip_bom
+order_is_row plant item supply dates order p i s d = record {
+  plain =
+      let are : ArePlain (order_fields plant item supply dates order) =
+      more refl (more p (more i (more s (number order.quantity (number order.release (more (d order.release)
+      (number order.due (more (d order.due) (number order.late none))))))))) in
+      are.all;
+  many = omega arith;
+  front = λ rest. refl;
+}
+
+order_names_are_row : IsRow order_names
+unfolding row strip_bom
+order_names_are_row = record {
+  plain =
+      let are : ArePlain order_names =
+      more refl (more refl (more refl (more refl (more refl (more refl (more refl (more refl (more refl (more refl none))))))))) in
+      are.all;
+  many = omega arith;
+  front = λ rest. refl;
+}
+
+planned_are_sheet : (until : Option ℕ) (N : Table) (table : List PlanRows) → orders_text until N table ≡ flat_map row (flat_map (pair_orders_sheet until N table) (pairs_of N))
+unfolding orders_text pair_orders_text order_row
+planned_are_sheet until N table =
+    rows_each (pair_orders_text until N table) (pair_orders_sheet until N table)
+    (λ x. row_each (order_fields (plant_of N x) (item_of N x) (supply_at N x) (dates_of N.calendar)) (orders_by until N table x)) (pairs_of N)
+
+planned_rows_are : (until : Option ℕ) (N : Table) → IsTable N → (table : List PlanRows) → All IsRow (flat_map (pair_orders_sheet until N table) (pairs_of N))
+planned_rows_are until N is table =
+    all_each (pair_orders_sheet until N table)
+    (λ x. all_map (order_fields (plant_of N x) (item_of N x) (supply_at N x) (dates_of N.calendar))
+    (λ order. order_is_row (plant_of N x) (item_of N x) (supply_at N x) (dates_of N.calendar) order (plant_plain N is (pair_at N x).plant.0)
+    (item_plain N is (pair_at N x).item.0) (supply_plain N is x) (dates_plain N.calendar))
+    (orders_by until N table x))
+    (pairs_of N)
+
+pub order_is_read : OrdersAreReadBack
+unfolding order_text
+order_is_read N is heading until table =
+    headed_read heading order_names order_names_are_row (orders_text until N table) (flat_map (pair_orders_sheet until N table) (pairs_of N))
+    (planned_are_sheet until N table) (planned_rows_are until N is table)

@@ -1,7 +1,10 @@
 pub mod Sending
 pub mod Rows
 pub mod Dates
+pub mod Headings
 pub mod Report
+pub mod Orders
+pub mod OrderLines
 pub mod Lanes
 pub mod Parts
 pub mod Sheets

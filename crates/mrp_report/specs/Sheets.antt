@@ -1,16 +1,21 @@
 -- The reports as sheets: what a reader of comma-separated values has to find in them.
-use Rattle.std.specs.Prelude.{◌≡◌, ℕ, false, List, length, map, slice_index, All}
+use Rattle.std.specs.Prelude.{◌≡◌, ℕ, false, List, [], ◌∷◌, ◌++◌, length, map, slice_index, Option, All}
 use Rattle.std.specs.List.{flat_map, range_with_len}
 use Rattle.csv.specs.Reading.{default_config, records, strip_bom}
 use Rattle.csv.specs.Writing.{default_writer, needs_quotes}
 use Rattle.mrp_lot.specs.One.{PlanRows}
 use Rattle.mrp_rows.specs.Table.{Table}
+use Rattle.mrp_choice.specs.declared.choice.Heading.{Heading}
+use Rattle.mrp_choice.specs.declared.choice.Heading.TheVariants.{Without, Names}
 use Rattle.mrp_net.specs.Lanes.{lane_at}
 use Rattle.mrp_net.specs.Plan.{rows_at}
+use Rattle.mrp_plan.specs.Orders.{orders_by}
 use Rattle.mrp_plan.specs.declared.terms.PegTerm.{PegTerm}
 use Rattle.mrp_book.specs.declared.figure.LaneFigure.{LaneFigure}
 use Rattle.mrp_report.specs.Dates.{dates_of}
+use Rattle.mrp_report.specs.Headings.{order_names}
 use Rattle.mrp_report.specs.Lanes.{figure_fields}
+use Rattle.mrp_report.specs.Orders.{order_fields, supply_at}
 use Rattle.mrp_report.specs.Report.{code_fields, date_at, item_of, late_fields, pairs_of, peg_fields, period_at, plan_fields, plant_of}
 
 -- a sheet: its rows, each a list of fields
@@ -53,3 +58,16 @@ code_sheet N codes = map (λ x. code_fields (plant_of N x) (item_of N x) (slice_
 -- the figures of lanes, in their order
 abbrev pub lane_sheet : Table → List LaneFigure → Sheet
 lane_sheet N figures = map (λ figure. figure_fields N (lane_at N figure.lane.0) figure) figures
+
+-- the names of the columns, where they are asked for
+abbrev pub header_sheet : Heading → List (List ℕ) → Sheet
+header_sheet Without names = []
+header_sheet Names names = names ∷ []
+
+-- the planned orders of each pair that are released by then, in table order and in rising due period
+abbrev pub pair_orders_sheet : Option ℕ → Table → List PlanRows → ℕ → Sheet
+pair_orders_sheet until N table x =
+    map (order_fields (plant_of N x) (item_of N x) (supply_at N x) (dates_of N.calendar)) (orders_by until N table x)
+
+abbrev pub order_sheet : Heading → Option ℕ → Table → List PlanRows → Sheet
+order_sheet heading until N table = header_sheet heading order_names ++ flat_map (pair_orders_sheet until N table) (pairs_of N)

@@ -3,15 +3,17 @@
 ghost use Rattle.std.specs.Prelude.{◌≡◌, ◌++◌, Err, OnOk, IfOk, IfErr};
 ghost use Rattle.mrp_rows.specs.Table.{IsPair};
 ghost use Rattle.mrp_loops.specs.Loop.{AreCodes};
+ghost use Rattle.mrp_report.specs.Headings.{code_names, header_row};
 ghost use Rattle.mrp_report.specs.Rows.{IsBetweenRows, written};
 ghost use Rattle.mrp_report.specs.Sending.{Sends};
 ghost use Rattle.mrp_report.specs.Report.{code_row, code_text};
 
 use crate::ReportFault;
-use crate::rows::{put_row, room_for, text_of};
+use crate::rows::{put_names, put_row, room_for, text_of};
 use crate::writing::send;
 use csv::Writer;
 use itoa::Buffer;
+use mrp_choice::Heading;
 use mrp_loops::Levels;
 use mrp_net::{Network, PairNo};
 use std::alloc::Global;
@@ -22,7 +24,7 @@ use std::io::Write;
 const LONGEST_ROW: usize = 53;
 
 /// Writes a row for each pair in table order: `code`, plant, item and the pair's low-level code. The
-/// levels are those of the network.
+/// levels are those of the network. The names of the columns stand above them where `heading` says so.
 ///
 /// # Errors
 ///
@@ -33,23 +35,30 @@ pub fn code_rows<W: Write>(
     alloc: Global,
     network: &Network,
     levels: &Levels,
+    heading: Heading,
     out: &mut W,
 ) -> Result<(), ReportFault>
     requires { AreCodes network.now levels.now }
-    ensures text { Sends (W.contents out.old) (W.contents out.new) result (code_text network.now levels.now) }
+    ensures text { Sends (W.contents out.old) (W.contents out.new) result (header_row heading code_names ++ code_text network.now levels.now) }
     ensures untouched { result ≡ Err ReportFault.Memory → out.new ≡ out.old }
 {
-    let text = code_text(alloc, network, levels)?;
+    let text = code_text(alloc, network, levels, heading)?;
     send(text.as_slice(), out)
 }
 
 /// The code rows as bytes.
-fn code_text(alloc: Global, network: &Network, levels: &Levels) -> Result<Vec<u8>, ReportFault>
+fn code_text(
+    alloc: Global,
+    network: &Network,
+    levels: &Levels,
+    heading: Heading,
+) -> Result<Vec<u8>, ReportFault>
     requires { AreCodes network.now levels.now }
-    ensures text { IfOk result (λ text. text.items ≡ code_text network.now levels.now) }
+    ensures text { IfOk result (λ text. text.items ≡ header_row heading code_names ++ code_text network.now levels.now) }
     ensures fault { IfErr result (λ fault. fault ≡ ReportFault.Memory) }
 {
     let mut rows = room_for(alloc, network.pairs(), LONGEST_ROW)?;
+    put_names(&mut rows, heading, &[b"row", b"plant", b"item", b"code"])?;
     'pairs: for x in 0..network.pairs() {
         let (plant, item) = network.pair_name(PairNo(x));
         put_code(&mut rows, plant, item, levels.code(PairNo(x)))?;

@@ -2,16 +2,18 @@
 
 ghost use Rattle.std.specs.Prelude.{◌≡◌, ◌++◌, ◌<◌, Err, OnOk, IfOk, IfErr, All, length};
 ghost use Rattle.mrp_net.specs.Lanes.{lanes};
+ghost use Rattle.mrp_report.specs.Headings.{header_row, lane_names};
 ghost use Rattle.mrp_report.specs.Lanes.{kind_word, lane_row, lane_text, IsFigure};
 ghost use Rattle.mrp_report.specs.Rows.{IsBetweenRows, written};
 ghost use Rattle.mrp_report.specs.Sending.{Sends};
 
 use crate::ReportFault;
-use crate::rows::{put_row, room_for, text_of};
+use crate::rows::{put_names, put_row, room_for, text_of};
 use crate::writing::send;
 use csv::Writer;
 use itoa::Buffer;
 use mrp_book::LaneFigure;
+use mrp_choice::Heading;
 use mrp_net::{LaneKind, Network};
 use std::alloc::Global;
 use std::io::Write;
@@ -24,7 +26,8 @@ const LONGEST_ROW: usize = 145;
 /// sender and its receiver, the item, and in pieces the opening figure, the figure shipped, the figure
 /// received, and what is in transit, their difference.
 ///
-/// Each figure is of a lane and an item of the network, and has no more received than shipped.
+/// Each figure is of a lane and an item of the network, and has no more received than shipped. The names
+/// of the columns stand above them where `heading` says so.
 ///
 /// # Errors
 ///
@@ -35,13 +38,14 @@ pub fn lane_rows<W: Write>(
     alloc: Global,
     network: &Network,
     figures: &[LaneFigure],
+    heading: Heading,
     out: &mut W,
 ) -> Result<(), ReportFault>
     requires { All (IsFigure network.now) figures.now }
-    ensures text { Sends (W.contents out.old) (W.contents out.new) result (lane_text network.now figures.now) }
+    ensures text { Sends (W.contents out.old) (W.contents out.new) result (header_row heading lane_names ++ lane_text network.now figures.now) }
     ensures untouched { result ≡ Err ReportFault.Memory → out.new ≡ out.old }
 {
-    let text = lane_text(alloc, network, figures)?;
+    let text = lane_text(alloc, network, figures, heading)?;
     send(text.as_slice(), out)
 }
 
@@ -50,16 +54,42 @@ fn lane_text(
     alloc: Global,
     network: &Network,
     figures: &[LaneFigure],
+    heading: Heading,
 ) -> Result<Vec<u8>, ReportFault>
     requires { All (IsFigure network.now) figures.now }
-    ensures text { IfOk result (λ text. text.items ≡ lane_text network.now figures.now) }
+    ensures text { IfOk result (λ text. text.items ≡ header_row heading lane_names ++ lane_text network.now figures.now) }
     ensures fault { IfErr result (λ fault. fault ≡ ReportFault.Memory) }
 {
     let mut rows = room_for(alloc, figures.len(), LONGEST_ROW)?;
+    put_lane_names(&mut rows, heading)?;
     'figures: for figure in figures {
         put_figure(&mut rows, network, *figure)?;
     }
     text_of(rows)
+}
+
+/// Adds the names of the columns, where they are asked for.
+fn put_lane_names(rows: &mut Writer<Vec<u8>>, heading: Heading) -> Result<(), ReportFault>
+    requires { IsBetweenRows rows.old }
+    ensures names { OnOk result (written rows.new ≡ written rows.old ++ header_row heading lane_names) }
+    ensures between { OnOk result (IsBetweenRows rows.new) }
+    ensures fault { IfErr result (λ fault. fault ≡ ReportFault.Memory) }
+{
+    put_names(
+        rows,
+        heading,
+        &[
+            b"row",
+            b"kind",
+            b"sender",
+            b"receiver",
+            b"item",
+            b"opening",
+            b"shipped",
+            b"received",
+            b"transit",
+        ],
+    )
 }
 
 /// What a row calls the kind of a lane.

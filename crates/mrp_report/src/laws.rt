@@ -1,9 +1,10 @@
 //! Laws of the reports. Each is the contract of a function that does nothing.
 ghost use Rattle.mrp_report.specs.Laws.{PlanIsReadBack, LateOrdersAreReadBack, PlanWithLateOrdersIsReadBack};
-ghost use Rattle.mrp_report.specs.Laws.{TermsAreReadBack, CodesAreReadBack, FiguresAreReadBack};
+ghost use Rattle.mrp_report.specs.Laws.{TermsAreReadBack, CodesAreReadBack, FiguresAreReadBack, OrdersAreReadBack};
 
 /// What csv reads of a report is exactly the fields that its rows are made of, row by row, and none
-/// of them needs quotes; so too of the plan rows and the late orders together.
+/// of them needs quotes; so too of the plan rows and the late orders together, and of the others with the
+/// names of their columns above them.
 pub fn reports_are_read_back()
     ensures plan { PlanIsReadBack }
     ensures late { LateOrdersAreReadBack }
@@ -11,4 +12,5 @@ pub fn reports_are_read_back()
     ensures pegs { TermsAreReadBack }
     ensures codes { CodesAreReadBack }
     ensures lanes { FiguresAreReadBack }
+    ensures orders { OrdersAreReadBack }
 {}

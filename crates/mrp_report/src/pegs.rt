@@ -2,15 +2,17 @@
 
 ghost use Rattle.std.specs.Prelude.{◌≡◌, ◌++◌, Err, OnOk, IfOk, IfErr, All};
 ghost use Rattle.mrp_rows.specs.Table.{IsPair};
+ghost use Rattle.mrp_report.specs.Headings.{header_row, peg_names};
 ghost use Rattle.mrp_report.specs.Rows.{IsBetweenRows, written};
 ghost use Rattle.mrp_report.specs.Sending.{Sends};
 ghost use Rattle.mrp_report.specs.Report.{peg_row, peg_text, source_word};
 
 use crate::ReportFault;
-use crate::rows::{put_row, room_for, text_of};
+use crate::rows::{put_names, put_row, room_for, text_of};
 use crate::writing::send;
 use csv::Writer;
 use itoa::Buffer;
+use mrp_choice::Heading;
 use mrp_loops::SizedNet;
 use mrp_net::Network;
 use mrp_plan::{PegSource, PegTerm};
@@ -24,7 +26,8 @@ const LONGEST_ROW: usize = 95;
 /// Writes a row for each term in its order: `peg`, the source (`demand`, `bill` or `plant`), plant and
 /// item of the pair that asks, its release, the pieces for each piece of it, and their product.
 ///
-/// Each term names a pair of the network.
+/// Each term names a pair of the network. The names of the columns stand above the terms where `heading`
+/// says so.
 ///
 /// # Errors
 ///
@@ -35,27 +38,56 @@ pub fn peg_rows<W: Write>(
     alloc: Global,
     net: &SizedNet<'_>,
     terms: &[PegTerm],
+    heading: Heading,
     out: &mut W,
 ) -> Result<(), ReportFault>
     requires { All (λ term. IsPair net.now.network term.pair.0) terms.now }
-    ensures text { Sends (W.contents out.old) (W.contents out.new) result (peg_text net.now.network terms.now) }
+    ensures text { Sends (W.contents out.old) (W.contents out.new) result (header_row heading peg_names ++ peg_text net.now.network terms.now) }
     ensures untouched { result ≡ Err ReportFault.Memory → out.new ≡ out.old }
 {
-    let text = peg_text(alloc, net.network(), terms)?;
+    let text = peg_text(alloc, net.network(), terms, heading)?;
     send(text.as_slice(), out)
 }
 
 /// The rows of the terms as bytes.
-fn peg_text(alloc: Global, network: &Network, terms: &[PegTerm]) -> Result<Vec<u8>, ReportFault>
+fn peg_text(
+    alloc: Global,
+    network: &Network,
+    terms: &[PegTerm],
+    heading: Heading,
+) -> Result<Vec<u8>, ReportFault>
     requires { All (λ term. IsPair network.now term.pair.0) terms.now }
-    ensures text { IfOk result (λ text. text.items ≡ peg_text network.now terms.now) }
+    ensures text { IfOk result (λ text. text.items ≡ header_row heading peg_names ++ peg_text network.now terms.now) }
     ensures fault { IfErr result (λ fault. fault ≡ ReportFault.Memory) }
 {
     let mut rows = room_for(alloc, terms.len(), LONGEST_ROW)?;
+    put_peg_names(&mut rows, heading)?;
     'terms: for term in terms {
         put_term(&mut rows, network, *term)?;
     }
     text_of(rows)
+}
+
+/// Adds the names of the columns, where they are asked for.
+fn put_peg_names(rows: &mut Writer<Vec<u8>>, heading: Heading) -> Result<(), ReportFault>
+    requires { IsBetweenRows rows.old }
+    ensures names { OnOk result (written rows.new ≡ written rows.old ++ header_row heading peg_names) }
+    ensures between { OnOk result (IsBetweenRows rows.new) }
+    ensures fault { IfErr result (λ fault. fault ≡ ReportFault.Memory) }
+{
+    put_names(
+        rows,
+        heading,
+        &[
+            b"row",
+            b"source",
+            b"plant",
+            b"item",
+            b"release",
+            b"per",
+            b"quantity",
+        ],
+    )
 }
 
 /// What a row calls the source of a term.

@@ -13,9 +13,9 @@ ghost use Rattle.mrp_report.specs.Parts.{pair_part, parts_text, period_part};
 ghost use Rattle.mrp_report.specs.Report.{HasPeriod, HasPeriods, pairs_text, period_at, plan_text};
 
 use crate::ReportFault;
+use crate::dates::date_texts;
 use crate::writing::send;
 use itoa::write_digits;
-use mrp_cal::Calendar;
 use mrp_loops::SizedNet;
 use mrp_net::{Network, PairNo};
 use mrp_netting::PairPlan;
@@ -162,19 +162,6 @@ fn pairs_text(room: &mut [u8], report: &PlanReport<'_>, first: usize, end: usize
         used = put_pair(room, used, &names[..named], report.dates, plan);
     }
     used
-}
-
-/// The text of each period's date.
-fn date_texts(alloc: Global, calendar: &Calendar) -> Result<Vec<[u8; 10]>, ReportFault>
-    ensures dates { IfOk result (λ dates. dates.items ≡ dates_of calendar.now) }
-    ensures fault { IfErr result (λ fault. fault ≡ ReportFault.Memory) }
-{
-    let periods = calendar.horizon().get() as usize;
-    let mut dates = Vec::with_capacity(alloc, periods)?;
-    'periods: for t in 0..periods {
-        dates.push(calendar.text(t))?;
-    }
-    Ok(dates)
 }
 
 /// Writes what all rows of a pair begin with at the beginning of the names, and returns how much of

@@ -1,10 +1,12 @@
 //! Rows of csv in a room of their own.
 
 ghost use Rattle.std.specs.Prelude.{◌≡◌, ◌≤◌, ◌++◌, map, IfOk, OnOk, IfErr, [], length};
+ghost use Rattle.mrp_report.specs.Headings.{header_row};
 ghost use Rattle.mrp_report.specs.Rows.{row, IsBetweenRows, written};
 
 use crate::ReportFault;
 use csv::{QuoteStyle, Writer, WriterBuilder};
+use mrp_choice::Heading;
 use std::alloc::Global;
 
 /// Room for so many rows of at most so many bytes each.
@@ -43,6 +45,24 @@ pub(crate) fn put_row(rows: &mut Writer<Vec<u8>>, fields: &[&[u8]]) -> Result<()
         return Err(ReportFault::Memory);
     };
     Ok(())
+}
+
+/// Adds a row of the names of the columns, of which there are two and more, where they are asked for.
+pub(crate) fn put_names(
+    rows: &mut Writer<Vec<u8>>,
+    heading: Heading,
+    names: &[&[u8]],
+) -> Result<(), ReportFault>
+    requires between { IsBetweenRows rows.old }
+    requires many { 2 ≤ length names.now }
+    ensures names { OnOk result (written rows.new ≡ written rows.old ++ header_row heading (map (λ name. name.now) names.now)) }
+    ensures between { OnOk result (IsBetweenRows rows.new) }
+    ensures fault { IfErr result (λ fault. fault ≡ ReportFault.Memory) }
+{
+    match heading {
+        Heading::Without => Ok(()),
+        Heading::Names => put_row(rows, names),
+    }
 }
 
 /// The text of the rows.

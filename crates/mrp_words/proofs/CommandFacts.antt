@@ -1,7 +1,7 @@
--- Where no step of the parse fails, the words name one of the four commands, with its values.
+-- Where no step of the parse fails, the words name one of the five commands, with its values.
 use Rattle.std.proofs.Common.{◌≡◌, ◌∙◌, ◌&&◌, ◌||◌, inl, inr, ℕ, Bool, cond, true, false, not, List, [], ◌∷◌, Option, Some, None, codes, option_map, refl, sym, ap, ap₂, subst, is_some, true≢false}
 use Rattle.std.specs.Prelude.{unwrap_or}
-use Rattle.std.specs.List.{list_any}
+use Rattle.std.specs.List.{list_all, list_any}
 use Rattle.std.specs.Option.{option_map_or}
 use Rattle.std.specs.Str.{bytes_eq}
 use Rattle.std.specs.Str.Parse.{digits_value, without_leading_plus}
@@ -9,7 +9,7 @@ use Rattle.std.proofs.lemmas.Slice.Eq.{bytes_eq-Decides}
 use Rattle.clap.specs.Kinds.{Kinds, or_else}
 use Rattle.clap.specs.Takes.{is_given}
 use Rattle.clap.specs.ValueTests.{accepts}
-use Rattle.clap.specs.Walk.{Names, Row, Rule, Text, answers_to, finished, nothing_held, rows_after, settled, stop_after, walk, walk_from}
+use Rattle.clap.specs.Walk.{Names, Row, Rule, Text, answers_to, finished, has_row, nothing_held, rows_after, settled, stop_after, walk, walk_from}
 use Rattle.clap.specs.Faults.{built_fault, check_fault, defaults_fault, entered_fault, level_fault, settle_fault, walk_fault}
 use Rattle.clap.specs.Simple.{App, Shape, argument_words, built, built_leaf, entered, help_shape, inherited, is_simple, label_of, marked_built, names_of, rows_at, with_filled_rules, with_help_flag, with_leaf_noted, with_version_flag}
 use Rattle.clap.specs.Words.{HasKind, fault_of, is_simple_and_free, subcommand_of}
@@ -18,11 +18,11 @@ use Rattle.clap.specs.declared.builder.value_parser.ValueParser.TheVariants.{Uns
 use Rattle.clap.proofs.OnLiterals.{clap_on_literals}
 use Rattle.clap.proofs.ValueTestLemmas.{accepts-Accepts}
 use Rattle.mrp_words.specs.Choice.{IsCommand, IsMeantBy, number_at}
-use Rattle.mrp_words.specs.CommandLine.{check_words, cums_words, mrp, peg_words, plan_words, program_words}
+use Rattle.mrp_words.specs.CommandLine.{check_words, cums_words, mrp, orders_words, peg_words, plan_words, program_words}
 use Rattle.mrp_choice.specs.declared.choice.TheConstants.{MOST_WORKERS, MOST_CAPACITY, LAST_PERIOD}
 use Rattle.mrp_choice.specs.declared.choice.Choice.{Choice}
-use Rattle.mrp_words.specs.Values.{HasFlag, HasNumber, HasPegValues, HasPlanValues, HasText, IsWhole, IsWholeCommand, IsWithin}
-use Rattle.mrp_words.proofs.RowFacts.{asks_at, defaults_gain, either, first_none, given_row, next_none, no_kind, rows_good, unfailed, value_found, walk_good}
+use Rattle.mrp_words.specs.Values.{HasFlag, HasNumber, HasOrderValues, HasPegValues, HasPlanValues, HasText, IsWhole, IsWholeCommand, IsWithin, MayBeWithin, MayHaveNumber}
+use Rattle.mrp_words.proofs.RowFacts.{asks_at, defaults_gain, either, first_none, given_row, has_some, is_plain_rule, next_none, no_kind, no_value, rows_good, rows_pass, unfailed, value_found, value_known, walk_good}
 
 -- ---- the command as clap builds it
 
@@ -44,13 +44,16 @@ peg_leaf = leaf peg_words.top
 abbrev cums_leaf : Shape
 cums_leaf = leaf cums_words.top
 
+abbrev orders_leaf : Shape
+orders_leaf = leaf orders_words.top
+
 abbrev help_leaf : Shape
 help_leaf = built_leaf help_shape
 
 abbrev ready : App
 ready = record {
   top = with_filled_rules (with_version_flag (with_help_flag top));
-  subs = plan_leaf ∷ check_leaf ∷ peg_leaf ∷ cums_leaf ∷ help_leaf ∷ [];
+  subs = plan_leaf ∷ check_leaf ∷ peg_leaf ∷ cums_leaf ∷ orders_leaf ∷ help_leaf ∷ [];
 }
 
 built_is : built mrp ≡ ready
@@ -124,6 +127,54 @@ plan_whole words e =
       single = flag_whole (codes "single") rows single.0 single.1 (only _ single.2);
     }
 
+-- a command whose one argument is the flag for the names of the columns
+header_whole : (s : Shape) (words : List Text) → list_all is_plain_rule s.rules ≡ true → list_any (λ a. bytes_eq a.id (codes "header") && has_some a.defaults) s.rules ≡ true
+    → ((v : Text) → value_known s.rules (codes "header") v ≡ true → accepts false Truth v ≡ true)
+    → level_fault s [] nothing_held words false [] ≡ [] → HasFlag (codes "header") (rows_after s.rules [] words)
+header_whole s words plain filled flag e =
+    let p = level_passes s [] words false [] e in
+    let rows = rows_after s.rules [] words in
+    let kept = (settled s.rules (walk s.rules [] nothing_held words).held).rows in
+    let ok = rows_good s [] words plain p.words_pass p.last_passes in
+    let header = value_found s.rules (codes "header") rows (defaults_gain (codes "header") s.rules kept filled) ok in
+    flag_whole (codes "header") rows header.0 header.1 (flag header.0 header.2)
+
+check_whole : (words : List Text) → level_fault check_leaf [] nothing_held words false [] ≡ [] → HasFlag (codes "header") (rows_after check_leaf.rules [] words)
+check_whole words e = header_whole check_leaf words refl refl (λ v known. only _ known) e
+
+cums_whole : (words : List Text) → level_fault cums_leaf [] nothing_held words false [] ≡ [] → HasFlag (codes "header") (rows_after cums_leaf.rules [] words)
+cums_whole words e = header_whole cums_leaf words refl refl (λ v known. only _ known) e
+
+-- a number that may be left out
+free_number_whole : (rows : List Row) → MayHaveNumber (codes "until") rows → MayBeWithin 0 LAST_PERIOD (number_at (codes "until") rows)
+    → HasFlag (codes "header") rows → HasOrderValues rows
+free_number_whole rows until within header = record { until = until; until_within = within; header = header }
+
+may_be : (least most : ℕ) (number : Option ℕ) → IsWithin least most number → MayBeWithin least most number
+may_be least most None within = tt
+may_be least most (Some n) within = within
+
+orders_whole : (words : List Text) → level_fault orders_leaf [] nothing_held words false [] ≡ [] → HasOrderValues (rows_after orders_leaf.rules [] words)
+orders_whole words e = go (has_row (codes "until") rows) refl
+  where
+    rows : List Row
+    rows = rows_after orders_leaf.rules [] words
+
+    header : HasFlag (codes "header") rows
+    header = header_whole orders_leaf words refl refl (λ v known. only _ known) e
+
+    ok : rows_pass orders_leaf.rules rows ≡ true
+    ok = let p = level_passes orders_leaf [] words false [] e in rows_good orders_leaf [] words refl p.words_pass p.last_passes
+
+    go : (there : Bool) → has_row (codes "until") rows ≡ there → HasOrderValues rows
+    go true there =
+        let until = value_found orders_leaf.rules (codes "until") rows there ok in
+        let number = number_whole (codes "until") rows 0 LAST_PERIOD until.0 until.1 (only _ until.2) in
+        free_number_whole rows (inl number.0) (may_be 0 LAST_PERIOD (number_at (codes "until") rows) number.1) header
+    go false there =
+        let none = no_value (codes "until") rows there in
+        free_number_whole rows (inr none) (subst (MayBeWithin 0 LAST_PERIOD) (sym (ap (option_map (λ text. digits_value 10 (without_leading_plus text))) none.0)) tt) header
+
 three : (a b d r : Bool) → (not a || (not b || (not d || r))) ≡ false → (a ≡ true) × (b ≡ true) × (d ≡ true)
 three true true true r e = (refl, refl, refl)
 three true true false r e = absurd (true≢false e)
@@ -141,28 +192,33 @@ peg_whole words e =
     let item = value_found peg_leaf.rules (codes "item") rows (given_row (codes "item") rows given.1) ok in
     let period = value_found peg_leaf.rules (codes "period") rows (given_row (codes "period") rows given.2) ok in
     let number = number_whole (codes "period") rows 0 LAST_PERIOD period.0 period.1 (only _ period.2) in
+    let kept = (settled peg_leaf.rules (walk peg_leaf.rules [] nothing_held words).held).rows in
+    let header = value_found peg_leaf.rules (codes "header") rows (defaults_gain (codes "header") peg_leaf.rules kept refl) ok in
     record {
       plant = (plant.0, plant.1.0);
       item = (item.0, item.1.0);
       period = number.0;
       period_within = number.1;
+      header = flag_whole (codes "header") rows header.0 header.1 (only _ header.2);
     }
 
 -- ---- the command
 
-abbrev pick : Bool → Bool → Bool → Bool → Bool → Option Shape
-pick plan check peg cums help =
-    cond plan (Some plan_leaf) (cond check (Some check_leaf) (cond peg (Some peg_leaf) (cond cums (Some cums_leaf) (cond help (Some help_leaf) None))))
+abbrev pick : Bool → Bool → Bool → Bool → Bool → Bool → Option Shape
+pick plan check peg cums orders help =
+    cond plan (Some plan_leaf) (cond check (Some check_leaf) (cond peg (Some peg_leaf)
+    (cond cums (Some cums_leaf) (cond orders (Some orders_leaf) (cond help (Some help_leaf) None)))))
 
-picked : (words : List Text) (plan check peg cums help : Bool) → option_map_or (λ s. level_fault s [] nothing_held words false []) (pick plan check peg cums help) [] ≡ []
-    → is_some (option_map (λ s. rows_at s words) (pick plan check peg cums help)) ≡ true → help ≡ false
-    → IsWholeCommand (option_map (λ s. rows_at s words) (pick plan check peg cums help))
-picked words true check peg cums help e some off = inl (refl, plan_whole words e)
-picked words false true peg cums help e some off = inr (inl refl)
-picked words false false true cums help e some off = inr (inr (inl (refl, peg_whole words e)))
-picked words false false false true help e some off = inr (inr (inr refl))
-picked words false false false false true e some off = absurd (true≢false off)
-picked words false false false false false e some off = absurd (true≢false (sym some))
+picked : (words : List Text) (plan check peg cums orders help : Bool) → option_map_or (λ s. level_fault s [] nothing_held words false []) (pick plan check peg cums orders help) [] ≡ []
+    → is_some (option_map (λ s. rows_at s words) (pick plan check peg cums orders help)) ≡ true → help ≡ false
+    → IsWholeCommand (option_map (λ s. rows_at s words) (pick plan check peg cums orders help))
+picked words true check peg cums orders help e some off = inl (refl, plan_whole words e)
+picked words false true peg cums orders help e some off = inr (inl (refl, check_whole words e))
+picked words false false true cums orders help e some off = inr (inr (inl (refl, peg_whole words e)))
+picked words false false false true orders help e some off = inr (inr (inr (inl (refl, cums_whole words e))))
+picked words false false false false true help e some off = inr (inr (inr (inr (refl, orders_whole words e))))
+picked words false false false false false true e some off = absurd (true≢false off)
+picked words false false false false false false e some off = absurd (true≢false (sym some))
 
 no_help : (name : Text) (aliases : Bool) → (bytes_eq name (codes "help") && true) ≡ false → aliases ≡ false → (bytes_eq (codes "help") name || aliases) ≡ false
 no_help name aliases e none = go (bytes_eq (codes "help") name) refl
@@ -177,7 +233,7 @@ no_help name aliases e none = go (bytes_eq (codes "help") name) refl
 stopped_whole : (stop : Option (Text × List Text)) → entered_fault ready stop ≡ [] → is_some (entered ready stop) ≡ true → asks_at ready.top refl stop ≡ false
     → IsWholeCommand (entered ready stop)
 stopped_whole None e some off = absurd (true≢false (sym some))
-stopped_whole (Some p) e some off = picked p.1 (answers_to p.0 (label_of plan_leaf)) (answers_to p.0 (label_of check_leaf)) (answers_to p.0 (label_of peg_leaf)) (answers_to p.0 (label_of cums_leaf)) (answers_to p.0 (label_of help_leaf))
+stopped_whole (Some p) e some off = picked p.1 (answers_to p.0 (label_of plan_leaf)) (answers_to p.0 (label_of check_leaf)) (answers_to p.0 (label_of peg_leaf)) (answers_to p.0 (label_of cums_leaf)) (answers_to p.0 (label_of orders_leaf)) (answers_to p.0 (label_of help_leaf))
     e some (no_help p.0 false off refl)
 
 has_command : (rows : List Row) (has : Bool) → check_fault ready.top rows has ≡ [] → has ≡ true

@@ -25,6 +25,8 @@ use Rattle.clap.specs.declared.error.kind.ErrorKind.{ErrorKind}
 use Rattle.clap.specs.declared.parser.matches.ValueSource.{ValueSource}
 use Rattle.clap.specs.declared.parser.matches.ValueSource.TheVariants.{CommandLine, DefaultValue}
 use Rattle.clap.proofs.WalkLemmas.{both}
+use Rattle.clap.specs.Words.{one_of}
+use Rattle.mrp_words.specs.Choice.{text_at}
 use Rattle.mrp_words.specs.Values.{HasText}
 
 -- ---- tests
@@ -525,3 +527,18 @@ value_found c id rows h ok = from (row_found c id rows h ok)
         let parts = both (list_all (value_known c g.0.id) g.0.values) (has_some g.0.values && as_written g.0.reading) g.2 in
         let rest = both (has_some g.0.values) (as_written g.0.reading) parts.1 in
         go g.0 g.1 g.3 rest.1 g.0.values refl rest.0 parts.0
+
+-- an argument without a row has no value
+pub no_value : (id : Text) (rows : List Row) → has_row id rows ≡ false → (text_at id rows ≡ None) × (one_of id rows ≡ None)
+no_value id rows none =
+    let found : find (λ (x : Row). bytes_eq x.id id) rows ≡ None = not_found rows none in
+    (ap (option_and_then (λ (x : Row). slice_get x.values 0)) found, ap (option_and_then row_text) found)
+  where
+    not_found : (rows : List Row) → has_row id rows ≡ false → find (λ (x : Row). bytes_eq x.id id) rows ≡ None
+    not_found [] e = refl
+    not_found (r ∷ rs) e = go (bytes_eq r.id id) e (not_found rs)
+      where
+        go : (t : Bool) → (t || has_row id rs) ≡ false → (has_row id rs ≡ false → find (λ (x : Row). bytes_eq x.id id) rs ≡ None)
+            → cond t (Some r) (find (λ (x : Row). bytes_eq x.id id) rs) ≡ None
+        go true e rec = absurd (true≢false e)
+        go false e rec = rec e

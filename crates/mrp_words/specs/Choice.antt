@@ -1,5 +1,5 @@
 -- Which choice the words of a command line are.
-use Rattle.std.specs.Prelude.{◌≡◌, ℕ, Bool, false, List, Option, Some, None, codes}
+use Rattle.std.specs.Prelude.{◌≡◌, ℕ, Bool, false, true, List, Option, Some, None, codes}
 use Rattle.std.specs.Prelude.{map, option_map}
 use Rattle.std.specs.Borrow.{Bor}
 use Rattle.std.specs.Option.{option_map_or}
@@ -9,7 +9,9 @@ use Rattle.clap.specs.Words.{HasKind, Row, Text, fault_of, first_of, kind_of, su
 use Rattle.clap.specs.declared.error.kind.ErrorKind.TheVariants.{OutOfMemory}
 use Rattle.mrp_words.specs.CommandLine.{mrp}
 use Rattle.mrp_choice.specs.declared.choice.Choice.{Choice}
-use Rattle.mrp_choice.specs.declared.choice.Choice.TheVariants.{Plan, Check, Peg, Cums}
+use Rattle.mrp_choice.specs.declared.choice.Choice.TheVariants.{Plan, Check, Peg, Cums, Orders}
+use Rattle.mrp_choice.specs.declared.choice.Heading.{Heading}
+use Rattle.mrp_choice.specs.declared.choice.Heading.TheVariants.{Without, Names}
 use Rattle.mrp_words.specs.declared.words.ChooseFault.{ChooseFault}
 use Rattle.mrp_words.specs.declared.words.ChooseFault.TheVariants.{Words, Memory}
 
@@ -30,18 +32,29 @@ number_at name rows =
 abbrev pub flag_at : Text → List Row → Bool
 flag_at name rows = option_map_or (λ text. bytes_eq text (codes "true")) (text_at name rows) false
 
+-- the names of the columns are asked for where the flag is given
+abbrev pub has_names : Heading → Bool
+has_names Without = false
+has_names Names = true
+
+abbrev pub IsHeadedBy : List Row → Heading → Type 0
+IsHeadedBy rows heading = flag_at (codes "header") rows ≡ has_names heading
+
 -- the choice that a subcommand and its values are
 abbrev pub IsCommand : Text → List Row → Choice → Type 0
 IsCommand name rows (Plan workers capacity single) =
     (name ≡ codes "plan") × (number_at (codes "workers") rows ≡ Some workers)
     × (number_at (codes "capacity") rows ≡ Some capacity)
     × (flag_at (codes "single") rows ≡ single)
-IsCommand name rows Check = name ≡ codes "check"
-IsCommand name rows (Peg plant item period) =
+IsCommand name rows (Check heading) = (name ≡ codes "check") × IsHeadedBy rows heading
+IsCommand name rows (Peg plant item period heading) =
     (name ≡ codes "peg") × (text_at (codes "plant") rows ≡ Some plant.now)
     × (text_at (codes "item") rows ≡ Some item.now)
     × (number_at (codes "period") rows ≡ Some period)
-IsCommand name rows Cums = name ≡ codes "cums"
+    × IsHeadedBy rows heading
+IsCommand name rows (Cums heading) = (name ≡ codes "cums") × IsHeadedBy rows heading
+IsCommand name rows (Orders until heading) =
+    (name ≡ codes "orders") × (number_at (codes "until") rows ≡ until) × IsHeadedBy rows heading
 
 -- the same, where there is a subcommand
 abbrev pub IsMeantBy : Option (Text × List Row) → Choice → Type 0

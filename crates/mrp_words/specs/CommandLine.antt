@@ -25,6 +25,14 @@ number_option name least most otherwise = record (new_rule name) {
   defaults = otherwise ∷ [];
 }
 
+-- an option with a number from `least` to `most`, which may be left out
+abbrev pub free_number_option : Text → ℕ → ℕ → Rule
+free_number_option name least most = record (new_rule name) {
+  long = Some name;
+  value_names = 1;
+  parser = Some (Unsigned least most);
+}
+
 -- an option without a value
 abbrev pub flag : Text → Rule
 flag name = record (new_rule name) { long = Some name; action = Some SetTrue }
@@ -37,6 +45,14 @@ capacity = number_option (codes "capacity") 1 MOST_CAPACITY (codes "64")
 
 abbrev pub single : Rule
 single = flag (codes "single")
+
+-- the names of the columns above a report
+abbrev pub header : Rule
+header = flag (codes "header")
+
+-- the last period of a release
+abbrev pub until : Rule
+until = free_number_option (codes "until") 0 LAST_PERIOD
 
 abbrev pub plant : Rule
 plant = wanted (codes "plant")
@@ -51,17 +67,21 @@ period = wanted_number (codes "period") 0 LAST_PERIOD
 abbrev pub plan_words : App
 plan_words = with_rule (with_rule (with_rule (new_app (codes "plan")) workers) capacity) single
 
--- `check`
+-- `check [--header]`
 abbrev pub check_words : App
-check_words = new_app (codes "check")
+check_words = with_rule (new_app (codes "check")) header
 
--- `peg PLANT ITEM PERIOD`
+-- `peg PLANT ITEM PERIOD [--header]`
 abbrev pub peg_words : App
-peg_words = with_rule (with_rule (with_rule (new_app (codes "peg")) plant) item) period
+peg_words = with_rule (with_rule (with_rule (with_rule (new_app (codes "peg")) plant) item) period) header
 
--- `cums`
+-- `cums [--header]`
 abbrev pub cums_words : App
-cums_words = new_app (codes "cums")
+cums_words = with_rule (new_app (codes "cums")) header
+
+-- `orders [--until PERIOD] [--header]`
+abbrev pub orders_words : App
+orders_words = with_rule (with_rule (new_app (codes "orders")) until) header
 
 -- a program of that name, which has a version and has to be given a subcommand
 abbrev pub program_words : Text → App
@@ -70,7 +90,7 @@ program_words name =
       top = record (new_app name).top { has_version = true; subcommand_required = true };
     }
 
--- the command line up to `check`, and up to `peg`
+-- the command line up to `check`, up to `peg`, and up to `cums`
 abbrev pub up_to_check : App
 up_to_check =
     with_subcommand (with_subcommand (program_words (codes "mrp")) plan_words.top) check_words.top
@@ -78,13 +98,18 @@ up_to_check =
 abbrev pub up_to_peg : App
 up_to_peg = with_subcommand up_to_check peg_words.top
 
+abbrev pub up_to_cums : App
+up_to_cums = with_subcommand up_to_peg cums_words.top
+
 -- the command line
 unfoldable pub mrp : App
 mrp = with_subcommand
     (with_subcommand
+    (with_subcommand
     (with_subcommand (with_subcommand (program_words (codes "mrp")) plan_words.top) check_words.top)
     peg_words.top)
-    cums_words.top
+    cums_words.top)
+    orders_words.top
 
 -- the argument has this rule, at its own command alone
 abbrev pub IsRuled : Rule → Arg → Type 0

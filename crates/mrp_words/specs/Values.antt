@@ -18,11 +18,20 @@ IsNumber text = IsNumeral 10 (without_leading_plus text)
 abbrev pub HasNumber : Text → List Row → Type 0
 HasNumber name rows = (text : Text) × HasText name text rows × IsNumber text
 
+-- the argument has a number, or no value
+abbrev pub MayHaveNumber : Text → List Row → Type 0
+MayHaveNumber name rows = HasNumber name rows ⊎ ((text_at name rows ≡ None) × (one_of name rows ≡ None))
+
 abbrev pub HasFlag : Text → List Row → Type 0
 HasFlag name rows = (given : Bool) × HasText name (bool_text given) rows
 
 abbrev pub HasName : Text → List Row → Type 0
 HasName name rows = (text : Text) × (text_at name rows ≡ Some text)
+
+-- the number, if there is one, lies between the two
+abbrev pub MayBeWithin : ℕ → ℕ → Option ℕ → Type 0
+MayBeWithin least most None = Unit {0}
+MayBeWithin least most (Some n) = (least ≤ n) × (n ≤ most)
 
 -- the number lies between the two
 abbrev pub IsWithin : ℕ → ℕ → Option ℕ → Type 0
@@ -40,11 +49,19 @@ pub record HasPegValues (rows : List Row) : Type 0 where
   pub item : HasName (codes "item") rows
   pub period : HasNumber (codes "period") rows
   pub period_within : IsWithin 0 LAST_PERIOD (number_at (codes "period") rows)
+  pub header : HasFlag (codes "header") rows
 
--- the command is one of the four, with its values
+pub record HasOrderValues (rows : List Row) : Type 0 where
+  pub until : MayHaveNumber (codes "until") rows
+  pub until_within : MayBeWithin 0 LAST_PERIOD (number_at (codes "until") rows)
+  pub header : HasFlag (codes "header") rows
+
+-- the command is one of the five, with its values
 abbrev pub IsWhole : Text → List Row → Type 0
 IsWhole name rows = ((name ≡ codes "plan") × HasPlanValues rows)
-    ⊎ ((name ≡ codes "check") ⊎ (((name ≡ codes "peg") × HasPegValues rows) ⊎ (name ≡ codes "cums")))
+    ⊎ (((name ≡ codes "check") × HasFlag (codes "header") rows)
+    ⊎ (((name ≡ codes "peg") × HasPegValues rows)
+    ⊎ (((name ≡ codes "cums") × HasFlag (codes "header") rows) ⊎ ((name ≡ codes "orders") × HasOrderValues rows))))
 
 abbrev pub IsWholeCommand : Option (Text × List Row) → Type 0
 IsWholeCommand None = ⊥

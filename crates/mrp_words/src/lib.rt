@@ -11,6 +11,6 @@ mod words;
 
 pub use laws::version_is_asked_for;
 pub use meaning::{Meaning, means};
-pub use mrp_choice::{Choice, LAST_PERIOD, MOST_CAPACITY, MOST_WORKERS};
+pub use mrp_choice::{Choice, Heading, LAST_PERIOD, MOST_CAPACITY, MOST_WORKERS};
 pub use named::named_words;
 pub use words::{ChooseFault, choose};

@@ -4,15 +4,16 @@ ghost use Rattle.std.specs.Prelude.{◌≡◌, ◌≤◌, Some, true, false, [],
 ghost use Rattle.clap.specs.Words.{app_of, fault_of, found_of, new_app, rows_of, subcommand_rows_of, takes};
 ghost use Rattle.clap.specs.declared.builder.value_parser.ValueParser.TheVariants.{Unsigned};
 ghost use Rattle.mrp_choice.specs.Range.{IsInRange};
-ghost use Rattle.mrp_words.specs.Choice.{IsChosenBy, IsCommand, IsMeantBy, IsMemory, IsRefusalOf, flag_at, number_at, text_at, texts_of};
-ghost use Rattle.mrp_words.specs.CommandLine.{IsRuled, IsWorded, mrp, peg_words, plan_words, program_words, up_to_check, up_to_peg};
+ghost use Rattle.mrp_words.specs.Choice.{IsChosenBy, IsCommand, IsHeadedBy, IsMeantBy, IsMemory, IsRefusalOf, flag_at, number_at, text_at, texts_of};
+ghost use Rattle.mrp_words.specs.CommandLine.{IsRuled, IsWorded, check_words, cums_words, mrp, orders_words, peg_words, plan_words, program_words};
+ghost use Rattle.mrp_words.specs.CommandLine.{up_to_check, up_to_cums, up_to_peg};
 ghost use Rattle.mrp_words.specs.CommandLine as rule;
 ghost use Rattle.mrp_choice.specs.declared.choice.TheConstants.{MOST_CAPACITY};
-ghost use Rattle.mrp_words.specs.Values.{HasFlag, HasName, HasNumber, HasPlanValues, HasPegValues, IsWholeCommand};
+ghost use Rattle.mrp_words.specs.Values.{HasFlag, HasName, HasNumber, HasOrderValues, HasPegValues, HasPlanValues, IsWholeCommand, MayHaveNumber};
 
 use clap::builder::ValueParser;
 use clap::{Arg, ArgAction, ArgMatches, Command, value_parser};
-use mrp_choice::{Choice, LAST_PERIOD, MOST_CAPACITY, MOST_WORKERS};
+use mrp_choice::{Choice, Heading, LAST_PERIOD, MOST_CAPACITY, MOST_WORKERS};
 use std::alloc::{AllocError, Global};
 use thiserror::Error;
 
@@ -89,6 +90,16 @@ lane,KIND,SENDER,RECEIVER,ITEM,OPENING,SHIPPED,RECEIVED,TRANSIT";
 
 const CUMS_EXAMPLE: &str = "Example: mrp cums < firm.csv";
 
+const ORDERS: &str = "Write the planned orders, with their releases and their suppliers";
+
+const ORDERS_LONG: &str =
+    "Writes the planned orders of each pair, those alone that are released in PERIOD\n\
+or before it where it is given. SUPPLY is that of the pair's row of the table,\n\
+and LATE how many periods are missing.\n\n  \
+order,PLANT,ITEM,SUPPLY,QUANTITY,RELEASE,RELEASE_DATE,DUE,DUE_DATE,LATE";
+
+const ORDERS_EXAMPLE: &str = "Example: mrp orders --until 0 < bicycle.csv";
+
 /// Reads the words of a command line, of which the first is the program's name: the choice is the
 /// subcommand that `clap` reads in them, with its values. It is made only of words in which `clap`
 /// finds no fault.
@@ -120,10 +131,28 @@ pub fn choose<'a>(alloc: Global, words: &'a [&'a str]) -> Result<Choice<'a>, Cho
 fn program<'a>(alloc: Global) -> Result<Command<'a>, AllocError>
     ensures { IfOk result (λ command. app_of command ≡ mrp) }
 {
+    let Ok(figured) = with_cums(alloc) else {
+        return Err(AllocError);
+    };
+    let Ok(orders) = orders_command(alloc) else {
+        drop(figured);
+        return Err(AllocError);
+    };
+    figured.subcommand(orders)
+}
+
+/// The command line up to `cums`.
+fn with_cums<'a>(alloc: Global) -> Result<Command<'a>, AllocError>
+    ensures { IfOk result (λ command. app_of command ≡ up_to_cums) }
+{
     let Ok(pegged) = with_peg(alloc) else {
         return Err(AllocError);
     };
-    pegged.subcommand(explained(alloc, "cums", CUMS, CUMS_LONG, CUMS_EXAMPLE))
+    let Ok(cums) = cums_command(alloc) else {
+        drop(pegged);
+        return Err(AllocError);
+    };
+    pegged.subcommand(cums)
 }
 
 /// The command line up to `peg`.
@@ -150,7 +179,11 @@ fn with_check<'a>(alloc: Global) -> Result<Command<'a>, AllocError>
     let Ok(planned) = described(alloc).subcommand(plan) else {
         return Err(AllocError);
     };
-    planned.subcommand(explained(alloc, "check", CHECK, CHECK_LONG, CHECK_EXAMPLE))
+    let Ok(check) = check_command(alloc) else {
+        drop(planned);
+        return Err(AllocError);
+    };
+    planned.subcommand(check)
 }
 
 /// What the command line says of itself, without a command.
@@ -249,6 +282,54 @@ fn single_flag<'a>(alloc: Global) -> Arg<'a>
         .help("Plan all plants on one thread")
 }
 
+/// `check`.
+fn check_command<'a>(alloc: Global) -> Result<Command<'a>, AllocError>
+    ensures { IfOk result (IsWorded check_words) }
+{
+    let check = explained(alloc, "check", CHECK, CHECK_LONG, CHECK_EXAMPLE);
+    check.arg(header_flag(alloc))
+}
+
+/// `cums`.
+fn cums_command<'a>(alloc: Global) -> Result<Command<'a>, AllocError>
+    ensures { IfOk result (IsWorded cums_words) }
+{
+    let cums = explained(alloc, "cums", CUMS, CUMS_LONG, CUMS_EXAMPLE);
+    cums.arg(header_flag(alloc))
+}
+
+/// `orders`.
+fn orders_command<'a>(alloc: Global) -> Result<Command<'a>, AllocError>
+    ensures { IfOk result (IsWorded orders_words) }
+{
+    let orders = explained(alloc, "orders", ORDERS, ORDERS_LONG, ORDERS_EXAMPLE);
+    let Ok(with_until) = orders.arg(until_option(alloc)) else {
+        return Err(AllocError);
+    };
+    with_until.arg(header_flag(alloc))
+}
+
+/// `--until`.
+fn until_option<'a>(alloc: Global) -> Arg<'a>
+    ensures { IsRuled rule.until result }
+{
+    Arg::new(alloc, "until")
+        .long("until")
+        .value_name("PERIOD")
+        .value_parser(numbers(0, LAST_PERIOD))
+        .help("The last period of a release, 0 to 103; without it all orders")
+}
+
+/// `--header`.
+fn header_flag<'a>(alloc: Global) -> Arg<'a>
+    ensures { IsRuled rule.header result }
+{
+    Arg::new(alloc, "header")
+        .long("header")
+        .action(ArgAction::SetTrue)
+        .help("Write the names of the columns above the rows")
+}
+
 /// `peg`.
 fn peg_command<'a>(alloc: Global) -> Result<Command<'a>, AllocError>
     ensures { IfOk result (IsWorded peg_words) }
@@ -260,7 +341,10 @@ fn peg_command<'a>(alloc: Global) -> Result<Command<'a>, AllocError>
     let Ok(with_item) = with_plant.arg(item_argument(alloc)) else {
         return Err(AllocError);
     };
-    with_item.arg(period_argument(alloc))
+    let Ok(with_period) = with_item.arg(period_argument(alloc)) else {
+        return Err(AllocError);
+    };
+    with_period.arg(header_flag(alloc))
 }
 
 /// The plant of `peg`.
@@ -307,11 +391,17 @@ fn chosen<'a>(matches: &ArgMatches<'a>) -> Choice<'a>
     if name == "plan" {
         planning(values)
     } else if name == "check" {
-        Choice::Check
+        Choice::Check {
+            heading: heading(values),
+        }
     } else if name == "peg" {
         pegging(values)
+    } else if name == "cums" {
+        Choice::Cums {
+            heading: heading(values),
+        }
     } else {
-        Choice::Cums
+        ordering(values)
     }
 }
 
@@ -338,7 +428,40 @@ fn pegging<'a>(values: &ArgMatches<'a>) -> Choice<'a>
         plant: text(values, "plant"),
         item: text(values, "item"),
         period: number(values, "period"),
+        heading: heading(values),
     }
+}
+
+/// The values of `orders`.
+fn ordering<'a>(values: &ArgMatches<'a>) -> Choice<'a>
+    requires { HasOrderValues (rows_of (found_of values.now)) }
+    ensures range { IsInRange result }
+    ensures choice { IsCommand (codes "orders") (rows_of (found_of values.now)) result }
+{
+    Choice::Orders {
+        until: free_number(values, "until"),
+        heading: heading(values),
+    }
+}
+
+/// Whether the names of the columns are asked for.
+fn heading(values: &ArgMatches<'_>) -> Heading
+    requires { HasFlag (codes "header") (rows_of (found_of values.now)) }
+    ensures { IsHeadedBy (rows_of (found_of values.now)) result }
+{
+    if is_given(values, "header") {
+        Heading::Names
+    } else {
+        Heading::Without
+    }
+}
+
+/// The number of an argument, if it has one.
+fn free_number(values: &ArgMatches<'_>, name: &str) -> Option<u64>
+    requires { MayHaveNumber name.now (rows_of (found_of values.now)) }
+    ensures { number_at name.now (rows_of (found_of values.now)) ≡ result }
+{
+    values.get_one::<u64>(name)
 }
 
 /// The number of an argument that has one.

@@ -1,7 +1,7 @@
 use Rattle.std.proofs.Common.{◌≡◌, length, arith}
 use Rattle.std.specs.Prelude.{slice_index}
 use Rattle.mrp_report.specs.Report.{code_row, code_text, plant_of, item_of}
-use Rattle.mrp_report.proofs.RowFacts.{rows-more, plant_is, item_is, all_rows}
+use Rattle.mrp_report.proofs.RowFacts.{rows-more, plant_is, item_is, headed_rows}
 use Rattle.mrp_report.proofs.codes.code_text.Goals as goal
 
 pub pairs-preserved : goal.pairs-preserved
@@ -19,4 +19,4 @@ pub returns-clause-text : goal.returns-clause-text
 unfolding code_text
 returns-clause-text c =
     let at_end : c.pairs.x ≡ length c.args.network.now.pairs = omega arith in
-    all_rows c.text_of.result _ _ _ c.text_of.ensures.text (rw (← at_end) c.pairs.invariant.so_far) c.in_ok-rows.ensures.empty
+    headed_rows c.text_of.result _ _ _ _ _ c.text_of.ensures.text (rw (← at_end) c.pairs.invariant.so_far) c.in_ok-put_names.ensures.names c.in_ok-rows.ensures.empty

@@ -1,7 +1,7 @@
 use Rattle.std.proofs.Common.{◌≡◌, ◌∙◌, ap, arith}
 use Rattle.mrp_report.specs.Dates.{first_dates}
 use Rattle.mrp_report.proofs.RowFacts.{dates-more}
-use Rattle.mrp_report.proofs.plan.date_texts.Goals as goal
+use Rattle.mrp_report.proofs.dates.date_texts.Goals as goal
 
 pub periods-preserved : goal.periods-preserved
 periods-preserved c =

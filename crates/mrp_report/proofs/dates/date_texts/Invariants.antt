@@ -1,6 +1,6 @@
 use Rattle.std.proofs.Common.{◌≡◌}
 use Rattle.mrp_report.specs.Dates.{first_dates}
-use Rattle.mrp_report.proofs.plan.date_texts.Given as goal
+use Rattle.mrp_report.proofs.dates.date_texts.Given as goal
 
 -- the dates of the periods before t are there
 abbrev pub invariant-periods : goal.invariant-periods

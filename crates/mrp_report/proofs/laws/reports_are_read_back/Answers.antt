@@ -1,4 +1,4 @@
-use Rattle.mrp_report.proofs.SheetFacts.{code_is_read, lane_is_read, late_is_read, peg_is_read, plan_is_read, together_is_read}
+use Rattle.mrp_report.proofs.SheetFacts.{code_is_read, lane_is_read, late_is_read, order_is_read, peg_is_read, plan_is_read, together_is_read}
 use Rattle.mrp_report.proofs.laws.reports_are_read_back.Goals as goal
 
 pub returns-clause-plan : goal.returns-clause-plan
@@ -18,3 +18,6 @@ returns-clause-codes c = code_is_read
 
 pub returns-clause-lanes : goal.returns-clause-lanes
 returns-clause-lanes c = lane_is_read
+
+pub returns-clause-orders : goal.returns-clause-orders
+returns-clause-orders c = order_is_read

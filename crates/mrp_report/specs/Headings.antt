@@ -1,0 +1,32 @@
+-- The names of a report's columns, which may stand as a row above its rows.
+use Rattle.std.specs.Prelude.{ℕ, List, [], ◌∷◌, codes as text_bytes}
+use Rattle.mrp_choice.specs.declared.choice.Heading.{Heading}
+use Rattle.mrp_choice.specs.declared.choice.Heading.TheVariants.{Without, Names}
+use Rattle.mrp_report.specs.Rows.{row}
+
+-- the names as a row, where they are asked for
+abbrev pub header_row : Heading → List (List ℕ) → List ℕ
+header_row Without names = []
+header_row Names names = row names
+
+-- the columns of the planned orders
+abbrev pub order_names : List (List ℕ)
+order_names =
+    text_bytes "row" ∷ text_bytes "plant" ∷ text_bytes "item" ∷ text_bytes "supply" ∷ text_bytes "quantity" ∷ text_bytes "release"
+    ∷ text_bytes "release_date" ∷ text_bytes "due" ∷ text_bytes "due_date" ∷ text_bytes "late" ∷ []
+
+-- of the low-level codes
+abbrev pub code_names : List (List ℕ)
+code_names = text_bytes "row" ∷ text_bytes "plant" ∷ text_bytes "item" ∷ text_bytes "code" ∷ []
+
+-- of the terms of a gross requirement
+abbrev pub peg_names : List (List ℕ)
+peg_names =
+    text_bytes "row" ∷ text_bytes "source" ∷ text_bytes "plant" ∷ text_bytes "item" ∷ text_bytes "release" ∷ text_bytes "per"
+    ∷ text_bytes "quantity" ∷ []
+
+-- of the figures of lanes
+abbrev pub lane_names : List (List ℕ)
+lane_names =
+    text_bytes "row" ∷ text_bytes "kind" ∷ text_bytes "sender" ∷ text_bytes "receiver" ∷ text_bytes "item" ∷ text_bytes "opening"
+    ∷ text_bytes "shipped" ∷ text_bytes "received" ∷ text_bytes "transit" ∷ []

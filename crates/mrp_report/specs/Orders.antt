@@ -1,0 +1,51 @@
+-- The report of planned orders.
+use Rattle.std.specs.Prelude.{ℕ, ◌==◌, if◌then◌else◌, List, [], ◌∷◌, ◌++◌, decimal, codes as text_bytes, Option}
+use Rattle.std.specs.List.{flat_map}
+use Rattle.mrp_qty.specs.declared.limits.TheConstants.{MOST_SHARE}
+use Rattle.mrp_spell.specs.Supplies.{supply_text}
+use Rattle.mrp_lot.specs.One.{PlanRows}
+use Rattle.mrp_rows.specs.Table.{Table}
+use Rattle.mrp_grammar.specs.Written.{supply_said}
+use Rattle.mrp_choice.specs.declared.choice.Heading.{Heading}
+use Rattle.mrp_net.specs.Sums.{pair_at}
+use Rattle.mrp_plan.specs.Orders.{orders_by}
+use Rattle.mrp_plan.specs.declared.orders.PlannedOrder.{PlannedOrder}
+use Rattle.mrp_report.specs.Dates.{dates_of}
+use Rattle.mrp_report.specs.Headings.{header_row, order_names}
+use Rattle.mrp_report.specs.Report.{date_at, item_of, pairs_of, plant_of}
+use Rattle.mrp_report.specs.Rows.{row}
+
+-- where a pair comes from, spelled as in its row of the table
+abbrev pub supply_at : Table → ℕ → List ℕ
+supply_at N x = supply_text (supply_said N x (pair_at N x).supply)
+
+-- the fields of the row of an order: what is ordered, when it is released and due, each with the first day of the period,
+-- and how many periods are missing
+abbrev pub order_fields : List ℕ → List ℕ → List ℕ → List (List ℕ) → PlannedOrder → List (List ℕ)
+order_fields plant item supply dates order =
+    text_bytes "order" ∷ plant ∷ item ∷ supply ∷ decimal order.quantity ∷ decimal order.release ∷ date_at dates order.release
+    ∷ decimal order.due ∷ date_at dates order.due ∷ decimal order.late ∷ []
+
+-- that row
+unfoldable pub order_row : List ℕ → List ℕ → List ℕ → List (List ℕ) → PlannedOrder → List ℕ
+order_row plant item supply dates order = row (order_fields plant item supply dates order)
+
+-- the rows of a pair's orders that are released by then, in rising due period
+unfoldable pub pair_orders_text : Option ℕ → Table → List PlanRows → ℕ → List ℕ
+pair_orders_text until N table x =
+    flat_map (order_row (plant_of N x) (item_of N x) (supply_at N x) (dates_of N.calendar)) (orders_by until N table x)
+
+-- the orders of each pair, in table order
+unfoldable pub orders_text : Option ℕ → Table → List PlanRows → List ℕ
+orders_text until N table = flat_map (pair_orders_text until N table) (pairs_of N)
+
+-- the report: the names of its columns, where they are asked for, and the orders
+unfoldable pub order_text : Heading → Option ℕ → Table → List PlanRows → List ℕ
+order_text heading until N table = header_row heading order_names ++ orders_text until N table
+
+-- what a supply has of one source: a colon and its plant, and then a colon and its share, where that isn't the whole
+abbrev pub share_part : ℕ → List ℕ
+share_part share = if share == MOST_SHARE then [] else 58 ∷ decimal share
+
+abbrev pub source_part : List ℕ → ℕ → List ℕ
+source_part plant share = 58 ∷ plant ++ share_part share

@@ -1,0 +1,272 @@
+//! The order rows: each planned order, with where its pair comes from and when it is released and due.
+
+ghost use Rattle.std.specs.Prelude.{◌≡◌, ◌<◌, ◌++◌, Err, OnOk, IfOk, IfErr, length};
+ghost use Rattle.mrp_rows.specs.Table.{IsPair};
+ghost use Rattle.mrp_net.specs.Plan.{Fits};
+ghost use Rattle.mrp_report.specs.Dates.{dates_of};
+ghost use Rattle.mrp_report.specs.Headings.{header_row, order_names};
+ghost use Rattle.mrp_report.specs.Orders.{order_text, orders_text, pair_orders_text, supply_at};
+ghost use Rattle.mrp_report.specs.OrderLines.{IsLine, due_text, line_row, line_text};
+ghost use Rattle.mrp_report.specs.Report.{date_at};
+ghost use Rattle.mrp_report.specs.Rows.{IsBetweenRows, written};
+ghost use Rattle.mrp_report.specs.Sending.{Sends};
+
+use crate::ReportFault;
+use crate::dates::date_texts;
+use crate::rows::{put_names, put_row, room_for, text_of};
+use crate::supply::put_supply;
+use crate::writing::send;
+use csv::Writer;
+use itoa::Buffer;
+use mrp_choice::Heading;
+use mrp_loops::SizedNet;
+use mrp_net::{Network, PairNo};
+use mrp_netting::PairPlan;
+use mrp_plan::{Plan, PlannedOrder, planned_order};
+use std::alloc::Global;
+use std::io::Write;
+
+/// The most bytes of a row: the word, two names of 20, a supply of four names and shares, a quantity of
+/// 16, three periods or counts of periods of 3 digits each, two dates, the commas and the line feed.
+const LONGEST_ROW: usize = 204;
+
+/// The most bytes of a supply: the word and four names of 20 with shares of 3 digits.
+const LONGEST_SUPPLY: usize = 104;
+
+/// What the order rows are of: a plan, its network, the text of each period's date, and the last period
+/// of a release.
+#[derive(Clone, Copy)]
+struct OrderReport<'a> {
+    network: &'a Network,
+    plan: &'a Plan,
+    dates: &'a [[u8; 10]],
+    until: Option<u64>,
+}
+
+/// What the rows of a pair's orders have in common: the names of its plant and item, where it comes
+/// from, the text of each period's date, its lead time and the last period of a release.
+#[derive(Clone, Copy)]
+pub(crate) struct OrderLine<'a> {
+    pub(crate) plant: &'a str,
+    pub(crate) item: &'a str,
+    pub(crate) supply: &'a [u8],
+    pub(crate) dates: &'a [[u8; 10]],
+    pub(crate) lead: u64,
+    pub(crate) until: Option<u64>,
+}
+
+/// Writes a row for each planned order that is released in period `until` or before it, without it for
+/// each, pairs in table order and due periods in rising order: `order`, plant, item, where the pair
+/// comes from, the quantity in pieces, the period of the release and its first day, the period in which
+/// it is due and its first day, and how many periods are missing, 0 where none is. The names of the
+/// columns stand above them where `heading` says so.
+///
+/// # Errors
+///
+/// - [`ReportFault::WriteFault`] where a write fails or takes nothing; a front of the report is
+///   written.
+/// - [`ReportFault::Memory`] where the room for the report is refused; nothing is written.
+pub fn order_rows<W: Write>(
+    alloc: Global,
+    net: &SizedNet<'_>,
+    plan: &Plan,
+    until: Option<u64>,
+    heading: Heading,
+    out: &mut W,
+) -> Result<(), ReportFault>
+    requires fits { Fits net.now.network plan.now }
+    ensures text { Sends (W.contents out.old) (W.contents out.new) result (order_text heading until net.now.network plan.now) }
+    ensures untouched { result ≡ Err ReportFault.Memory → out.new ≡ out.old }
+{
+    let network = net.network();
+    let dates = date_texts(alloc, network.calendar())?;
+    let report = OrderReport {
+        network,
+        plan,
+        dates: dates.as_slice(),
+        until,
+    };
+    let text = order_text(alloc, &report, heading)?;
+    send(text.as_slice(), out)
+}
+
+/// The order rows as bytes.
+fn order_text(
+    alloc: Global,
+    report: &OrderReport<'_>,
+    heading: Heading,
+) -> Result<Vec<u8>, ReportFault>
+    requires fits { Fits report.now.network.now report.now.plan.now }
+    requires dates { report.now.dates.now ≡ dates_of report.now.network.now.calendar }
+    ensures text { IfOk result (λ text. text.items ≡ order_text heading report.now.until report.now.network.now report.now.plan.now) }
+    ensures fault { IfErr result (λ fault. fault ≡ ReportFault.Memory) }
+{
+    let mut rows = room_for(alloc, report.network.pairs(), LONGEST_ROW)?;
+    put_order_names(&mut rows, heading)?;
+    put_all_orders(&mut rows, alloc, report)?;
+    text_of(rows)
+}
+
+/// Adds the names of the columns, where they are asked for.
+fn put_order_names(rows: &mut Writer<Vec<u8>>, heading: Heading) -> Result<(), ReportFault>
+    requires { IsBetweenRows rows.old }
+    ensures names { OnOk result (written rows.new ≡ written rows.old ++ header_row heading order_names) }
+    ensures between { OnOk result (IsBetweenRows rows.new) }
+    ensures fault { IfErr result (λ fault. fault ≡ ReportFault.Memory) }
+{
+    put_names(
+        rows,
+        heading,
+        &[
+            b"row",
+            b"plant",
+            b"item",
+            b"supply",
+            b"quantity",
+            b"release",
+            b"release_date",
+            b"due",
+            b"due_date",
+            b"late",
+        ],
+    )
+}
+
+/// Adds the rows of all pairs.
+fn put_all_orders(
+    rows: &mut Writer<Vec<u8>>,
+    alloc: Global,
+    report: &OrderReport<'_>,
+) -> Result<(), ReportFault>
+    requires between { IsBetweenRows rows.old }
+    requires fits { Fits report.now.network.now report.now.plan.now }
+    requires dates { report.now.dates.now ≡ dates_of report.now.network.now.calendar }
+    ensures rows { OnOk result (written rows.new ≡ written rows.old ++ orders_text report.now.until report.now.network.now report.now.plan.now) }
+    ensures between { OnOk result (IsBetweenRows rows.new) }
+    ensures fault { IfErr result (λ fault. fault ≡ ReportFault.Memory) }
+{
+    let mut supply = Vec::with_capacity(alloc, LONGEST_SUPPLY)?;
+    'pairs: for x in 0..report.network.pairs() {
+        put_supply(&mut supply, report.network, PairNo(x))?;
+        put_pair_orders(rows, report, PairNo(x), supply.as_slice())?;
+    }
+    Ok(())
+}
+
+/// Adds the rows of a pair, which comes from there.
+fn put_pair_orders(
+    rows: &mut Writer<Vec<u8>>,
+    report: &OrderReport<'_>,
+    x: PairNo,
+    supply: &[u8],
+) -> Result<(), ReportFault>
+    requires between { IsBetweenRows rows.old }
+    requires fits { Fits report.now.network.now report.now.plan.now }
+    requires dates { report.now.dates.now ≡ dates_of report.now.network.now.calendar }
+    requires pair { IsPair report.now.network.now x.0 }
+    requires supply { supply.now ≡ supply_at report.now.network.now x.0 }
+    ensures rows { OnOk result (written rows.new ≡ written rows.old ++ pair_orders_text report.now.until report.now.network.now report.now.plan.now x.0) }
+    ensures between { OnOk result (IsBetweenRows rows.new) }
+    ensures fault { IfErr result (λ fault. fault ≡ ReportFault.Memory) }
+{
+    let line = line_of(report, x, supply);
+    put_orders(rows, &line, report.plan.pair(x))
+}
+
+/// What the rows of a pair's orders have in common.
+fn line_of<'a>(report: &OrderReport<'a>, x: PairNo, supply: &'a [u8]) -> OrderLine<'a>
+    requires dates { report.now.dates.now ≡ dates_of report.now.network.now.calendar }
+    requires pair { IsPair report.now.network.now x.0 }
+    requires supply { supply.now ≡ supply_at report.now.network.now x.0 }
+    ensures { IsLine report.now.network.now x.0 report.now.until result }
+{
+    let (plant, item) = report.network.pair_name(x);
+    OrderLine {
+        plant,
+        item,
+        supply,
+        dates: report.dates,
+        lead: report.network.pair(x).lead,
+        until: report.until,
+    }
+}
+
+/// Adds the rows of a plan's orders, due period by due period.
+fn put_orders(
+    rows: &mut Writer<Vec<u8>>,
+    line: &OrderLine<'_>,
+    plan: &PairPlan,
+) -> Result<(), ReportFault>
+    requires between { IsBetweenRows rows.old }
+    requires periods { length plan.now.order ≡ length line.now.dates.now }
+    ensures rows { OnOk result (written rows.new ≡ written rows.old ++ line_text line.now plan.now) }
+    ensures between { OnOk result (IsBetweenRows rows.new) }
+    ensures fault { IfErr result (λ fault. fault ≡ ReportFault.Memory) }
+{
+    'periods: for t in 0..line.dates.len() {
+        put_due(rows, line, plan, t)?;
+    }
+    Ok(())
+}
+
+/// Adds the row of the order that is due in period `t`, if there is one and it is released by then.
+fn put_due(
+    rows: &mut Writer<Vec<u8>>,
+    line: &OrderLine<'_>,
+    plan: &PairPlan,
+    t: usize,
+) -> Result<(), ReportFault>
+    requires between { IsBetweenRows rows.old }
+    requires period { t < length plan.now.order }
+    requires date { t < length line.now.dates.now }
+    ensures rows { OnOk result (written rows.new ≡ written rows.old ++ due_text line.now plan.now t) }
+    ensures between { OnOk result (IsBetweenRows rows.new) }
+    ensures fault { IfErr result (λ fault. fault ≡ ReportFault.Memory) }
+{
+    match planned_order(plan, line.lead, t) {
+        Some(order) if order.is_released_by(line.until) => put_order(rows, line, order),
+        _ => Ok(()),
+    }
+}
+
+/// Adds the row of an order.
+fn put_order(
+    rows: &mut Writer<Vec<u8>>,
+    line: &OrderLine<'_>,
+    order: PlannedOrder,
+) -> Result<(), ReportFault>
+    requires between { IsBetweenRows rows.old }
+    requires release { order.release < length line.now.dates.now }
+    requires due { order.due < length line.now.dates.now }
+    ensures row { OnOk result (written rows.new ≡ written rows.old ++ line_row line.now order) }
+    ensures between { OnOk result (IsBetweenRows rows.new) }
+    ensures fault { IfErr result (λ fault. fault ≡ ReportFault.Memory) }
+{
+    let mut quantity = Buffer::new();
+    let mut release = Buffer::new();
+    let mut due = Buffer::new();
+    let mut late = Buffer::new();
+    put_row(
+        rows,
+        &[
+            b"order",
+            line.plant.as_bytes(),
+            line.item.as_bytes(),
+            line.supply,
+            quantity.format(order.quantity.get()).as_bytes(),
+            release.format(order.release).as_bytes(),
+            date_of(line.dates, order.release),
+            due.format(order.due).as_bytes(),
+            date_of(line.dates, order.due),
+            late.format(order.late).as_bytes(),
+        ],
+    )
+}
+
+/// The text of the date of period `t`.
+fn date_of<'a>(dates: &'a [[u8; 10]], t: usize) -> &'a [u8]
+    requires { t < length dates.now }
+    ensures { result.now ≡ date_at dates.now t }
+{
+    &dates[t]
+}
