@@ -18,15 +18,17 @@ use Rattle.mrp_loops.proofs.OnePlan.{one_plan}
 use Rattle.mrp_loops.proofs.Upstream.{codes_are_one}
 use Rattle.mrp_loops.proofs.Within.{needs_within}
 use Rattle.mrp_plan.specs.Peg.{peg_terms}
+use Rattle.mrp_choice.specs.declared.choice.Heading.{Heading}
+use Rattle.mrp_report.specs.Headings.{header_row}
 use Rattle.mrp_report.specs.Report.{plan_text, late_text, peg_text, code_text}
 use Rattle.mrp_choice.specs.declared.choice.Choice.{Choice}
-use Rattle.mrp_choice.specs.declared.choice.Choice.TheVariants.{Plan, Check, Peg, Cums}
+use Rattle.mrp_choice.specs.declared.choice.Choice.TheVariants.{Plan, Check, Peg, Cums, Orders}
 use Rattle.mrp_text.specs.declared.fault.TextFault.{TextFault}
 use Rattle.mrp_text.specs.declared.fault.TextFault.TheVariants as fault
 use Rattle.mrp_text.specs.Answer.{IsAnswer, IsAnswerRefusal}
 use Rattle.mrp_text.specs.Fault.{status_of, table_status_of}
 use Rattle.mrp_text.specs.Laws.{BytesMakeOneTable, ReportsAreOne, ReportsExcludeRefusals}
-use Rattle.mrp_text.specs.Text.{IsPegRefusal, IsPegReport, IsPlanReport, IsPlanRows, IsRefusal, IsRunRefusal}
+use Rattle.mrp_text.specs.Text.{IsHeaded, IsCodeReport, IsCumReport, IsPegRefusal, IsPegReport, IsPlanReport, IsPlanRows, IsRefusal, IsRunRefusal}
 
 -- ---- the plan
 
@@ -62,11 +64,21 @@ one_peg_report : (plant item : List ℕ) (period : ℕ) (N : Table) (a b : List 
 one_peg_report plant item period N a b table x y =
     x.2.2 ∙ ap (λ (p : ℕ). peg_text N (peg_terms N (plan_of N) p period)) (one_named N x.0 y.0 plant item table x.1 y.1) ∙ sym y.2.2
 
+one_code_report : (N : Table) (a b : List ℕ) → IsCodeReport N a → IsCodeReport N b → a ≡ b
+one_code_report N a b x y = x.1.2 ∙ ap (code_text N) (codes_are_one N x.1.0 y.1.0 x.1.1 y.1.1) ∙ sym y.1.2
+
+-- names above rows that are one don't make two
+one_headed : (heading : Heading) (names : List (List ℕ)) (P : List ℕ → Type 0) (a b : List ℕ) → ((c d : List ℕ) → P c → P d → c ≡ d)
+    → IsHeaded heading names P a → IsHeaded heading names P b → a ≡ b
+one_headed heading names P a b one x y = x.2 ∙ ap (λ (rows : List ℕ). header_row heading names ++ rows) (one x.0 y.0 x.1 y.1) ∙ sym y.2
+
 one_answer : (choice : Choice) (N : Table) (a b : List ℕ) → IsTable N → IsAnswer choice N a → IsAnswer choice N b → a ≡ b
 one_answer (Plan workers capacity single) N a b table x y = x.1 ∙ sym y.1
-one_answer Check N a b table x y = x.1.2 ∙ ap (code_text N) (codes_are_one N x.1.0 y.1.0 x.1.1 y.1.1) ∙ sym y.1.2
-one_answer (Peg plant item period) N a b table x y = one_peg_report plant.now item.now period N a b table x y
-one_answer Cums N a b table x y = x.1 ∙ sym y.1
+one_answer (Check heading) N a b table x y = one_headed heading _ (IsCodeReport N) a b (one_code_report N) x y
+one_answer (Peg plant item period heading) N a b table x y =
+    one_headed heading _ (IsPegReport plant.now item.now period N) a b (λ c d p q. one_peg_report plant.now item.now period N c d table p q) x y
+one_answer (Cums heading) N a b table x y = one_headed heading _ (IsCumReport N) a b (λ c d p q. p.1 ∙ sym q.1) x y
+one_answer (Orders until heading) N a b table x y = x.1 ∙ sym y.1
 
 pub one_report : ReportsAreOne
 one_report choice bytes a b x y =
@@ -103,9 +115,10 @@ peg_passes plant item period N text f is said = sized_passes N f is.2.0 said
 answer_passes : (choice : Choice) (N : Table) (text : List ℕ) (f : TextFault) → IsAnswer choice N text → IsAnswerRefusal choice N f → status_of f ≡ 3
 answer_passes (Plan workers capacity true) N text f is said = sized_passes N f is.0 said
 answer_passes (Plan workers capacity false) N text f is said = run_passes N f is.0 said
-answer_passes Check N text f is said = sized_passes N f is.0 said
-answer_passes (Peg plant item period) N text f is said = peg_passes plant.now item.now period N text f is said
-answer_passes Cums N text f is said = sized_passes N f is.0 said
+answer_passes (Check heading) N text f is said = sized_passes N f is.1.0 said
+answer_passes (Peg plant item period heading) N text f is said = peg_passes plant.now item.now period N is.0 f is.1 said
+answer_passes (Cums heading) N text f is said = sized_passes N f is.1.0 said
+answer_passes (Orders until heading) N text f is said = sized_passes N f is.0 said
 
 -- nor are rows that make a table
 rows_pass : (rows : List (List (List ℕ))) (N : Table) (e : TableFault) (k : TableFaultKind) (above : Type 0) → Reads rows (Ok N) → OfRows k above (Reads rows (Err e)) → table_status_of k ≡ 3

@@ -2,34 +2,38 @@
 use Rattle.std.specs.Prelude.{◌≢◌, ℕ, true, false, List, Result, Ok, Err}
 use Rattle.mrp_rows.specs.Table.{Table}
 use Rattle.mrp_choice.specs.declared.choice.Choice.{Choice}
-use Rattle.mrp_choice.specs.declared.choice.Choice.TheVariants.{Plan, Check, Peg, Cums}
+use Rattle.mrp_choice.specs.declared.choice.Choice.TheVariants.{Plan, Check, Peg, Cums, Orders}
 use Rattle.mrp_text.specs.declared.fault.TextFault.{TextFault}
 use Rattle.mrp_text.specs.declared.fault.TextFault.TheVariants.{GateShut, WriteFault}
 use Rattle.mrp_text.specs.Fault.{IsBeforeWriting, status_of}
-use Rattle.mrp_text.specs.Text.{IsPlanReport, IsCodeReport, IsPegReport, IsCumReport, IsRefusal, IsRunRefusal, IsPegRefusal}
+use Rattle.mrp_report.specs.Headings.{code_names, lane_names, peg_names}
+use Rattle.mrp_text.specs.Text.{IsPlanReport, IsCodeReport, IsPegReport, IsCumReport, IsOrderReport, IsHeaded, IsRefusal, IsRunRefusal, IsPegRefusal}
 
 -- the report that a choice asks for
 abbrev pub IsAnswer : Choice → Table → List ℕ → Type 0
 IsAnswer (Plan workers capacity single) = IsPlanReport
-IsAnswer Check = IsCodeReport
-IsAnswer (Peg plant item period) = IsPegReport plant.now item.now period
-IsAnswer Cums = IsCumReport
+IsAnswer (Check heading) = λ N. IsHeaded heading code_names (IsCodeReport N)
+IsAnswer (Peg plant item period heading) = λ N. IsHeaded heading peg_names (IsPegReport plant.now item.now period N)
+IsAnswer (Cums heading) = λ N. IsHeaded heading lane_names (IsCumReport N)
+IsAnswer (Orders until heading) = IsOrderReport until heading
 
 -- what a refusal of the network says to a choice; no gate is ever shut there, and of turns that are used nothing is said
 abbrev pub IsAnswerRefusal : Choice → Table → TextFault → Type 0
 IsAnswerRefusal (Plan workers capacity true) = IsRefusal
 IsAnswerRefusal (Plan workers capacity false) = IsRunRefusal (λ _. ⊥) (λ _. Unit {0})
-IsAnswerRefusal Check = IsRefusal
-IsAnswerRefusal (Peg plant item period) = IsPegRefusal plant.now item.now period
-IsAnswerRefusal Cums = IsRefusal
+IsAnswerRefusal (Check heading) = IsRefusal
+IsAnswerRefusal (Peg plant item period heading) = IsPegRefusal plant.now item.now period
+IsAnswerRefusal (Cums heading) = IsRefusal
+IsAnswerRefusal (Orders until heading) = IsRefusal
 
 -- the faults after which nothing of the report is written: of a plan those that are met before its first byte,
 -- of every other report all but a failed write
 abbrev pub IsBeforeReport : Choice → TextFault → Type 0
 IsBeforeReport (Plan workers capacity single) fault = IsBeforeWriting fault
-IsBeforeReport Check fault = fault ≢ WriteFault
-IsBeforeReport (Peg plant item period) fault = fault ≢ WriteFault
-IsBeforeReport Cums fault = fault ≢ WriteFault
+IsBeforeReport (Check heading) fault = fault ≢ WriteFault
+IsBeforeReport (Peg plant item period heading) fault = fault ≢ WriteFault
+IsBeforeReport (Cums heading) fault = fault ≢ WriteFault
+IsBeforeReport (Orders until heading) fault = fault ≢ WriteFault
 
 -- no shut gate
 abbrev pub IsNoShutGate : TextFault → Type 0

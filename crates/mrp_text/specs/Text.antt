@@ -10,9 +10,12 @@ use Rattle.mrp_loops.specs.Loop.{AreCodes, IsLoopFree}
 use Rattle.mrp_loops.specs.Upstream.{IsLoopAnswered}
 use Rattle.mrp_loops.specs.Sized.{IsSized}
 use Rattle.mrp_loops.specs.BoundFaults.{IsSupplyTooLarge, IsNeedTooLarge}
+use Rattle.mrp_choice.specs.declared.choice.Heading.{Heading}
 use Rattle.mrp_plan.specs.Peg.{peg_terms}
 use Rattle.mrp_report.specs.Sending.{AppendsFront, AppendsSome}
+use Rattle.mrp_report.specs.Headings.{header_row}
 use Rattle.mrp_report.specs.Lanes.{lane_text}
+use Rattle.mrp_report.specs.Orders.{order_text}
 use Rattle.mrp_report.specs.Report.{plan_text, late_text, peg_text, code_text}
 use Rattle.mrp_world.specs.Figures.{last_figures}
 use Rattle.mrp_text.specs.declared.fault.PairName.{PairName}
@@ -62,6 +65,15 @@ IsPegReport plant item period N text = (x : ℕ) × IsNamed N x plant item × Is
 -- the lane rows of the cumulative figures with which every run between the plants ends
 abbrev pub IsCumReport : Table → List ℕ → Type 0
 IsCumReport N text = IsPlannable N × (text ≡ lane_text N (last_figures N))
+
+-- the order rows of the plan of the network: those of the orders that are released by then, with the names of their
+-- columns above them where they are asked for
+abbrev pub IsOrderReport : Option ℕ → Heading → Table → List ℕ → Type 0
+IsOrderReport until heading N text = IsPlannable N × (text ≡ order_text heading until N (plan_of N))
+
+-- rows of a report, with the names of its columns above them where they are asked for
+abbrev pub IsHeaded : Heading → List (List ℕ) → (List ℕ → Type 0) → List ℕ → Type 0
+IsHeaded heading names AreRows text = (rows : List ℕ) × AreRows rows × (text ≡ header_row heading names ++ rows)
 
 -- what became of a text: all of it was written; a front that lacks something, at a failed write; nothing
 -- or some of it, where memory was refused; nothing, at every other fault

@@ -6,7 +6,9 @@ ghost use Rattle.mrp_text.specs.Answer.{IsAnswer, IsAnswerRefusal, IsBeforeRepor
 ghost use Rattle.mrp_text.specs.Text.{Writes, WritesRows, OfTable, IsPlanRows, IsTextRefusal};
 
 use crate::fault::{TextFault, status};
-use crate::text::{check_text, cums_text, drive_text, peg_text, plan_text};
+use crate::text::{
+    drive_text, headed_check_text, headed_cums_text, headed_peg_text, orders_text, plan_text,
+};
 use mrp_choice::Choice;
 use mrp_run::{NoGate, Settings};
 use std::alloc::Global;
@@ -18,8 +20,8 @@ use std::thread::Threads;
 ///
 /// # Errors
 ///
-/// As [`TextFault`] says. Nothing is written after a fault of the input; of the codes, the terms and the
-/// figures nothing after every fault but [`TextFault::WriteFault`]. A plan that isn't asked for on a single
+/// As [`TextFault`] says. Nothing is written after a fault of the input; of the codes, the terms, the
+/// figures and the orders nothing after every fault but [`TextFault::WriteFault`]. A plan that isn't asked for on a single
 /// thread may wait.
 pub fn answer<T: Threads + Wait + Sync, R: Read + Drop, W: Write>(
     rt: &T,
@@ -51,13 +53,15 @@ pub fn answer<T: Threads + Wait + Sync, R: Read + Drop, W: Write>(
             };
             plan_text(rt, alloc, reader, writer, settings, &NoGate)
         }
-        Choice::Check => check_text(alloc, reader, writer),
+        Choice::Check { heading } => headed_check_text(alloc, reader, writer, heading),
         Choice::Peg {
             plant,
             item,
             period,
-        } => peg_text(alloc, reader, writer, plant, item, period),
-        Choice::Cums => cums_text(alloc, reader, writer),
+            heading,
+        } => headed_peg_text(alloc, reader, writer, plant, item, period, heading),
+        Choice::Cums { heading } => headed_cums_text(alloc, reader, writer, heading),
+        Choice::Orders { until, heading } => orders_text(alloc, reader, writer, until, heading),
     }
 }
 

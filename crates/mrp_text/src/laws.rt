@@ -7,8 +7,8 @@ pub fn bytes_make_one_table()
     ensures { BytesMakeOneTable }
 {}
 
-/// Bytes have one report at most of each kind: one plan report, one code report, one cumulative report, and one peg
-/// report of a pair in a period.
+/// Bytes have one report at most of each kind: one plan report, one code report, one cumulative report, one peg
+/// report of a pair in a period, and one order report up to a period.
 pub fn reports_are_one()
     ensures { ReportsAreOne }
 {}

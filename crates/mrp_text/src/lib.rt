@@ -6,8 +6,10 @@
 //! The planner as a library: a table from any reader, a report to any writer.
 //! [`plan_text`] writes the plan, each plant planned in a thread of its own, and [`drive_text`] the same
 //! plan on one thread; [`check_text`] writes the low-level codes, [`peg_text`] what a gross requirement
-//! consists of, and [`cums_text`] the cumulative figures of the lanes between plants; [`answer`] does the
-//! one of them that the words of a command line chose.
+//! consists of, [`cums_text`] the cumulative figures of the lanes between plants, and [`orders_text`] the
+//! planned orders; [`answer`] does the one of them that the words of a command line chose. A program makes a
+//! plain file of the last four by [`headed_check_text`], [`headed_peg_text`], [`headed_cums_text`] and a
+//! [`Heading`]: the names of the columns then stand above the rows.
 //! Where a text was not written whole, a [`TextFault`] says why: [`write_fault`] writes the line that
 //! reports it, and [`status`] and [`exit_status`] are the statuses with which a program ends. [`ended`]
 //! does both after the work, [`after_help`] after help or the version, and [`unread`] where the arguments
@@ -32,6 +34,10 @@ pub use ending::{Ending, REFUSED, after_help, ended, unread};
 pub use fault::{PairName, TextFault, status};
 pub use laws::{bytes_make_one_table, reports_are_one, reports_exclude_refusals};
 pub use lines::write_fault;
+pub use mrp_choice::Heading;
 pub use mrp_report::ReportFault;
 pub use mrp_run::{Gate, NoGate, Settings};
-pub use text::{check_text, cums_text, drive_text, peg_text, plan_text};
+pub use text::{
+    check_text, cums_text, drive_text, headed_check_text, headed_cums_text, headed_peg_text,
+    orders_text, peg_text, plan_text,
+};

@@ -11,14 +11,15 @@ ghost use Rattle.mrp_run.specs.Faults.{AllTurned, WasShut, WasSpent};
 ghost use Rattle.mrp_qty.specs.declared.limits.TheConstants.{MOST_TURNS};
 ghost use Rattle.mrp_text.specs.Fault.{IsBeforeWriting};
 ghost use Rattle.mrp_text.specs.Text.{Writes, WritesRows, OfTable, IsPlanReport, IsPlanRows, IsCodeReport};
-ghost use Rattle.mrp_text.specs.Text.{IsPegReport, IsCumReport};
+ghost use Rattle.mrp_report.specs.Headings.{code_names, lane_names, peg_names};
+ghost use Rattle.mrp_text.specs.Text.{IsPegReport, IsCumReport, IsOrderReport, IsHeaded};
 ghost use Rattle.mrp_text.specs.Text.{IsRefusal, IsRunRefusal, IsPegRefusal, IsTextRefusal};
 ghost use Rattle.mrp_choice.specs.declared.choice.TheConstants.{MOST_CAPACITY};
 
 use crate::fault::TextFault;
 use crate::network::network_of;
-use crate::writing::{write_codes, write_cums, write_pegs, write_plan, write_run};
-use mrp_choice::MOST_CAPACITY;
+use crate::writing::{write_codes, write_cums, write_orders, write_pegs, write_plan, write_run};
+use mrp_choice::{Heading, MOST_CAPACITY};
 use mrp_run::{Gate, Settings};
 use std::alloc::Global;
 use std::io::{Read, Write};
@@ -111,8 +112,26 @@ pub fn check_text<R: Read + Drop, W: Write>(
     ensures refusal { IfErr result (IsTextRefusal (R.remaining reader) IsRefusal) }
     ensures untouched { IfErr result (λ fault. fault ≢ TextFault.WriteFault → writer.new ≡ writer.old) }
 {
+    headed_check_text(alloc, reader, writer, Heading::Without)
+}
+
+/// The same as [`check_text`], with the names of the columns above the rows where `heading` says so.
+///
+/// # Errors
+///
+/// As those of [`check_text`].
+pub fn headed_check_text<R: Read + Drop, W: Write>(
+    alloc: Global,
+    reader: R,
+    writer: &mut W,
+    heading: Heading,
+) -> Result<(), TextFault>
+    ensures text { Writes (W.contents writer.old) (W.contents writer.new) result (λ text. OfTable (R.remaining reader) (λ N. IsHeaded heading code_names (IsCodeReport N) text)) }
+    ensures refusal { IfErr result (IsTextRefusal (R.remaining reader) IsRefusal) }
+    ensures untouched { IfErr result (λ fault. fault ≢ TextFault.WriteFault → writer.new ≡ writer.old) }
+{
     let network = network_of(alloc, reader)?;
-    let written = write_codes(alloc, &network, writer);
+    let written = write_codes(alloc, &network, writer, heading);
     drop(network);
     written
 }
@@ -138,8 +157,30 @@ pub fn peg_text<R: Read + Drop, W: Write>(
     ensures refusal { IfErr result (IsTextRefusal (R.remaining reader) (IsPegRefusal plant.now item.now period)) }
     ensures untouched { IfErr result (λ fault. fault ≢ TextFault.WriteFault → writer.new ≡ writer.old) }
 {
+    headed_peg_text(alloc, reader, writer, plant, item, period, Heading::Without)
+}
+
+/// The same as [`peg_text`], with the names of the columns above the rows where `heading` says so.
+///
+/// # Errors
+///
+/// As those of [`peg_text`].
+pub fn headed_peg_text<R: Read + Drop, W: Write>(
+    alloc: Global,
+    reader: R,
+    writer: &mut W,
+    plant: &str,
+    item: &str,
+    period: u64,
+    heading: Heading,
+) -> Result<(), TextFault>
+    ensures text { Writes (W.contents writer.old) (W.contents writer.new) result
+        (λ text. OfTable (R.remaining reader) (λ N. IsHeaded heading peg_names (IsPegReport plant.now item.now period N) text)) }
+    ensures refusal { IfErr result (IsTextRefusal (R.remaining reader) (IsPegRefusal plant.now item.now period)) }
+    ensures untouched { IfErr result (λ fault. fault ≢ TextFault.WriteFault → writer.new ≡ writer.old) }
+{
     let network = network_of(alloc, reader)?;
-    let written = write_pegs(alloc, &network, writer, plant, item, period);
+    let written = write_pegs(alloc, &network, writer, plant, item, period, heading);
     drop(network);
     written
 }
@@ -160,8 +201,53 @@ pub fn cums_text<R: Read + Drop, W: Write>(
     ensures refusal { IfErr result (IsTextRefusal (R.remaining reader) IsRefusal) }
     ensures untouched { IfErr result (λ fault. fault ≢ TextFault.WriteFault → writer.new ≡ writer.old) }
 {
+    headed_cums_text(alloc, reader, writer, Heading::Without)
+}
+
+/// The same as [`cums_text`], with the names of the columns above the rows where `heading` says so.
+///
+/// # Errors
+///
+/// As those of [`cums_text`].
+pub fn headed_cums_text<R: Read + Drop, W: Write>(
+    alloc: Global,
+    reader: R,
+    writer: &mut W,
+    heading: Heading,
+) -> Result<(), TextFault>
+    ensures text { Writes (W.contents writer.old) (W.contents writer.new) result (λ text. OfTable (R.remaining reader) (λ N. IsHeaded heading lane_names (IsCumReport N) text)) }
+    ensures refusal { IfErr result (IsTextRefusal (R.remaining reader) IsRefusal) }
+    ensures untouched { IfErr result (λ fault. fault ≢ TextFault.WriteFault → writer.new ≡ writer.old) }
+{
     let network = network_of(alloc, reader)?;
-    let written = write_cums(alloc, &network, writer);
+    let written = write_cums(alloc, &network, writer, heading);
+    drop(network);
+    written
+}
+
+/// Reads a table and writes its planned orders: a row for each that is released in period `until` or
+/// before it, without it for each, with the names of the columns above them where `heading` says so.
+///
+/// The network is planned as a whole, as for pegs: orders follow from the plan alone, which is one, and no
+/// lane is looked at.
+///
+/// # Errors
+///
+/// As [`TextFault`] says. After [`TextFault::WriteFault`] a front of the text is written, and nothing
+/// after every other fault.
+pub fn orders_text<R: Read + Drop, W: Write>(
+    alloc: Global,
+    reader: R,
+    writer: &mut W,
+    until: Option<u64>,
+    heading: Heading,
+) -> Result<(), TextFault>
+    ensures text { Writes (W.contents writer.old) (W.contents writer.new) result (λ text. OfTable (R.remaining reader) (λ N. IsOrderReport until heading N text)) }
+    ensures refusal { IfErr result (IsTextRefusal (R.remaining reader) IsRefusal) }
+    ensures untouched { IfErr result (λ fault. fault ≢ TextFault.WriteFault → writer.new ≡ writer.old) }
+{
+    let network = network_of(alloc, reader)?;
+    let written = write_orders(alloc, &network, writer, until, heading);
     drop(network);
     written
 }

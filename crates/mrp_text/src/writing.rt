@@ -1,4 +1,5 @@
-//! What a text function writes of a network: the plan, the codes, the pegs, the figures of the lanes.
+//! What a text function writes of a network: the plan, the codes, the pegs, the figures of the lanes, the
+//! planned orders.
 
 ghost use Rattle.std.specs.Prelude.{◌≡◌, ◌≢◌, ◌≤◌, ◌<◌, IfErr, OnOk, length};
 ghost use Rattle.mrp_rows.specs.Table.{IsPair, horizon};
@@ -8,7 +9,8 @@ ghost use Rattle.mrp_run.specs.Faults.{AllTurned, WasShut, WasSpent};
 ghost use Rattle.mrp_qty.specs.declared.limits.TheConstants.{MOST_TURNS};
 ghost use Rattle.mrp_text.specs.Fault.{IsBeforeWriting, IsLate};
 ghost use Rattle.mrp_text.specs.Text.{Writes, WritesRows, IsPlannable, IsPlanReport, IsPlanRows, IsCodeReport};
-ghost use Rattle.mrp_text.specs.Text.{IsPegReport, IsCumReport, IsPegs};
+ghost use Rattle.mrp_report.specs.Headings.{code_names, lane_names, peg_names};
+ghost use Rattle.mrp_text.specs.Text.{IsPegReport, IsCumReport, IsPegs, IsOrderReport, IsHeaded};
 ghost use Rattle.mrp_text.specs.Text.{IsRefusal, IsRunRefusal, IsPegRefusal};
 ghost use Rattle.mrp_choice.specs.declared.choice.TheConstants.{MOST_CAPACITY};
 
@@ -16,11 +18,11 @@ use crate::fault::TextFault;
 use crate::firm::{driven_figures, driven_plan};
 use crate::network::{levels_of, sized_of};
 use crate::run::run_plan;
-use mrp_choice::MOST_CAPACITY;
+use mrp_choice::{Heading, MOST_CAPACITY};
 use mrp_loops::{Levels, SizedNet};
 use mrp_net::{Network, PairNo};
 use mrp_plan::{Plan, peg, plan_all};
-use mrp_report::{code_rows, lane_rows, late_rows, peg_rows, plan_rows};
+use mrp_report::{code_rows, lane_rows, late_rows, order_rows, peg_rows, plan_rows};
 use mrp_run::{Gate, Settings};
 use std::alloc::Global;
 use std::io::Write;
@@ -90,14 +92,15 @@ pub(crate) fn write_codes<W: Write>(
     alloc: Global,
     network: &Network,
     writer: &mut W,
+    heading: Heading,
 ) -> Result<(), TextFault>
-    ensures text { Writes (W.contents writer.old) (W.contents writer.new) result (IsCodeReport network.now) }
+    ensures text { Writes (W.contents writer.old) (W.contents writer.new) result (IsHeaded heading code_names (IsCodeReport network.now)) }
     ensures refusal { IfErr result (IsRefusal network.now) }
     ensures untouched { IfErr result (λ fault. fault ≢ TextFault.WriteFault → writer.new ≡ writer.old) }
 {
     let levels = levels_of(alloc, network)?;
     let _net = sized_of(alloc, network, &levels)?;
-    report_codes(alloc, network, &levels, writer)
+    report_codes(alloc, network, &levels, writer, heading)
 }
 
 /// Writes the code rows of a network that can be planned.
@@ -106,14 +109,15 @@ fn report_codes<W: Write>(
     network: &Network,
     levels: &Levels,
     writer: &mut W,
+    heading: Heading,
 ) -> Result<(), TextFault>
     requires codes { AreCodes network.now levels.now }
     requires plannable { IsPlannable network.now }
-    ensures text { Writes (W.contents writer.old) (W.contents writer.new) result (IsCodeReport network.now) }
+    ensures text { Writes (W.contents writer.old) (W.contents writer.new) result (IsHeaded heading code_names (IsCodeReport network.now)) }
     ensures fault { IfErr result IsLate }
     ensures untouched { IfErr result (λ fault. fault ≢ TextFault.WriteFault → writer.new ≡ writer.old) }
 {
-    code_rows(alloc, network, levels, writer)?;
+    code_rows(alloc, network, levels, heading, writer)?;
     Ok(())
 }
 
@@ -125,8 +129,10 @@ pub(crate) fn write_pegs<W: Write>(
     plant: &str,
     item: &str,
     period: u64,
+    heading: Heading,
 ) -> Result<(), TextFault>
-    ensures text { Writes (W.contents writer.old) (W.contents writer.new) result (IsPegReport plant.now item.now period network.now) }
+    ensures text { Writes (W.contents writer.old) (W.contents writer.new) result
+        (IsHeaded heading peg_names (IsPegReport plant.now item.now period network.now)) }
     ensures refusal { IfErr result (IsPegRefusal plant.now item.now period network.now) }
     ensures untouched { IfErr result (λ fault. fault ≢ TextFault.WriteFault → writer.new ≡ writer.old) }
 {
@@ -138,7 +144,7 @@ pub(crate) fn write_pegs<W: Write>(
     if period >= network.horizon().get() {
         return Err(TextFault::NoPeriod);
     }
-    report_pegs(alloc, &net, writer, x, period as usize)
+    report_pegs(alloc, &net, writer, x, period as usize, heading)
 }
 
 /// Writes the peg rows of a pair of a sized network in a period below its horizon.
@@ -148,17 +154,18 @@ fn report_pegs<W: Write>(
     writer: &mut W,
     x: PairNo,
     period: usize,
+    heading: Heading,
 ) -> Result<(), TextFault>
     requires plannable { IsPlannable net.now.network }
     requires pair { IsPair net.now.network x.0 }
     requires period { period < horizon net.now.network }
-    ensures text { Writes (W.contents writer.old) (W.contents writer.new) result (IsPegs net.now.network x.0 period) }
+    ensures text { Writes (W.contents writer.old) (W.contents writer.new) result (IsHeaded heading peg_names (IsPegs net.now.network x.0 period)) }
     ensures fault { IfErr result IsLate }
     ensures untouched { IfErr result (λ fault. fault ≢ TextFault.WriteFault → writer.new ≡ writer.old) }
 {
     let plan = plan_all(alloc, net)?;
     let terms = peg(alloc, net, &plan, x, period)?;
-    peg_rows(alloc, net, terms.as_slice(), writer)?;
+    peg_rows(alloc, net, terms.as_slice(), heading, writer)?;
     Ok(())
 }
 
@@ -167,24 +174,65 @@ pub(crate) fn write_cums<W: Write>(
     alloc: Global,
     network: &Network,
     writer: &mut W,
+    heading: Heading,
 ) -> Result<(), TextFault>
-    ensures text { Writes (W.contents writer.old) (W.contents writer.new) result (IsCumReport network.now) }
+    ensures text { Writes (W.contents writer.old) (W.contents writer.new) result (IsHeaded heading lane_names (IsCumReport network.now)) }
     ensures refusal { IfErr result (IsRefusal network.now) }
     ensures untouched { IfErr result (λ fault. fault ≢ TextFault.WriteFault → writer.new ≡ writer.old) }
 {
     let levels = levels_of(alloc, network)?;
     let net = sized_of(alloc, network, &levels)?;
-    report_cums(alloc, &net, writer)
+    report_cums(alloc, &net, writer, heading)
 }
 
 /// Writes the lane rows of a sized network.
-fn report_cums<W: Write>(alloc: Global, net: &SizedNet<'_>, writer: &mut W) -> Result<(), TextFault>
+fn report_cums<W: Write>(
+    alloc: Global,
+    net: &SizedNet<'_>,
+    writer: &mut W,
+    heading: Heading,
+) -> Result<(), TextFault>
     requires { IsPlannable net.now.network }
-    ensures text { Writes (W.contents writer.old) (W.contents writer.new) result (IsCumReport net.now.network) }
+    ensures text { Writes (W.contents writer.old) (W.contents writer.new) result (IsHeaded heading lane_names (IsCumReport net.now.network)) }
     ensures fault { IfErr result IsLate }
     ensures untouched { IfErr result (λ fault. fault ≢ TextFault.WriteFault → writer.new ≡ writer.old) }
 {
     let figures = driven_figures(alloc, net)?;
-    lane_rows(alloc, net.network(), figures.as_slice(), writer)?;
+    lane_rows(alloc, net.network(), figures.as_slice(), heading, writer)?;
+    Ok(())
+}
+
+/// Writes the order rows of a network.
+pub(crate) fn write_orders<W: Write>(
+    alloc: Global,
+    network: &Network,
+    writer: &mut W,
+    until: Option<u64>,
+    heading: Heading,
+) -> Result<(), TextFault>
+    ensures text { Writes (W.contents writer.old) (W.contents writer.new) result (IsOrderReport until heading network.now) }
+    ensures refusal { IfErr result (IsRefusal network.now) }
+    ensures untouched { IfErr result (λ fault. fault ≢ TextFault.WriteFault → writer.new ≡ writer.old) }
+{
+    let levels = levels_of(alloc, network)?;
+    let net = sized_of(alloc, network, &levels)?;
+    report_orders(alloc, &net, writer, until, heading)
+}
+
+/// Writes the order rows of a sized network.
+fn report_orders<W: Write>(
+    alloc: Global,
+    net: &SizedNet<'_>,
+    writer: &mut W,
+    until: Option<u64>,
+    heading: Heading,
+) -> Result<(), TextFault>
+    requires { IsPlannable net.now.network }
+    ensures text { Writes (W.contents writer.old) (W.contents writer.new) result (IsOrderReport until heading net.now.network) }
+    ensures fault { IfErr result IsLate }
+    ensures untouched { IfErr result (λ fault. fault ≢ TextFault.WriteFault → writer.new ≡ writer.old) }
+{
+    let plan = plan_all(alloc, net)?;
+    order_rows(alloc, net, &plan, until, heading, writer)?;
     Ok(())
 }

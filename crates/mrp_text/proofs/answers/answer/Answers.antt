@@ -11,13 +11,13 @@ pub returns-in-Some-clause-text : goal.returns-in-Some-clause-text
 returns-in-Some-clause-text g c = rw (c.in-Plan.is) c.plan_text.ensures.text
 
 pub returns-in-Check-clause-text : goal.returns-in-Check-clause-text
-returns-in-Check-clause-text g c = rw (c.in-Check.is) c.check_text.ensures.text
+returns-in-Check-clause-text g c = rw (c.in-Check.is) c.headed_check_text.ensures.text
 
 pub returns-in-Peg-clause-text : goal.returns-in-Peg-clause-text
-returns-in-Peg-clause-text g c = rw (c.in-Peg.is) c.peg_text.ensures.text
+returns-in-Peg-clause-text g c = rw (c.in-Peg.is) c.headed_peg_text.ensures.text
 
 pub returns-in-Cums-clause-text : goal.returns-in-Cums-clause-text
-returns-in-Cums-clause-text g c = rw (c.in-Cums.is) c.cums_text.ensures.text
+returns-in-Cums-clause-text g c = rw (c.in-Cums.is) c.headed_cums_text.ensures.text
 
 pub returns-in-Some-clause-refusal : goal.returns-in-Some-clause-refusal
 returns-in-Some-clause-refusal g c =
@@ -32,13 +32,13 @@ returns-in-Some-clause-gate g c =
     never_gate _ (IsRunRefusal (λ _. ⊥) (λ _. Unit {0})) c.plan_text.result (λ N name said. said.1.2) (open_refuses _ _ _ _ _ c.plan_text.result c.plan_text.ensures.refusal)
 
 pub returns-in-Check-clause-gate : goal.returns-in-Check-clause-gate
-returns-in-Check-clause-gate g c = never_gate _ IsRefusal c.check_text.result (λ N name said. said) c.check_text.ensures.refusal
+returns-in-Check-clause-gate g c = never_gate _ IsRefusal c.headed_check_text.result (λ N name said. said) c.headed_check_text.ensures.refusal
 
 pub returns-in-Peg-clause-gate : goal.returns-in-Peg-clause-gate
-returns-in-Peg-clause-gate g c = never_gate _ (IsPegRefusal c.in-Peg.plant.now c.in-Peg.item.now c.in-Peg.period) c.peg_text.result (λ N name said. said) c.peg_text.ensures.refusal
+returns-in-Peg-clause-gate g c = never_gate _ (IsPegRefusal c.in-Peg.plant.now c.in-Peg.item.now c.in-Peg.period) c.headed_peg_text.result (λ N name said. said) c.headed_peg_text.ensures.refusal
 
 pub returns-in-Cums-clause-gate : goal.returns-in-Cums-clause-gate
-returns-in-Cums-clause-gate g c = never_gate _ IsRefusal c.cums_text.result (λ N name said. said) c.cums_text.ensures.refusal
+returns-in-Cums-clause-gate g c = never_gate _ IsRefusal c.headed_cums_text.result (λ N name said. said) c.headed_cums_text.ensures.refusal
 
 pub returns-in-Plan-default-default-true-clause-rows : goal.returns-in-Plan-default-default-true-clause-rows
 returns-in-Plan-default-default-true-clause-rows g c = c.drive_text.ensures.rows
@@ -47,10 +47,19 @@ pub returns-in-Some-clause-rows : goal.returns-in-Some-clause-rows
 returns-in-Some-clause-rows g c = c.plan_text.ensures.rows
 
 pub returns-in-Check-clause-rows : goal.returns-in-Check-clause-rows
-returns-in-Check-clause-rows g c = rows-kept g.W.Write.contents _ _ c.check_text.result _ c.check_text.ensures.untouched
+returns-in-Check-clause-rows g c = rows-kept g.W.Write.contents _ _ c.headed_check_text.result _ c.headed_check_text.ensures.untouched
 
 pub returns-in-Peg-clause-rows : goal.returns-in-Peg-clause-rows
-returns-in-Peg-clause-rows g c = rows-kept g.W.Write.contents _ _ c.peg_text.result _ c.peg_text.ensures.untouched
+returns-in-Peg-clause-rows g c = rows-kept g.W.Write.contents _ _ c.headed_peg_text.result _ c.headed_peg_text.ensures.untouched
 
 pub returns-in-Cums-clause-rows : goal.returns-in-Cums-clause-rows
-returns-in-Cums-clause-rows g c = rows-kept g.W.Write.contents _ _ c.cums_text.result _ c.cums_text.ensures.untouched
+returns-in-Cums-clause-rows g c = rows-kept g.W.Write.contents _ _ c.headed_cums_text.result _ c.headed_cums_text.ensures.untouched
+
+pub returns-in-Orders-clause-text : goal.returns-in-Orders-clause-text
+returns-in-Orders-clause-text g c = rw (c.in-Orders.is) c.orders_text.ensures.text
+
+pub returns-in-Orders-clause-gate : goal.returns-in-Orders-clause-gate
+returns-in-Orders-clause-gate g c = never_gate _ IsRefusal c.orders_text.result (λ N name said. said) c.orders_text.ensures.refusal
+
+pub returns-in-Orders-clause-rows : goal.returns-in-Orders-clause-rows
+returns-in-Orders-clause-rows g c = rows-kept g.W.Write.contents _ _ c.orders_text.result _ c.orders_text.ensures.untouched

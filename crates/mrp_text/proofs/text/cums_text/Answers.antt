@@ -1,12 +1,9 @@
-use Rattle.mrp_text.specs.Text.{IsCumReport, IsRefusal}
-use Rattle.mrp_text.proofs.TextFacts.{refuses-of, writes-of}
+use Rattle.std.proofs.Common.{subst, sym}
+use Rattle.mrp_text.specs.Text.{IsCumReport}
+use Rattle.mrp_text.proofs.TextFacts.{writes-of}
 use Rattle.mrp_text.proofs.text.cums_text.Goals as goal
 
 pub returns-clause-text : goal.returns-clause-text
 returns-clause-text g c =
-    writes-of _ _ c.write_cums-written.result (IsCumReport c.in_ok-network.network) _
-    (λ text is. (c.in_ok-network.network, c.in_ok-network.ensures.table, c.in_ok-network.ensures.rows, is)) c.write_cums-written.ensures.text
-
-pub returns-clause-refusal : goal.returns-clause-refusal
-returns-clause-refusal g c =
-    refuses-of _ IsRefusal c.in_ok-network.network c.write_cums-written.result c.in_ok-network.ensures.table c.in_ok-network.ensures.rows (λ e said. said) c.write_cums-written.ensures.refusal
+    writes-of _ _ c.headed_cums_text.result _ _
+    (λ text is. (is.0, is.1, is.2, subst (IsCumReport is.0) (sym is.3.2) is.3.1)) c.headed_cums_text.ensures.text

@@ -1,13 +1,9 @@
-use Rattle.mrp_text.specs.Text.{IsPegRefusal, IsPegReport}
-use Rattle.mrp_text.proofs.TextFacts.{refuses-of, writes-of}
+use Rattle.std.proofs.Common.{subst, sym}
+use Rattle.mrp_text.specs.Text.{IsPegReport}
+use Rattle.mrp_text.proofs.TextFacts.{writes-of}
 use Rattle.mrp_text.proofs.text.peg_text.Goals as goal
 
 pub returns-clause-text : goal.returns-clause-text
 returns-clause-text g c =
-    writes-of _ _ c.write_pegs-written.result (IsPegReport c.args.plant.now c.args.item.now c.args.period c.in_ok-network.network) _
-    (λ text is. (c.in_ok-network.network, c.in_ok-network.ensures.table, c.in_ok-network.ensures.rows, is)) c.write_pegs-written.ensures.text
-
-pub returns-clause-refusal : goal.returns-clause-refusal
-returns-clause-refusal g c =
-    refuses-of _ (IsPegRefusal c.args.plant.now c.args.item.now c.args.period) c.in_ok-network.network c.write_pegs-written.result
-    c.in_ok-network.ensures.table c.in_ok-network.ensures.rows (λ e said. said) c.write_pegs-written.ensures.refusal
+    writes-of _ _ c.headed_peg_text.result _ _
+    (λ text is. (is.0, is.1, is.2, subst (IsPegReport c.args.plant.now c.args.item.now c.args.period is.0) (sym is.3.2) is.3.1)) c.headed_peg_text.ensures.text

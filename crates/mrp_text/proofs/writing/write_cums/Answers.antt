@@ -1,6 +1,7 @@
 use Rattle.std.proofs.Common.{subst, sym}
 use Rattle.mrp_rows.specs.Table.{Table}
-use Rattle.mrp_text.specs.Text.{IsCumReport, IsPlannable, Writes}
+use Rattle.mrp_report.specs.Headings.{lane_names}
+use Rattle.mrp_text.specs.Text.{IsCumReport, IsHeaded, IsPlannable, Writes}
 use Rattle.mrp_text.proofs.writing.write_cums.Goals as goal
 
 pub report_cums-requires : goal.report_cums-requires
@@ -8,5 +9,5 @@ report_cums-requires g c = subst (λ (N : Table). IsPlannable N) (sym c.in_ok-ne
 
 pub returns-clause-text : goal.returns-clause-text
 returns-clause-text g c =
-    subst (λ (N : Table). Writes (g.W.Write.contents c.args.writer.now) (g.W.Write.contents c.report_cums.new.writer) c.report_cums.result (IsCumReport N))
+    subst (λ (N : Table). Writes (g.W.Write.contents c.args.writer.now) (g.W.Write.contents c.report_cums.new.writer) c.report_cums.result (IsHeaded c.args.heading lane_names (IsCumReport N)))
     c.in_ok-net.ensures.network c.report_cums.ensures.text
