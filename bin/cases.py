@@ -6,7 +6,7 @@ import re
 import subprocess
 
 TOP = os.path.dirname(os.path.dirname(os.path.realpath(__file__)))
-COMMANDS = ("check", "plan", "plan --single", "peg A X 0", "cums")
+COMMANDS = ("check", "plan", "plan --single", "peg A X 0", "cums", "orders")
 # With how many workers a plant and records a mailbox a plan is made: the answer is the same.
 SETTINGS = ("", " --single", " --single --capacity 1", " --workers 1 --capacity 1", " --workers 1 --capacity 65536")
 SETTINGS += (" --workers 2 --capacity 1", " --workers 2 --capacity 65536", " --workers 64 --capacity 1", " --workers 64 --capacity 65536")

@@ -30,6 +30,13 @@ RANGES = {
 }
 MOST = {"plant": 64, "pair": 20_000, "bill": 200_000, "demand": 10**6, "receipt": 10**6, "ship": 10**6, "cum": 10**6}
 LIMIT = 10**15
+# The names of the columns, as --header writes them above a report.
+HEADERS = {
+    "check": "row,plant,item,code",
+    "peg": "row,source,plant,item,release,per,quantity",
+    "cums": "row,kind,sender,receiver,item,opening,shipped,received,transit",
+    "orders": "row,plant,item,supply,quantity,release,release_date,due,due_date,late",
+}
 NAME = re.compile(r"[A-Za-z0-9._-]{1,20}")
 NUMBER = re.compile(r"0|[1-9][0-9]{0,15}")
 RULE = re.compile(r"lot|fixed:([^:]*)|periods:([^:]*)|min:([^:]*):([^:]*)")
@@ -335,6 +342,16 @@ class Firm:
                 if quantity:
                     yield "late", *pair, t, quantity, self.pairs[pair].lead - t
 
+    def order_report(self, until=103):
+        """Yields the fields of the order rows: of each planned order receipt that is released in that period or before it."""
+        days = [self.first + timedelta(days=self.days * t) for t in range(self.periods)]
+        for pair, plan in self.plans.items():
+            row = self.pairs[pair]
+            for due, quantity in enumerate(plan.order):
+                release = max(0, due - row.lead)
+                if quantity and release <= int(until):
+                    yield "order", *pair, row.supply, quantity, release, days[release], due, days[due], max(0, row.lead - due)
+
     def code_report(self):
         for pair in self.pairs:
             yield "code", *pair, self.codes[pair]
@@ -381,16 +398,17 @@ class Oracle:
         except Refused as line:
             self.firm, self.refused = None, str(line)
 
-    def answer(self, command, *asked):
-        """Returns the answer to a command: plan, check, peg with a pair and a period, or cums."""
+    def answer(self, command, *asked, header=False):
+        """Returns the answer to a command: plan, check, peg with a pair and a period, cums, or orders with a period or none."""
         if self.refused:
             return refusal(self.refused)
-        reports = {"plan": Firm.plan_report, "check": Firm.code_report, "peg": Firm.peg_report, "cums": Firm.lane_report}
+        reports = {"plan": Firm.plan_report, "check": Firm.code_report, "peg": Firm.peg_report, "cums": Firm.lane_report, "orders": Firm.order_report}
         try:
             fields = list(reports[command](self.firm, *asked))
         except Refused as line:
             return refusal(str(line))
-        return Answer(0, "".join(",".join(map(str, it)) + "\n" for it in fields).encode(), b"")
+        lines = [HEADERS[command]] * header + [",".join(map(str, it)) for it in fields]
+        return Answer(0, "".join(f"{it}\n" for it in lines).encode(), b"")
 
 
 def refusal(line):

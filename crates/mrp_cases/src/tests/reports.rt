@@ -11,6 +11,11 @@ plan,P1,WHEEL,3,2026-01-26,0,0,0,0,0\n";
 pub(super) const TWO_PLANTS_CUMS: &str =
     "lane,despatch,B,A,X,100,108,108,0\nlane,schedule,A,B,X,108,130,130,0\n";
 
+/// Their planned orders that are released in period 1 or before it, below the names of the columns.
+pub(super) const TWO_PLANTS_ORDERS: &str =
+    "row,plant,item,supply,quantity,release,release_date,due,due_date,late\n\
+order,A,X,from:B,22,1,2026-01-12,2,2026-01-19,0\norder,B,X,buy,22,1,2026-01-12,1,2026-01-12,0\n";
+
 /// Their plan.
 pub(super) const TWO_PLANTS_PLAN: &str = "plan,A,X,0,2026-01-05,0,0,0,0,0\n\
 plan,A,X,1,2026-01-12,0,0,0,22,0\nplan,A,X,2,2026-01-19,30,8,22,0,0\n\

@@ -5,7 +5,7 @@ ghost use Rattle.mrp_choice.specs.Range.{IsInRange};
 use super::is_report;
 use super::outcomes::outcome;
 use super::reports::{BICYCLE_PLAN, TWO_PLANTS_CUMS};
-use mrp_choice::Choice;
+use mrp_choice::{Choice, Heading};
 use mrp_tables::TableFaultKind;
 use mrp_text::{TextFault, answer, check_text, drive_text, status};
 use mrp_worked::{BICYCLE, TWO_PLANTS};
@@ -238,6 +238,7 @@ enum Asked {
     Codes,
     Terms,
     Figures,
+    Orders,
 }
 
 /// The choice that asks for it.
@@ -255,13 +256,22 @@ fn choice_of(asked: Asked) -> Choice<'static>
             capacity: 64,
             single: true,
         },
-        Asked::Codes => Choice::Check,
+        Asked::Codes => Choice::Check {
+            heading: Heading::Names,
+        },
         Asked::Terms => Choice::Peg {
             plant: "P1",
             item: "WHEEL",
             period: 2,
+            heading: Heading::Without,
         },
-        Asked::Figures => Choice::Cums,
+        Asked::Figures => Choice::Cums {
+            heading: Heading::Without,
+        },
+        Asked::Orders => Choice::Orders {
+            until: None,
+            heading: Heading::Names,
+        },
     }
 }
 
@@ -273,7 +283,7 @@ struct Written {
 }
 
 /// A report of each choice, of three writes at least.
-const REPORTS: [Written; 5] = [
+const REPORTS: [Written; 6] = [
     Written {
         asked: Asked::PlanByThreads,
         table: BICYCLE,
@@ -287,7 +297,7 @@ const REPORTS: [Written; 5] = [
     Written {
         asked: Asked::Codes,
         table: BICYCLE,
-        report: "code,P1,BIKE,0\ncode,P1,WHEEL,1\n",
+        report: "row,plant,item,code\ncode,P1,BIKE,0\ncode,P1,WHEEL,1\n",
     },
     Written {
         asked: Asked::Terms,
@@ -298,6 +308,12 @@ const REPORTS: [Written; 5] = [
         asked: Asked::Figures,
         table: TWO_PLANTS,
         report: TWO_PLANTS_CUMS,
+    },
+    Written {
+        asked: Asked::Orders,
+        table: BICYCLE,
+        report: "row,plant,item,supply,quantity,release,release_date,due,due_date,late\n\
+order,P1,BIKE,make,10,2,2026-01-19,3,2026-01-26,0\norder,P1,WHEEL,buy,20,1,2026-01-12,2,2026-01-19,0\n",
     },
 ];
 
