@@ -2,12 +2,16 @@
 _mrp() {
     local word=${COMP_WORDS[COMP_CWORD]} before=${COMP_WORDS[COMP_CWORD - 1]} words=
     case $before in
-        --workers | --capacity) return ;;
+        --workers | --capacity | --until) return ;;
     esac
     if [ "$COMP_CWORD" -eq 1 ]; then
-        words="plan check peg cums --help --version"
+        words="plan check peg cums orders --help --version"
     elif [ "${COMP_WORDS[1]}" = plan ]; then
         words="--single --workers --capacity --help"
+    elif [ "${COMP_WORDS[1]}" = orders ]; then
+        words="--until --header --help"
+    elif [[ ${COMP_WORDS[1]} =~ ^(check|peg|cums)$ ]]; then
+        words="--header --help"
     else
         words="--help"
     fi
