@@ -407,7 +407,7 @@ class Oracle:
             fields = list(reports[command](self.firm, *asked))
         except Refused as line:
             return refusal(str(line))
-        lines = [HEADERS[command]] * header + [",".join(map(str, it)) for it in fields]
+        lines = [*([HEADERS[command]] if header else []), *(",".join(map(str, it)) for it in fields)]
         return Answer(0, "".join(f"{it}\n" for it in lines).encode(), b"")
 
 

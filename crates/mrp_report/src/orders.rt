@@ -101,6 +101,7 @@ fn order_text(
     ensures text { IfOk result (λ text. text.items ≡ order_text heading report.now.until report.now.network.now report.now.plan.now) }
     ensures fault { IfErr result (λ fault. fault ≡ ReportFault.Memory) }
 {
+    // Room to begin with, which grows where there are more orders than pairs.
     let mut rows = room_for(alloc, report.network.pairs(), LONGEST_ROW)?;
     put_order_names(&mut rows, heading)?;
     put_all_orders(&mut rows, alloc, report)?;

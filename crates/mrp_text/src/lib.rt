@@ -7,9 +7,9 @@
 //! [`plan_text`] writes the plan, each plant planned in a thread of its own, and [`drive_text`] the same
 //! plan on one thread; [`check_text`] writes the low-level codes, [`peg_text`] what a gross requirement
 //! consists of, [`cums_text`] the cumulative figures of the lanes between plants, and [`orders_text`] the
-//! planned orders; [`answer`] does the one of them that the words of a command line chose. A program makes a
-//! plain file of the last four by [`headed_check_text`], [`headed_peg_text`], [`headed_cums_text`] and a
-//! [`Heading`]: the names of the columns then stand above the rows.
+//! planned orders; [`answer`] does the one of them that the words of a command line chose. A [`Heading`] says
+//! whether the names of the columns stand above the orders, and above the rows of [`headed_check_text`],
+//! [`headed_peg_text`] and [`headed_cums_text`].
 //! Where a text was not written whole, a [`TextFault`] says why: [`write_fault`] writes the line that
 //! reports it, and [`status`] and [`exit_status`] are the statuses with which a program ends. [`ended`]
 //! does both after the work, [`after_help`] after help or the version, and [`unread`] where the arguments
