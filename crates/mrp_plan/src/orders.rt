@@ -34,8 +34,7 @@ impl PlannedOrder {
 
 /// The order of a pair's plan that is due in period `t`, or `None` where nothing is ordered there.
 ///
-/// `lead` is the pair's lead time, 0 to 104 periods, and `t` is below the horizon. Nothing is
-/// allocated.
+/// `lead` is the pair's lead time, 0 to 104 periods, and `t` is below the horizon.
 pub fn planned_order(plan: &PairPlan, lead: u64, t: usize) -> Option<PlannedOrder>
     requires { t < length plan.now.order }
     ensures { result ≡ order_in lead plan.now t }

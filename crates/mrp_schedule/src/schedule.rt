@@ -19,7 +19,7 @@ use mrp_qty::{Memory, Qty};
 /// Appends the delivery schedule of an item of a schedule lane to a list: its opening, its calls by a plan that
 /// fits the network, in rising periods, and its reset before the first call that is counted anew.
 ///
-/// Linear in periods: a schedule has at most two lines more than there are periods, and where the list has room
+/// A schedule has at most two lines more than there are periods, and where the list has room
 /// for so many none is asked for. No room of the list is given back.
 ///
 /// # Errors
