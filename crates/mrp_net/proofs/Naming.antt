@@ -5,6 +5,7 @@ use Rattle.std.specs.Prelude.{◌↔◌}
 use Rattle.std.specs.List.{Contains, IsDistinct}
 use Rattle.mrp_rows.specs.declared.numbers.ItemNo.{ItemNo}
 use Rattle.mrp_rows.specs.declared.numbers.PairNo.{PairNo}
+use Rattle.mrp_rows.specs.declared.numbers.PlantNo.{PlantNo}
 use Rattle.std.specs.List.{position, position_or_len, slice_get}
 use Rattle.std.proofs.lemmas.Map.Keys.{apart_from_distinct}
 use Rattle.std.proofs.lemmas.Bool.{cases_lt, cases_order, cond_both, ltb-false, eqb-true, eq-eqb, and_parts, and_from, true≢false}
@@ -78,6 +79,15 @@ found_name names name (Some i) is = name_at_place names name i.0 is
 pub missing_name : (names : List (List ℕ)) (name : List ℕ) (found : Option ItemNo) → option_map (λ i. i.0) found ≡ position (bytes_eq name) names → IfNone found (¬ Contains names name)
 missing_name names name None is = λ contains. name_nowhere names name is contains.0 (slice_get-get_or names contains.0 name contains.1 ∙ ap Some contains.2)
 missing_name names name (Some i) is = tt
+
+-- so too a plant
+pub found_plant_name : (names : List (List ℕ)) (name : List ℕ) (found : Option PlantNo) → option_map (λ p. p.0) found ≡ position (bytes_eq name) names → IfSome found (λ p. slice_get names p.0 ≡ Some name)
+found_plant_name names name None is = tt
+found_plant_name names name (Some p) is = name_at_place names name p.0 is
+
+pub missing_plant_name : (names : List (List ℕ)) (name : List ℕ) (found : Option PlantNo) → option_map (λ p. p.0) found ≡ position (bytes_eq name) names → IfNone found (¬ Contains names name)
+missing_plant_name names name None is = λ contains. name_nowhere names name is contains.0 (slice_get-get_or names contains.0 name contains.1 ∙ ap Some contains.2)
+missing_plant_name names name (Some p) is = tt
 
 -- a name stands at one place
 later_name : (names : List (List ℕ)) (i j : ℕ) (name : List ℕ) → IsDistinct bytes_eq names → slice_get names i ≡ Some name → slice_get names j ≡ Some name → i < j → ⊥

@@ -14,5 +14,5 @@ mod sums;
 
 pub use edge::Edge;
 pub use lane::{Lane, LaneKind, LaneNo, Shipment};
-pub use mrp_rows::{ItemNo, PairNo, PairRow, PlantNo, SourceRow, Supply};
+pub use mrp_rows::{ItemNo, PairNo, PairRow, PlantNo, ReceiptRow, ShipRow, SourceRow, Supply};
 pub use network::Network;

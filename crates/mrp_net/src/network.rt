@@ -17,7 +17,7 @@ use crate::lanes::{LaneLists, source_of};
 use crate::{Edge, build, lanes};
 use mrp_cal::Calendar;
 use mrp_qty::{Horizon, Memory};
-use mrp_rows::{ItemNo, PairNo, PairRow, PlantNo, SourceRow, Tables};
+use mrp_rows::{ItemNo, PairNo, PairRow, PlantNo, ReceiptRow, ShipRow, SourceRow, Tables};
 use std::alloc::Global;
 use std::marker::Model;
 use std::mem;
@@ -177,6 +177,14 @@ impl Network {
         self.tables.item_name(item)
     }
 
+    /// The plant of that name, or `None` where the table has none.
+    pub fn find_plant(&self, name: &str) -> Option<PlantNo>
+        ensures found { IfSome result (λ p. slice_get self.now.plants p.0 ≡ Some name.now) }
+        ensures missing { IfNone result (¬ Contains self.now.plants name.now) }
+    {
+        self.tables.find_plant(name)
+    }
+
     /// The item of that name, or `None` where the table has none.
     pub fn find_item(&self, name: &str) -> Option<ItemNo>
         ensures found { IfSome result (λ i. slice_get self.now.items i.0 ≡ Some name.now) }
@@ -261,6 +269,20 @@ impl Network {
         ensures { result.now ≡ row_of self.now (received self.now x.0) }
     {
         &self.amounts.received[self.places_of(x)]
+    }
+
+    /// The receipt rows of all pairs, in table order.
+    pub fn receipts(&self) -> &[ReceiptRow]
+        ensures { result.now ≡ self.now.receipts }
+    {
+        self.tables.receipts()
+    }
+
+    /// The shipments between plants that are on their way, in table order.
+    pub fn ships(&self) -> &[ShipRow]
+        ensures { result.now ≡ self.now.ships }
+    {
+        self.tables.ships()
     }
 
     /// On hand, receipts, shipments and opening figures of the pair, or 2^64 - 1 where they are more.
