@@ -1,7 +1,7 @@
 -- What a choice may ask.
 use Rattle.std.specs.Prelude.{◌≤◌, IfSome}
 use Rattle.mrp_choice.specs.declared.choice.Choice.{Choice}
-use Rattle.mrp_choice.specs.declared.choice.Choice.TheVariants.{Plan, Check, Peg, Cums, Orders}
+use Rattle.mrp_choice.specs.declared.choice.Choice.TheVariants.{Plan, Check, Peg, Cums, Orders, Schedule, Pegs, Advice}
 use Rattle.mrp_choice.specs.declared.choice.TheConstants.{MOST_WORKERS, MOST_CAPACITY, LAST_PERIOD}
 
 -- the numbers of a choice are in their ranges
@@ -11,3 +11,6 @@ IsInRange (Check heading) = Unit {0}
 IsInRange (Peg plant item period heading) = period ≤ LAST_PERIOD
 IsInRange (Cums heading) = Unit {0}
 IsInRange (Orders until heading) = IfSome until (λ period. period ≤ LAST_PERIOD)
+IsInRange (Schedule from to heading) = Unit {0}
+IsInRange (Pegs heading) = Unit {0}
+IsInRange (Advice heading) = Unit {0}

@@ -59,4 +59,23 @@ pub enum Choice<'a> {
         /// Whether the names of the columns stand above them.
         heading: Heading,
     },
+    /// Write the delivery schedules between plants.
+    Schedule {
+        /// The name of the supplier plant whose schedules alone are written, if it is given.
+        from: Option<&'a str>,
+        /// The name of the customer plant whose schedules alone are written, if it is given.
+        to: Option<&'a str>,
+        /// Whether the names of the columns stand above them.
+        heading: Heading,
+    },
+    /// Write what each gross requirement of the plan consists of.
+    Pegs {
+        /// Whether the names of the columns stand above them.
+        heading: Heading,
+    },
+    /// Write which open orders to expedite, to defer and to cancel.
+    Advice {
+        /// Whether the names of the columns stand above them.
+        heading: Heading,
+    },
 }

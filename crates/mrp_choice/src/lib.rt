@@ -1,4 +1,4 @@
-//! What the planner may be asked to do: the five commands with their values.
+//! What the planner may be asked to do: the eight commands with their values.
 //!
 //! A program of one's own makes a [`Choice`] and hands it to the text functions; `mrp_words` reads one from the
 //! words of a command line.

@@ -1,4 +1,4 @@
--- Where no step of the parse fails, the words name one of the five commands, with its values.
+-- Where no step of the parse fails, the words name one of the eight commands, with its values.
 use Rattle.std.proofs.Common.{◌≡◌, ◌∙◌, ◌&&◌, ◌||◌, inl, inr, ℕ, Bool, cond, true, false, not, List, [], ◌∷◌, Option, Some, None, codes, option_map, refl, sym, ap, ap₂, subst, is_some, true≢false}
 use Rattle.std.specs.Prelude.{unwrap_or}
 use Rattle.std.specs.List.{list_all, list_any}
@@ -18,7 +18,7 @@ use Rattle.clap.specs.declared.builder.value_parser.ValueParser.TheVariants.{Uns
 use Rattle.clap.proofs.OnLiterals.{clap_on_literals}
 use Rattle.clap.proofs.ValueTestLemmas.{accepts-Accepts}
 use Rattle.mrp_words.specs.Choice.{IsCommand, IsMeantBy, number_at}
-use Rattle.mrp_words.specs.CommandLine.{check_words, cums_words, mrp, orders_words, peg_words, plan_words, program_words}
+use Rattle.mrp_words.specs.CommandLine.{advice_words, check_words, cums_words, mrp, orders_words, peg_words, pegs_words, plan_words, program_words, schedule_words}
 use Rattle.mrp_choice.specs.declared.choice.TheConstants.{MOST_WORKERS, MOST_CAPACITY, LAST_PERIOD}
 use Rattle.mrp_choice.specs.declared.choice.Choice.{Choice}
 use Rattle.mrp_words.specs.Values.{HasFlag, HasNumber, HasOrderValues, HasPegValues, HasPlanValues, HasText, IsWhole, IsWholeCommand, IsWithin, MayBeWithin, MayHaveNumber}
@@ -47,13 +47,22 @@ cums_leaf = leaf cums_words.top
 abbrev orders_leaf : Shape
 orders_leaf = leaf orders_words.top
 
+abbrev schedule_leaf : Shape
+schedule_leaf = leaf schedule_words.top
+
+abbrev pegs_leaf : Shape
+pegs_leaf = leaf pegs_words.top
+
+abbrev advice_leaf : Shape
+advice_leaf = leaf advice_words.top
+
 abbrev help_leaf : Shape
 help_leaf = built_leaf help_shape
 
 abbrev ready : App
 ready = record {
   top = with_filled_rules (with_version_flag (with_help_flag top));
-  subs = plan_leaf ∷ check_leaf ∷ peg_leaf ∷ cums_leaf ∷ orders_leaf ∷ help_leaf ∷ [];
+  subs = plan_leaf ∷ check_leaf ∷ peg_leaf ∷ cums_leaf ∷ orders_leaf ∷ schedule_leaf ∷ pegs_leaf ∷ advice_leaf ∷ help_leaf ∷ [];
 }
 
 built_is : built mrp ≡ ready
@@ -145,6 +154,15 @@ check_whole words e = header_whole check_leaf words refl refl (λ v known. only 
 cums_whole : (words : List Text) → level_fault cums_leaf [] nothing_held words false [] ≡ [] → HasFlag (codes "header") (rows_after cums_leaf.rules [] words)
 cums_whole words e = header_whole cums_leaf words refl refl (λ v known. only _ known) e
 
+schedule_whole : (words : List Text) → level_fault schedule_leaf [] nothing_held words false [] ≡ [] → HasFlag (codes "header") (rows_after schedule_leaf.rules [] words)
+schedule_whole words e = header_whole schedule_leaf words refl refl (λ v known. only _ known) e
+
+pegs_whole : (words : List Text) → level_fault pegs_leaf [] nothing_held words false [] ≡ [] → HasFlag (codes "header") (rows_after pegs_leaf.rules [] words)
+pegs_whole words e = header_whole pegs_leaf words refl refl (λ v known. only _ known) e
+
+advice_whole : (words : List Text) → level_fault advice_leaf [] nothing_held words false [] ≡ [] → HasFlag (codes "header") (rows_after advice_leaf.rules [] words)
+advice_whole words e = header_whole advice_leaf words refl refl (λ v known. only _ known) e
+
 -- a number that may be left out
 free_number_whole : (rows : List Row) → MayHaveNumber (codes "until") rows → MayBeWithin 0 LAST_PERIOD (number_at (codes "until") rows)
     → HasFlag (codes "header") rows → HasOrderValues rows
@@ -204,21 +222,23 @@ peg_whole words e =
 
 -- ---- the command
 
-abbrev pick : Bool → Bool → Bool → Bool → Bool → Bool → Option Shape
-pick plan check peg cums orders help =
-    cond plan (Some plan_leaf) (cond check (Some check_leaf) (cond peg (Some peg_leaf)
-    (cond cums (Some cums_leaf) (cond orders (Some orders_leaf) (cond help (Some help_leaf) None)))))
+abbrev pick : Bool → Bool → Bool → Bool → Bool → Bool → Bool → Bool → Bool → Option Shape
+pick plan check peg cums orders schedule pegs advice help =
+    cond plan (Some plan_leaf) (cond check (Some check_leaf) (cond peg (Some peg_leaf) (cond cums (Some cums_leaf) (cond orders (Some orders_leaf) (cond schedule (Some schedule_leaf) (cond pegs (Some pegs_leaf) (cond advice (Some advice_leaf) (cond help (Some help_leaf) None))))))))
 
-picked : (words : List Text) (plan check peg cums orders help : Bool) → option_map_or (λ s. level_fault s [] nothing_held words false []) (pick plan check peg cums orders help) [] ≡ []
-    → is_some (option_map (λ s. rows_at s words) (pick plan check peg cums orders help)) ≡ true → help ≡ false
-    → IsWholeCommand (option_map (λ s. rows_at s words) (pick plan check peg cums orders help))
-picked words true check peg cums orders help e some off = inl (refl, plan_whole words e)
-picked words false true peg cums orders help e some off = inr (inl (refl, check_whole words e))
-picked words false false true cums orders help e some off = inr (inr (inl (refl, peg_whole words e)))
-picked words false false false true orders help e some off = inr (inr (inr (inl (refl, cums_whole words e))))
-picked words false false false false true help e some off = inr (inr (inr (inr (refl, orders_whole words e))))
-picked words false false false false false true e some off = absurd (true≢false off)
-picked words false false false false false false e some off = absurd (true≢false (sym some))
+picked : (words : List Text) (plan check peg cums orders schedule pegs advice help : Bool) → option_map_or (λ s. level_fault s [] nothing_held words false []) (pick plan check peg cums orders schedule pegs advice help) [] ≡ []
+    → is_some (option_map (λ s. rows_at s words) (pick plan check peg cums orders schedule pegs advice help)) ≡ true → help ≡ false
+    → IsWholeCommand (option_map (λ s. rows_at s words) (pick plan check peg cums orders schedule pegs advice help))
+picked words true check peg cums orders schedule pegs advice help e some off = inl (refl, plan_whole words e)
+picked words false true peg cums orders schedule pegs advice help e some off = inr (inl (refl, check_whole words e))
+picked words false false true cums orders schedule pegs advice help e some off = inr (inr (inl (refl, peg_whole words e)))
+picked words false false false true orders schedule pegs advice help e some off = inr (inr (inr (inl (refl, cums_whole words e))))
+picked words false false false false true schedule pegs advice help e some off = inr (inr (inr (inr (inl (refl, orders_whole words e)))))
+picked words false false false false false true pegs advice help e some off = inr (inr (inr (inr (inr (inl (refl, schedule_whole words e))))))
+picked words false false false false false false true advice help e some off = inr (inr (inr (inr (inr (inr (inl (refl, pegs_whole words e)))))))
+picked words false false false false false false false true help e some off = inr (inr (inr (inr (inr (inr (inr (refl, advice_whole words e)))))))
+picked words false false false false false false false false true e some off = absurd (true≢false off)
+picked words false false false false false false false false false e some off = absurd (true≢false (sym some))
 
 no_help : (name : Text) (aliases : Bool) → (bytes_eq name (codes "help") && true) ≡ false → aliases ≡ false → (bytes_eq (codes "help") name || aliases) ≡ false
 no_help name aliases e none = go (bytes_eq (codes "help") name) refl
@@ -233,7 +253,8 @@ no_help name aliases e none = go (bytes_eq (codes "help") name) refl
 stopped_whole : (stop : Option (Text × List Text)) → entered_fault ready stop ≡ [] → is_some (entered ready stop) ≡ true → asks_at ready.top refl stop ≡ false
     → IsWholeCommand (entered ready stop)
 stopped_whole None e some off = absurd (true≢false (sym some))
-stopped_whole (Some p) e some off = picked p.1 (answers_to p.0 (label_of plan_leaf)) (answers_to p.0 (label_of check_leaf)) (answers_to p.0 (label_of peg_leaf)) (answers_to p.0 (label_of cums_leaf)) (answers_to p.0 (label_of orders_leaf)) (answers_to p.0 (label_of help_leaf))
+stopped_whole (Some p) e some off = picked p.1 (answers_to p.0 (label_of plan_leaf)) (answers_to p.0 (label_of check_leaf)) (answers_to p.0 (label_of peg_leaf)) (answers_to p.0 (label_of cums_leaf)) (answers_to p.0 (label_of orders_leaf))
+    (answers_to p.0 (label_of schedule_leaf)) (answers_to p.0 (label_of pegs_leaf)) (answers_to p.0 (label_of advice_leaf)) (answers_to p.0 (label_of help_leaf))
     e some (no_help p.0 false off refl)
 
 has_command : (rows : List Row) (has : Bool) → check_fault ready.top rows has ≡ [] → has ≡ true

@@ -9,7 +9,7 @@ use Rattle.clap.specs.Words.{HasKind, Row, Text, fault_of, first_of, kind_of, su
 use Rattle.clap.specs.declared.error.kind.ErrorKind.TheVariants.{OutOfMemory}
 use Rattle.mrp_words.specs.CommandLine.{mrp}
 use Rattle.mrp_choice.specs.declared.choice.Choice.{Choice}
-use Rattle.mrp_choice.specs.declared.choice.Choice.TheVariants.{Plan, Check, Peg, Cums, Orders}
+use Rattle.mrp_choice.specs.declared.choice.Choice.TheVariants.{Plan, Check, Peg, Cums, Orders, Schedule, Pegs, Advice}
 use Rattle.mrp_choice.specs.declared.choice.Heading.{Heading}
 use Rattle.mrp_choice.specs.declared.choice.Heading.TheVariants.{Without, Names}
 use Rattle.mrp_words.specs.declared.words.ChooseFault.{ChooseFault}
@@ -27,6 +27,10 @@ text_at = first_of
 abbrev pub number_at : Text → List Row → Option ℕ
 number_at name rows =
     option_map (λ text. digits_value 10 (without_leading_plus text)) (text_at name rows)
+
+-- the text of a word that may be left out
+abbrev pub text_of : Option (Bor Text) → Option Text
+text_of = option_map (λ word. word.now)
 
 -- a flag is given where its value is `true`
 abbrev pub flag_at : Text → List Row → Bool
@@ -55,6 +59,12 @@ IsCommand name rows (Peg plant item period heading) =
 IsCommand name rows (Cums heading) = (name ≡ codes "cums") × IsHeadedBy rows heading
 IsCommand name rows (Orders until heading) =
     (name ≡ codes "orders") × (number_at (codes "until") rows ≡ until) × IsHeadedBy rows heading
+IsCommand name rows (Schedule from to heading) =
+    (name ≡ codes "schedule") × (text_at (codes "from") rows ≡ text_of from)
+    × (text_at (codes "to") rows ≡ text_of to)
+    × IsHeadedBy rows heading
+IsCommand name rows (Pegs heading) = (name ≡ codes "pegs") × IsHeadedBy rows heading
+IsCommand name rows (Advice heading) = (name ≡ codes "advice") × IsHeadedBy rows heading
 
 -- the same, where there is a subcommand
 abbrev pub IsMeantBy : Option (Text × List Row) → Choice → Type 0

@@ -33,6 +33,10 @@ free_number_option name least most = record (new_rule name) {
   parser = Some (Unsigned least most);
 }
 
+-- an option with a text, which may be left out
+abbrev pub free_text_option : Text → Rule
+free_text_option name = record (new_rule name) { long = Some name; value_names = 1 }
+
 -- an option without a value
 abbrev pub flag : Text → Rule
 flag name = record (new_rule name) { long = Some name; action = Some SetTrue }
@@ -53,6 +57,13 @@ header = flag (codes "header")
 -- the last period of a release
 abbrev pub until : Rule
 until = free_number_option (codes "until") 0 LAST_PERIOD
+
+-- the supplier and the customer of delivery schedules
+abbrev pub from : Rule
+from = free_text_option (codes "from")
+
+abbrev pub to : Rule
+to = free_text_option (codes "to")
 
 abbrev pub plant : Rule
 plant = wanted (codes "plant")
@@ -83,6 +94,18 @@ cums_words = with_rule (new_app (codes "cums")) header
 abbrev pub orders_words : App
 orders_words = with_rule (with_rule (new_app (codes "orders")) until) header
 
+-- `schedule [--from PLANT] [--to PLANT] [--header]`
+abbrev pub schedule_words : App
+schedule_words = with_rule (with_rule (with_rule (new_app (codes "schedule")) from) to) header
+
+-- `pegs [--header]`
+abbrev pub pegs_words : App
+pegs_words = with_rule (new_app (codes "pegs")) header
+
+-- `advice [--header]`
+abbrev pub advice_words : App
+advice_words = with_rule (new_app (codes "advice")) header
+
 -- a program of that name, which has a version and has to be given a subcommand
 abbrev pub program_words : Text → App
 program_words name =
@@ -90,7 +113,7 @@ program_words name =
       top = record (new_app name).top { has_version = true; subcommand_required = true };
     }
 
--- the command line up to `check`, up to `peg`, and up to `cums`
+-- the command line up to each command
 abbrev pub up_to_check : App
 up_to_check =
     with_subcommand (with_subcommand (program_words (codes "mrp")) plan_words.top) check_words.top
@@ -101,15 +124,18 @@ up_to_peg = with_subcommand up_to_check peg_words.top
 abbrev pub up_to_cums : App
 up_to_cums = with_subcommand up_to_peg cums_words.top
 
+abbrev pub up_to_orders : App
+up_to_orders = with_subcommand up_to_cums orders_words.top
+
+abbrev pub up_to_schedule : App
+up_to_schedule = with_subcommand up_to_orders schedule_words.top
+
+abbrev pub up_to_pegs : App
+up_to_pegs = with_subcommand up_to_schedule pegs_words.top
+
 -- the command line
 unfoldable pub mrp : App
-mrp = with_subcommand
-    (with_subcommand
-    (with_subcommand
-    (with_subcommand (with_subcommand (program_words (codes "mrp")) plan_words.top) check_words.top)
-    peg_words.top)
-    cums_words.top)
-    orders_words.top
+mrp = with_subcommand up_to_pegs advice_words.top
 
 -- the argument has this rule, at its own command alone
 abbrev pub IsRuled : Rule → Arg → Type 0

@@ -56,12 +56,18 @@ pub record HasOrderValues (rows : List Row) : Type 0 where
   pub until_within : MayBeWithin 0 LAST_PERIOD (number_at (codes "until") rows)
   pub header : HasFlag (codes "header") rows
 
--- the command is one of the five, with its values
+-- the command is a report of orders, with its values
+abbrev pub IsWholeReport : Text → List Row → Type 0
+IsWholeReport name rows = ((name ≡ codes "orders") × HasOrderValues rows)
+    ⊎ (((name ≡ codes "schedule") × HasFlag (codes "header") rows)
+    ⊎ (((name ≡ codes "pegs") × HasFlag (codes "header") rows) ⊎ ((name ≡ codes "advice") × HasFlag (codes "header") rows)))
+
+-- the command is one of the eight, with its values
 abbrev pub IsWhole : Text → List Row → Type 0
 IsWhole name rows = ((name ≡ codes "plan") × HasPlanValues rows)
     ⊎ (((name ≡ codes "check") × HasFlag (codes "header") rows)
     ⊎ (((name ≡ codes "peg") × HasPegValues rows)
-    ⊎ (((name ≡ codes "cums") × HasFlag (codes "header") rows) ⊎ ((name ≡ codes "orders") × HasOrderValues rows))))
+    ⊎ (((name ≡ codes "cums") × HasFlag (codes "header") rows) ⊎ IsWholeReport name rows)))
 
 abbrev pub IsWholeCommand : Option (Text × List Row) → Type 0
 IsWholeCommand None = ⊥

@@ -4,12 +4,13 @@ ghost use Rattle.std.specs.Prelude.{◌≡◌, ◌≤◌, Some, true, false, [],
 ghost use Rattle.clap.specs.Words.{app_of, fault_of, found_of, new_app, rows_of, subcommand_rows_of, takes};
 ghost use Rattle.clap.specs.declared.builder.value_parser.ValueParser.TheVariants.{Unsigned};
 ghost use Rattle.mrp_choice.specs.Range.{IsInRange};
-ghost use Rattle.mrp_words.specs.Choice.{IsChosenBy, IsCommand, IsHeadedBy, IsMeantBy, IsMemory, IsRefusalOf, flag_at, number_at, text_at, texts_of};
-ghost use Rattle.mrp_words.specs.CommandLine.{IsRuled, IsWorded, check_words, cums_words, mrp, orders_words, peg_words, plan_words, program_words};
-ghost use Rattle.mrp_words.specs.CommandLine.{up_to_check, up_to_cums, up_to_peg};
+ghost use Rattle.mrp_words.specs.Choice.{IsChosenBy, IsCommand, IsHeadedBy, IsMeantBy, IsMemory, IsRefusalOf, flag_at, number_at, text_at, text_of, texts_of};
+ghost use Rattle.mrp_words.specs.CommandLine.{IsRuled, IsWorded, advice_words, check_words, cums_words, mrp, orders_words, peg_words, pegs_words};
+ghost use Rattle.mrp_words.specs.CommandLine.{plan_words, program_words, schedule_words};
+ghost use Rattle.mrp_words.specs.CommandLine.{up_to_check, up_to_cums, up_to_orders, up_to_peg, up_to_pegs, up_to_schedule};
 ghost use Rattle.mrp_words.specs.CommandLine as rule;
 ghost use Rattle.mrp_choice.specs.declared.choice.TheConstants.{MOST_CAPACITY};
-ghost use Rattle.mrp_words.specs.Values.{HasFlag, HasName, HasNumber, HasOrderValues, HasPegValues, HasPlanValues, IsWholeCommand, MayHaveNumber};
+ghost use Rattle.mrp_words.specs.Values.{HasFlag, HasName, HasNumber, HasOrderValues, HasPegValues, HasPlanValues, IsWholeCommand, IsWholeReport, MayHaveNumber};
 
 use clap::builder::ValueParser;
 use clap::{Arg, ArgAction, ArgMatches, Command, value_parser};
@@ -100,6 +101,35 @@ order,PLANT,ITEM,SUPPLY,QUANTITY,RELEASE,RELEASE_DATE,DUE,DUE_DATE,LATE";
 
 const ORDERS_EXAMPLE: &str = "Example: mrp orders --until 0 < bicycle.csv";
 
+const SCHEDULE: &str = "Write the delivery schedules between plants";
+
+const SCHEDULE_LONG: &str =
+    "Writes the delivery schedules, item by item, those alone from one supplier plant\n\
+or to one customer plant where these are given: what is in transit (opening),\n\
+then each delivery that is called for (call), and where figures start anew\n\
+(reset). CUMULATIVE is the figure in force, at a reset the one that it closes.\n\n  \
+schedule,KIND,SUPPLIER,CUSTOMER,ITEM,PERIOD,DATE,QUANTITY,CUMULATIVE";
+
+const SCHEDULE_EXAMPLE: &str = "Example: mrp schedule --from BRN --to HAM < firm.csv";
+
+const PEGS: &str = "Write what each gross requirement of the plan consists of";
+
+const PEGS_LONG: &str =
+    "Writes the pegging of the whole plan: what peg writes, for each pair and period.\n\n  \
+pegs,PLANT,ITEM,PERIOD,SOURCE,BY_PLANT,BY_ITEM,RELEASE,PER,QUANTITY";
+
+const PEGS_EXAMPLE: &str = "Example: mrp pegs --header < bicycle.csv";
+
+const ADVICE: &str = "Write which open orders to expedite, to defer and to cancel";
+
+const ADVICE_LONG: &str =
+    "Writes the open orders, receipts and shipments, that are needed in another\n\
+period than they come in: ACTION is expedite, defer, or cancel where nothing\n\
+needs them. It changes no plan.\n\n  \
+advice,ACTION,KIND,PLANT,ITEM,SUPPLIER,PERIOD,DATE,QUANTITY,NEEDED,NEEDED_DATE";
+
+const ADVICE_EXAMPLE: &str = "Example: mrp advice < firm.csv";
+
 /// Reads the words of a command line, of which the first is the program's name: the choice is the
 /// subcommand that `clap` reads in them, with its values. It is made only of words in which `clap`
 /// finds no fault.
@@ -130,6 +160,48 @@ pub fn choose<'a>(alloc: Global, words: &'a [&'a str]) -> Result<Choice<'a>, Cho
 /// The whole command line.
 fn program<'a>(alloc: Global) -> Result<Command<'a>, AllocError>
     ensures { IfOk result (λ command. app_of command ≡ mrp) }
+{
+    let Ok(with_all_pegs) = with_pegs(alloc) else {
+        return Err(AllocError);
+    };
+    let Ok(advice) = advice_command(alloc) else {
+        drop(with_all_pegs);
+        return Err(AllocError);
+    };
+    with_all_pegs.subcommand(advice)
+}
+
+/// The command line up to `pegs`.
+fn with_pegs<'a>(alloc: Global) -> Result<Command<'a>, AllocError>
+    ensures { IfOk result (λ command. app_of command ≡ up_to_pegs) }
+{
+    let Ok(scheduled) = with_schedule(alloc) else {
+        return Err(AllocError);
+    };
+    let Ok(pegs) = pegs_command(alloc) else {
+        drop(scheduled);
+        return Err(AllocError);
+    };
+    scheduled.subcommand(pegs)
+}
+
+/// The command line up to `schedule`.
+fn with_schedule<'a>(alloc: Global) -> Result<Command<'a>, AllocError>
+    ensures { IfOk result (λ command. app_of command ≡ up_to_schedule) }
+{
+    let Ok(ordered) = with_orders(alloc) else {
+        return Err(AllocError);
+    };
+    let Ok(schedule) = schedule_command(alloc) else {
+        drop(ordered);
+        return Err(AllocError);
+    };
+    ordered.subcommand(schedule)
+}
+
+/// The command line up to `orders`.
+fn with_orders<'a>(alloc: Global) -> Result<Command<'a>, AllocError>
+    ensures { IfOk result (λ command. app_of command ≡ up_to_orders) }
 {
     let Ok(figured) = with_cums(alloc) else {
         return Err(AllocError);
@@ -320,6 +392,62 @@ fn until_option<'a>(alloc: Global) -> Arg<'a>
         .help("The last period of a release, 0 to 103; without it all orders")
 }
 
+/// `schedule`.
+fn schedule_command<'a>(alloc: Global) -> Result<Command<'a>, AllocError>
+    ensures { IfOk result (IsWorded schedule_words) }
+{
+    let schedule = explained(alloc, "schedule", SCHEDULE, SCHEDULE_LONG, SCHEDULE_EXAMPLE);
+    let Ok(with_from) = schedule.arg(from_option(alloc)) else {
+        return Err(AllocError);
+    };
+    let Ok(with_to) = with_from.arg(to_option(alloc)) else {
+        return Err(AllocError);
+    };
+    with_to.arg(header_flag(alloc))
+}
+
+/// `--from`.
+fn from_option<'a>(alloc: Global) -> Arg<'a>
+    ensures { IsRuled rule.from result }
+{
+    let help = "The supplier plant; without it all";
+    free_text_option(alloc, "from", "PLANT", help)
+}
+
+/// `--to`.
+fn to_option<'a>(alloc: Global) -> Arg<'a>
+    ensures { IsRuled rule.to result }
+{
+    let help = "The customer plant; without it all";
+    free_text_option(alloc, "to", "PLANT", help)
+}
+
+/// The option that is called `name`, with a text, which may be left out.
+fn free_text_option<'a>(alloc: Global, name: &'a str, value_name: &'a str, help: &'a str) -> Arg<'a>
+    ensures { IsRuled (rule.free_text_option name.entry.now) result }
+{
+    Arg::new(alloc, name)
+        .long(name)
+        .value_name(value_name)
+        .help(help)
+}
+
+/// `pegs`.
+fn pegs_command<'a>(alloc: Global) -> Result<Command<'a>, AllocError>
+    ensures { IfOk result (IsWorded pegs_words) }
+{
+    let pegs = explained(alloc, "pegs", PEGS, PEGS_LONG, PEGS_EXAMPLE);
+    pegs.arg(header_flag(alloc))
+}
+
+/// `advice`.
+fn advice_command<'a>(alloc: Global) -> Result<Command<'a>, AllocError>
+    ensures { IfOk result (IsWorded advice_words) }
+{
+    let advice = explained(alloc, "advice", ADVICE, ADVICE_LONG, ADVICE_EXAMPLE);
+    advice.arg(header_flag(alloc))
+}
+
 /// `--header`.
 fn header_flag<'a>(alloc: Global) -> Arg<'a>
     ensures { IsRuled rule.header result }
@@ -401,7 +529,28 @@ fn chosen<'a>(matches: &ArgMatches<'a>) -> Choice<'a>
             heading: heading(values),
         }
     } else {
+        reporting(name, values)
+    }
+}
+
+/// The choice of a report of orders.
+fn reporting<'a>(name: &str, values: &ArgMatches<'a>) -> Choice<'a>
+    requires { IsWholeReport name.now (rows_of (found_of values.now)) }
+    ensures range { IsInRange result }
+    ensures choice { IsCommand name.now (rows_of (found_of values.now)) result }
+{
+    if name == "orders" {
         ordering(values)
+    } else if name == "schedule" {
+        scheduling(values)
+    } else if name == "pegs" {
+        Choice::Pegs {
+            heading: heading(values),
+        }
+    } else {
+        Choice::Advice {
+            heading: heading(values),
+        }
     }
 }
 
@@ -444,6 +593,19 @@ fn ordering<'a>(values: &ArgMatches<'a>) -> Choice<'a>
     }
 }
 
+/// The values of `schedule`.
+fn scheduling<'a>(values: &ArgMatches<'a>) -> Choice<'a>
+    requires { HasFlag (codes "header") (rows_of (found_of values.now)) }
+    ensures range { IsInRange result }
+    ensures choice { IsCommand (codes "schedule") (rows_of (found_of values.now)) result }
+{
+    Choice::Schedule {
+        from: free_text(values, "from"),
+        to: free_text(values, "to"),
+        heading: heading(values),
+    }
+}
+
 /// Whether the names of the columns are asked for.
 fn heading(values: &ArgMatches<'_>) -> Heading
     requires { HasFlag (codes "header") (rows_of (found_of values.now)) }
@@ -462,6 +624,13 @@ fn free_number(values: &ArgMatches<'_>, name: &str) -> Option<u64>
     ensures { number_at name.now (rows_of (found_of values.now)) ≡ result }
 {
     values.get_one::<u64>(name)
+}
+
+/// The text of an argument, if it has one.
+fn free_text<'a>(values: &ArgMatches<'a>, name: &str) -> Option<&'a str>
+    ensures { text_at name.now (rows_of (found_of values.now)) ≡ text_of result }
+{
+    values.get_str(name)
 }
 
 /// The number of an argument that has one.

@@ -16,7 +16,10 @@ planning-requires c =
       | inr (inl p) ↦ absurd (true≢false (sym c.if-eq.true ∙ c.eq.ensures ∙ ap (λ n. bytes_eq n (codes "plan")) p.0))
       | inr (inr (inl p)) ↦ absurd (true≢false (sym c.if-eq.true ∙ c.eq.ensures ∙ ap (λ n. bytes_eq n (codes "plan")) p.0))
       | inr (inr (inr (inl p))) ↦ absurd (true≢false (sym c.if-eq.true ∙ c.eq.ensures ∙ ap (λ n. bytes_eq n (codes "plan")) p.0))
-      | inr (inr (inr (inr p))) ↦ absurd (true≢false (sym c.if-eq.true ∙ c.eq.ensures ∙ ap (λ n. bytes_eq n (codes "plan")) p.0))
+      | inr (inr (inr (inr (inl p)))) ↦ absurd (true≢false (sym c.if-eq.true ∙ c.eq.ensures ∙ ap (λ n. bytes_eq n (codes "plan")) p.0))
+      | inr (inr (inr (inr (inr (inl p))))) ↦ absurd (true≢false (sym c.if-eq.true ∙ c.eq.ensures ∙ ap (λ n. bytes_eq n (codes "plan")) p.0))
+      | inr (inr (inr (inr (inr (inr (inl p)))))) ↦ absurd (true≢false (sym c.if-eq.true ∙ c.eq.ensures ∙ ap (λ n. bytes_eq n (codes "plan")) p.0))
+      | inr (inr (inr (inr (inr (inr (inr p)))))) ↦ absurd (true≢false (sym c.if-eq.true ∙ c.eq.ensures ∙ ap (λ n. bytes_eq n (codes "plan")) p.0))
     ]
 
 pub heading-requires : goal.heading-requires
@@ -28,7 +31,10 @@ heading-requires c =
       | inr (inl p) ↦ p.1
       | inr (inr (inl p)) ↦ absurd (true≢false (sym c.if-eq-2.true ∙ c.eq-else-eq.ensures ∙ ap (λ n. bytes_eq n (codes "check")) p.0))
       | inr (inr (inr (inl p))) ↦ absurd (true≢false (sym c.if-eq-2.true ∙ c.eq-else-eq.ensures ∙ ap (λ n. bytes_eq n (codes "check")) p.0))
-      | inr (inr (inr (inr p))) ↦ absurd (true≢false (sym c.if-eq-2.true ∙ c.eq-else-eq.ensures ∙ ap (λ n. bytes_eq n (codes "check")) p.0))
+      | inr (inr (inr (inr (inl p)))) ↦ absurd (true≢false (sym c.if-eq-2.true ∙ c.eq-else-eq.ensures ∙ ap (λ n. bytes_eq n (codes "check")) p.0))
+      | inr (inr (inr (inr (inr (inl p))))) ↦ absurd (true≢false (sym c.if-eq-2.true ∙ c.eq-else-eq.ensures ∙ ap (λ n. bytes_eq n (codes "check")) p.0))
+      | inr (inr (inr (inr (inr (inr (inl p)))))) ↦ absurd (true≢false (sym c.if-eq-2.true ∙ c.eq-else-eq.ensures ∙ ap (λ n. bytes_eq n (codes "check")) p.0))
+      | inr (inr (inr (inr (inr (inr (inr p)))))) ↦ absurd (true≢false (sym c.if-eq-2.true ∙ c.eq-else-eq.ensures ∙ ap (λ n. bytes_eq n (codes "check")) p.0))
     ]
 
 pub pegging-requires : goal.pegging-requires
@@ -40,11 +46,14 @@ pegging-requires c =
       | inr (inl p) ↦ absurd (other_name c.in-Some.name.now (codes "check") c.eq-else-eq.result c.eq-else-eq.ensures c.if-eq-2.false p.0)
       | inr (inr (inl p)) ↦ p.1
       | inr (inr (inr (inl p))) ↦ absurd (true≢false (sym c.if-eq-3.true ∙ c.eq-else-eq-2.ensures ∙ ap (λ n. bytes_eq n (codes "peg")) p.0))
-      | inr (inr (inr (inr p))) ↦ absurd (true≢false (sym c.if-eq-3.true ∙ c.eq-else-eq-2.ensures ∙ ap (λ n. bytes_eq n (codes "peg")) p.0))
+      | inr (inr (inr (inr (inl p)))) ↦ absurd (true≢false (sym c.if-eq-3.true ∙ c.eq-else-eq-2.ensures ∙ ap (λ n. bytes_eq n (codes "peg")) p.0))
+      | inr (inr (inr (inr (inr (inl p))))) ↦ absurd (true≢false (sym c.if-eq-3.true ∙ c.eq-else-eq-2.ensures ∙ ap (λ n. bytes_eq n (codes "peg")) p.0))
+      | inr (inr (inr (inr (inr (inr (inl p)))))) ↦ absurd (true≢false (sym c.if-eq-3.true ∙ c.eq-else-eq-2.ensures ∙ ap (λ n. bytes_eq n (codes "peg")) p.0))
+      | inr (inr (inr (inr (inr (inr (inr p)))))) ↦ absurd (true≢false (sym c.if-eq-3.true ∙ c.eq-else-eq-2.ensures ∙ ap (λ n. bytes_eq n (codes "peg")) p.0))
     ]
 
-pub ordering-requires : goal.ordering-requires
-ordering-requires c =
+pub reporting-requires : goal.reporting-requires
+reporting-requires c =
     let whole = found_whole (out-ArgMatches c.args.matches.now).subcommand (λ b. (out-SubCommand (box_value b)).name.now) (λ b. rows_of (found_of (out-SubCommand (box_value b)).matches))
     c.in-Some.name.now (rows_of (found_of c.in-Some.values.now)) c.in-Some.ensures.name c.in-Some.ensures.rows c.requires in
     elim whole [
@@ -52,7 +61,7 @@ ordering-requires c =
       | inr (inl p) ↦ absurd (other_name c.in-Some.name.now (codes "check") c.eq-else-eq.result c.eq-else-eq.ensures c.if-eq-2.false p.0)
       | inr (inr (inl p)) ↦ absurd (other_name c.in-Some.name.now (codes "peg") c.eq-else-eq-2.result c.eq-else-eq-2.ensures c.if-eq-3.false p.0)
       | inr (inr (inr (inl p))) ↦ absurd (other_name c.in-Some.name.now (codes "cums") c.eq-else-eq-3.result c.eq-else-eq-3.ensures c.if-eq-4.false p.0)
-      | inr (inr (inr (inr p))) ↦ p.1
+      | inr (inr (inr (inr p))) ↦ p
     ]
 
 pub returns-then-eq : goal.returns-then-eq
