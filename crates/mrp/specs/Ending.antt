@@ -2,8 +2,8 @@
 use Rattle.std.specs.Prelude.{ℕ, Option, Some, None, Result, Ok, Err}
 use Rattle.mrp_words.specs.declared.meaning.Meaning.{Meaning}
 use Rattle.mrp_words.specs.declared.meaning.Meaning.TheVariants as means
-use Rattle.mrp_report.specs.declared.fault.ReportFault.{ReportFault}
-use Rattle.mrp_report.specs.declared.fault.ReportFault.TheVariants as report
+use Rattle.mrp_sheet.specs.declared.fault.ReportFault.{ReportFault}
+use Rattle.mrp_sheet.specs.declared.fault.ReportFault.TheVariants as report
 use Rattle.mrp_text.specs.declared.fault.TextFault.{TextFault}
 use Rattle.mrp_text.specs.declared.fault.TextFault.TheVariants as fault
 use Rattle.mrp_text.specs.Ending.{help_fault, help_status}

@@ -13,6 +13,6 @@ mod terms;
 pub use fitting::fits;
 pub use laws::{orders_make_releases, terms_add_up, terms_have_rows};
 pub use orders::{PlannedOrder, planned_order};
-pub use pegging::peg;
+pub use pegging::{asking_edges, demand_term, edge_term, peg};
 pub use plan::{Plan, plan_all};
 pub use terms::{PegSource, PegTerm};

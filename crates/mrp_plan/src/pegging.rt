@@ -2,6 +2,7 @@
 
 ghost use Rattle.std.specs.Prelude.{◌≡◌, ◌<◌, ◌≤◌, ◌++◌, ◌∷◌, [], ℕ, length, filter, map, All, IfOk, OnOk};
 ghost use Rattle.mrp_rows.specs.Table.{IsPair, horizon};
+ghost use Rattle.mrp_net.specs.Edges.{demanders};
 ghost use Rattle.mrp_net.specs.Plan.{Fits};
 ghost use Rattle.mrp_plan.specs.Peg.{peg_terms, is_asked, IsPeggable, demand_term as demand_term_of, edge_term as edge_term_of};
 
@@ -34,12 +35,10 @@ pub fn peg(
     ensures pairs { let N = net.now.network in IfOk result (λ terms. All (λ term. IsPair N term.pair.0) terms.items) }
 {
     let network = net.network();
-    // Each term is within the gross requirement, which is a quantity.
-    let gross = plan.pair(x).gross().get(t);
-    let _within = gross.get();
+    let edges = asking_edges(network, plan, x, t);
     let mut terms = Vec::new(alloc);
     push_term(&mut terms, demand_term(network, x, t))?;
-    push_edges(&mut terms, network, plan, network.demanders(x), t)?;
+    push_edges(&mut terms, network, plan, edges, t)?;
     Ok(terms)
 }
 
@@ -62,8 +61,27 @@ fn push_edges(
     Ok(())
 }
 
-/// The demand rows of the pair in the period.
-fn demand_term(network: &Network, x: PairNo, t: usize) -> PegTerm
+/// The edges by which the demanders of the pair may ask of it in period `t`, in table order of the
+/// demanders.
+///
+/// The plan is one that fits the network, and `t` is below the horizon.
+pub fn asking_edges<'a>(network: &'a Network, plan: &Plan, x: PairNo, t: usize) -> &'a [Edge]
+    requires fits { Fits network.now plan.now }
+    requires pair { IsPair network.now x.0 }
+    requires period { t < horizon network.now }
+    ensures value { result.now ≡ demanders network.now x.0 }
+    ensures edges { All (IsPeggable network.now plan.now t) result.now }
+{
+    // What each asks is within the gross requirement, which is a quantity.
+    let gross = plan.pair(x).gross().get(t);
+    let _within = gross.get();
+    network.demanders(x)
+}
+
+/// The demand rows of the pair in period `t`, as one term, which is 0 where there are none.
+///
+/// `t` is below the horizon.
+pub fn demand_term(network: &Network, x: PairNo, t: usize) -> PegTerm
     requires pair { IsPair network.now x.0 }
     requires period { t < horizon network.now }
     ensures { result ≡ demand_term_of network.now x.0 t }
@@ -78,8 +96,11 @@ fn demand_term(network: &Network, x: PairNo, t: usize) -> PegTerm
     }
 }
 
-/// What the edge asks in the period, by the release of its demander.
-fn edge_term(network: &Network, plan: &Plan, edge: &Edge, t: usize) -> PegTerm
+/// What the edge asks in period `t` by the release of its demander, which is 0 where nothing is
+/// released.
+///
+/// The edge is one of [`asking_edges`] in the period.
+pub fn edge_term(network: &Network, plan: &Plan, edge: &Edge, t: usize) -> PegTerm
     requires size { length plan.now ≡ length network.now.pairs }
     requires edge { IsPeggable network.now plan.now t edge.now }
     ensures { result ≡ edge_term_of network.now plan.now t edge.now }

@@ -1,11 +1,10 @@
 pub mod RowFacts
-pub mod Fronts
 pub mod PartFacts
 pub mod PieceFacts
-pub mod PlainFacts
-pub mod ReadBack
 pub mod SheetFacts
 pub mod RoomFacts
 pub mod SupplyTexts
 pub mod SupplyFacts
 pub mod OrderFacts
+pub mod GatherFacts
+pub mod PegFacts

@@ -12,10 +12,10 @@ use Rattle.mrp_lot.proofs.OneLaws.{length-one-order}
 use Rattle.mrp_rows.specs.Table.{horizon, IsPair, Table}
 use Rattle.mrp_net.specs.Plan.{Fits, gross, rows_at}
 use Rattle.mrp_net.specs.Sums.{incoming, params_at, row_of}
-use Rattle.mrp_report.specs.Dates.{dates_of, period_date}
+use Rattle.mrp_sheet.specs.Dates.{dates_of, period_date}
 use Rattle.mrp_report.specs.OrderLines.{IsLine, due_text, line_row, line_text}
 use Rattle.mrp_report.specs.Orders.{order_row, pair_orders_text, supply_at}
-use Rattle.mrp_report.specs.Report.{item_of, plant_of}
+use Rattle.mrp_sheet.specs.Names.{item_of, plant_of}
 
 -- the rows of the periods are those of the orders
 pub dues_are : (line : OrderLine) (rows : PlanRows) (ts : List ℕ)

@@ -3,9 +3,10 @@ use Rattle.std.proofs.Common.{◌≡◌, ℕ, List, length, refl, append_assoc}
 use Rattle.std.specs.List.{flat_map, range_with_len}
 use Rattle.mrp_lot.specs.One.{PlanRows}
 use Rattle.mrp_report.specs.declared.plan.Period.{Period}
-use Rattle.mrp_report.specs.Rows.{row}
+use Rattle.mrp_sheet.specs.Rows.{row}
 use Rattle.mrp_report.specs.Parts.{pair_part, parts_row, parts_text}
-use Rattle.mrp_report.specs.Report.{date_at, pair_text, period_at, plan_row}
+use Rattle.mrp_sheet.specs.Dates.{date_at}
+use Rattle.mrp_report.specs.Report.{pair_text, period_at, plan_row}
 
 -- the row of the parts is the row of the fields
 parts_row_is : (plant item date : List ℕ) (period : Period) → parts_row (pair_part plant item) date period ≡ plan_row plant item date period

@@ -7,11 +7,11 @@ use Rattle.csv.proofs.WriteFacts.{appends-none}
 use Rattle.mrp_lot.specs.One.{PlanRows}
 use Rattle.mrp_rows.specs.Table.{Table}
 use Rattle.mrp_report.specs.Report.{pairs_text, plan_text}
-use Rattle.mrp_report.specs.Sending.{AppendsFront}
-use Rattle.mrp_report.proofs.Fronts.{front-after, front-longer, whole-after}
+use Rattle.mrp_sheet.specs.Sending.{AppendsFront}
+use Rattle.mrp_sheet.proofs.Fronts.{front-after, front-longer, whole-after}
 
 -- numbers from one on, in two parts
-range-split : (a m n : ℕ) → range_with_len a (m + n) ≡ range_with_len a m ++ range_with_len (a + m) n
+pub range-split : (a m n : ℕ) → range_with_len a (m + n) ≡ range_with_len a m ++ range_with_len (a + m) n
 range-split a zero n =
     let none : zero + n ≡ n = omega arith in
     let here : a + zero ≡ a = omega arith in

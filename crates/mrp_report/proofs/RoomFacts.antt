@@ -7,8 +7,8 @@ use Rattle.mrp_spell.specs.Spelling.{is_name_byte}
 use Rattle.mrp_rows.specs.Table.{IsName, IsTable, Table}
 use Rattle.mrp_net.specs.Names.{IsNamed}
 use Rattle.mrp_net.specs.Sums.{no_pair, pair_at}
-use Rattle.mrp_report.proofs.RowFacts.{item_is, plant_is}
-use Rattle.mrp_report.proofs.PlainFacts.{both_true}
+use Rattle.mrp_sheet.proofs.RowFacts.{item_is, plant_is}
+use Rattle.mrp_sheet.proofs.PlainFacts.{both_true}
 
 -- as many pairs as go at once have room, and so have fewer
 pub room-fewer : (n most size room : ℕ) → n ≤ most → most * size ≤ room → n * size ≤ room

@@ -1,15 +1,13 @@
 -- Each report is the rows of its sheet.
-use Rattle.std.proofs.Common.{◌≡◌, ◌-◌, ◌++◌, ◌∙◌, ℕ, List, [], ◌∷◌, Option, length, map, All, decimal, refl, sym, ap, arith}
+use Rattle.std.proofs.Common.{◌≡◌, ◌-◌, ◌++◌, ◌∙◌, ℕ, List, Option, length, map, All, refl, sym, ap, arith}
 use Rattle.std.specs.Prelude.{slice_index}
 use Rattle.std.specs.List.{flat_map, range_with_len}
-use Rattle.std.proofs.lemmas.List.Elements.{All-append, All-cons, All-nil}
+use Rattle.std.proofs.lemmas.List.Elements.{All-append}
 use Rattle.std.proofs.lemmas.Grind.{flat_map-append}
 use Rattle.csv.specs.Reading.{strip_bom}
 use Rattle.mrp_lot.specs.One.{PlanRows}
 use Rattle.mrp_lot.specs.declared.params.Late.{Late}
-use Rattle.mrp_rows.specs.Table.{IsTable, Table}
-use Rattle.mrp_choice.specs.declared.choice.Heading.{Heading}
-use Rattle.mrp_choice.specs.declared.choice.Heading.TheVariants.{Without, Names}
+use Rattle.mrp_rows.specs.Table.{IsTable, Table, horizon}
 use Rattle.mrp_net.specs.Lanes.{lane_at}
 use Rattle.mrp_net.specs.Plan.{rows_at}
 use Rattle.mrp_net.specs.Sums.{pair_at}
@@ -17,36 +15,29 @@ use Rattle.mrp_net.specs.declared.lane.Lane.{Lane}
 use Rattle.mrp_net.specs.declared.lane.LaneKind.{LaneKind}
 use Rattle.mrp_net.specs.declared.lane.LaneKind.TheVariants.{Despatch, Schedule}
 use Rattle.mrp_plan.specs.Orders.{orders_by}
+use Rattle.mrp_plan.specs.Peg.{peg_terms}
 use Rattle.mrp_plan.specs.declared.orders.PlannedOrder.{PlannedOrder}
 use Rattle.mrp_plan.specs.declared.terms.PegTerm.{PegTerm}
 use Rattle.mrp_plan.specs.declared.terms.PegSource.{PegSource}
 use Rattle.mrp_plan.specs.declared.terms.PegSource.TheVariants.{Demand, Bill, Plant}
 use Rattle.mrp_book.specs.declared.figure.LaneFigure.{LaneFigure}
 use Rattle.mrp_report.specs.declared.plan.Period.{Period}
-use Rattle.mrp_report.specs.Dates.{dates_of}
-use Rattle.mrp_report.specs.Headings.{code_names, header_row, lane_names, order_names, peg_names}
+use Rattle.mrp_sheet.specs.Dates.{dates_of}
+use Rattle.mrp_report.specs.Headings.{code_names, lane_names, order_names, peg_names, pegs_names}
 use Rattle.mrp_report.specs.Lanes.{figure_fields, figure_row, kind_word, lane_text}
-use Rattle.mrp_report.specs.Laws.{CodesAreReadBack, FiguresAreReadBack, LateOrdersAreReadBack, OrdersAreReadBack, PlanIsReadBack, PlanWithLateOrdersIsReadBack, TermsAreReadBack}
+use Rattle.mrp_report.specs.Laws.{CodesAreReadBack, FiguresAreReadBack, LateOrdersAreReadBack, OrdersAreReadBack, PegsAreReadBack, PlanIsReadBack, PlanWithLateOrdersIsReadBack, TermsAreReadBack}
 use Rattle.mrp_report.specs.Orders.{order_fields, order_row, order_text, orders_text, pair_orders_text, supply_at}
-use Rattle.mrp_report.specs.Report.{code_fields, code_row, code_text, date_at, item_of, late_fields, late_row, late_text, pair_text, pairs_of, peg_fields, peg_row, peg_text, period_at, plan_fields, plan_row, plan_text, plant_of, source_word}
-use Rattle.mrp_report.specs.Rows.{row}
-use Rattle.mrp_report.specs.Sheets.{IsPlain, IsReadAs, Sheet, code_sheet, header_sheet, lane_sheet, late_sheet, pair_orders_sheet, pair_sheet, peg_sheet, plan_sheet}
-use Rattle.mrp_report.proofs.PlainFacts.{dates_plain, item_plain, number_plain, plant_plain}
+use Rattle.mrp_report.specs.Pegs.{pair_pegs_text, pegs_fields, pegs_row, pegs_text, period_pegs_text}
+use Rattle.mrp_report.specs.Report.{code_fields, code_row, code_text, late_fields, late_row, late_text, pair_text, peg_fields, peg_row, peg_text, period_at, plan_fields, plan_row, plan_text, source_word}
+use Rattle.mrp_sheet.specs.Dates.{date_at}
+use Rattle.mrp_sheet.specs.Names.{item_of, pairs_of, plant_of}
+use Rattle.mrp_sheet.specs.Rows.{row}
+use Rattle.mrp_sheet.specs.Sheets.{IsPlain}
+use Rattle.mrp_report.specs.Sheets.{code_sheet, lane_sheet, late_sheet, pair_orders_sheet, pair_pegs_sheet, pair_sheet, peg_sheet, pegs_sheet, period_pegs_sheet, plan_sheet}
+use Rattle.mrp_sheet.proofs.FieldFacts.{ArePlain, headed_read, more, none, number}
+use Rattle.mrp_sheet.proofs.PlainFacts.{dates_plain, item_plain, plant_plain}
 use Rattle.mrp_report.proofs.SupplyTexts.{supply_plain}
-use Rattle.mrp_report.proofs.ReadBack.{IsRow, all_each, all_map, row_each, rows_each, sheet_read}
-
--- plain fields, one by one
-record ArePlain (fields : List (List ℕ)) : Type 0 where
-  all : All IsPlain fields
-
-more : {field : List ℕ} {rest : List (List ℕ)} → IsPlain field → ArePlain rest → ArePlain (field ∷ rest)
-more {field = field} {rest = rest} plain are = record { all = All-cons IsPlain field rest plain are.all }
-
-number : (n : ℕ) {rest : List (List ℕ)} → ArePlain rest → ArePlain (decimal n ∷ rest)
-number n {rest = rest} are = record { all = All-cons IsPlain (decimal n) rest (number_plain n) are.all }
-
-none : ArePlain []
-none = record { all = All-nil IsPlain }
+use Rattle.mrp_sheet.proofs.ReadBack.{IsRow, all_each, all_map, row_each, rows_each, sheet_read}
 
 -- ---- the plan
 
@@ -126,14 +117,6 @@ together_is_read N is table =
     (ap (λ t. t ++ late_text N table) (plan_is_sheet N table) ∙ ap (λ t. flat_map row plan ++ t) (late_is_sheet N table) ∙ sym (flat_map-append row plan late))
     (All-append IsRow plan late (plan_rows_are N is table) (late_rows_are N is table))
 
--- ---- the names of columns
-
-headed_read : (heading : Heading) (names : List (List ℕ)) → IsRow names → (text : List ℕ) (sheet : Sheet) → text ≡ flat_map row sheet → All IsRow sheet
-    → IsReadAs (header_row heading names ++ text) (header_sheet heading names ++ sheet)
-headed_read Without names is text sheet same rows = sheet_read text sheet same rows
-headed_read Names names is text sheet same rows =
-    sheet_read (row names ++ text) (names ∷ sheet) (ap (λ t. row names ++ t) same) (All-cons IsRow names sheet is rows)
-
 -- ---- terms of a gross requirement
 
 source_plain : (source : PegSource) → IsPlain (source_word source)
@@ -168,6 +151,54 @@ peg_names_are_row = record {
 pub peg_is_read : TermsAreReadBack
 peg_is_read N is heading terms =
     headed_read heading peg_names peg_names_are_row (peg_text N terms) (peg_sheet N terms) (peg_is_sheet N terms) (all_map (peg_fields N) (peg_is_row N is) terms)
+
+-- ---- the pegging of a whole plan
+
+pegs_is_row : (N : Table) → IsTable N → (x t : ℕ) (term : PegTerm) → IsRow (pegs_fields N x t term)
+unfolding row strip_bom
+pegs_is_row N is x t term = record {
+  plain =
+      let are : ArePlain (pegs_fields N x t term) =
+      more refl (more (plant_plain N is (pair_at N x).plant.0) (more (item_plain N is (pair_at N x).item.0) (number t
+      (more (source_plain term.source) (more (plant_plain N is (pair_at N term.pair.0).plant.0) (more (item_plain N is (pair_at N term.pair.0).item.0)
+      (number term.release (number term.per (number term.quantity none))))))))) in
+      are.all;
+  many = omega arith;
+  front = λ rest. refl;
+}
+
+period_pegs_are_sheet : (N : Table) (table : List PlanRows) (x t : ℕ) → period_pegs_text N table x t ≡ flat_map row (period_pegs_sheet N table x t)
+unfolding period_pegs_text pegs_row
+period_pegs_are_sheet N table x t = row_each (pegs_fields N x t) (peg_terms N table x t)
+
+pair_pegs_are_sheet : (N : Table) (table : List PlanRows) (x : ℕ) → pair_pegs_text N table x ≡ flat_map row (pair_pegs_sheet N table x)
+unfolding pair_pegs_text
+pair_pegs_are_sheet N table x = rows_each (period_pegs_text N table x) (period_pegs_sheet N table x) (period_pegs_are_sheet N table x) (range_with_len 0 (horizon N))
+
+pegs_are_sheet : (N : Table) (table : List PlanRows) → pegs_text N table ≡ flat_map row (pegs_sheet N table)
+unfolding pegs_text
+pegs_are_sheet N table = rows_each (pair_pegs_text N table) (pair_pegs_sheet N table) (pair_pegs_are_sheet N table) (pairs_of N)
+
+pegs_names_are_row : IsRow pegs_names
+unfolding row strip_bom
+pegs_names_are_row = record {
+  plain =
+      let are : ArePlain pegs_names =
+      more refl (more refl (more refl (more refl (more refl (more refl (more refl (more refl (more refl (more refl none))))))))) in
+      are.all;
+  many = omega arith;
+  front = λ rest. refl;
+}
+
+pegs_rows_are : (N : Table) → IsTable N → (table : List PlanRows) → All IsRow (pegs_sheet N table)
+pegs_rows_are N is table =
+    all_each (pair_pegs_sheet N table)
+    (λ x. all_each (period_pegs_sheet N table x) (λ t. all_map (pegs_fields N x t) (pegs_is_row N is x t) (peg_terms N table x t)) (range_with_len 0 (horizon N)))
+    (pairs_of N)
+
+pub pegs_is_read : PegsAreReadBack
+pegs_is_read N is heading table =
+    headed_read heading pegs_names pegs_names_are_row (pegs_text N table) (pegs_sheet N table) (pegs_are_sheet N table) (pegs_rows_are N is table)
 
 -- ---- low-level codes
 

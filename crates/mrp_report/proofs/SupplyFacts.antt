@@ -21,7 +21,7 @@ use Rattle.mrp_net.specs.Sums.{no_pair, pair_at}
 use Rattle.mrp_net.proofs.Local.{source_pairs_are_there}
 use Rattle.mrp_net.proofs.Routing.{filter-map}
 use Rattle.mrp_report.specs.Orders.{source_part, supply_at}
-use Rattle.mrp_report.specs.Report.{plant_of}
+use Rattle.mrp_sheet.specs.Names.{plant_of}
 use Rattle.mrp_spell.specs.Supplies.{supply_text}
 use Rattle.mrp_grammar.specs.Written.{plant_name, supply_said}
 use Rattle.mrp_rows.specs.declared.numbers.PlantNo.{PlantNo}

@@ -12,8 +12,8 @@ use Rattle.mrp_rows.specs.Table.{AreShares, IsSourceRow, IsTable, sources_of_pai
 use Rattle.mrp_grammar.specs.Written.{plant_name, source_said, supply_said}
 use Rattle.mrp_net.specs.Sums.{pair_at}
 use Rattle.mrp_report.specs.Orders.{share_part, source_part, supply_at}
-use Rattle.mrp_report.specs.Sheets.{IsPlain}
-use Rattle.mrp_report.proofs.PlainFacts.{number_plain, plant_plain}
+use Rattle.mrp_sheet.specs.Sheets.{IsPlain}
+use Rattle.mrp_sheet.proofs.PlainFacts.{number_plain, plant_plain}
 
 -- ---- plain
 

@@ -1,13 +1,5 @@
--- The names of a report's columns, which may stand as a row above its rows.
+-- The names of each report's columns.
 use Rattle.std.specs.Prelude.{ℕ, List, [], ◌∷◌, codes as text_bytes}
-use Rattle.mrp_choice.specs.declared.choice.Heading.{Heading}
-use Rattle.mrp_choice.specs.declared.choice.Heading.TheVariants.{Without, Names}
-use Rattle.mrp_report.specs.Rows.{row}
-
--- the names as a row, where they are asked for
-abbrev pub header_row : Heading → List (List ℕ) → List ℕ
-header_row Without names = []
-header_row Names names = row names
 
 -- the columns of the planned orders
 abbrev pub order_names : List (List ℕ)
@@ -24,6 +16,12 @@ abbrev pub peg_names : List (List ℕ)
 peg_names =
     text_bytes "row" ∷ text_bytes "source" ∷ text_bytes "plant" ∷ text_bytes "item" ∷ text_bytes "release" ∷ text_bytes "per"
     ∷ text_bytes "quantity" ∷ []
+
+-- of the pegging of a whole plan
+abbrev pub pegs_names : List (List ℕ)
+pegs_names =
+    text_bytes "row" ∷ text_bytes "plant" ∷ text_bytes "item" ∷ text_bytes "period" ∷ text_bytes "source" ∷ text_bytes "by_plant"
+    ∷ text_bytes "by_item" ∷ text_bytes "release" ∷ text_bytes "per" ∷ text_bytes "quantity" ∷ []
 
 -- of the figures of lanes
 abbrev pub lane_names : List (List ℕ)

@@ -1,27 +1,19 @@
 -- The report of the cumulative figures of lanes.
-use Rattle.std.specs.Prelude.{ℕ, ◌-◌, ◌<◌, ◌≤◌, List, [], ◌∷◌, length, slice_index_or, decimal, codes as text_bytes}
+use Rattle.std.specs.Prelude.{ℕ, ◌-◌, ◌<◌, ◌≤◌, List, [], ◌∷◌, length, decimal, codes as text_bytes}
 use Rattle.std.specs.List.{flat_map}
-use Rattle.mrp_rows.specs.declared.numbers.ItemNo.{ItemNo}
-use Rattle.mrp_rows.specs.declared.numbers.PlantNo.{PlantNo}
 use Rattle.mrp_rows.specs.Table.{Table}
 use Rattle.mrp_net.specs.declared.lane.Lane.{Lane}
 use Rattle.mrp_net.specs.declared.lane.LaneKind.{LaneKind}
 use Rattle.mrp_net.specs.declared.lane.LaneKind.TheVariants.{Despatch, Schedule}
 use Rattle.mrp_net.specs.Lanes.{lane_at, lanes}
 use Rattle.mrp_book.specs.declared.figure.LaneFigure.{LaneFigure}
-use Rattle.mrp_report.specs.Rows.{row}
+use Rattle.mrp_sheet.specs.Names.{item_name, plant_name}
+use Rattle.mrp_sheet.specs.Rows.{row}
 
 -- what the row of a figure calls the kind of its lane
 abbrev pub kind_word : LaneKind → List ℕ
 kind_word Despatch = text_bytes "despatch"
 kind_word Schedule = text_bytes "schedule"
-
--- the names of a plant and of an item
-abbrev pub plant_name : Table → PlantNo → List ℕ
-plant_name N plant = slice_index_or N.plants plant.0 []
-
-abbrev pub item_name : Table → ItemNo → List ℕ
-item_name N item = slice_index_or N.items item.0 []
 
 -- the fields of the row of a figure of that lane: opening, shipped, received, and what is in transit
 abbrev pub figure_fields : Table → Lane → LaneFigure → List (List ℕ)

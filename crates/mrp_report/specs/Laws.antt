@@ -6,11 +6,14 @@ use Rattle.mrp_rows.specs.Table.{IsTable, Table}
 use Rattle.mrp_choice.specs.declared.choice.Heading.{Heading}
 use Rattle.mrp_plan.specs.declared.terms.PegTerm.{PegTerm}
 use Rattle.mrp_book.specs.declared.figure.LaneFigure.{LaneFigure}
-use Rattle.mrp_report.specs.Headings.{code_names, header_row, lane_names, peg_names}
+use Rattle.mrp_report.specs.Headings.{code_names, lane_names, peg_names, pegs_names}
+use Rattle.mrp_sheet.specs.Headings.{header_row}
 use Rattle.mrp_report.specs.Lanes.{lane_text}
 use Rattle.mrp_report.specs.Orders.{order_text}
+use Rattle.mrp_report.specs.Pegs.{pegs_text}
 use Rattle.mrp_report.specs.Report.{code_text, late_text, peg_text, plan_text}
-use Rattle.mrp_report.specs.Sheets.{IsReadAs, code_sheet, header_sheet, lane_sheet, late_sheet, order_sheet, peg_sheet, plan_sheet}
+use Rattle.mrp_sheet.specs.Sheets.{IsReadAs, header_sheet}
+use Rattle.mrp_report.specs.Sheets.{code_sheet, lane_sheet, late_sheet, order_sheet, peg_sheet, pegs_sheet, plan_sheet}
 
 abbrev pub PlanIsReadBack : Type 0
 PlanIsReadBack = (N : Table) → IsTable N → (table : List PlanRows) → IsReadAs (plan_text N table) (plan_sheet N table)
@@ -28,6 +31,11 @@ abbrev pub TermsAreReadBack : Type 0
 TermsAreReadBack =
     (N : Table) → IsTable N → (heading : Heading) (terms : List PegTerm)
     → IsReadAs (header_row heading peg_names ++ peg_text N terms) (header_sheet heading peg_names ++ peg_sheet N terms)
+
+abbrev pub PegsAreReadBack : Type 0
+PegsAreReadBack =
+    (N : Table) → IsTable N → (heading : Heading) (table : List PlanRows)
+    → IsReadAs (header_row heading pegs_names ++ pegs_text N table) (header_sheet heading pegs_names ++ pegs_sheet N table)
 
 abbrev pub CodesAreReadBack : Type 0
 CodesAreReadBack =

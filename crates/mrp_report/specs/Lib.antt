@@ -1,11 +1,11 @@
-pub mod Sending
-pub mod Rows
-pub mod Dates
 pub mod Headings
 pub mod Report
 pub mod Orders
 pub mod OrderLines
 pub mod Lanes
 pub mod Parts
+pub mod Gathering
+pub mod Pegs
+pub mod PegParts
 pub mod Sheets
 pub mod Laws

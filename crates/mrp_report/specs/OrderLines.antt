@@ -7,9 +7,9 @@ use Rattle.mrp_net.specs.Sums.{params_at}
 use Rattle.mrp_plan.specs.Orders.{has_order, is_released_by, planned_order}
 use Rattle.mrp_plan.specs.declared.orders.PlannedOrder.{PlannedOrder}
 use Rattle.mrp_report.specs.declared.orders.OrderLine.{OrderLine}
-use Rattle.mrp_report.specs.Dates.{dates_of}
+use Rattle.mrp_sheet.specs.Dates.{dates_of}
 use Rattle.mrp_report.specs.Orders.{order_row, supply_at}
-use Rattle.mrp_report.specs.Report.{item_of, plant_of}
+use Rattle.mrp_sheet.specs.Names.{item_of, plant_of}
 
 -- what the rows of a pair's orders have in common
 pub record IsLine (N : Table) (x : ℕ) (until : Option ℕ) (line : OrderLine) : Type 0 where

@@ -10,10 +10,12 @@ use Rattle.mrp_choice.specs.declared.choice.Heading.{Heading}
 use Rattle.mrp_net.specs.Sums.{pair_at}
 use Rattle.mrp_plan.specs.Orders.{orders_by}
 use Rattle.mrp_plan.specs.declared.orders.PlannedOrder.{PlannedOrder}
-use Rattle.mrp_report.specs.Dates.{dates_of}
-use Rattle.mrp_report.specs.Headings.{header_row, order_names}
-use Rattle.mrp_report.specs.Report.{date_at, item_of, pairs_of, plant_of}
-use Rattle.mrp_report.specs.Rows.{row}
+use Rattle.mrp_sheet.specs.Dates.{dates_of}
+use Rattle.mrp_sheet.specs.Headings.{header_row}
+use Rattle.mrp_report.specs.Headings.{order_names}
+use Rattle.mrp_sheet.specs.Dates.{date_at}
+use Rattle.mrp_sheet.specs.Names.{item_of, pairs_of, plant_of}
+use Rattle.mrp_sheet.specs.Rows.{row}
 
 -- where a pair comes from, spelled as in its row of the table
 abbrev pub supply_at : Table → ℕ → List ℕ

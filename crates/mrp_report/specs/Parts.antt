@@ -3,8 +3,9 @@ use Rattle.std.specs.Prelude.{ℕ, List, [], ◌∷◌, length, decimal, codes a
 use Rattle.std.specs.List.{flat_map, range_with_len}
 use Rattle.mrp_lot.specs.One.{PlanRows}
 use Rattle.mrp_report.specs.declared.plan.Period.{Period}
-use Rattle.mrp_report.specs.Rows.{joined, row}
-use Rattle.mrp_report.specs.Report.{date_at, period_at}
+use Rattle.mrp_sheet.specs.Rows.{joined, row}
+use Rattle.mrp_sheet.specs.Dates.{date_at}
+use Rattle.mrp_report.specs.Report.{period_at}
 
 -- what all rows of a pair begin with: the word, its plant and its item
 abbrev pub pair_part : List ℕ → List ℕ → List ℕ

@@ -1,28 +1,17 @@
 -- The texts of the reports: which rows they have, and in which order.
-use Rattle.std.specs.Prelude.{ℕ, ◌<◌, List, [], ◌∷◌, length, slice_index, slice_index_or, decimal, codes as text_bytes}
+use Rattle.std.specs.Prelude.{ℕ, ◌<◌, List, [], ◌∷◌, length, slice_index, decimal, codes as text_bytes}
 use Rattle.std.specs.List.{flat_map, range_with_len}
 use Rattle.mrp_lot.specs.One.{PlanRows}
 use Rattle.mrp_lot.specs.declared.params.Late.{Late}
 use Rattle.mrp_rows.specs.Table.{Table}
-use Rattle.mrp_net.specs.Sums.{pair_at}
 use Rattle.mrp_net.specs.Plan.{rows_at}
 use Rattle.mrp_plan.specs.declared.terms.PegTerm.{PegTerm}
 use Rattle.mrp_plan.specs.declared.terms.PegSource.{PegSource}
 use Rattle.mrp_plan.specs.declared.terms.PegSource.TheVariants.{Demand, Bill, Plant}
 use Rattle.mrp_report.specs.declared.plan.Period.{Period}
-use Rattle.mrp_report.specs.Rows.{row}
-use Rattle.mrp_report.specs.Dates.{dates_of}
-
--- the names of a pair's plant and item
-abbrev pub plant_of : Table → ℕ → List ℕ
-plant_of N x = slice_index_or N.plants (pair_at N x).plant.0 []
-
-abbrev pub item_of : Table → ℕ → List ℕ
-item_of N x = slice_index_or N.items (pair_at N x).item.0 []
-
--- all pairs, in table order
-abbrev pub pairs_of : Table → List ℕ
-pairs_of N = range_with_len 0 (length N.pairs)
+use Rattle.mrp_sheet.specs.Rows.{row}
+use Rattle.mrp_sheet.specs.Dates.{date_at, dates_of}
+use Rattle.mrp_sheet.specs.Names.{item_of, pairs_of, plant_of}
 
 -- what a plan has for one period: gross requirement, incoming receipts, planned order receipt,
 -- planned order release and projected available
@@ -36,10 +25,6 @@ period_at rows t =
       release = slice_index rows.release t;
       available = slice_index rows.available t;
     }
-
--- the text of the period's date
-abbrev pub date_at : List (List ℕ) → ℕ → List ℕ
-date_at dates t = slice_index_or dates t []
 
 -- the fields of the row of a pair in a period
 abbrev pub plan_fields : List ℕ → List ℕ → List ℕ → Period → List (List ℕ)

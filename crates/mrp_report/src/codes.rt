@@ -3,19 +3,18 @@
 ghost use Rattle.std.specs.Prelude.{◌≡◌, ◌++◌, Err, OnOk, IfOk, IfErr};
 ghost use Rattle.mrp_rows.specs.Table.{IsPair};
 ghost use Rattle.mrp_loops.specs.Loop.{AreCodes};
-ghost use Rattle.mrp_report.specs.Headings.{code_names, header_row};
-ghost use Rattle.mrp_report.specs.Rows.{IsBetweenRows, written};
-ghost use Rattle.mrp_report.specs.Sending.{Sends};
+ghost use Rattle.mrp_report.specs.Headings.{code_names};
+ghost use Rattle.mrp_sheet.specs.Headings.{header_row};
+ghost use Rattle.mrp_sheet.specs.Rows.{IsBetweenRows, written};
+ghost use Rattle.mrp_sheet.specs.Sending.{Sends};
 ghost use Rattle.mrp_report.specs.Report.{code_row, code_text};
 
-use crate::ReportFault;
-use crate::rows::{put_names, put_row, room_for, text_of};
-use crate::writing::send;
 use csv::Writer;
 use itoa::Buffer;
 use mrp_choice::Heading;
 use mrp_loops::Levels;
 use mrp_net::{Network, PairNo};
+use mrp_sheet::{ReportFault, put_names, put_row, room_for, send, text_of};
 use std::alloc::Global;
 use std::io::Write;
 

@@ -2,19 +2,18 @@
 
 ghost use Rattle.std.specs.Prelude.{◌≡◌, ◌++◌, ◌<◌, Err, OnOk, IfOk, IfErr, All, length};
 ghost use Rattle.mrp_net.specs.Lanes.{lanes};
-ghost use Rattle.mrp_report.specs.Headings.{header_row, lane_names};
+ghost use Rattle.mrp_sheet.specs.Headings.{header_row};
+ghost use Rattle.mrp_report.specs.Headings.{lane_names};
 ghost use Rattle.mrp_report.specs.Lanes.{kind_word, lane_row, lane_text, IsFigure};
-ghost use Rattle.mrp_report.specs.Rows.{IsBetweenRows, written};
-ghost use Rattle.mrp_report.specs.Sending.{Sends};
+ghost use Rattle.mrp_sheet.specs.Rows.{IsBetweenRows, written};
+ghost use Rattle.mrp_sheet.specs.Sending.{Sends};
 
-use crate::ReportFault;
-use crate::rows::{put_names, put_row, room_for, text_of};
-use crate::writing::send;
 use csv::Writer;
 use itoa::Buffer;
 use mrp_book::LaneFigure;
 use mrp_choice::Heading;
 use mrp_net::{LaneKind, Network};
+use mrp_sheet::{ReportFault, put_names, put_row, room_for, send, text_of};
 use std::alloc::Global;
 use std::io::Write;
 

@@ -3,19 +3,17 @@
 ghost use Rattle.std.specs.Prelude.{◌≡◌, ◌++◌, Err, OnOk, IfOk, IfErr};
 ghost use Rattle.std.specs.List.{flat_map};
 ghost use Rattle.mrp_net.specs.Plan.{Fits};
-ghost use Rattle.mrp_report.specs.Rows.{IsBetweenRows, written};
-ghost use Rattle.mrp_report.specs.Sending.{Sends};
+ghost use Rattle.mrp_sheet.specs.Rows.{IsBetweenRows, written};
+ghost use Rattle.mrp_sheet.specs.Sending.{Sends};
 ghost use Rattle.mrp_report.specs.Report.{late_row, late_text};
 
-use crate::ReportFault;
-use crate::rows::{put_row, room_for, text_of};
-use crate::writing::send;
 use csv::Writer;
 use itoa::Buffer;
 use mrp_loops::SizedNet;
 use mrp_net::PairNo;
 use mrp_netting::{Late, PairPlan};
 use mrp_plan::Plan;
+use mrp_sheet::{ReportFault, put_row, room_for, send, text_of};
 use std::alloc::Global;
 use std::io::Write;
 

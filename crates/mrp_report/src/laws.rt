@@ -1,6 +1,6 @@
 //! Laws of the reports. Each is the contract of a function that does nothing.
 ghost use Rattle.mrp_report.specs.Laws.{PlanIsReadBack, LateOrdersAreReadBack, PlanWithLateOrdersIsReadBack};
-ghost use Rattle.mrp_report.specs.Laws.{TermsAreReadBack, CodesAreReadBack, FiguresAreReadBack, OrdersAreReadBack};
+ghost use Rattle.mrp_report.specs.Laws.{TermsAreReadBack, PegsAreReadBack, CodesAreReadBack, FiguresAreReadBack, OrdersAreReadBack};
 
 /// What csv reads of a report is exactly the fields that its rows are made of, row by row, and none
 /// of them needs quotes; so too of the plan rows and the late orders together, and of the others with the
@@ -10,6 +10,7 @@ pub fn reports_are_read_back()
     ensures late { LateOrdersAreReadBack }
     ensures together { PlanWithLateOrdersIsReadBack }
     ensures pegs { TermsAreReadBack }
+    ensures pegging { PegsAreReadBack }
     ensures codes { CodesAreReadBack }
     ensures lanes { FiguresAreReadBack }
     ensures orders { OrdersAreReadBack }

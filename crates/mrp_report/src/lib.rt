@@ -1,5 +1,6 @@
-//! Reports of a plan as comma-separated rows: the plan rows and the late orders of a plan, the terms
-//! of a gross requirement, the low-level codes, the cumulative figures of lanes, and the planned orders.
+//! Reports of a plan as comma-separated rows: the plan rows and the late orders of a plan, the pegging
+//! of a gross requirement and of the whole plan, the low-level codes, the cumulative figures of lanes, and
+//! the planned orders.
 //!
 //! A row ends with a line feed. All reports but those of the plan may begin with a row of the names of
 //! their columns. The room for a report is taken before its first byte is sent: where it is refused, the
@@ -7,24 +8,22 @@
 #![tactic(auto)]
 
 mod codes;
-mod dates;
-mod fault;
 mod lanes;
 mod late;
 mod laws;
 mod orders;
+mod pegging;
 mod pegs;
 mod plan;
-mod rows;
+mod room;
 mod supply;
-mod writing;
 
 pub use codes::code_rows;
-pub use fault::ReportFault;
 pub use lanes::lane_rows;
 pub use late::late_rows;
 pub use laws::reports_are_read_back;
+pub use mrp_sheet::{ReportFault, send};
 pub use orders::order_rows;
+pub use pegging::pegs_rows;
 pub use pegs::peg_rows;
 pub use plan::plan_rows;
-pub use writing::send;

@@ -3,19 +3,15 @@
 ghost use Rattle.std.specs.Prelude.{◌≡◌, ◌<◌, ◌++◌, Err, OnOk, IfOk, IfErr, length};
 ghost use Rattle.mrp_rows.specs.Table.{IsPair};
 ghost use Rattle.mrp_net.specs.Plan.{Fits};
-ghost use Rattle.mrp_report.specs.Dates.{dates_of};
-ghost use Rattle.mrp_report.specs.Headings.{header_row, order_names};
+ghost use Rattle.mrp_sheet.specs.Dates.{dates_of};
+ghost use Rattle.mrp_sheet.specs.Headings.{header_row};
+ghost use Rattle.mrp_report.specs.Headings.{order_names};
 ghost use Rattle.mrp_report.specs.Orders.{order_text, orders_text, pair_orders_text, supply_at};
 ghost use Rattle.mrp_report.specs.OrderLines.{IsLine, due_text, line_row, line_text};
-ghost use Rattle.mrp_report.specs.Report.{date_at};
-ghost use Rattle.mrp_report.specs.Rows.{IsBetweenRows, written};
-ghost use Rattle.mrp_report.specs.Sending.{Sends};
+ghost use Rattle.mrp_sheet.specs.Rows.{IsBetweenRows, written};
+ghost use Rattle.mrp_sheet.specs.Sending.{Sends};
 
-use crate::ReportFault;
-use crate::dates::date_texts;
-use crate::rows::{put_names, put_row, room_for, text_of};
 use crate::supply::put_supply;
-use crate::writing::send;
 use csv::Writer;
 use itoa::Buffer;
 use mrp_choice::Heading;
@@ -23,6 +19,7 @@ use mrp_loops::SizedNet;
 use mrp_net::{Network, PairNo};
 use mrp_netting::PairPlan;
 use mrp_plan::{Plan, PlannedOrder, planned_order};
+use mrp_sheet::{ReportFault, date_of, date_texts, put_names, put_row, room_for, send, text_of};
 use std::alloc::Global;
 use std::io::Write;
 
@@ -262,12 +259,4 @@ fn put_order(
             late.format(order.late).as_bytes(),
         ],
     )
-}
-
-/// The text of the date of period `t`.
-fn date_of<'a>(dates: &'a [[u8; 10]], t: usize) -> &'a [u8]
-    requires { t < length dates.now }
-    ensures { result.now ≡ date_at dates.now t }
-{
-    &dates[t]
 }

@@ -2,20 +2,19 @@
 
 ghost use Rattle.std.specs.Prelude.{◌≡◌, ◌++◌, Err, OnOk, IfOk, IfErr, All};
 ghost use Rattle.mrp_rows.specs.Table.{IsPair};
-ghost use Rattle.mrp_report.specs.Headings.{header_row, peg_names};
-ghost use Rattle.mrp_report.specs.Rows.{IsBetweenRows, written};
-ghost use Rattle.mrp_report.specs.Sending.{Sends};
+ghost use Rattle.mrp_sheet.specs.Headings.{header_row};
+ghost use Rattle.mrp_report.specs.Headings.{peg_names};
+ghost use Rattle.mrp_sheet.specs.Rows.{IsBetweenRows, written};
+ghost use Rattle.mrp_sheet.specs.Sending.{Sends};
 ghost use Rattle.mrp_report.specs.Report.{peg_row, peg_text, source_word};
 
-use crate::ReportFault;
-use crate::rows::{put_names, put_row, room_for, text_of};
-use crate::writing::send;
 use csv::Writer;
 use itoa::Buffer;
 use mrp_choice::Heading;
 use mrp_loops::SizedNet;
 use mrp_net::Network;
 use mrp_plan::{PegSource, PegTerm};
+use mrp_sheet::{ReportFault, put_names, put_row, room_for, send, text_of};
 use std::alloc::Global;
 use std::io::Write;
 
@@ -91,7 +90,7 @@ fn put_peg_names(rows: &mut Writer<Vec<u8>>, heading: Heading) -> Result<(), Rep
 }
 
 /// What a row calls the source of a term.
-fn source_word<'a>(source: PegSource) -> &'a [u8]
+pub(crate) fn source_word<'a>(source: PegSource) -> &'a [u8]
     ensures { result.now ≡ source_word source }
 {
     match source {

@@ -5,31 +5,26 @@ ghost use Rattle.std.specs.Prelude.{IfOk, OnOk, IfErr, OnErr};
 ghost use Rattle.csv.specs.Writing.{comma};
 ghost use Rattle.mrp_rows.specs.Table.{IsTable};
 ghost use Rattle.mrp_net.specs.Plan.{Fits};
-ghost use Rattle.mrp_report.specs.Rows.{row};
+ghost use Rattle.mrp_sheet.specs.Rows.{row};
 ghost use Rattle.std.specs.Io.KnownBytes.{Appends};
-ghost use Rattle.mrp_report.specs.Sending.{AppendsFront, Sends};
-ghost use Rattle.mrp_report.specs.Dates.{dates_of};
+ghost use Rattle.mrp_sheet.specs.Sending.{AppendsFront, Sends};
+ghost use Rattle.mrp_sheet.specs.Dates.{dates_of};
 ghost use Rattle.mrp_report.specs.Parts.{pair_part, parts_text, period_part};
 ghost use Rattle.mrp_report.specs.Report.{HasPeriod, HasPeriods, pairs_text, period_at, plan_text};
 
-use crate::ReportFault;
-use crate::dates::date_texts;
-use crate::writing::send;
+use crate::room::{LONGEST_PAIR, name_pair, put_parts};
 use itoa::write_digits;
 use mrp_loops::SizedNet;
 use mrp_net::{Network, PairNo};
 use mrp_netting::PairPlan;
 use mrp_plan::Plan;
 use mrp_qty::Qty;
+use mrp_sheet::{ReportFault, date_texts, send};
 use std::alloc::Global;
 use std::io::Write;
 
 /// Of so many pairs the rows are written before they are sent.
 const PAIRS_AT_ONCE: usize = 16;
-
-/// The most bytes of what all rows of a pair begin with: the word, two names of 20 and the commas
-/// between.
-const LONGEST_PAIR: usize = 46;
 
 /// The most bytes of what a row has of its period: a number of 20 digits, a date, five quantities of
 /// 16 and the commas between.
@@ -157,25 +152,11 @@ fn pairs_text(room: &mut [u8], report: &PlanReport<'_>, first: usize, end: usize
     let mut used = 0;
     'pairs: for x in first..end {
         let (plant, item) = report.network.pair_name(PairNo(x));
-        let named = name_pair(&mut names, plant, item);
+        let named = name_pair(&mut names, b"plan", plant, item);
         let plan = report.plan.pair(PairNo(x));
         used = put_pair(room, used, &names[..named], report.dates, plan);
     }
     used
-}
-
-/// Writes what all rows of a pair begin with at the beginning of the names, and returns how much of
-/// them it takes.
-fn name_pair(names: &mut [u8; LONGEST_PAIR], plant: &str, item: &str) -> usize
-    requires plant { length plant.now ≤ 20 }
-    requires item { length item.now ≤ 20 }
-    ensures within { result ≤ LONGEST_PAIR }
-    ensures part { take result names.new ≡ pair_part plant.now item.now }
-{
-    let word = put(names, 0, b"plan,");
-    let place = put(names, word, plant.as_bytes());
-    let comma = put(names, place, b",");
-    put(names, comma, item.as_bytes())
 }
 
 /// Adds the rows of a pair, which begin with `pair`, to the used front of the room, and returns how
@@ -194,31 +175,6 @@ fn put_pair(room: &mut [u8], used: usize, pair: &[u8], dates: &[[u8; 10]], plan:
         let start = put_period(&mut period, &dates[t], period_at(plan, t));
         after = put_parts(room, after, pair, &period[start..]);
     }
-    after
-}
-
-/// Adds a row of two parts to the used front of the room, and returns how much is used then.
-fn put_parts(room: &mut [u8], used: usize, pair: &[u8], period: &[u8]) -> usize
-    requires room { used + length pair.now + length period.now + 2 ≤ length room.old }
-    ensures row { take result room.new ≡ take used room.old ++ row (pair.now ∷ period.now ∷ []) }
-    ensures length { result ≡ used + length pair.now + length period.now + 2 }
-    ensures room { length room.new ≡ length room.old }
-{
-    let first = put(room, used, pair);
-    let comma = put(room, first, b",");
-    let second = put(room, comma, period);
-    put(room, second, b"\n")
-}
-
-/// Adds bytes to the used front of the room, and returns how much is used then.
-fn put(room: &mut [u8], used: usize, bytes: &[u8]) -> usize
-    requires room { used + length bytes.now ≤ length room.old }
-    ensures bytes { take result room.new ≡ take used room.old ++ bytes.now }
-    ensures length { result ≡ used + length bytes.now }
-    ensures room { length room.new ≡ length room.old }
-{
-    let after = used + bytes.len();
-    room[used..after].copy_from_slice(bytes);
     after
 }
 

@@ -5,13 +5,13 @@ ghost use Rattle.std.specs.List.{find};
 ghost use Rattle.mrp_rows.specs.declared.rows.Supply.TheVariants.{From};
 ghost use Rattle.mrp_rows.specs.Table.{IsPair};
 ghost use Rattle.mrp_net.specs.Sums.{pair_at};
-ghost use Rattle.mrp_report.specs.Report.{plant_of};
+ghost use Rattle.mrp_sheet.specs.Names.{plant_of};
 ghost use Rattle.mrp_report.specs.Orders.{share_part, source_part, supply_at};
 
-use crate::ReportFault;
 use itoa::Buffer;
 use mrp_net::{Edge, Network, PairNo, Supply};
 use mrp_qty::MOST_SHARE;
+use mrp_sheet::ReportFault;
 
 /// Writes into the text where the pair comes from, in place of what it held.
 pub(crate) fn put_supply(

@@ -1,8 +1,9 @@
 use Rattle.std.proofs.Common.{◌≡◌, length, arith}
 use Rattle.std.specs.List.{flat_map}
 use Rattle.mrp_net.specs.Plan.{rows_at}
-use Rattle.mrp_report.specs.Report.{late_row, late_text, plant_of, item_of}
-use Rattle.mrp_report.proofs.RowFacts.{rows-more, plant_is, item_is, all_rows}
+use Rattle.mrp_report.specs.Report.{late_row, late_text}
+use Rattle.mrp_sheet.specs.Names.{plant_of, item_of}
+use Rattle.mrp_sheet.proofs.RowFacts.{rows-more, plant_is, item_is, all_rows}
 use Rattle.mrp_report.proofs.late.late_text.Goals as goal
 
 pub pairs-preserved : goal.pairs-preserved

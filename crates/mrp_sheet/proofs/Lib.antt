@@ -1,0 +1,5 @@
+pub mod RowFacts
+pub mod Fronts
+pub mod PlainFacts
+pub mod ReadBack
+pub mod FieldFacts

@@ -1,0 +1,6 @@
+pub mod Sending
+pub mod Rows
+pub mod Dates
+pub mod Headings
+pub mod Names
+pub mod Sheets

@@ -1,0 +1,25 @@
+-- The names in a report's rows.
+use Rattle.std.specs.Prelude.{ℕ, List, [], length, slice_index_or}
+use Rattle.std.specs.List.{range_with_len}
+use Rattle.mrp_rows.specs.declared.numbers.ItemNo.{ItemNo}
+use Rattle.mrp_rows.specs.declared.numbers.PlantNo.{PlantNo}
+use Rattle.mrp_rows.specs.Table.{Table}
+use Rattle.mrp_net.specs.Sums.{pair_at}
+
+-- the names of a plant and of an item
+abbrev pub plant_name : Table → PlantNo → List ℕ
+plant_name N plant = slice_index_or N.plants plant.0 []
+
+abbrev pub item_name : Table → ItemNo → List ℕ
+item_name N item = slice_index_or N.items item.0 []
+
+-- the names of a pair's plant and item
+abbrev pub plant_of : Table → ℕ → List ℕ
+plant_of N x = slice_index_or N.plants (pair_at N x).plant.0 []
+
+abbrev pub item_of : Table → ℕ → List ℕ
+item_of N x = slice_index_or N.items (pair_at N x).item.0 []
+
+-- all pairs, in table order
+abbrev pub pairs_of : Table → List ℕ
+pairs_of N = range_with_len 0 (length N.pairs)
