@@ -1,6 +1,6 @@
 -- What a plan that fits and the table say of a schedule.
 use Rattle.std.proofs.Common.{◌≡◌, ℕ, ◌+◌, ◌-◌, ◌<◌, ◌≤◌, true, false, cond, List, [], ◌∷◌, ◌++◌, length, refl, sym, ap, ◌∙◌, append_assoc, arith}
-use Rattle.std.specs.Prelude.{Option, Some, All, Contains, IfSome, filter_map, option_map}
+use Rattle.std.specs.Prelude.{Option, Some, None, All, Contains, IfSome, filter_map, option_map}
 use Rattle.std.specs.List.{find}
 use Rattle.std.proofs.lemmas.List.Elements.{All-head, All-tail}
 use Rattle.mrp_qty.specs.declared.quantity.TheConstants.{MOST}
@@ -40,16 +40,23 @@ source_row N table lane item there =
 
 -- ---- resets are in the horizon
 
-found_within : (n x supplier : ℕ) (rows : List ResetRow) → All (λ r. r.period < n) rows → IfSome (option_map (λ (r : ResetRow). r.period) (find (is_reset_of x supplier) rows)) (λ from. from ≤ n)
-found_within n x supplier [] inside = tt
-found_within n x supplier (r ∷ rows) inside =
-    elim (is_reset_of x supplier r) as (λ b. IfSome (option_map (λ (r : ResetRow). r.period) (cond b (Some r) (find (is_reset_of x supplier) rows))) (λ from. from ≤ n)) [
-      | true ↦ let h : r.period < n = All-head (λ (r : ResetRow). r.period < n) r rows inside in omega (arith, h)
-      | false ↦ found_within n x supplier rows (All-tail (λ (r : ResetRow). r.period < n) r rows inside)
+found_before : (n x supplier : ℕ) (rows : List ResetRow) → All (λ r. r.period < n) rows → IfSome (option_map (λ (r : ResetRow). r.period) (find (is_reset_of x supplier) rows)) (λ from. from < n)
+found_before n x supplier [] inside = tt
+found_before n x supplier (r ∷ rows) inside =
+    elim (is_reset_of x supplier r) as (λ b. IfSome (option_map (λ (r : ResetRow). r.period) (cond b (Some r) (find (is_reset_of x supplier) rows))) (λ from. from < n)) [
+      | true ↦ All-head (λ (r : ResetRow). r.period < n) r rows inside
+      | false ↦ found_before n x supplier rows (All-tail (λ (r : ResetRow). r.period < n) r rows inside)
     ]
 
+pub reset_before : (N : Table) → IsTable N → (lane : Lane) (item : ItemNo) → IfSome (reset N lane item) (λ from. from < horizon N)
+reset_before N table lane item = found_before (horizon N) (pair_on N lane item) (supplier_of lane) N.resets (λ k d h. (table.read.resets k d h).period)
+
+within : (n : ℕ) (reset : Option ℕ) → IfSome reset (λ from. from < n) → IfSome reset (λ from. from ≤ n)
+within n None before = tt
+within n (Some from) before = omega arith
+
 pub reset_within : (N : Table) → IsTable N → (lane : Lane) (item : ItemNo) → IfSome (reset N lane item) (λ from. from ≤ horizon N)
-reset_within N table lane item = found_within (horizon N) (pair_on N lane item) (supplier_of lane) N.resets (λ k d h. (table.read.resets k d h).period)
+reset_within N table lane item = within (horizon N) (reset N lane item) (reset_before N table lane item)
 
 -- ---- where it begins
 

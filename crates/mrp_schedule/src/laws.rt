@@ -1,6 +1,7 @@
 //! Laws of schedules. Each is the contract of a function that does nothing.
 
 ghost use Rattle.mrp_schedule.specs.Laws.{TextsCarrySchedules, FiguresAddUp, CallsAreReleased};
+ghost use Rattle.mrp_schedule.specs.Sheets.{SchedulesAreReadBack};
 
 /// A schedule is what the lane carries: behind its opening stand exactly the lines and the reset of the item's
 /// records in every whole text of the lane, in whatever order the text has its items.
@@ -18,4 +19,10 @@ pub fn figures_add_up()
 /// period the calls to all its sources add up to the planned order release.
 pub fn calls_are_released()
     ensures { CallsAreReleased }
+{}
+
+/// What csv reads of the report of schedules is exactly the fields that its rows are made of, row by row, the
+/// empty ones too, and none of them needs quotes.
+pub fn schedules_are_read_back()
+    ensures { SchedulesAreReadBack }
 {}
