@@ -1,0 +1,6 @@
+pub mod Finding
+pub mod Needing
+pub mod Coming
+pub mod CoverFacts
+pub mod LineFacts
+pub mod SheetFacts
