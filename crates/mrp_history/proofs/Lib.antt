@@ -1,0 +1,11 @@
+pub mod Prefixes
+pub mod Owners
+pub mod Decided
+pub mod Moving
+pub mod Planning
+pub mod Merging
+pub mod Causal
+pub mod Going
+pub mod Stamped
+pub mod Explained
+pub mod Passing
