@@ -48,12 +48,12 @@ opens_as box p N l counts v may list is can none named network lane ours sized t
 )
 
 pub opens_sending : {Q A : Type 0} (box : Box Q A) (p : Pass Record LaneView) (N : Table) (l : ℕ) (counts : Counts) → IsPassOf box p
-    → view p ≡ sending N l [] → IsSized N → l < length (lanes N) → counts ≡ counts_of N l [] → ((view p).sends ≡ true) × Holds box p l (view p).sent counts
-opens_sending box p N l counts ours is = opens_as box p N l counts (sending N l []) (λ v. v.sends) (λ v. v.sent) is refl refl refl refl refl ours
+    → view p ≡ sending N l → IsSized N → l < length (lanes N) → counts ≡ counts_of N l [] → ((view p).sends ≡ true) × Holds box p l (view p).sent counts
+opens_sending box p N l counts ours is = opens_as box p N l counts (sending N l) (λ v. v.sends) (λ v. v.sent) is refl refl refl refl refl ours
 
 pub opens_taking : {Q A : Type 0} (box : Box Q A) (p : Pass Record LaneView) (N : Table) (l : ℕ) (counts : Counts) → IsPassOf box p
-    → view p ≡ taking N l [] → IsSized N → l < length (lanes N) → counts ≡ counts_of N l [] → ((view p).takes ≡ true) × Holds box p l (view p).taken counts
-opens_taking box p N l counts ours is = opens_as box p N l counts (taking N l []) (λ v. v.takes) (λ v. v.taken) is refl refl refl refl refl ours
+    → view p ≡ taking N l → IsSized N → l < length (lanes N) → counts ≡ counts_of N l [] → ((view p).takes ≡ true) × Holds box p l (view p).taken counts
+opens_taking box p N l counts ours is = opens_as box p N l counts (taking N l) (λ v. v.takes) (λ v. v.taken) is refl refl refl refl refl ours
 
 -- ---- one record more
 
@@ -81,10 +81,10 @@ module _ {Q A : Type 0} {box : Box Q A} {p : Pass Record LaneView} {l : ℕ} {li
   }
 
 -- an offer that isn't refused
-pub sends_on : {Q A : Type 0} (box : Box Q A) (p q : Pass Record LaneView) (l : ℕ) (counts counts' : Counts) (r : Record) → ((view p).sends ≡ true) × Holds box p l (view p).sent counts
-    → IsLegal (view p).network l ((view p).sent ++ r ∷ []) → IsSamePass p q → view q ≡ after_send (view p) r → counts' ≡ counted counts r
+pub sends_on : {Q A : Type 0} (box : Box Q A) (p q : Pass Record LaneView) (l : ℕ) (counts counts' : Counts) (r : Record) (stamp : ℕ) → ((view p).sends ≡ true) × Holds box p l (view p).sent counts
+    → IsLegal (view p).network l ((view p).sent ++ r ∷ []) → IsSamePass p q → view q ≡ after_send (view p) r stamp → counts' ≡ counted counts r
     → ((view q).sends ≡ true) × Holds box q l (view q).sent counts'
-sends_on box p q l counts counts' r (may, h) legal same is count = (
+sends_on box p q l counts counts' r stamp (may, h) legal same is count = (
   ap (λ (v : LaneView). v.sends) is ∙ may,
   subst (λ (list : List Record). Holds box q l list counts') (sym (ap (λ (v : LaneView). v.sent) is))
       (goes_on h r legal q counts' same (ap (λ (v : LaneView). v.named) is) (ap (λ (v : LaneView). v.network) is) (ap (λ (v : LaneView). v.lane) is) count),
@@ -92,18 +92,18 @@ sends_on box p q l counts counts' r (may, h) legal same is count = (
 
 -- what is taken stays legal
 pub taken_is_legal : (v w : LaneView) (r : Record) (l : ℕ) → v.lane ≡ l → Takes v r w → IsLegal v.network l (v.taken ++ r ∷ [])
-taken_is_legal v w r l lane (is, legal) =
-    subst (λ (y : ℕ × List Record). IsLegal v.network y.0 y.1) (λ i. (lane i, (ap (λ (x : LaneView). x.taken) is) i)) legal
+taken_is_legal v w r l lane takes =
+    subst (λ (y : ℕ × List Record). IsLegal v.network y.0 y.1) (λ i. (lane i, (ap (λ (x : LaneView). x.taken) takes.is) i)) takes.legal
 
 pub taken_stays_legal : (v w : LaneView) (r : Record) (l : ℕ) → v.lane ≡ l → Takes v r w → IsLegal w.network l w.taken
-taken_stays_legal v w r l lane (is, legal) =
-    subst (λ (y : Table × ℕ). IsLegal y.0 y.1 w.taken) (λ i. (sym (ap (λ (x : LaneView). x.network) is) i, lane i)) legal
+taken_stays_legal v w r l lane takes =
+    subst (λ (y : Table × ℕ). IsLegal y.0 y.1 w.taken) (λ i. (sym (ap (λ (x : LaneView). x.network) takes.is) i, lane i)) takes.legal
 
 pub takes_on : {Q A : Type 0} (box : Box Q A) (p q : Pass Record LaneView) (l : ℕ) (counts counts' : Counts) (r : Record) → ((view p).takes ≡ true) × Holds box p l (view p).taken counts
     → IsSamePass p q → Takes (view p) r (view q) → counts' ≡ counted counts r
     → ((view q).takes ≡ true) × Holds box q l (view q).taken counts'
 takes_on box p q l counts counts' r (may, h) same takes count =
-    let is = takes.0 in (
+    let is = takes.is in (
       ap (λ (v : LaneView). v.takes) is ∙ may,
       subst (λ (list : List Record). Holds box q l list counts') (sym (ap (λ (v : LaneView). v.taken) is))
           (goes_on h r (taken_is_legal (view p) (view q) r l h.lane takes) q counts' same (ap (λ (v : LaneView). v.named) is) (ap (λ (v : LaneView). v.network) is) (ap (λ (v : LaneView). v.lane) is) count),
@@ -141,7 +141,7 @@ pub ours_there : {Q A : Type 0} {box there : Box Q A} {p : Pass Record LaneView}
 ours_there {Q} {A} {box} {there} {p} {l} {list} {counts} h at = (h.ours.0 ∙ ap (λ b. b.table.shared.table_id) (sym at), h.ours.1)
 
 -- an end keeps its name
-pub same_name : {Q A : Type 0} (box : Box Q A) (p q : Pass Record LaneView) (l : ℕ) (list : List Record) (e : End) → end_of box p l list ≡ e
-    → IsSamePass p q → (view q).network ≡ (view p).network → (end_of box q l list).name ≡ e.name
-same_name box p q l list e is same network =
+pub same_name : {Q A : Type 0} (box : Box Q A) (p q : Pass Record LaneView) (l : ℕ) (list : List Record) (stamps : List ℕ) (e : End) → end_of box p l list stamps ≡ e
+    → IsSamePass p q → (view q).network ≡ (view p).network → (end_of box q l list stamps).name ≡ e.name
+same_name box p q l list stamps e is same network =
     (λ j. record { mailbox = same.0 j; network = network j; lane = l; room = box.cap }) ∙ ap (λ (e : End). e.name) is

@@ -1,7 +1,7 @@
 -- What the joined pass of a mailbox holds, and what is left over once all is taken.
-use Rattle.std.proofs.Common.{◌≡◌, ℕ, ◌+◌, ◌<◌, ◌≤◌, true, List, [], ◌∷◌, ◌++◌, length, take, refl, sym, ap, subst, ◌∙◌, append_assoc, append-nil, All}
+use Rattle.std.proofs.Common.{◌≡◌, ℕ, ◌+◌, ◌<◌, ◌≤◌, true, List, [], ◌∷◌, ◌++◌, drop, length, take, refl, sym, ap, subst, ◌∙◌, append_assoc, append-nil, length-append, arith, All}
 use Rattle.std.proofs.Math.Seq.{take-append_seam}
-use Rattle.std.proofs.lemmas.List.{length-map}
+use Rattle.std.proofs.lemmas.List.{drop_at, length-map, nil_from_length, take-append-drop, take_at}
 use Rattle.crossbeam_queue.specs.Passes.{Pass, IsPassOf, IsSamePass, view}
 use Rattle.mrp_qty.specs.declared.quantity.TheConstants.{MOST}
 use Rattle.mrp_rows.specs.Table.{Table}
@@ -15,21 +15,21 @@ use Rattle.mrp_lane.specs.declared.view.LaneView.{LaneView}
 use Rattle.mrp_lane.specs.Ends.{End, Name, Holds, end_of}
 use Rattle.mrp_lane.specs.Reconciled.{IsCounted, carried, figures_of, figures_on}
 use Rattle.mrp_lane.specs.Tallies.{Counts, counts_of, item_of}
-use Rattle.mrp_lane.specs.Views.{IsLegal, after_take, joined, taken_all}
+use Rattle.mrp_lane.specs.Views.{AreStamped, IsLegal, IsWhole, after_take, joined, taken_all}
 use Rattle.mrp_lane.proofs.Counting.{figures_fit, figures_are}
 use Rattle.mrp_lane.proofs.Ending.{Box, still_ours}
 
 -- ---- the two ends of one lane
 
-pub names_agree : {Q A : Type 0} (box box' : Box Q A) (p p' : Pass Record LaneView) (l l' : ℕ) (sent taken : List Record) (s t : End)
-    → end_of box p l sent ≡ s → end_of box' p' l' taken ≡ t → s.name ≡ t.name → (end_of box p l sent).name ≡ (end_of box' p' l' taken).name
-names_agree box box' p p' l l' sent taken s t is is' same = ap (λ (e : End). e.name) is ∙ same ∙ sym (ap (λ (e : End). e.name) is')
+pub names_agree : {Q A : Type 0} (box box' : Box Q A) (p p' : Pass Record LaneView) (l l' : ℕ) (sent taken : List Record) (sent_at taken_at : List ℕ) (s t : End)
+    → end_of box p l sent sent_at ≡ s → end_of box' p' l' taken taken_at ≡ t → s.name ≡ t.name → (end_of box p l sent sent_at).name ≡ (end_of box' p' l' taken taken_at).name
+names_agree box box' p p' l l' sent taken sent_at taken_at s t is is' same = ap (λ (e : End). e.name) is ∙ same ∙ sym (ap (λ (e : End). e.name) is')
 
 -- the other end's pass too is the mailbox's, wherever that lies
-pub both_ours : {Q A : Type 0} (box box' there : Box Q A) (p p' : Pass Record LaneView) (l l' : ℕ) (sent taken : List Record) (s t : End)
-    → end_of box p l sent ≡ s → end_of box' p' l' taken ≡ t → s.name ≡ t.name → IsPassOf box p → IsPassOf box' p' → there ≡ box → IsPassOf there p'
-both_ours box box' there p p' l l' sent taken s t is is' same ours ours' at =
-    (sym (ap (λ (n : Name). n.mailbox) (names_agree box box' p p' l l' sent taken s t is is' same)) ∙ ours.0 ∙ ap (λ b. b.table.shared.table_id) (sym at), ours'.1)
+pub both_ours : {Q A : Type 0} (box box' there : Box Q A) (p p' : Pass Record LaneView) (l l' : ℕ) (sent taken : List Record) (sent_at taken_at : List ℕ) (s t : End)
+    → end_of box p l sent sent_at ≡ s → end_of box' p' l' taken taken_at ≡ t → s.name ≡ t.name → IsPassOf box p → IsPassOf box' p' → there ≡ box → IsPassOf there p'
+both_ours box box' there p p' l l' sent taken sent_at taken_at s t is is' same ours ours' at =
+    (sym (ap (λ (n : Name). n.mailbox) (names_agree box box' p p' l l' sent taken sent_at taken_at s t is is' same)) ∙ ours.0 ∙ ap (λ b. b.table.shared.table_id) (sym at), ours'.1)
 
 -- what an end holds the joined pass holds
 joins : {Q A : Type 0} {box : Box Q A} {p : Pass Record LaneView} {l : ℕ} {list : List Record} {counts : Counts} → Holds box p l list counts
@@ -54,10 +54,10 @@ joins_sending box there p q w l counts h at same is = (
 )
 
 pub joins_taking : {Q A : Type 0} (box box' there : Box Q A) (p p' q : Pass Record LaneView) (l l' : ℕ) (counts counts' : Counts) (s t : End)
-    → Holds box p l (view p).sent counts → Holds box' p' l' (view p').taken counts' → end_of box p l (view p).sent ≡ s → end_of box' p' l' (view p').taken ≡ t → s.name ≡ t.name
+    → Holds box p l (view p).sent counts → Holds box' p' l' (view p').taken counts' → end_of box p l (view p).sent (view p).sent_at ≡ s → end_of box' p' l' (view p').taken (view p').taken_at ≡ t → s.name ≡ t.name
     → there ≡ box → IsSamePass p q → view q ≡ joined (view p) (view p') → ((view q).takes ≡ true) × Holds there q l (view q).taken counts'
 joins_taking box box' there p p' q l l' counts counts' s t h h' at_s at_t names at same is =
-    let agree = names_agree box box' p p' l l' (view p).sent (view p').taken s t at_s at_t names in (
+    let agree = names_agree box box' p p' l l' (view p).sent (view p').taken (view p).sent_at (view p').taken_at s t at_s at_t names in (
       ap (λ (v : LaneView). v.takes) is,
       subst (λ (list : List Record). Holds there q l list counts') (sym (ap (λ (v : LaneView). v.taken) is))
           (joins h' there q l (still_ours box there p q at h.ours same) (ap (λ (v : LaneView). v.named) is) (ap (λ (v : LaneView). v.lane) is ∙ h.lane) (sym (ap (λ (n : Name). n.lane) agree))
@@ -66,23 +66,50 @@ joins_taking box box' there p p' q l l' counts counts' s t h h' at_s at_t names 
 
 -- ---- while the mailbox is emptied
 
-abbrev pub took : LaneView → List Record → LaneView
-took v left = record v { taken = v.taken ++ left }
+abbrev pub took : LaneView → List Record → List ℕ → LaneView
+took v left left_at = record v { taken = v.taken ++ left; taken_at = v.taken_at ++ left_at }
 
-pub took_none : (v : LaneView) (left : List Record) → left ≡ [] → v ≡ took v left
-took_none v left none = ap (λ (z : List Record). record v { taken = z }) (sym (ap (λ (z : List Record). v.taken ++ z) none ∙ append-nil v.taken))
+pub took_none : (v : LaneView) (left : List Record) → left ≡ [] → v ≡ took v left []
+took_none v left none =
+    ap (λ (z : List Record). record v { taken = z }) (sym (ap (λ (z : List Record). v.taken ++ z) none ∙ append-nil v.taken))
+    ∙ ap (λ (z : List ℕ). record v { taken = v.taken ++ left; taken_at = z }) (sym (append-nil v.taken_at))
 
-pub took_more : (v now next : LaneView) (left left' : List Record) (r : Record) → next ≡ after_take now r → now ≡ took v left → left' ≡ left ++ r ∷ [] → next ≡ took v left'
-took_more v now next left left' r is so_far more =
-    is ∙ ap (λ (w : LaneView). after_take w r) so_far
-    ∙ ap (λ (z : List Record). record v { taken = z }) (append_assoc v.taken left (r ∷ []) ∙ ap (λ (z : List Record). v.taken ++ z) (sym more))
+pub took_more : (v now next : LaneView) (left left' : List Record) (left_at : List ℕ) (r : Record) (stamp : ℕ) → next ≡ after_take now r stamp → now ≡ took v left left_at → left' ≡ left ++ r ∷ []
+    → next ≡ took v left' (left_at ++ stamp ∷ [])
+took_more v now next left left' left_at r stamp is so_far more =
+    is ∙ ap (λ (w : LaneView). after_take w r stamp) so_far
+    ∙ ap (λ (z : List Record). record v { taken = z; taken_at = (v.taken_at ++ left_at) ++ stamp ∷ [] }) (append_assoc v.taken left (r ∷ []) ∙ ap (λ (z : List Record). v.taken ++ z) (sym more))
+    ∙ ap (λ (z : List ℕ). record v { taken = v.taken ++ left'; taken_at = z }) (append_assoc v.taken_at left_at (stamp ∷ []))
+
+pub one_more_each : (left left' : List Record) (left_at : List ℕ) (r : Record) (stamp : ℕ) → left' ≡ left ++ r ∷ [] → length left_at ≡ length left → length (left_at ++ stamp ∷ []) ≡ length left'
+one_more_each left left' left_at r stamp more as_many = omega (arith, ap length more, length-append left (r ∷ []), length-append left_at (stamp ∷ []))
 
 -- nothing is in the mailbox any more
-pub took_all : (v now : LaneView) (left : List Record) → now ≡ took v left → now.sent ≡ now.taken → v.sent ≡ v.taken ++ left
-took_all v now left so_far all = sym (ap (λ (w : LaneView). w.sent) so_far) ∙ all ∙ ap (λ (w : LaneView). w.taken) so_far
+pub took_all : (v now : LaneView) (left : List Record) (left_at : List ℕ) → now ≡ took v left left_at → now.sent ≡ now.taken → v.sent ≡ v.taken ++ left
+took_all v now left left_at so_far all = sym (ap (λ (w : LaneView). w.sent) so_far) ∙ all ∙ ap (λ (w : LaneView). w.taken) so_far
 
-pub took_is_all : (v now : LaneView) (left : List Record) → now ≡ took v left → now.sent ≡ now.taken → now ≡ taken_all v
-took_is_all v now left so_far all = so_far ∙ ap (λ (z : List Record). record v { taken = z }) (sym (took_all v now left so_far all))
+-- nor is any stamp left
+none_waits : (now : LaneView) → IsWhole now [] → now.sent_at ≡ now.taken_at
+none_waits now whole =
+    whole.stamps.whole ∙ ap (λ (z : List ℕ). now.taken_at ++ z) (nil_from_length whole.stamps.waits_at whole.stamps.as_many) ∙ append-nil now.taken_at
+
+took_all_at : (v now : LaneView) (left : List Record) (left_at : List ℕ) → now ≡ took v left left_at → IsWhole now [] → v.sent_at ≡ v.taken_at ++ left_at
+took_all_at v now left left_at so_far whole =
+    sym (ap (λ (w : LaneView). w.sent_at) so_far) ∙ none_waits now whole ∙ ap (λ (w : LaneView). w.taken_at) so_far
+
+pub took_stamps : (v now : LaneView) (left : List Record) (left_at : List ℕ) → now ≡ took v left left_at → length left_at ≡ length left → IsWhole now []
+    → AreStamped v.sent_at v.taken_at (length left)
+took_stamps v now left left_at so_far as_many whole =
+    record { waits_at = left_at; whole = took_all_at v now left left_at so_far whole; as_many = as_many }
+
+pub took_as_many : (v now : LaneView) (left : List Record) (left_at : List ℕ) → now ≡ took v left left_at → IsWhole now [] → length v.sent_at ≡ length v.sent
+took_as_many v now left left_at so_far whole =
+    sym (ap (λ (w : LaneView). length w.sent_at) so_far) ∙ whole.as_many ∙ ap (λ (w : LaneView). length w.sent) so_far
+
+pub took_is_all : (v now : LaneView) (left : List Record) (left_at : List ℕ) → now ≡ took v left left_at → now.sent ≡ now.taken → IsWhole now [] → now ≡ taken_all v
+took_is_all v now left left_at so_far all whole =
+    so_far ∙ ap (λ (z : List Record). record v { taken = z; taken_at = v.taken_at ++ left_at }) (sym (took_all v now left left_at so_far all))
+    ∙ ap (λ (z : List ℕ). record v { taken = v.sent; taken_at = z }) (sym (took_all_at v now left left_at so_far whole))
 
 -- ---- what the joined pass's counts come to
 
@@ -110,11 +137,38 @@ pub front_is_taken : (v w : LaneView) (count : ℕ) (left : List Record) → w �
 front_is_taken v w count left is counted parts =
     (λ j. take (counted j) ((ap (λ (x : LaneView). x.sent) is ∙ parts) j)) ∙ take-append_seam v.taken left
 
+-- what was taken has as many stamps as records
+taken_stamps : (v : LaneView) (left : List Record) → v.sent ≡ v.taken ++ left → AreStamped v.sent_at v.taken_at (length left) → length v.sent_at ≡ length v.sent
+    → length v.taken_at ≡ length v.taken
+taken_stamps v left parts are as_many =
+    omega (arith, ap length parts, length-append v.taken left, ap length are.whole, length-append v.taken_at are.waits_at, are.as_many, as_many)
+
+module _ (v w : LaneView) (count : ℕ) (left : List Record) (is : w ≡ taken_all v) (counted : count ≡ length v.taken) (parts : v.sent ≡ v.taken ++ left)
+    (are : AreStamped v.sent_at v.taken_at (length left)) (as_many : length v.sent_at ≡ length v.sent) where
+  there : w.sent_at ≡ v.taken_at ++ are.waits_at
+  there = ap (λ (x : LaneView). x.sent_at) is ∙ are.whole
+
+  of_taken : length v.taken_at ≡ count
+  of_taken = taken_stamps v left parts are as_many ∙ sym counted
+
+  pub front_stamps : take count w.sent_at ≡ v.taken_at
+  front_stamps = ap (take count) there ∙ take_at v.taken_at are.waits_at count of_taken
+
+  rest_stamps : drop count w.sent_at ≡ are.waits_at
+  rest_stamps = ap (drop count) there ∙ drop_at v.taken_at are.waits_at count of_taken
+
+  pub rest_as_many : length (drop count w.sent_at) ≡ length left
+  rest_as_many = ap length rest_stamps ∙ are.as_many
+
+  pub stamps_left : (v.sent_at ≡ v.taken_at ++ drop count w.sent_at) × (length (drop count w.sent_at) ≡ length left)
+  stamps_left = (are.whole ∙ ap (λ (z : List ℕ). v.taken_at ++ z) (sym rest_stamps), rest_as_many)
+
 pub is_counted : {Q A : Type 0} (box : Box Q A) (p q : Pass Record LaneView) (lane : LaneNo) (counts counts' : Counts) (sent taken : ℕ) (left : List Record) (figures : List LaneFigure)
     → Holds box p lane.0 (view p).sent counts → Holds box p lane.0 (view p).taken counts' → sent ≡ counts.records → taken ≡ counts'.records
-    → view q ≡ taken_all (view p) → (view p).sent ≡ (view p).taken ++ left → figures ≡ figures_of lane counts.items counts'.items
+    → view q ≡ taken_all (view p) → (view p).sent ≡ (view p).taken ++ left
+    → AreStamped (view p).sent_at (view p).taken_at (length left) → length (view p).sent_at ≡ length (view p).sent → figures ≡ figures_of lane counts.items counts'.items
     → IsCounted lane.0 sent taken (carried q taken left figures)
-is_counted box p q lane counts counts' sent taken left figures h h' sent_is taken_is is parts figures_are =
+is_counted box p q lane counts counts' sent taken left figures h h' sent_is taken_is is parts are as_many figures_are =
     let v = view p in
     let count : sent ≡ length v.sent = sent_is ∙ ap (λ (t : Counts). t.records) h.counted in
     let count' : taken ≡ length v.taken = taken_is ∙ ap (λ (t : Counts). t.records) h'.counted in
@@ -130,5 +184,7 @@ is_counted box p q lane counts counts' sent taken left figures h h' sent_is take
       legal_sent = subst (λ (x : Table × ℕ × List Record). IsLegal x.0 x.1 x.2) (λ j. (sym network j, sym number j, sym all j)) h.legal;
       legal_taken = subst (λ (x : Table × ℕ × List Record). IsLegal x.0 x.1 x.2) (λ j. (sym network j, sym number j, sym front j)) h'.legal;
       whole = all ∙ parts ∙ ap (λ (z : List Record). z ++ left) (sym front);
+      stamps = sym (take-append-drop taken (view q).sent_at);
+      as_many = rest_as_many v (view q) taken left is count' parts are as_many;
       figures = figures_are ∙ figures_agree h h' ∙ (λ j. figures_on (sym network j) (sym number j) (sym all j) (sym front j));
     }

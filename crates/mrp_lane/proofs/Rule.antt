@@ -1,5 +1,6 @@
 -- Each step at a lane's mailbox keeps its rule.
-use Rattle.std.proofs.Common.{◌≡◌, ◌≢◌, ℕ, zero, suc, true, false, true≢false, List, [], ◌∷◌, ◌++◌, length, set, sym, refl, ap, ◌∙◌, subst, ⊎_elim, append_assoc}
+use Rattle.std.proofs.Common.{◌≡◌, ◌≢◌, ℕ, zero, suc, true, false, true≢false, List, [], ◌∷◌, ◌++◌, length, set, sym, refl, ap, ◌∙◌, subst, ⊎_elim}
+use Rattle.std.proofs.Common.{append_assoc, length-append, arith}
 use mathlib.Core.Option.{some, some-ne-none}
 use lib.ListN.{get_elem?}
 use Rattle.crossbeam_queue.specs.Fifo.{Pushes, Pops, Forks, Merges, Learns}
@@ -11,7 +12,8 @@ use Rattle.mrp_record.proofs.Beginnings.{empty_is_a_beginning, fronts_are_beginn
 use Rattle.mrp_events.specs.Loads.{loads}
 use Rattle.mrp_lane.specs.declared.view.LaneView.{LaneView}
 use Rattle.mrp_lane.specs.Laws.{MailboxesKeepOrder}
-use Rattle.mrp_lane.specs.Views.{IsLegal, blank, unnamed, sending, taking, joined, spent, Line, IsNamed, Fits, Carries, Keeps, after_send, after_take, Takes, IsUntaken, Leaves}
+use Rattle.mrp_lane.specs.Views.{IsLegal, blank, unnamed, sending, taking, joined, spent, Line, IsNamed, Fits, AreStamped, Carries, Keeps}
+use Rattle.mrp_lane.specs.Views.{after_send, after_take, Takes, IsUntaken, Leaves}
 
 -- ---- legal beginnings
 
@@ -20,6 +22,36 @@ empty_is_legal N l = empty_is_a_beginning (loads N (lane_at N l))
 
 pub front_is_legal : (N : Table) (l : ℕ) (front more : List Record) → IsLegal N l (front ++ more) → IsLegal N l front
 front_is_legal N l front more h = fronts_are_beginnings (loads N (lane_at N l)) front more h
+
+-- ---- stamps
+
+-- one more is sent
+stamped_more : (sent_at taken_at : List ℕ) (mailbox : List Record) (r : Record) (stamp : ℕ) → AreStamped sent_at taken_at (length mailbox)
+    → AreStamped (sent_at ++ stamp ∷ []) taken_at (length (mailbox ++ r ∷ []))
+stamped_more sent_at taken_at mailbox r stamp are = record {
+  waits_at = are.waits_at ++ stamp ∷ [];
+  whole = ap (λ (z : List ℕ). z ++ stamp ∷ []) are.whole ∙ append_assoc taken_at are.waits_at (stamp ∷ []);
+  as_many = omega (arith, are.as_many, length-append are.waits_at (stamp ∷ []), length-append mailbox (r ∷ []));
+}
+
+-- the first that waits is taken
+abbrev TakesStamp : List ℕ → List ℕ → ℕ → Type 0
+TakesStamp sent_at taken_at waiting = (stamp : ℕ) × AreStamped sent_at (taken_at ++ stamp ∷ []) waiting
+
+stamped_first : (sent_at taken_at waits_at : List ℕ) (waiting : ℕ) → sent_at ≡ taken_at ++ waits_at → length waits_at ≡ suc waiting
+    → TakesStamp sent_at taken_at waiting
+stamped_first sent_at taken_at [] waiting whole as_many = absurd (omega arith)
+stamped_first sent_at taken_at (stamp ∷ waits_at) waiting whole as_many =
+    (stamp, record { waits_at = waits_at; whole = whole ∙ sym (append_assoc taken_at (stamp ∷ []) waits_at); as_many = omega arith })
+
+stamped_same : (sent_at taken_at sent_there taken_there : List ℕ) (waiting : ℕ) → sent_at ≡ sent_there → taken_at ≡ taken_there
+    → AreStamped sent_there taken_there waiting
+    → AreStamped sent_at taken_at waiting
+stamped_same sent_at taken_at sent_there taken_there waiting sent taken are = record {
+  waits_at = are.waits_at;
+  whole = sent ∙ are.whole ∙ ap (λ (z : List ℕ). z ++ are.waits_at) (sym taken);
+  as_many = are.as_many;
+}
 
 -- ---- the views of all passes
 
@@ -63,35 +95,40 @@ module _ {mailbox : List Record} {views : List LaneView} {line : Line} (kept : C
   legal_here v records is h = subst (λ (x : Table × ℕ). IsLegal x.0 x.1 records) (λ i. (sym is.0 i, sym is.1 i)) h
 
 abbrev first_line : Line
-first_line = record { network = blank; lane = 0; sender = 0; taker = 0; sent = []; taken = [] }
+first_line = record { network = blank; lane = 0; sender = 0; taker = 0; sent = []; taken = []; sent_at = []; taken_at = [] }
 
 pub begins : Keeps [] (unnamed ∷ [])
 begins = (
   first_line,
   record {
     whole = refl;
+    stamps = record { waits_at = []; whole = refl; as_many = refl };
+    as_many = refl;
     legal = empty_is_legal blank 0;
     fits = each_set (Fits first_line) (unnamed ∷ []) 0 unnamed
-        record { sends = λ _. (refl, refl, λ p. absurd (true≢false (sym p))); takes = λ _. (refl, refl, λ p. absurd (true≢false (sym p))) }
+        record { sends = λ _. (refl, refl, (λ p. absurd (true≢false (sym p))), refl); takes = λ _. (refl, refl, (λ p. absurd (true≢false (sym p))), refl) }
         (λ j u other e. absurd (other (last_place [] unnamed u j (λ x. some-ne-none u (sym x)) e)));
   },
 )
 
 -- a push
-pub sends : (n pass : ℕ) (v : LaneView) (r : Record) → v.sends ≡ true → v.named ≡ true → IsLegal v.network v.lane (v.sent ++ r ∷ [])
-    → Pushes Keeps n pass v r (λ w. w ≡ after_send v r)
-sends n pass v r may named legal mailbox views _ (line, kept) at =
+pub sends : (n pass : ℕ) (v : LaneView) (r : Record) (stamp : ℕ) → v.sends ≡ true → v.named ≡ true → IsLegal v.network v.lane (v.sent ++ r ∷ [])
+    → Pushes Keeps n pass v r (λ w. w ≡ after_send v r stamp)
+sends n pass v r stamp may named legal mailbox views _ (line, kept) at =
     let mine = (kept.fits pass v at).sends may in
-    let longer : Line = record line { sent = line.sent ++ r ∷ [] } in
-    let same : v.sent ++ r ∷ [] ≡ longer.sent = ap (λ (l : List Record). l ++ r ∷ []) mine.1 in (
-      after_send v r,
+    let longer : Line = record line { sent = line.sent ++ r ∷ []; sent_at = line.sent_at ++ stamp ∷ [] } in
+    let same : v.sent ++ r ∷ [] ≡ longer.sent = ap (λ (l : List Record). l ++ r ∷ []) mine.1 in
+    let same_at : v.sent_at ++ stamp ∷ [] ≡ longer.sent_at = ap (λ (l : List ℕ). l ++ stamp ∷ []) mine.3 in (
+      after_send v r stamp,
       (
         longer,
         record {
           whole = ap (λ (l : List Record). l ++ r ∷ []) kept.whole ∙ append_assoc line.taken mailbox (r ∷ []);
+          stamps = stamped_more line.sent_at line.taken_at mailbox r stamp kept.stamps;
+          as_many = omega (arith, kept.as_many, length-append line.sent_at (stamp ∷ []), length-append line.sent (r ∷ []));
           legal = subst (IsLegal line.network line.lane) same (legal_there kept v (v.sent ++ r ∷ []) (mine.2 named) legal);
-          fits = each_set (Fits longer) views pass (after_send v r)
-              record { sends = λ _. (mine.0, same, mine.2); takes = (kept.fits pass v at).takes }
+          fits = each_set (Fits longer) views pass (after_send v r stamp)
+              record { sends = λ _. (mine.0, same, mine.2, same_at); takes = (kept.fits pass v at).takes }
               (λ j u other e. record { sends = λ p. absurd (not_sender kept pass j v u may at e other p); takes = (kept.fits j u e).takes });
         },
       ),
@@ -105,50 +142,72 @@ untaken pass v may mailbox views (line, kept) at = record { taken = line.taken; 
 pub takes : (pass : ℕ) (v : LaneView) → v.takes ≡ true → v.named ≡ true → Pops Keeps pass v (Takes v)
 takes pass v may named r mailbox views (line, kept) at =
     let mine = (kept.fits pass v at).takes may in
-    let longer : Line = record line { taken = line.taken ++ r ∷ [] } in
+    let first : TakesStamp line.sent_at line.taken_at (length mailbox) = stamped_first line.sent_at line.taken_at kept.stamps.waits_at (length mailbox) kept.stamps.whole kept.stamps.as_many in
+    let stamp : ℕ = first.0 in
+    let longer : Line = record line { taken = line.taken ++ r ∷ []; taken_at = line.taken_at ++ stamp ∷ [] } in
     let same : v.taken ++ r ∷ [] ≡ longer.taken = ap (λ (l : List Record). l ++ r ∷ []) mine.1 in
+    let same_at : v.taken_at ++ stamp ∷ [] ≡ longer.taken_at = ap (λ (l : List ℕ). l ++ stamp ∷ []) mine.3 in
     let whole : line.sent ≡ longer.taken ++ mailbox = kept.whole ∙ sym (append_assoc line.taken (r ∷ []) mailbox) in
     let front : IsLegal line.network line.lane longer.taken = front_is_legal line.network line.lane longer.taken mailbox (subst (IsLegal line.network line.lane) whole kept.legal) in (
-      after_take v r,
+      after_take v r stamp,
       (
         longer,
         record {
           whole = whole;
+          stamps = first.1;
+          as_many = kept.as_many;
           legal = kept.legal;
-          fits = each_set (Fits longer) views pass (after_take v r)
-              record { sends = (kept.fits pass v at).sends; takes = λ _. (mine.0, same, mine.2) }
+          fits = each_set (Fits longer) views pass (after_take v r stamp)
+              record { sends = (kept.fits pass v at).sends; takes = λ _. (mine.0, same, mine.2, same_at) }
               (λ j u other e. record { sends = (kept.fits j u e).sends; takes = λ p. absurd (not_taker kept pass j v u may at e other p) });
         },
       ),
-      (refl, legal_here kept v (v.taken ++ r ∷ []) (mine.2 named) (subst (IsLegal line.network line.lane) (sym same) front)),
+      record {
+        stamp = stamp;
+        is = refl;
+        legal = legal_here kept v (v.taken ++ r ∷ []) (mine.2 named) (subst (IsLegal line.network line.lane) (sym same) front);
+      },
     )
 
 pub leaves : (pass : ℕ) (v : LaneView) → v.takes ≡ true → Learns Keeps pass v (Leaves v)
 leaves pass v may mailbox views (line, kept) at sends =
-    ((kept.fits pass v at).sends sends).1 ∙ kept.whole ∙ ap (λ (l : List Record). l ++ mailbox) (sym ((kept.fits pass v at).takes may).1)
+    let mine = (kept.fits pass v at).sends sends in
+    let own = (kept.fits pass v at).takes may in
+    record {
+      records = mine.1 ∙ kept.whole ∙ ap (λ (l : List Record). l ++ mailbox) (sym own.1);
+      stamps = stamped_same v.sent_at v.taken_at line.sent_at line.taken_at (length mailbox) mine.3 own.3 kept.stamps;
+      as_many = ap length mine.3 ∙ kept.as_many ∙ sym (ap length mine.1);
+    }
 
 -- the split of the first pass, which names both
-pub parts : (pass : ℕ) (v : LaneView) (N : Table) (l : ℕ) → v ≡ unnamed → Forks Keeps pass v (sending N l []) (taking N l [])
+pub parts : (pass : ℕ) (v : LaneView) (N : Table) (l : ℕ) → v ≡ unnamed → Forks Keeps pass v (sending N l) (taking N l)
 parts pass v N l first mailbox views (line, kept) at =
     let was : Fits line pass unnamed = subst (Fits line pass) first (kept.fits pass v at) in
     let here : get_elem? views pass ≡ some unnamed = at ∙ ap (λ (x : LaneView). some x) first in
-    let left : LaneView = sending N l [] in
-    let right : LaneView = taking N l [] in
+    let left : LaneView = sending N l in
+    let right : LaneView = taking N l in
     let after : List LaneView = set views pass left in
-    let new : Line = record { network = N; lane = l; sender = pass; taker = length after; sent = []; taken = [] } in
-    let Old : ℕ → LaneView → Type 0 = λ j u. (u.sends ≡ true → (j ≡ pass) × ([] ≡ u.sent) × IsNamed new u) × (u.takes ≢ true) in
-    let old : Each Old after = each_set Old views pass left ((λ _. (refl, refl, λ _. (refl, refl))), λ p. true≢false (sym p))
+    let new : Line = record { network = N; lane = l; sender = pass; taker = length after; sent = []; taken = []; sent_at = []; taken_at = [] } in
+    let Old : ℕ → LaneView → Type 0 = λ j u. (u.sends ≡ true → (j ≡ pass) × ([] ≡ u.sent) × IsNamed new u × ([] ≡ u.sent_at)) × (u.takes ≢ true) in
+    let old : Each Old after = each_set Old views pass left ((λ _. (refl, refl, (λ _. (refl, refl)), refl)), λ p. true≢false (sym p))
     (λ j u other e. ((λ p. absurd (not_sender kept pass j unnamed u refl here e other p)), λ p. not_taker kept pass j unnamed u refl here e other p)) in
     let nothing : [] ≡ mailbox = (was.sends refl).1 ∙ kept.whole ∙ ap (λ (x : List Record). x ++ mailbox) (sym (was.takes refl).1) in (
       new,
       record {
         whole = nothing;
+        stamps = record { waits_at = []; whole = refl; as_many = ap length nothing };
+        as_many = refl;
         legal = empty_is_legal N l;
         fits = λ j u e. ⊎_elim
-            (λ (x : get_elem? after j ≡ some u). record { sends = λ p. (((old j u x).0 p).0, sym ((old j u x).0 p).1, ((old j u x).0 p).2); takes = λ p. absurd ((old j u x).1 p) })
+            (λ (x : get_elem? after j ≡ some u). record { sends = λ p. (((old j u x).0 p).0, sym ((old j u x).0 p).1, ((old j u x).0 p).2, sym ((old j u x).0 p).3); takes = λ p. absurd ((old j u x).1 p) })
             (λ (is : right ≡ u). record {
               sends = λ p. absurd (true≢false (sym (ap (λ (y : LaneView). y.sends) is ∙ p)));
-              takes = λ p. (last_place after right u j (λ x. (old j u x).1 p) e, ap (λ (y : LaneView). y.taken) (sym is), λ _. (ap (λ (y : LaneView). y.network) (sym is), ap (λ (y : LaneView). y.lane) (sym is)));
+              takes = λ p. (
+                last_place after right u j (λ x. (old j u x).1 p) e,
+                ap (λ (y : LaneView). y.taken) (sym is),
+                (λ _. (ap (λ (y : LaneView). y.network) (sym is), ap (λ (y : LaneView). y.lane) (sym is))),
+                ap (λ (y : LaneView). y.taken_at) (sym is),
+              );
             })
             (at_snoc after right u j e);
       },
@@ -165,11 +224,13 @@ joins pass v other u a named b mailbox views (line, kept) at two at' =
     let new : Line = record line { taker = pass } in
     let Now : ℕ → LaneView → Type 0 = λ j y. j ≢ other → Fits new j y in
     let now : Each Now after = each_set Now views pass both
-    (λ _. record { sends = λ _. (mine.0, mine.1, λ _. mine.2 named); takes = λ _. (refl, theirs.1, λ _. mine.2 named) })
+    (λ _. record { sends = λ _. (mine.0, mine.1, (λ _. mine.2 named), mine.3); takes = λ _. (refl, theirs.1, (λ _. mine.2 named), theirs.3) })
     (λ j y _ e apart. record { sends = (kept.fits j y e).sends; takes = λ p. absurd (not_taker kept other j u y b was e apart p) }) in (
       new,
       record {
         whole = kept.whole;
+        stamps = kept.stamps;
+        as_many = kept.as_many;
         legal = kept.legal;
         fits = each_set (Fits new) after other spent (idle_fits new other spent refl refl) (λ j y apart e. now j y e apart);
       },
@@ -184,6 +245,7 @@ mailboxes_keep_order mailbox views (line, kept) send take (i, at) (j, at') sends
     let there = mine.2 named in
     record {
       whole = mine.1 ∙ kept.whole ∙ ap (λ (l : List Record). l ++ mailbox) (sym theirs.1);
+      stamps = stamped_same send.sent_at take.taken_at line.sent_at line.taken_at (length mailbox) mine.3 theirs.3 kept.stamps;
       legal = legal_here kept send send.sent there (subst (IsLegal line.network line.lane) (sym mine.1) kept.legal);
       network = (theirs.2 named').0 ∙ sym there.0;
       lane = (theirs.2 named').1 ∙ sym there.1;

@@ -19,10 +19,11 @@ pub record Name : Type 0 where
   pub lane : ℕ
   pub room : ℕ
 
--- an end: its name, which stays, and the list of all records that went through it
+-- an end: its name, which stays, the list of all records that went through it, and the stamp of each
 pub record End : Type 0 where
   pub name : Name
   pub list : List Record
+  pub stamps : List ℕ
 
 -- the list with the record is a legal beginning
 abbrev pub IsNext : End → Record → Type 0
@@ -48,6 +49,13 @@ pub record Holds {Q A : Type 0} (mailbox : Slotted (Option Record) (Doing Record
   pub legal : IsLegal (view pass).network l list
   pub counted : counts ≡ counts_of (view pass).network l list
 
-abbrev pub end_of : {Q A : Type 0} → Slotted (Option Record) (Doing Record LaneView) Q A → Pass Record LaneView → ℕ → List Record → End
-end_of mailbox pass l list =
-    record { name = record { mailbox = pass.table_id; network = (view pass).network; lane = l; room = mailbox.cap }; list = list }
+abbrev pub end_of : {Q A : Type 0} → Slotted (Option Record) (Doing Record LaneView) Q A → Pass Record LaneView → ℕ → List Record → List ℕ → End
+end_of mailbox pass l list stamps = record {
+  name = record { mailbox = pass.table_id; network = (view pass).network; lane = l; room = mailbox.cap };
+  list = list;
+  stamps = stamps;
+}
+
+-- one stamp more
+abbrev pub IsStampedOnce : List ℕ → List ℕ → Type 0
+IsStampedOnce before now = (stamp : ℕ) × (now ≡ before ++ stamp ∷ [])

@@ -1,19 +1,20 @@
 -- Laws of the rule of a lane's mailbox.
-use Rattle.std.specs.Prelude.{◌≡◌, ℕ, true, List, ◌++◌}
+use Rattle.std.specs.Prelude.{◌≡◌, ℕ, true, List, ◌++◌, length}
 use mathlib.Core.Option.{some}
 use lib.ListN.{get_elem?}
 use Rattle.mrp_record.specs.declared.record.Record.{Record}
 use Rattle.mrp_lane.specs.declared.view.LaneView.{LaneView}
-use Rattle.mrp_lane.specs.Views.{IsLegal, Keeps}
+use Rattle.mrp_lane.specs.Views.{IsLegal, AreStamped, Keeps}
 
 -- the view of some pass to the mailbox
 abbrev pub IsViewOf : List LaneView → LaneView → Type 0
 IsViewOf views v = (pass : ℕ) × (get_elem? views pass ≡ some v)
 
--- at each moment what one end sent is what the other has taken and then what the mailbox holds, and it is
--- a legal beginning; both ends are of one lane of one network
+-- at each moment what one end sent is what the other has taken and then what the mailbox holds, and so are the stamps;
+-- it is a legal beginning; both ends are of one lane of one network
 pub record IsInOrder (mailbox : List Record) (send take : LaneView) : Type 0 where
   pub whole : send.sent ≡ take.taken ++ mailbox
+  pub stamps : AreStamped send.sent_at take.taken_at (length mailbox)
   pub legal : IsLegal send.network send.lane send.sent
   pub network : take.network ≡ send.network
   pub lane : take.lane ≡ send.lane

@@ -1,5 +1,5 @@
 -- What reconciling the two ends of a lane answers.
-use Rattle.std.specs.Prelude.{◌≡◌, ℕ, ◌+◌, ◌<◌, List, [], ◌∷◌, ◌++◌, length, map, take}
+use Rattle.std.specs.Prelude.{◌≡◌, ℕ, ◌+◌, ◌<◌, List, [], ◌∷◌, ◌++◌, drop, length, map, take}
 use Rattle.crossbeam_queue.specs.Passes.{Pass, view}
 use Rattle.mrp_rows.specs.declared.numbers.ItemNo.{ItemNo}
 use Rattle.mrp_rows.specs.Table.{Table}
@@ -39,13 +39,16 @@ figures_of lane (s ∷ sent) (t ∷ taken) = figure_of lane s t ∷ figures_of l
 -- ---- what went over a lane
 
 -- which network's lane, the lists of all records that were sent and of those that were taken when the two ends
--- were joined, what was left then, and the figures
+-- were joined, what was left then, the stamps of these three lists, and the figures
 pub record Carried : Type 0 where
   pub network : Table
   pub lane : ℕ
   pub sent : List Record
   pub taken : List Record
   pub left : List Record
+  pub sent_at : List ℕ
+  pub taken_at : List ℕ
+  pub left_at : List ℕ
   pub figures : List LaneFigure
 
 -- the joined pass knows what was sent; what was taken before are the first so many records of that
@@ -56,11 +59,14 @@ carried pass count left figures = record {
   sent = (view pass).sent;
   taken = take count (view pass).sent;
   left = left;
+  sent_at = (view pass).sent_at;
+  taken_at = take count (view pass).sent_at;
+  left_at = drop count (view pass).sent_at;
   figures = figures;
 }
 
 -- the number of the lane and the counts are those of the lists, which are legal beginnings; what was sent is what
--- was taken and then what is left, and the figures are the lists'
+-- was taken and then what is left, and so are its stamps, one for each record; the figures are the lists'
 pub record IsCounted (number sends takes : ℕ) (c : Carried) : Type 0 where
   pub lane : number ≡ c.lane
   pub there : number < length (lanes c.network)
@@ -69,4 +75,6 @@ pub record IsCounted (number sends takes : ℕ) (c : Carried) : Type 0 where
   pub legal_sent : IsLegal c.network c.lane c.sent
   pub legal_taken : IsLegal c.network c.lane c.taken
   pub whole : c.sent ≡ c.taken ++ c.left
+  pub stamps : c.sent_at ≡ c.taken_at ++ c.left_at
+  pub as_many : length c.left_at ≡ length c.left
   pub figures : c.figures ≡ figures_on c.network c.lane c.sent c.taken

@@ -1,5 +1,5 @@
 -- What the passes to a lane's mailbox know, and the rule that holds at each of its steps.
-use Rattle.std.specs.Prelude.{◌≡◌, ℕ, true, false, List, [], ◌∷◌, ◌++◌, pos}
+use Rattle.std.specs.Prelude.{◌≡◌, ℕ, true, false, List, [], ◌∷◌, ◌++◌, length, pos}
 use mathlib.Core.Option.{some}
 use lib.ListN.{get_elem?}
 use Rattle.mrp_rows.specs.Table.{Table, empty_table}
@@ -20,18 +20,29 @@ abbrev pub blank : Table
 blank = empty_table (record { first = pos 0; days = 0; periods = 0 })
 
 abbrev pub unnamed : LaneView
-unnamed = record { sends = true; takes = true; named = false; network = blank; lane = 0; sent = []; taken = [] }
+unnamed = record {
+  sends = true;
+  takes = true;
+  named = false;
+  network = blank;
+  lane = 0;
+  sent = [];
+  taken = [];
+  sent_at = [];
+  taken_at = [];
+}
 
--- the sender knows what it sent, the receiver what it took
-abbrev pub sending : Table → ℕ → List Record → LaneView
-sending N l sent = record { sends = true; takes = false; named = true; network = N; lane = l; sent = sent; taken = [] }
+-- the sender's pass and the receiver's before the first record: the one will know what it sent and the other what it
+-- took, each with its stamps
+abbrev pub sending : Table → ℕ → LaneView
+sending N l = record unnamed { takes = false; named = true; network = N; lane = l }
 
-abbrev pub taking : Table → ℕ → List Record → LaneView
-taking N l taken = record { sends = false; takes = true; named = true; network = N; lane = l; sent = []; taken = taken }
+abbrev pub taking : Table → ℕ → LaneView
+taking N l = record unnamed { sends = false; named = true; network = N; lane = l }
 
 -- the sender's pass when it has taken in the receiver's, which is spent then
 abbrev pub joined : LaneView → LaneView → LaneView
-joined v w = record { sends = true; takes = true; named = true; network = v.network; lane = v.lane; sent = v.sent; taken = w.taken }
+joined v w = record v { sends = true; takes = true; named = true; taken = w.taken; taken_at = w.taken_at }
 
 abbrev pub spent : LaneView
 spent = record unnamed { sends = false; takes = false }
@@ -39,7 +50,7 @@ spent = record unnamed { sends = false; takes = false }
 -- ---- the rule
 
 -- one line of records: which lane's, the pass that sends and the pass that takes, all that was sent and
--- all that was taken
+-- all that was taken, and their stamps
 pub record Line : Type 0 where
   pub network : Table
   pub lane : ℕ
@@ -47,18 +58,29 @@ pub record Line : Type 0 where
   pub taker : ℕ
   pub sent : List Record
   pub taken : List Record
+  pub sent_at : List ℕ
+  pub taken_at : List ℕ
 
 abbrev pub IsNamed : Line → LaneView → Type 0
 IsNamed line v = v.named ≡ true → (v.network ≡ line.network) × (v.lane ≡ line.lane)
 
--- the pass that sends is one, and so is the pass that takes; each knows its list, and whose lane it is
+-- the pass that sends is one, and so is the pass that takes; each knows its list, whose lane it is, and its stamps
 pub record Fits (line : Line) (pass : ℕ) (v : LaneView) : Type 0 where
-  pub sends : v.sends ≡ true → (pass ≡ line.sender) × (v.sent ≡ line.sent) × IsNamed line v
-  pub takes : v.takes ≡ true → (pass ≡ line.taker) × (v.taken ≡ line.taken) × IsNamed line v
+  pub sends : v.sends ≡ true → (pass ≡ line.sender) × (v.sent ≡ line.sent) × IsNamed line v × (v.sent_at ≡ line.sent_at)
+  pub takes : v.takes ≡ true → (pass ≡ line.taker) × (v.taken ≡ line.taken) × IsNamed line v × (v.taken_at ≡ line.taken_at)
 
--- what was sent is what was taken and then what the mailbox holds, and it is a legal beginning
+-- the stamps of what was sent are those of what was taken and then as many as records wait
+pub record AreStamped (sent_at taken_at : List ℕ) (waiting : ℕ) : Type 0 where
+  pub waits_at : List ℕ
+  pub whole : sent_at ≡ taken_at ++ waits_at
+  pub as_many : length waits_at ≡ waiting
+
+-- what was sent is what was taken and then what the mailbox holds, and so are its stamps, one for each record; it is a
+-- legal beginning
 pub record Carries (line : Line) (mailbox : List Record) (views : List LaneView) : Type 0 where
   pub whole : line.sent ≡ line.taken ++ mailbox
+  pub stamps : AreStamped line.sent_at line.taken_at (length mailbox)
+  pub as_many : length line.sent_at ≡ length line.sent
   pub legal : IsLegal line.network line.lane line.sent
   pub fits : (pass : ℕ) (v : LaneView) → get_elem? views pass ≡ some v → Fits line pass v
 
@@ -67,24 +89,32 @@ Keeps mailbox views = (line : Line) × Carries line mailbox views
 
 -- ---- what a step tells
 
-abbrev pub after_send : LaneView → Record → LaneView
-after_send v r = record v { sent = v.sent ++ r ∷ [] }
+abbrev pub after_send : LaneView → Record → ℕ → LaneView
+after_send v r stamp = record v { sent = v.sent ++ r ∷ []; sent_at = v.sent_at ++ stamp ∷ [] }
 
-abbrev pub after_take : LaneView → Record → LaneView
-after_take v r = record v { taken = v.taken ++ r ∷ [] }
+abbrev pub after_take : LaneView → Record → ℕ → LaneView
+after_take v r stamp = record v { taken = v.taken ++ r ∷ []; taken_at = v.taken_at ++ stamp ∷ [] }
 
-abbrev pub Takes : LaneView → Record → LaneView → Type 0
-Takes v r w = (w ≡ after_take v r) × IsLegal v.network v.lane w.taken
+-- the record is taken with some stamp, and what was taken stays a legal beginning
+pub record Takes (v : LaneView) (r : Record) (w : LaneView) : Type 0 where
+  pub stamp : ℕ
+  pub is : w ≡ after_take v r stamp
+  pub legal : IsLegal v.network v.lane w.taken
 
 -- the pass has taken all that was sent
 abbrev pub taken_all : LaneView → LaneView
-taken_all v = record v { taken = v.sent }
+taken_all v = record v { taken = v.sent; taken_at = v.sent_at }
 
 -- what lies in the mailbox at a moment: all that was sent is what has been taken by then, and then that
 pub record IsUntaken (sent mailbox : List Record) : Type 0 where
   pub taken : List Record
   pub whole : sent ≡ taken ++ mailbox
 
--- a pass that may push and pop knows that what was sent and isn't taken is in the mailbox
+-- a pass that may push and pop knows that what was sent and isn't taken is in the mailbox, with its stamps
+pub record IsWhole (v : LaneView) (mailbox : List Record) : Type 0 where
+  pub records : v.sent ≡ v.taken ++ mailbox
+  pub stamps : AreStamped v.sent_at v.taken_at (length mailbox)
+  pub as_many : length v.sent_at ≡ length v.sent
+
 abbrev pub Leaves : LaneView → List Record → Type 0
-Leaves v mailbox = v.sends ≡ true → v.sent ≡ v.taken ++ mailbox
+Leaves v mailbox = v.sends ≡ true → IsWhole v mailbox

@@ -5,7 +5,7 @@ ghost use Rattle.mrp_net.specs.Lanes.{lanes};
 ghost use Rattle.mrp_qty.specs.declared.quantity.TheConstants.{MOST};
 ghost use Rattle.mrp_lane.specs.Ends.{AreOfOneLane, HasLegalList, Holds};
 ghost use Rattle.mrp_lane.specs.Reconciled.{figure_of, figures_of, figures_on};
-ghost use Rattle.mrp_lane.specs.Views.{IsLegal, taken_all};
+ghost use Rattle.mrp_lane.specs.Views.{AreStamped, IsLegal, taken_all};
 
 use crate::send::SendEnd;
 use crate::take::{TakeEnd, pop};
@@ -22,7 +22,7 @@ use std::sync::Wait;
 /// What went over a lane, as its two ends showed it when they were joined.
 ///
 /// Contracts see the network and the lane, the list of all records that were sent, the list of those that
-/// were taken, what is left, and the figures. The lists are what the joined pass to the mailbox knows: it is
+/// were taken, what is left, the stamps of these, and the figures. The lists are what the joined pass to the mailbox knows: it is
 /// kept, and has no bytes.
 #[derive(Drop)]
 pub struct Reconciled {
@@ -106,6 +106,9 @@ pub fn reconcile<R: Wait>(
     ensures sent { IfOk result (λ r. r.sent ≡ send.list) }
     ensures taken { IfOk result (λ r. r.taken ≡ take.list) }
     ensures left { IfOk result (λ r. send.list ≡ take.list ++ r.left) }
+    ensures sent_at { IfOk result (λ r. r.sent_at ≡ send.stamps) }
+    ensures taken_at { IfOk result (λ r. r.taken_at ≡ take.stamps) }
+    ensures left_at { IfOk result (λ r. (send.stamps ≡ take.stamps ++ r.left_at) × (length r.left_at ≡ length r.left)) }
     ensures figures { IfOk result (λ r. r.figures ≡ figures_on send.name.network send.name.lane send.list take.list) }
     ensures legal_sent { HasLegalList send }
     ensures legal_taken { HasLegalList take }
@@ -137,6 +140,9 @@ fn settle<R: Wait>(
     ensures sent { IfOk result (λ r. r.sent ≡ (view pass).sent) }
     ensures taken { IfOk result (λ r. r.taken ≡ (view pass).taken) }
     ensures left { IfOk result (λ r. (view pass).sent ≡ (view pass).taken ++ r.left) }
+    ensures sent_at { IfOk result (λ r. r.sent_at ≡ (view pass).sent_at) }
+    ensures taken_at { IfOk result (λ r. r.taken_at ≡ (view pass).taken_at) }
+    ensures left_at { IfOk result (λ r. ((view pass).sent_at ≡ (view pass).taken_at ++ r.left_at) × (length r.left_at ≡ length r.left)) }
     ensures figures { IfOk result (λ r. r.figures ≡ figures_on (view pass).network lane.0 (view pass).sent (view pass).taken) }
 {
     let left = drained(rt, alloc, mailbox, &mut pass)?;
@@ -163,6 +169,8 @@ fn drained<R: Wait>(
     requires takes { (view pass.old).takes ≡ true }
     requires named { (view pass.old).named ≡ true }
     ensures left { IfOk result (λ left. (view pass.old).sent ≡ (view pass.old).taken ++ left.items) }
+    ensures stamps { IfOk result (λ left. AreStamped (view pass.old).sent_at (view pass.old).taken_at (length left.items)) }
+    ensures as_many { IfOk result (λ left. length (view pass.old).sent_at ≡ length (view pass.old).sent) }
     ensures took { IfOk result (λ left. view pass.new ≡ taken_all (view pass.old)) }
 {
     let mut left = Vec::new(alloc);

@@ -23,3 +23,4 @@ pub use mrp_qty::MOST_ROOM;
 pub use mrp_record::Record;
 pub use send::SendEnd;
 pub use take::TakeEnd;
+pub use view::Stamp;

@@ -39,6 +39,7 @@ pub fn lane(
     ensures room { IfOk result (λ ends. ends.0.name.room ≡ min capacity (longest_text net.now.network (lane_at net.now.network lane.0))) }
     ensures same { IfOk result (λ ends. ends.0.name ≡ ends.1.name) }
     ensures empty { IfOk result (λ ends. (ends.0.list ≡ []) × (ends.1.list ≡ [])) }
+    ensures unstamped { IfOk result (λ ends. (ends.0.stamps ≡ []) × (ends.1.stamps ≡ [])) }
 {
     let network = net.network();
     let room = capacity.min(network.longest_text(lane));
@@ -84,8 +85,8 @@ fn name(mailbox: &Mailbox, pass: &mut LanePass, network: &Network, lane: LaneNo)
     requires first { view pass.old ≡ unnamed }
     ensures same { IsSamePass pass.old pass.new }
     ensures takers { IsPassOf mailbox.now result }
-    ensures sends { view pass.new ≡ sending network.now lane.0 [] }
-    ensures takes { view result ≡ taking network.now lane.0 [] }
+    ensures sends { view pass.new ≡ sending network.now lane.0 }
+    ensures takes { view result ≡ taking network.now lane.0 }
 {
     part::<Brand>(mailbox, pass, network, lane)
 }
@@ -103,8 +104,8 @@ fn part<N: Naming>(
     requires lane { lane.0 ≡ N.lane }
     ensures same { IsSamePass pass.old pass.new }
     ensures takers { IsPassOf mailbox.now result }
-    ensures sends { view pass.new ≡ sending network.now lane.0 [] }
-    ensures takes { view result ≡ taking network.now lane.0 [] }
+    ensures sends { view pass.new ≡ sending network.now lane.0 }
+    ensures takes { view result ≡ taking network.now lane.0 }
 {
     mailbox.another::<Parting<N>>(pass)
 }

@@ -7,7 +7,7 @@ ghost use Rattle.mrp_lane.specs.Ends.{HasLegalList, IsNext};
 ghost use Rattle.mrp_lane.specs.Views.{after_send, IsLegal, IsUntaken};
 
 use crate::tally::Tally;
-use crate::view::{LanePass, Mailbox, Sent};
+use crate::view::{LanePass, Mailbox, Sent, Stamp};
 use mrp_net::LaneNo;
 use mrp_record::Record;
 use std::alloc::Global;
@@ -16,7 +16,7 @@ use std::sync::{Arc, Wait};
 
 /// The sender's end of a lane.
 ///
-/// Contracts see the lane's name and the list of all records that were offered and not refused.
+/// Contracts see the lane's name and the list of all records that were offered and not refused, with their stamps.
 #[derive(Drop)]
 pub struct SendEnd {
     pub(crate) mailbox: Arc<Mailbox, Global>,
@@ -33,7 +33,7 @@ impl Model for SendEnd {
 
     ghost Value = { End };
 
-    ghost view = { λ e. end_of (arc_value e.mailbox) e.pass e.lane.0 (known e.pass).sent };
+    ghost view = { λ e. end_of (arc_value e.mailbox) e.pass e.lane.0 (known e.pass).sent (known e.pass).sent_at };
 
     ghost invariant = { λ e.
         ((known e.pass).sends ≡ true) × Holds (arc_value e.mailbox) e.pass e.lane.0 (known e.pass).sent e.tally };
@@ -52,7 +52,8 @@ impl SendEnd {
     /// Puts the record into the mailbox, behind those before it. It allocates nothing (by construction; no
     /// clause says so).
     ///
-    /// The record has to continue what this end has sent to a legal beginning of the lane's text.
+    /// The record has to continue what this end has sent to a legal beginning of the lane's text. It goes with the
+    /// stamp that the caller picks for its proof, `S`; `Brand` stands for the pick.
     ///
     /// # Errors
     ///
@@ -60,15 +61,17 @@ impl SendEnd {
     /// is that at one moment of the call as many records lay in it as it has room for, and that what was sent
     /// is what had been taken by then and these records. Of the lists that says no more than that at least so
     /// many were sent: which moment it was no clause says.
-    pub fn offer<R: Wait>(&mut self, rt: &R, entry: Record) -> Result<(), Record>
+    pub fn offer<S: Stamp, R: Wait>(&mut self, rt: &R, entry: Record) -> Result<(), Record>
         requires legal { IsNext self.old entry }
         ensures name { self.new.name ≡ self.old.name }
         ensures sent { OnOk result (self.new.list ≡ self.old.list ++ entry ∷ []) }
+        ensures stamped { OnOk result (self.new.stamps ≡ self.old.stamps ++ S.stamp ∷ []) }
         ensures back { IfErr result (λ back. back ≡ entry) }
         ensures unchanged { IfErr result (λ _. self.new.list ≡ self.old.list) }
+        ensures unstamped { IfErr result (λ _. self.new.stamps ≡ self.old.stamps) }
         ensures full { IfErr result (λ _. Held self.old.name.room (IsUntaken self.old.list)) }
     {
-        if let Err(back) = push(rt, &self.mailbox, &mut self.pass, entry) {
+        if let Err(back) = push::<S, R>(rt, &self.mailbox, &mut self.pass, entry) {
             return Err(back);
         }
         self.tally.add(&entry);
@@ -76,8 +79,8 @@ impl SendEnd {
     }
 }
 
-/// Pushes the record.
-fn push<R: Wait>(
+/// Pushes the record with the stamp.
+fn push<S: Stamp, R: Wait>(
     rt: &R,
     mailbox: &Mailbox,
     pass: &mut LanePass,
@@ -88,10 +91,10 @@ fn push<R: Wait>(
     requires named { (view pass.old).named ≡ true }
     requires legal { IsLegal (view pass.old).network (view pass.old).lane ((view pass.old).sent ++ entry ∷ []) }
     ensures same { IsSamePass pass.old pass.new }
-    ensures sent { OnOk result (view pass.new ≡ after_send (view pass.old) entry) }
+    ensures sent { OnOk result (view pass.new ≡ after_send (view pass.old) entry S.stamp) }
     ensures back { IfErr result (λ back. back ≡ entry) }
     ensures unchanged { IfErr result (λ _. view pass.new ≡ view pass.old) }
     ensures full { IfErr result (λ _. Held (ruled_capacity mailbox.now) (IsUntaken (view pass.old).sent)) }
 {
-    mailbox.push_as::<Sent, R>(rt, pass, entry)
+    mailbox.push_as::<Sent<S>, R>(rt, pass, entry)
 }

@@ -2,8 +2,8 @@
 ghost use Rattle.std.specs.Prelude.{◌≡◌, ◌<◌, true, [], ◌∷◌, ◌++◌, length, IfNone, IfSome};
 ghost use Rattle.crossbeam_queue.specs.Passes.{view, IsPassOf, IsSamePass};
 ghost use Rattle.mrp_net.specs.Lanes.{lanes};
-ghost use Rattle.mrp_lane.specs.Ends.{HasLegalList};
-ghost use Rattle.mrp_lane.specs.Views.{Takes};
+ghost use Rattle.mrp_lane.specs.Ends.{HasLegalList, IsStampedOnce};
+ghost use Rattle.mrp_lane.specs.Views.{IsWhole, Takes};
 
 use crate::tally::Tally;
 use crate::view::{LanePass, Mailbox, Taken};
@@ -15,7 +15,7 @@ use std::sync::{Arc, Wait};
 
 /// The receiver's end of a lane.
 ///
-/// Contracts see the lane's name and the list of all records that were taken.
+/// Contracts see the lane's name and the list of all records that were taken, with their stamps.
 #[derive(Drop)]
 pub struct TakeEnd {
     pub(crate) mailbox: Arc<Mailbox, Global>,
@@ -32,7 +32,7 @@ impl Model for TakeEnd {
 
     ghost Value = { End };
 
-    ghost view = { λ e. end_of (arc_value e.mailbox) e.pass e.lane.0 (known e.pass).taken };
+    ghost view = { λ e. end_of (arc_value e.mailbox) e.pass e.lane.0 (known e.pass).taken (known e.pass).taken_at };
 
     ghost invariant = { λ e.
         ((known e.pass).takes ≡ true) × Holds (arc_value e.mailbox) e.pass e.lane.0 (known e.pass).taken e.tally };
@@ -56,6 +56,8 @@ impl TakeEnd {
         ensures taken { IfSome result (λ entry. self.new.list ≡ self.old.list ++ entry ∷ []) }
         ensures legal { IfSome result (λ _. HasLegalList self.new) }
         ensures none { IfNone result (self.new.list ≡ self.old.list) }
+        ensures stamped { IfSome result (λ _. IsStampedOnce self.old.stamps self.new.stamps) }
+        ensures unstamped { IfNone result (self.new.stamps ≡ self.old.stamps) }
     {
         let entry = pop(rt, &self.mailbox, &mut self.pass)?;
         self.tally.add(&entry);
@@ -72,6 +74,7 @@ pub(crate) fn pop<R: Wait>(rt: &R, mailbox: &Mailbox, pass: &mut LanePass) -> Op
     ensures taken { IfSome result (λ entry. Takes (view pass.old) entry (view pass.new)) }
     ensures unchanged { IfNone result (view pass.new ≡ view pass.old) }
     ensures empty { IfNone result ((view pass.old).sends ≡ true → (view pass.old).sent ≡ (view pass.old).taken) }
+    ensures whole { IfNone result ((view pass.old).sends ≡ true → IsWhole (view pass.old) []) }
 {
     mailbox.pop_as::<Taken, R>(rt, pass)
 }

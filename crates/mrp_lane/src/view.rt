@@ -23,6 +23,10 @@ pub struct LaneView {
     pub sent: LinkedList<Record>,
     /// What was taken, if it may pop.
     pub taken: LinkedList<Record>,
+    /// The stamp of each record that was sent, if it may push.
+    pub sent_at: LinkedList<u64>,
+    /// The stamp of each record that was taken, if it may pop.
+    pub taken_at: LinkedList<u64>,
 }
 
 /// The rule of a lane's mailbox.
@@ -42,24 +46,38 @@ pub type Mailbox = RuledArrayQueue<Record, LaneView, LaneRule>;
 /// What one end knows of the mailbox. It has no bytes.
 pub type LanePass = Pass<Record, LaneView>;
 
-/// A push appends the record to what was sent. Where there is no room, what was sent is what has been taken
-/// by then and what the mailbox holds.
-pub struct Sent;
+/// The stamp of a record that is offered, for proofs: a number that the sender picks, and that goes over the lane with
+/// the record. It has no bytes.
+pub trait Stamp {
+    ghost use Rattle.std.specs.Prelude.{ℕ};
 
-impl Outcome<Record, LaneView> for Sent {
+    ghost stamp: { ℕ };
+}
+
+impl Stamp for Brand {
+    ghost stamp = { 0 };
+}
+
+/// A push appends the record to what was sent, with its stamp. Where there is no room, what was sent is what has been
+/// taken by then and what the mailbox holds.
+pub struct Sent<S: Stamp> {
+    stamp: PhantomData<S>,
+}
+
+impl<S: Stamp> Outcome<Record, LaneView> for Sent<S> {
     ghost use Rattle.std.specs.Prelude.{◌≡◌};
     ghost use Rattle.mrp_lane.specs.Views.{after_send};
 
-    ghost then = { λ v r w. w ≡ after_send v r };
+    ghost then = { λ v r w. w ≡ after_send v r S.stamp };
 }
 
-impl Lesson<Record, LaneView> for Sent {
+impl<S: Stamp> Lesson<Record, LaneView> for Sent<S> {
     ghost use Rattle.mrp_lane.specs.Views.{IsUntaken};
 
     ghost fact = { λ v mailbox. IsUntaken v.sent mailbox };
 }
 
-/// A pop appends the record to what was taken, which stays a legal beginning. Where there is nothing to
+/// A pop appends the record to what was taken, which stays a legal beginning, and its stamp to those. Where there is nothing to
 /// take, all that was sent is taken, as far as the pass knows both.
 pub struct Taken;
 
@@ -99,12 +117,11 @@ pub struct Parting<N: Naming> {
 }
 
 impl<N: Naming> Split<LaneView> for Parting<N> {
-    ghost use Rattle.std.specs.Prelude.{[]};
     ghost use Rattle.mrp_lane.specs.Views.{sending, taking};
 
-    ghost left = { λ _. sending N.network N.lane [] };
+    ghost left = { λ _. sending N.network N.lane };
 
-    ghost right = { λ _. taking N.network N.lane [] };
+    ghost right = { λ _. taking N.network N.lane };
 }
 
 /// The sender's pass takes in the receiver's.

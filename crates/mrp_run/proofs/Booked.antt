@@ -1,6 +1,6 @@
 -- A plant books what was taken.
 use Rattle.std.proofs.Common.{◌≡◌, ℕ, ◌<◌, Bool, List, [], ◌∷◌, ◌++◌, length, get_or, set, refl, sym, ap, ◌∙◌, subst, Contains}
-use Rattle.std.proofs.lemmas.List.{get_or_read}
+use Rattle.std.proofs.lemmas.List.{get_or_read, map-set}
 use Rattle.std.proofs.Math.Seq.{map-set_same}
 use Rattle.mrp_rows.specs.Table.{Table}
 use Rattle.mrp_net.specs.Lanes.{lane_at}
@@ -11,13 +11,15 @@ use Rattle.mrp_record.specs.Text.{IsBeginning}
 use Rattle.mrp_events.specs.Loads.{loads}
 use Rattle.mrp_events.specs.State.{changed}
 use Rattle.mrp_events.proofs.Keeping.{changed_by}
-use Rattle.mrp_lane.specs.Ends.{End, Name, HasLegalList}
+use Rattle.mrp_history.specs.Stamps.{IsExplained, Passage}
+use Rattle.mrp_history.proofs.Passing.{taken_is_explained}
+use Rattle.mrp_lane.specs.Ends.{End, Name, HasLegalList, IsStampedOnce}
 use Rattle.mrp_agent.specs.Shows.{Shows, BooksShow, form_of}
 use Rattle.mrp_agent.specs.State.{AgentState, incoming_at, incoming_place}
 use Rattle.mrp_agent.proofs.Formed.{legal_in_form}
 use Rattle.mrp_agent.proofs.Placed.{in_placed}
-use Rattle.mrp_run.specs.Plant.{AtWork, IsAtWork, Kept, lanes_to}
-use Rattle.mrp_run.proofs.Held.{lane_there, lanes_rise, list_is, one_more, put_back}
+use Rattle.mrp_run.specs.Plant.{AtWork, IsAtWork, Kept, lanes_to, passage, passages, state_of}
+use Rattle.mrp_run.proofs.Held.{is_longer, lane_there, lanes_rise, list_is, list_was, one_more, put_back}
 use Rattle.mrp_run.proofs.Keeping.{nothing_done}
 use Rattle.mrp_run.proofs.Placed.{in_there}
 
@@ -65,10 +67,20 @@ module _ (A : AgentState) (s t : List End) (k l : ℕ) (x y e : End) (r : Record
       refused w.taken w.works.shows.books
       (subst (λ (n : ℕ). IsInForm (form_of A.view (incoming_at A.view (incoming_place A.view n))) (w.taken n ++ r ∷ [])) of_lane there)
 
-  pub booked_kept : (B : AgentState) → B.view ≡ A.view
+  -- its history goes on with the record, which has some stamp
+  explained : (N : Table) (p : ℕ) (w : AtWork N p A s t) → IsStampedOnce (get_or t k x).stamps e.stamps
+      → IsExplained N p (state_of w.sent (changed w.taken e.name.lane (w.taken e.name.lane ++ r ∷ [])) w.planned) (passages s) (passages (set t k e))
+  explained N p w (stamp, stamps) =
+      let rises = lanes_rise N (comes_to N p) in
+      let more = is_longer N (lanes_to N p) rises w.taken t w.takes_are k x e r within name list stamp stamps in
+      let was = list_was N (lanes_to N p) rises w.taken t w.takes_are k x e r within name list in
+      subst (λ (z : List Passage). IsExplained N p (state_of w.sent (changed w.taken e.name.lane (w.taken e.name.lane ++ r ∷ [])) w.planned) (passages s) z) (sym (map-set passage t k e))
+      (taken_is_explained N p (state_of w.sent w.taken w.planned) (passages s) (passages t) w.explained k (passage x) (passage e) r stamp more was)
+
+  pub booked_kept : IsStampedOnce y.stamps e.stamps → (B : AgentState) → B.view ≡ A.view
       → ((sent taken : ℕ → List Record) (planned : ℕ → Bool) → Shows A sent taken planned → Shows B sent (changed taken l (taken l ++ r ∷ [])) planned)
       → Kept A s t B s (set t k e)
-  booked_kept B view booked = record {
+  booked_kept stamped B view booked = record {
     view = view;
     sends = refl;
     takes = map-set_same (λ (z : End). z.name) t k e x name;
@@ -87,11 +99,12 @@ module _ (A : AgentState) (s t : List End) (k l : ℕ) (x y e : End) (r : Record
       };
       sends_are = w.sends_are;
       takes_are = one_more N (lanes_to N p) (lanes_rise N (comes_to N p)) w.taken t w.takes_are k x e r within name list;
+      explained = explained N p w (subst (λ (z : End). IsStampedOnce z.stamps e.stamps) same stamped);
     };
   }
 
 -- ---- nothing to take
 
-pub none_kept : (A : AgentState) (s t : List End) (k : ℕ) (y e : End) → y ≡ get_or t k y → e.name ≡ y.name → e.list ≡ y.list → Kept A s t A s (set t k e)
-none_kept A s t k y e at name list =
-    subst (λ (z : List End). Kept A s t A s z) (sym (put_back t k y e at name list)) (nothing_done A s t)
+pub none_kept : (A : AgentState) (s t : List End) (k : ℕ) (y e : End) → y ≡ get_or t k y → e.name ≡ y.name → e.list ≡ y.list → e.stamps ≡ y.stamps → Kept A s t A s (set t k e)
+none_kept A s t k y e at name list stamps =
+    subst (λ (z : List End). Kept A s t A s z) (sym (put_back t k y e at name list stamps)) (nothing_done A s t)

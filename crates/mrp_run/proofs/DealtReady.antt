@@ -2,7 +2,7 @@
 use Rattle.std.proofs.Common.{◌≡◌, ℕ, zero, suc, Bool, List, [], ◌∷◌, ◌++◌, length, map, sym, ap, subst, ◌∙◌, All}
 use Rattle.std.specs.List.{filter, range_with_len}
 use Rattle.std.proofs.lemmas.List.{map-append}
-use Rattle.std.proofs.lemmas.List.Elements.{All-filter, All-nil, All-push, All-same}
+use Rattle.std.proofs.lemmas.List.Elements.{All-filter, All-map, All-nil, All-push, All-same, All-weaker}
 use Rattle.mrp_rows.specs.Table.{Table}
 use Rattle.mrp_group.proofs.Grouping.{range-suc}
 use Rattle.mrp_net.specs.Lanes.{lanes, lane_at}
@@ -12,10 +12,11 @@ use Rattle.mrp_loops.specs.Sized.{IsSized}
 use Rattle.mrp_record.proofs.Beginnings.{empty_is_a_beginning}
 use Rattle.mrp_events.specs.Loads.{loads}
 use Rattle.mrp_events.specs.State.{opening_state}
+use Rattle.mrp_history.proofs.Passing.{IsUnused, opening_is_explained}
 use Rattle.mrp_lane.specs.Ends.{End, Name}
 use Rattle.mrp_run.specs.declared.plant.Plant.{Plant}
 use Rattle.mrp_run.specs.Ends.{AreNames, is_from, is_to, IsEmpty, IsDealt, IsIdle, HasRoom, HasRooms, HaveFirst, IsReady, AreReady}
-use Rattle.mrp_run.specs.Plant.{AreEnds, names}
+use Rattle.mrp_run.specs.Plant.{AreEnds, names, passage, passages}
 use Rattle.mrp_run.proofs.DealtLists.{all_before_map, filter_through}
 
 -- ---- the names of all lanes
@@ -42,8 +43,14 @@ tested_are_ends N test ns ends all are empty = record {
       (All-filter (λ n. test n.lane) (λ (n : Name). n.network ≡ N) ns (network_named N (length (lanes N)) ns all)));
   lanes = sym (map-map (λ (n : Name). n.lane) (λ (e : End). e.name) ends) ∙ ap (map (λ (n : Name). n.lane)) are
       ∙ filter_through (λ (n : Name). n.lane) test ns ∙ ap (filter test) (lanes_named N (length (lanes N)) ns all);
-  lists = empty;
+  lists = All-weaker IsEmpty (λ (e : End). e.list ≡ []) (λ e none. none.list) ends empty;
 }
+
+-- nothing went through them
+are_unused : (ends : List End) → All IsEmpty ends → All IsUnused (passages ends)
+are_unused ends empty =
+    All-map IsUnused passage ends
+    (All-weaker IsEmpty (λ (e : End). IsUnused (passage e)) (λ e none. record { list = none.list; stamps = none.stamps }) ends empty)
 
 -- ---- the plants
 
@@ -62,6 +69,7 @@ is_ready N ns p P sized all idle = record {
     };
     sends_are = tested_are_ends N (goes_from N p) ns P.sends.items all idle.dealt.sends_are idle.sent;
     takes_are = tested_are_ends N (comes_to N p) ns P.takes.items all idle.dealt.takes_are idle.taken;
+    explained = opening_is_explained N p (passages P.sends.items) (passages P.takes.items) (are_unused P.sends.items idle.sent) (are_unused P.takes.items idle.taken);
   };
 }
 

@@ -1,3 +1,4 @@
+pub mod Given
 pub mod Held
 pub mod Placed
 pub mod Keeping
@@ -16,3 +17,5 @@ pub mod JoinedNetwork
 pub mod GatheredPlans
 pub mod CrewFaults
 pub mod StopRules
+pub mod Moments
+pub mod Ran

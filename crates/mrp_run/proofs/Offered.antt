@@ -1,14 +1,17 @@
 -- A plant sends the record that its agent has next.
 use Rattle.std.proofs.Common.{◌≡◌, ℕ, ◌<◌, List, [], ◌∷◌, ◌++◌, length, get_or, set, refl, sym, ap, ◌∙◌, subst}
-use Rattle.std.proofs.lemmas.List.{get_or_read}
+use Rattle.std.proofs.lemmas.List.{get_or_read, map-set}
 use Rattle.std.proofs.Math.Seq.{map-set_same}
 use Rattle.mrp_rows.specs.Table.{Table}
 use Rattle.mrp_net.specs.Lanes.{lane_at}
 use Rattle.mrp_view.specs.View.{goes_from}
 use Rattle.mrp_record.specs.declared.record.Record.{Record}
+use Rattle.mrp_record.specs.Entries.{content}
 use Rattle.mrp_record.specs.Text.{IsBeginning}
 use Rattle.mrp_events.specs.Loads.{loads}
-use Rattle.mrp_events.specs.State.{changed}
+use Rattle.mrp_events.specs.State.{IsDecided, changed}
+use Rattle.mrp_history.specs.Stamps.{IsExplained, Passage}
+use Rattle.mrp_history.proofs.Passing.{sent_is_explained}
 use Rattle.mrp_lane.specs.Ends.{End, Name, IsNext}
 use Rattle.mrp_agent.specs.Sending.{Continues, IsWithin64}
 use Rattle.mrp_agent.specs.Sent.{GivenIsLegal, IsAppended}
@@ -16,8 +19,9 @@ use Rattle.mrp_agent.specs.Shows.{Shows}
 use Rattle.mrp_agent.specs.State.{AgentState, outgoing_at, outgoing_place}
 use Rattle.mrp_agent.proofs.Network.{sent_is_legal, sent_is_within_64}
 use Rattle.mrp_agent.proofs.Placed.{IsPlaced, out_placed}
-use Rattle.mrp_run.specs.Plant.{AtWork, IsAtWork, Kept, lanes_from}
-use Rattle.mrp_run.proofs.Held.{lane_there, lanes_rise, one_more, put_back}
+use Rattle.mrp_run.specs.Plant.{AtWork, IsAtWork, Kept, clock_at, lanes_from, passage, passages, state_of}
+use Rattle.mrp_run.proofs.Given.{given_is_decided}
+use Rattle.mrp_run.proofs.Held.{is_longer, lane_there, lanes_rise, list_was, one_more, put_back}
 use Rattle.mrp_run.proofs.Keeping.{nothing_done}
 use Rattle.mrp_run.proofs.Placed.{out_there}
 
@@ -57,11 +61,37 @@ module _ (A : AgentState) (s t : List End) (k l : ℕ) (x y : End) (r : Record) 
       (subst (λ (z : List Record). IsBeginning (loads N (lane_at N n)) (z ++ r ∷ [])) (sym (w.sends_are.lists k x within)) on_lane) in
       subst (λ (z : End). IsNext z r) (sym same) next
 
+  -- it is of an item that may be sent
+  decided : (N : Table) (p : ℕ) (w : AtWork N p A s t) → GivenIsLegal A (outgoing_place A.view l) r → IsDecided N w.planned (lane_at N (get_or s k x).name.lane) (content r)
+  decided N p w given =
+      let n : ℕ = (get_or s k x).name.lane in
+      let j : ℕ = outgoing_place A.view n in
+      let place = placed A s t N p w k x within in
+      let here : GivenIsLegal A j r = subst (λ (z : ℕ). GivenIsLegal A (outgoing_place A.view z) r) (sym of_lane) given in
+      let bounded : IsWithin64 A w.taken j = sent_is_within_64 N w.sized p A w.sent w.taken w.planned w.works j place.within in
+      subst (λ (z : ℕ). IsDecided N w.planned (lane_at N z) (content r)) place.number
+      (given_is_decided N w.sized p A w.sent w.taken w.planned w.works j place.within r (here w.sent w.taken w.planned w.works.shows bounded))
+
+  -- its history goes on with the record, sent at the plant's clock
+  explained : (N : Table) (p : ℕ) (w : AtWork N p A s t) (e : End) → e.name ≡ (get_or s k x).name → e.list ≡ (get_or s k x).list ++ r ∷ []
+      → e.stamps ≡ (get_or s k x).stamps ++ clock_at s t ∷ [] → GivenIsLegal A (outgoing_place A.view l) r
+      → IsExplained N p (state_of (changed w.sent e.name.lane (w.sent e.name.lane ++ r ∷ [])) w.taken w.planned) (passages (set s k e)) (passages t)
+  explained N p w e name list stamps given =
+      let rises = lanes_rise N (goes_from N p) in
+      let more = is_longer N (lanes_from N p) rises w.sent s w.sends_are k x e r within name list (clock_at s t) stamps in
+      let was = list_was N (lanes_from N p) rises w.sent s w.sends_are k x e r within name list in
+      let may : IsDecided N w.planned (lane_at N e.name.lane) (content r) =
+      subst (λ (z : Name). IsDecided N w.planned (lane_at N z.lane) (content r)) (sym name) (decided N p w given) in
+      subst (λ (z : List Passage). IsExplained N p (state_of (changed w.sent e.name.lane (w.sent e.name.lane ++ r ∷ [])) w.taken w.planned) z (passages t)) (sym (map-set passage s k e))
+      (sent_is_explained N p (state_of w.sent w.taken w.planned) (passages s) (passages t) w.explained k (passage x) (passage e) r more was may)
+
   -- once it is sent the plant is at work with it
-  pub sent_kept : (e : End) → e.name ≡ y.name → e.list ≡ y.list ++ r ∷ [] → (B : AgentState) → B.view ≡ A.view → IsAppended A B (outgoing_place A.view l) r → Kept A s t B (set s k e) t
-  sent_kept e name_kept list_grown B view appended =
+  pub sent_kept : (e : End) → e.name ≡ y.name → e.list ≡ y.list ++ r ∷ [] → e.stamps ≡ y.stamps ++ clock_at s t ∷ [] → GivenIsLegal A (outgoing_place A.view l) r
+      → (B : AgentState) → B.view ≡ A.view → IsAppended A B (outgoing_place A.view l) r → Kept A s t B (set s k e) t
+  sent_kept e name_kept list_grown stamped given B view appended =
       let name : e.name ≡ (get_or s k x).name = name_kept ∙ ap (λ (z : End). z.name) same in
       let list : e.list ≡ (get_or s k x).list ++ r ∷ [] = list_grown ∙ ap (λ (z : End). z.list ++ r ∷ []) same in
+      let stamps : e.stamps ≡ (get_or s k x).stamps ++ clock_at s t ∷ [] = stamped ∙ ap (λ (z : End). z.stamps ++ clock_at s t ∷ []) same in
       let n : ℕ = (get_or s k x).name.lane in
       let here : IsAppended A B (outgoing_place A.view n) r = subst (λ (z : ℕ). IsAppended A B (outgoing_place A.view z) r) (sym of_lane) appended in
       record {
@@ -85,11 +115,12 @@ module _ (A : AgentState) (s t : List End) (k l : ℕ) (x y : End) (r : Record) 
               };
               sends_are = one_more N (lanes_from N p) (lanes_rise N (goes_from N p)) w.sent s w.sends_are k x e r within name list;
               takes_are = w.takes_are;
+              explained = explained N p w e name list stamps given;
             };
       }
 
 -- ---- no room
 
-pub refused_kept : (A : AgentState) (s t : List End) (k : ℕ) (y e : End) → y ≡ get_or s k y → e.name ≡ y.name → e.list ≡ y.list → Kept A s t A (set s k e) t
-refused_kept A s t k y e at name list =
-    subst (λ (z : List End). Kept A s t A z t) (sym (put_back s k y e at name list)) (nothing_done A s t)
+pub refused_kept : (A : AgentState) (s t : List End) (k : ℕ) (y e : End) → y ≡ get_or s k y → e.name ≡ y.name → e.list ≡ y.list → e.stamps ≡ y.stamps → Kept A s t A (set s k e) t
+refused_kept A s t k y e at name list stamps =
+    subst (λ (z : List End). Kept A s t A z t) (sym (put_back s k y e at name list stamps)) (nothing_done A s t)

@@ -12,7 +12,8 @@ use Rattle.mrp_events.proofs.Ordering.{has_closing}
 use Rattle.mrp_lane.specs.Ends.{End, Name, HasLegalList}
 use Rattle.mrp_lane.specs.Reconciled.{Carried, figures_on}
 use Rattle.mrp_lane.specs.Views.{IsLegal}
-use Rattle.mrp_run.specs.Ends.{EachAt}
+use Rattle.mrp_run.specs.declared.plant.Plant.{Plant}
+use Rattle.mrp_run.specs.Ends.{EachAt, IsOfEnds as OfEnds}
 use Rattle.mrp_run.specs.Laws.{SettledLanesAreCounted}
 use Rattle.mrp_run.specs.Outcome.{IsSettled, AreSettled}
 use Rattle.mrp_run.specs.Plant.{IsClosed}
@@ -83,29 +84,45 @@ ok_anyway (Err e) P h = tt
 
 -- ---- all lanes, from the last on
 
-pub record AreSettledFrom (N : Table) (count done : ℕ) (rs : List Carried) : Type 0 where
-  pub size : length rs ≡ done
-  pub each : EachAt (λ k. IsSettled N (count - 1 - k)) rs
+-- a lane is settled, and it is one of the plants'
+pub record IsPaired (N : Table) (plants : List Plant) (l : ℕ) (r : Carried) : Type 0 where
+  pub settled : IsSettled N l r
+  pub of : OfEnds N plants l r
 
-pub settled_more : (N : Table) (size count done : ℕ) (rs new : List Carried) (r : Carried) → new ≡ rs ++ r ∷ [] → size ≡ count → IsSettled N (size - 1 - done) r → AreSettledFrom N count done rs
-    → AreSettledFrom N count (done + 1) new
-settled_more N size count done rs new r grown same here so_far = subst (AreSettledFrom N count (done + 1)) (sym grown) record {
+pub record ArePairedFrom (N : Table) (plants : List Plant) (count done : ℕ) (rs : List Carried) : Type 0 where
+  pub size : length rs ≡ done
+  pub each : EachAt (λ k. IsPaired N plants (count - 1 - k)) rs
+
+pub paired_more : (N : Table) (plants : List Plant) (size count done : ℕ) (rs new : List Carried) (r : Carried) → new ≡ rs ++ r ∷ [] → size ≡ count
+    → IsPaired N plants (size - 1 - done) r → ArePairedFrom N plants count done rs → ArePairedFrom N plants count (done + 1) new
+paired_more N plants size count done rs new r grown same here so_far = subst (ArePairedFrom N plants count (done + 1)) (sym grown) record {
   size = omega (arith, so_far.size, length_push rs r);
-  each = each_push (λ k. IsSettled N (count - 1 - k)) rs r done so_far.size so_far.each (subst (λ (z : ℕ). IsSettled N (z - 1 - done) r) same here);
+  each = each_push (λ k. IsPaired N plants (count - 1 - k)) rs r done so_far.size so_far.each (subst (λ (z : ℕ). IsPaired N plants (z - 1 - done) r) same here);
 }
 
-pub settled_none : (N : Table) (count : ℕ) (rs : List Carried) → rs ≡ [] → AreSettledFrom N count 0 rs
-settled_none N count rs is = subst (AreSettledFrom N count 0) (sym is) record { size = refl; each = λ k d h. absurd (omega (arith, h)) }
+pub paired_none : (N : Table) (plants : List Plant) (count : ℕ) (rs : List Carried) → rs ≡ [] → ArePairedFrom N plants count 0 rs
+paired_none N plants count rs is = subst (ArePairedFrom N plants count 0) (sym is) record { size = refl; each = λ k d h. absurd (omega (arith, h)) }
+
+-- all lanes, in lane order
+pub record ArePaired (N : Table) (plants : List Plant) (rs : List Carried) : Type 0 where
+  pub all : length rs ≡ length (lanes N)
+  pub each : EachAt (IsPaired N plants) rs
+
+pub are_settled : (N : Table) (plants : List Plant) (rs : List Carried) → ArePaired N plants rs → AreSettled N rs
+are_settled N plants rs paired = record { all = paired.all; each = λ k d h. (paired.each k d h).settled }
+
+pub are_of_ends : (N : Table) (plants : List Plant) (rs : List Carried) → ArePaired N plants rs → EachAt (OfEnds N plants) rs
+are_of_ends N plants rs paired k d h = (paired.each k d h).of
 
 -- turned round in place they are in lane order
-pub settled_all : (N : Table) (count done : ℕ) (rs now turned : List Carried) (len : ℕ) → count ≡ length (lanes N) → done ≡ count → now ≡ rs → turned ≡ reverse now → len ≡ length rs
-    → AreSettledFrom N (length (lanes N)) done rs → AreSettled N (take len (turned ++ drop (length turned) rs))
-settled_all N count done rs now turned len is all same turns size so_far =
+pub paired_all : (N : Table) (plants : List Plant) (count done : ℕ) (rs now turned : List Carried) (len : ℕ) → count ≡ length (lanes N) → done ≡ count → now ≡ rs → turned ≡ reverse now → len ≡ length rs
+    → ArePairedFrom N plants (length (lanes N)) done rs → ArePaired N plants (take len (turned ++ drop (length turned) rs))
+paired_all N plants count done rs now turned len is all same turns size so_far =
     let round : turned ≡ reverse rs = turns ∙ ap reverse same in
     let long : length turned ≡ len = ap length round ∙ length-reverse rs ∙ sym size in
-    subst (AreSettled N) (sym (take_at turned (drop (length turned) rs) len long ∙ round)) record {
+    subst (ArePaired N plants) (sym (take_at turned (drop (length turned) rs) len long ∙ round)) record {
       all = length-reverse rs ∙ so_far.size ∙ all ∙ is;
-      each = each_turned (IsSettled N) rs (length (lanes N)) (so_far.size ∙ all ∙ is) so_far.each;
+      each = each_turned (IsPaired N plants) rs (length (lanes N)) (so_far.size ∙ all ∙ is) so_far.each;
     }
 
 -- ---- a law

@@ -1,6 +1,6 @@
 -- The lanes of a network dealt to its plants: each plant has the sender's end of each lane that goes from it
 -- and the receiver's end of each that comes to it, in lane order.
-use Rattle.std.specs.Prelude.{◌≡◌, ℕ, zero, suc, ◌<◌, Bool, List, [], ◌∷◌, ◌++◌, min, length, filter, slice_index_or, All}
+use Rattle.std.specs.Prelude.{◌≡◌, ℕ, zero, suc, ◌<◌, Bool, List, [], ◌∷◌, ◌++◌, min, length, filter, slice_index_or, All, Contains}
 use Rattle.mrp_rows.specs.Table.{Table}
 use Rattle.mrp_net.specs.Lanes.{lanes, lane_at}
 use Rattle.mrp_net.specs.Texts.{longest_text}
@@ -8,7 +8,10 @@ use Rattle.mrp_view.specs.View.{comes_to, goes_from, plant_rows}
 use Rattle.mrp_loops.specs.Within.{plan_at}
 use Rattle.mrp_local.specs.Laws.{IsPairAt}
 use Rattle.mrp_events.specs.State.{opening_state}
+use Rattle.mrp_history.specs.History.{IsPrefix}
 use Rattle.mrp_lane.specs.Ends.{End, Name}
+use Rattle.mrp_lane.specs.Reconciled.{Carried}
+use Rattle.mrp_lane.specs.Views.{IsLegal}
 use Rattle.mrp_agent.specs.Shows.{Shows}
 use Rattle.mrp_agent.specs.State.{AgentState, plans_of}
 use Rattle.mrp_run.specs.declared.plant.Plant.{Plant}
@@ -32,8 +35,9 @@ abbrev pub is_to : Table → ℕ → Name → Bool
 is_to N p n = comes_to N p n.lane
 
 -- nothing went through an end
-abbrev pub IsEmpty : End → Type 0
-IsEmpty e = e.list ≡ []
+pub record IsEmpty (e : End) : Type 0 where
+  pub list : e.list ≡ []
+  pub stamps : e.stamps ≡ []
 
 -- of the lanes with the first names the plant has the sender's ends of those that go from it, and of the
 -- lanes with the second names the receiver's ends of those that come to it
@@ -130,3 +134,35 @@ pub record HasNoEnds (P : Plant) : Type 0 where
 pub record HavePlans (N : Table) (plants : List Plant) : Type 0 where
   pub all_plants : length plants ≡ length N.plants
   pub each : EachAt (λ p P. HasPlans N p P.agent) plants
+
+-- the end is one of the sender's ends of the plant, or of its receiver's ends
+abbrev pub IsSendEndOf : List Plant → ℕ → End → Type 0
+IsSendEndOf plants p e = (d : Plant) → Contains (slice_index_or plants p d).sends.items e
+
+abbrev pub IsTakeEndOf : List Plant → ℕ → End → Type 0
+IsTakeEndOf plants p e = (d : Plant) → Contains (slice_index_or plants p d).takes.items e
+
+-- of the ends of each plant the last ones may have been taken
+pub record HasLeftOf (before now : Plant) : Type 0 where
+  pub sends : IsPrefix now.sends.items before.sends.items
+  pub takes : IsPrefix now.takes.items before.takes.items
+
+pub record HaveLeftOf (before now : List Plant) : Type 0 where
+  pub size : length now ≡ length before
+  pub each : (k : ℕ) (d : Plant) → k < length before → HasLeftOf (slice_index_or before k d) (slice_index_or now k d)
+
+-- what is answered of a lane is what two ends of its plants showed
+pub record IsOfEnds (N : Table) (plants : List Plant) (l : ℕ) (r : Carried) : Type 0 where
+  pub sender : (lane_at N l).sender.0 < length plants
+  pub receiver : (lane_at N l).receiver.0 < length plants
+  pub send : End
+  pub take : End
+  pub sends_it : IsSendEndOf plants (lane_at N l).sender.0 send
+  pub takes_it : IsTakeEndOf plants (lane_at N l).receiver.0 take
+  pub send_lane : send.name.lane ≡ l
+  pub take_lane : take.name.lane ≡ l
+  pub sent : r.sent ≡ send.list
+  pub taken : r.taken ≡ take.list
+  pub left : send.list ≡ take.list ++ r.left
+  pub stamps : send.stamps ≡ take.stamps ++ r.left_at
+  pub legal : IsLegal N l send.list

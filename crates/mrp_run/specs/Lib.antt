@@ -7,3 +7,4 @@ pub mod Outcome
 pub mod Worst
 pub mod Joined
 pub mod Laws
+pub mod Moments

@@ -1,10 +1,11 @@
--- What a run of a network comes to: the plan of the network, and what went over its lanes.
-use Rattle.std.specs.Prelude.{◌≡◌, ℕ, List, [], length}
+-- What a run of a network comes to: the plan of the network, and what went over its lanes, as in a run of the events.
+use Rattle.std.specs.Prelude.{◌≡◌, ℕ, ◌≤◌, List, [], length}
 use Rattle.mrp_rows.specs.Table.{Table}
 use Rattle.mrp_net.specs.Lanes.{lanes, lane_at}
 use Rattle.mrp_net.specs.Plan.{plan_of}
 use Rattle.mrp_record.specs.Text.{IsWhole}
 use Rattle.mrp_events.specs.Loads.{loads}
+use Rattle.mrp_events.specs.State.{State, IsFinished, IsReached}
 use Rattle.mrp_lane.specs.Reconciled.{Carried, figures_on}
 use Rattle.mrp_run.specs.declared.network.Outcome.{Outcome}
 use Rattle.mrp_run.specs.Ends.{EachAt}
@@ -25,7 +26,18 @@ pub record AreSettled (N : Table) (lanes_of : List Carried) : Type 0 where
   pub all : length lanes_of ≡ length (lanes N)
   pub each : EachAt (IsSettled N) lanes_of
 
--- the plans are the plan of the network, and each lane carried its whole text
+-- of each lane the state has the lists that its two ends showed
+abbrev pub HasLists : List Carried → State → Type 0
+HasLists lanes_of s = EachAt (λ l r. (s.sent l ≡ r.sent) × (s.taken l ≡ r.taken)) lanes_of
+
+-- so it is in a run of the events: whatever the capacity of a mailbox, one record at least, some events lead to a finished
+-- state with these lists
+abbrev pub IsRun : Table → List Carried → Type 0
+IsRun N lanes_of =
+    (capacity : ℕ) → 1 ≤ capacity → (s : State) × IsReached N capacity s × IsFinished N s × HasLists lanes_of s
+
+-- the plans are the plan of the network, each lane carried its whole text, and all of it is a run of the events
 pub record IsOutcome (N : Table) (o : Outcome) : Type 0 where
   pub plans : o.plans.items ≡ plan_of N
   pub lanes : AreSettled N o.lanes.items
+  pub run : IsRun N o.lanes.items

@@ -6,6 +6,8 @@ use Rattle.mrp_loops.specs.Sized.{IsSized}
 use Rattle.mrp_loops.specs.Within.{plan_at}
 use Rattle.mrp_record.specs.declared.record.Record.{Record}
 use Rattle.mrp_record.specs.Entries.{contents, is_closed}
+use Rattle.mrp_events.specs.State.{State}
+use Rattle.mrp_history.specs.Stamps.{Passage, IsExplained, clock_of}
 use Rattle.mrp_local.specs.Laws.{IsPairAt}
 use Rattle.mrp_lane.specs.Ends.{End, Name}
 use Rattle.mrp_agent.specs.Laws.{WorksIn}
@@ -27,8 +29,23 @@ pub record AreEnds (N : Table) (numbers : List ℕ) (texts : ℕ → List Record
   pub lanes : map (λ e. e.name.lane) ends ≡ numbers
   pub lists : All (λ e. e.list ≡ texts e.name.lane) ends
 
+-- an end as histories see it: its lane, what went through it, and the stamps of that
+abbrev pub passage : End → Passage
+passage e = record { lane = e.name.lane; list = e.list; stamps = e.stamps }
+
+abbrev pub passages : List End → List Passage
+passages ends = map passage ends
+
+-- the clock of a plant with these ends: later than the stamp of each record that went through one of them
+abbrev pub clock_at : List End → List End → ℕ
+clock_at sends takes = clock_of (passages sends) (passages takes)
+
+-- what has been sent, taken and planned, as a state of the events
+abbrev pub state_of : (ℕ → List Record) → (ℕ → List Record) → (ℕ → Bool) → State
+state_of sent taken planned = record { sent = sent; taken = taken; planned = planned }
+
 -- a plant of a sized network: by some history its agent works in the network, and what was sent and taken by
--- that history went through the ends of its lanes
+-- that history went through the ends of its lanes; by its clock it has come to this state in logical time
 pub record AtWork (N : Table) (p : ℕ) (A : AgentState) (sends takes : List End) : Type 0 where
   pub sized : IsSized N
   pub sent : ℕ → List Record
@@ -37,6 +54,7 @@ pub record AtWork (N : Table) (p : ℕ) (A : AgentState) (sends takes : List End
   pub works : WorksIn N p A sent taken planned
   pub sends_are : AreEnds N (lanes_from N p) sent sends
   pub takes_are : AreEnds N (lanes_to N p) taken takes
+  pub explained : IsExplained N p (state_of sent taken planned) (passages sends) (passages takes)
 
 -- it is at work as some plant of some network
 abbrev pub IsAtWork : AgentState → List End → List End → Type 0
@@ -48,11 +66,13 @@ IsAtWork A sends takes = (N : Table) × (p : ℕ) × AtWork N p A sends takes
 abbrev pub IsClosed : End → Type 0
 IsClosed e = is_closed (contents e.list) ≡ true
 
--- the agent is done, all its lanes are closed, and each of its pairs has the plan of the network
+-- the agent is done, all its lanes are closed, each of its pairs is planned, by whatever history it is at work, and has
+-- the plan of the network
 pub record IsFinished (N : Table) (p : ℕ) (A : AgentState) (sends takes : List End) : Type 0 where
   pub done : is_done A ≡ true
   pub sent : All IsClosed sends
   pub taken : All IsClosed takes
+  pub planned : (w : AtWork N p A sends takes) (x : ℕ) → IsPairAt N p x → w.planned x ≡ true
   pub plans : (x : ℕ) → IsPairAt N p x → plans_of A x ≡ plan_at N x
 
 -- ---- what work keeps

@@ -19,6 +19,10 @@ IsFinished N p P = plant.IsFinished N p P.agent P.sends.items P.takes.items
 abbrev pub Keeps : Plant → Plant → Type 0
 Keeps P Q = plant.Kept P.agent P.sends.items P.takes.items Q.agent Q.sends.items Q.takes.items
 
+-- its clock
+abbrev pub clock : Plant → ℕ
+clock P = plant.clock_at P.sends.items P.takes.items
+
 -- how many lanes come to it, or go from it
 abbrev pub lane_count : Lanes → Plant → ℕ
 lane_count Incoming P = length P.takes.items

@@ -1,9 +1,18 @@
 //! Laws of what a run comes to. Each is the contract of a function that does nothing.
 
 ghost use Rattle.mrp_run.specs.Laws.{SettledLanesAreCounted};
+ghost use Rattle.mrp_run.specs.Moments.{MomentsAreReached};
 
 /// Of a lane that carried its whole text as many records were sent as its texts have, and as many were taken.
 /// Of each item as much was shipped as was received, by a text of the lane.
 pub fn settled_lanes_are_counted()
     ensures { SettledLanesAreCounted }
+{}
+
+/// Whenever each plant of a network is at work and the two ends of each lane are in order, as the rule of its mailbox
+/// says, what the threads have done together is a list of events: from the opening state they lead to the state with
+/// exactly the lists of all ends and the pairs that the agents have planned. A moment lies between the steps of a
+/// plant; that all threads are at such moments at once is said nowhere.
+pub fn moments_are_reached()
+    ensures { MomentsAreReached }
 {}

@@ -26,7 +26,7 @@ mod threads;
 pub use fault::RunFault;
 pub use mrp_agent::{Agent, Gate, NoGate};
 pub use mrp_crew::{Crew, MOST_WORKERS};
-pub use mrp_lane::{MOST_ROOM, Reconciled, SendEnd, TakeEnd};
+pub use mrp_lane::{MOST_ROOM, Reconciled, SendEnd, Stamp, TakeEnd};
 pub use mrp_net::PlantNo;
 pub use mrp_netting::PairPlan;
 pub use mrp_qty::MOST_TURNS;

@@ -1,8 +1,12 @@
 //! How a plant offers the records that it has to send.
-ghost use Rattle.std.specs.Prelude.{◌<◌, length};
-ghost use Rattle.mrp_run.specs.Steps.{IsAtWork, Keeps};
+ghost use Rattle.std.specs.Prelude.{◌≡◌, ◌<◌, [], ◌∷◌, ◌++◌, length, IfErr, OnOk};
+ghost use Rattle.mrp_lane.specs.Ends.{IsNext};
+ghost use Rattle.mrp_run.specs.Steps.{IsAtWork, Keeps, clock};
 
 use crate::plant::Plant;
+use mrp_lane::{Record, SendEnd, Stamp};
+use std::marker::Brand;
+use std::snapshot::Snapshot;
 use std::sync::Wait;
 
 /// Offers the next record of a lane, and answers whether there was one and there was room for it. A record
@@ -16,9 +20,28 @@ pub(crate) fn offer_next<R: Wait>(rt: &R, plant: &mut Plant, k: usize) -> bool
     let Some(entry) = plant.agent.next_out(lane) else {
         return false;
     };
-    if let Err(_back) = plant.sends[k].offer(rt, entry) {
+    let before = Snapshot::of(&*plant);
+    if let Err(_back) = offer_at::<Brand, R>(rt, before, &mut plant.sends[k], entry) {
         return false;
     }
     plant.agent.sent(lane);
     true
+}
+
+/// Offers a record with the clock of its plant as the stamp.
+fn offer_at<S: Stamp, R: Wait>(
+    rt: &R,
+    _plant: Snapshot<Plant>,
+    end: &mut SendEnd,
+    entry: Record,
+) -> Result<(), Record>
+    requires stamp { S.stamp ≡ clock _plant.value }
+    requires legal { IsNext end.old entry }
+    ensures name { end.new.name ≡ end.old.name }
+    ensures sent { OnOk result (end.new.list ≡ end.old.list ++ entry ∷ []) }
+    ensures stamped { OnOk result (end.new.stamps ≡ end.old.stamps ++ clock _plant.value ∷ []) }
+    ensures unchanged { IfErr result (λ _. end.new.list ≡ end.old.list) }
+    ensures unstamped { IfErr result (λ _. end.new.stamps ≡ end.old.stamps) }
+{
+    end.offer::<S, R>(rt, entry)
 }

@@ -153,16 +153,17 @@ module _ (N : Table) (o : OutFigures) (end : End) (left : Option Remainder) (r :
       let kept = steps_keep_places o left in
       let size = kept.0 in
       let over : IsOver N l (stepped o left) = record { size = size ∙ feeds.over.size; queue = kept.1 ∙ feeds.over.queue ∙ ap (range_with_len 0) (sym size) } in
-      feeds_again N (stepped o left) (record { name = end.name; list = end.list ++ r ∷ [] }) end' (λ j. record { name = sym same j; list = sym list j })
+      feeds_again N (stepped o left) (record { name = end.name; list = end.list ++ r ∷ []; stamps = end'.stamps }) end'
+      (λ j. record { name = sym same j; list = sym list j; stamps = end'.stamps })
       (record { network = feeds.network; there = feeds.there; sized = feeds.sized; over = over; shows = shows })
     where
       feeds_again : (N : Table) (o : OutFigures) (e e' : End) → e ≡ e' → Feeds N o e → Feeds N o e'
       feeds_again N o e e' is feeds = subst (Feeds N o) is feeds
 
 -- where the record came back nothing is changed
-pub stays : (N : Table) (o o' : OutFigures) (e e' : End) → o' ≡ o → e'.name ≡ e.name → e'.list ≡ e.list → Feeds N o e → Feeds N o' e'
-stays N o o' e e' same name list feeds =
-    subst (λ (z : OutFigures × End). Feeds N z.0 z.1) (λ j. (sym same j, record { name = sym name j; list = sym list j })) feeds
+pub stays : (N : Table) (o o' : OutFigures) (e e' : End) → o' ≡ o → e'.name ≡ e.name → e'.list ≡ e.list → e'.stamps ≡ e.stamps → Feeds N o e → Feeds N o' e'
+stays N o o' e e' same name list stamps feeds =
+    subst (λ (z : OutFigures × End). Feeds N z.0 z.1) (λ j. (sym same j, record { name = sym name j; list = sym list j; stamps = sym stamps j })) feeds
 
 -- before the first record
 pub begins : (N : Table) (o : OutFigures) (e : End) (l : ℕ) → e.name.network ≡ N → e.name.lane ≡ l → l < length (lanes N) → IsSized N

@@ -21,6 +21,7 @@ use mrp_rows::SourceRow;
 use mrp_run::NoGate;
 use mrp_worked::{RING, TWO_PLANTS};
 use std::alloc::{AllocError, Global};
+use std::marker::Brand;
 use std::sync::Wait;
 use std::test::Fail;
 use std::thread;
@@ -182,7 +183,7 @@ fn offer_next<R: Wait>(
     let Some(record) = cursor.next_record(left) else {
         return Look::Over;
     };
-    match end.offer(rt, record) {
+    match end.offer::<Brand, R>(rt, record) {
         Ok(()) => {
             cursor.step(left);
             Look::Went

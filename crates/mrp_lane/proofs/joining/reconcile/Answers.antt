@@ -13,7 +13,7 @@ use Rattle.mrp_lane.proofs.joining.reconcile.Goals as goal
 pub absorb-requires-clause-queue : goal.absorb-requires-clause-queue
 absorb-requires-clause-queue g c = (
   ours_there c.send.invariant.1 c.deref.ensures,
-  both_ours _ (arc_value c.take.inside.mailbox) _ c.send.inside.pass c.take.inside.pass c.send.inside.lane.0 c.take.inside.lane.0 _ _ c.args.send c.args.take c.send.view_is c.take.view_is c.requires.same c.send.invariant.1.ours c.take.invariant.1.ours c.deref.ensures,
+  both_ours _ (arc_value c.take.inside.mailbox) _ c.send.inside.pass c.take.inside.pass c.send.inside.lane.0 c.take.inside.lane.0 _ _ _ _ c.args.send c.args.take c.send.view_is c.take.view_is c.requires.same c.send.invariant.1.ours c.take.invariant.1.ours c.deref.ensures,
 )
 
 pub absorb-requires-clause-rule : goal.absorb-requires-clause-rule
@@ -51,6 +51,25 @@ returns-clause-left g c =
     sym (ap (λ (e : End). e.list) c.send.view_is) ∙ sym (ap (λ (v : LaneView). v.sent) known) ∙ is ∙ ap (λ (v : LaneView). v.taken ++ r.left) known
     ∙ ap (λ (e : End). e.list ++ r.left) c.take.view_is)
     c.settle.ensures.left
+
+pub returns-clause-sent_at : goal.returns-clause-sent_at
+returns-clause-sent_at g c =
+    IfOk-weaker c.settle.result _ _ (λ r is. is ∙ ap (λ (v : LaneView). v.sent_at) c.absorb.ensures.rule ∙ ap (λ (e : End). e.stamps) c.send.view_is) c.settle.ensures.sent_at
+
+pub returns-clause-taken_at : goal.returns-clause-taken_at
+returns-clause-taken_at g c =
+    IfOk-weaker c.settle.result _ _ (λ r is. is ∙ ap (λ (v : LaneView). v.taken_at) c.absorb.ensures.rule ∙ ap (λ (e : End). e.stamps) c.take.view_is) c.settle.ensures.taken_at
+
+pub returns-clause-left_at : goal.returns-clause-left_at
+returns-clause-left_at g c =
+    let known = c.absorb.ensures.rule in
+    IfOk-weaker c.settle.result _ _
+    (λ r is. (
+      sym (ap (λ (e : End). e.stamps) c.send.view_is) ∙ sym (ap (λ (v : LaneView). v.sent_at) known) ∙ is.0 ∙ ap (λ (v : LaneView). v.taken_at ++ r.left_at) known
+          ∙ ap (λ (e : End). e.stamps ++ r.left_at) c.take.view_is,
+      is.1,
+    ))
+    c.settle.ensures.left_at
 
 pub returns-clause-figures : goal.returns-clause-figures
 returns-clause-figures g c =

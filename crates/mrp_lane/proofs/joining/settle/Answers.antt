@@ -5,7 +5,7 @@ use Rattle.mrp_lane.specs.declared.tally.ItemPieces.{ItemPieces}
 use Rattle.mrp_lane.specs.declared.view.LaneView.{LaneView}
 use Rattle.mrp_lane.specs.Reconciled.{figures_of}
 use Rattle.mrp_lane.specs.Tallies.{Counts}
-use Rattle.mrp_lane.proofs.Joined.{figures_agree, front_is_taken, is_counted, sizes_agree, small_figures}
+use Rattle.mrp_lane.proofs.Joined.{figures_agree, front_is_taken, front_stamps, is_counted, sizes_agree, small_figures, stamps_left}
 use Rattle.mrp_lane.proofs.joining.settle.Goals as goal
 
 pub drained-requires-clause-pass : goal.drained-requires-clause-pass
@@ -34,7 +34,7 @@ lane_figures-requires-clause-received g c =
 pub invariant_of-result : goal.invariant_of-result
 invariant_of-result g c =
     is_counted _ c.args.pass c.drained.new.pass c.args.lane c.args.sent.now c.args.taken.now c.records.result c.records-2.result _ _ c.requires.sends.1 c.requires.takes.1 c.records.ensures c.records-2.ensures
-    c.in_ok-left.ensures.took c.in_ok-left.ensures.left (c.in_ok-figures.ensures ∙ (λ j. figures_of c.args.lane (c.items.ensures j) (c.items-2.ensures j)))
+    c.in_ok-left.ensures.took c.in_ok-left.ensures.left c.in_ok-left.ensures.stamps c.in_ok-left.ensures.as_many (c.in_ok-figures.ensures ∙ (λ j. figures_of c.args.lane (c.items.ensures j) (c.items-2.ensures j)))
 
 pub returns-clause-network : goal.returns-clause-network
 returns-clause-network g c = ap (λ (v : LaneView). v.network) c.in_ok-left.ensures.took
@@ -51,6 +51,19 @@ returns-clause-taken g c =
 
 pub returns-clause-left : goal.returns-clause-left
 returns-clause-left g c = c.in_ok-left.ensures.left
+
+pub returns-clause-sent_at : goal.returns-clause-sent_at
+returns-clause-sent_at g c = ap (λ (v : LaneView). v.sent_at) c.in_ok-left.ensures.took
+
+pub returns-clause-taken_at : goal.returns-clause-taken_at
+returns-clause-taken_at g c =
+    front_stamps (view c.args.pass) _ c.records-2.result _ c.in_ok-left.ensures.took (c.records-2.ensures ∙ ap (λ (t : Counts). t.records) c.requires.takes.1.counted)
+    c.in_ok-left.ensures.left c.in_ok-left.ensures.stamps c.in_ok-left.ensures.as_many
+
+pub returns-clause-left_at : goal.returns-clause-left_at
+returns-clause-left_at g c =
+    stamps_left (view c.args.pass) _ c.records-2.result _ c.in_ok-left.ensures.took (c.records-2.ensures ∙ ap (λ (t : Counts). t.records) c.requires.takes.1.counted)
+    c.in_ok-left.ensures.left c.in_ok-left.ensures.stamps c.in_ok-left.ensures.as_many
 
 pub returns-clause-figures : goal.returns-clause-figures
 returns-clause-figures g c =

@@ -77,3 +77,7 @@ returns-clause-same c =
 pub returns-clause-empty : goal.returns-clause-empty
 returns-clause-empty c =
     (ap (λ (v : LaneView). v.sent) c.name-takers_pass.ensures.sends, ap (λ (v : LaneView). v.taken) c.name-takers_pass.ensures.takes)
+
+pub returns-clause-unstamped : goal.returns-clause-unstamped
+returns-clause-unstamped c =
+    (ap (λ (v : LaneView). v.sent_at) c.name-takers_pass.ensures.sends, ap (λ (v : LaneView). v.taken_at) c.name-takers_pass.ensures.takes)

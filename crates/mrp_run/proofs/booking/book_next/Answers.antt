@@ -4,7 +4,7 @@ use Rattle.mrp_run.proofs.booking.book_next.Goals as goal
 pub returns-in_default : goal.returns-in_default
 returns-in_default g c =
     let p = c.args.plant.now in
-    record { kept = none_kept p.agent p.sends.items p.takes.items c.args.k c.index_mut-end.result.now c.take.new.self c.index_mut-end.ensures.value c.take.ensures.name c.in_default.ensures.none }
+    record { kept = none_kept p.agent p.sends.items p.takes.items c.args.k c.index_mut-end.result.now c.take.new.self c.index_mut-end.ensures.value c.take.ensures.name c.in_default.ensures.none c.in_default.ensures.unstamped }
 
 pub book-requires : goal.book-requires
 book-requires g c =
@@ -24,5 +24,5 @@ returns g c =
     record {
       kept = booked_kept p.agent p.sends.items p.takes.items c.args.k c.lane-lane.result.0 c.index_mut-end.result.now c.index_mut-end.result.now c.take.new.self c.in-Some.entry
           c.requires.lane c.index_mut-end.ensures.value c.index_mut-end.ensures.value c.lane-lane.ensures.value c.take.ensures.name c.in-Some.ensures.taken c.in-Some.ensures.legal
-          c.book.new.self c.book.ensures.view c.in_default-book.ensures.booked;
+          c.in-Some.ensures.stamped c.book.new.self c.book.ensures.view c.in_default-book.ensures.booked;
     }

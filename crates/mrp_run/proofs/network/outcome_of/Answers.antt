@@ -2,10 +2,11 @@ use Rattle.std.proofs.Common.{◌≡◌, List, refl, sym, subst, ◌∙◌}
 use Rattle.std.proofs.lemmas.Result.{IfOk-from_err}
 use Rattle.mrp_run.specs.declared.fault.RunFault.TheVariants.{Memory}
 use Rattle.mrp_run.specs.declared.plant.Plant.{Plant}
-use Rattle.mrp_run.specs.Ends.{HaveEnded, HavePlans}
+use Rattle.mrp_run.specs.Ends.{EachAt, HaveEnded, HavePlans, IsOfEnds}
 use Rattle.mrp_run.specs.Outcome.{IsOutcome}
 use Rattle.mrp_run.proofs.Dealt.{in_place}
 use Rattle.mrp_run.proofs.JoinedNetwork.{have_ended}
+use Rattle.mrp_run.proofs.Ran.{is_run}
 use Rattle.mrp_run.proofs.StopRules.{handed_on}
 use Rattle.mrp_run.proofs.network.outcome_of.Goals as goal
 
@@ -42,4 +43,9 @@ pub returns-in_err-plans-clause-fault : goal.returns-in_err-plans-clause-fault
 returns-in_err-plans-clause-fault g c = handed_on (λ fault. fault ≡ Memory) c.from_residual-in_err-plans.result Memory c.from_residual-in_err-plans.ensures.1 refl
 
 pub returns-clause-outcome : goal.returns-clause-outcome
-returns-clause-outcome g c = record { plans = c.in_ok-plans.ensures; lanes = c.in_ok-lanes.ensures.lanes }
+returns-clause-outcome g c = record {
+  plans = c.in_ok-plans.ensures;
+  lanes = c.in_ok-lanes.ensures.lanes;
+  run = is_run c.args.network.now c.requires.sized c.args.plants.items c.requires.through c.in_ok-lanes.lanes.items c.in_ok-lanes.ensures.lanes
+      (subst (λ (plants : List Plant). EachAt (IsOfEnds c.args.network.now plants) c.in_ok-lanes.lanes.items) c.as_mut_slice.ensures.value c.in_ok-lanes.ensures.ends);
+}

@@ -1,4 +1,6 @@
 use Rattle.std.proofs.Common.{◌-◌, ◌<◌, length, ap, is_ok, vec_len, vec_capacity, arith}
+use Rattle.mrp_run.specs.Ends.{EachAt, IsOfEnds}
+use Rattle.mrp_run.proofs.Ran as ran
 use Rattle.std.proofs.lemmas.Result.{IfOk-from_err}
 use Rattle.mrp_net.specs.Lanes.{lanes}
 use Rattle.mrp_run.specs.Ends.{HasNoEnds, HavePlans}
@@ -12,9 +14,10 @@ use Rattle.mrp_run.proofs.pairing.reconcile_all.Goals as goal
 pub loop-done-init : goal.loop-done-init
 loop-done-init g c =
     let N = c.args.network.now in record {
-      settled = settle.settled_none N (length (lanes N)) c.in_ok-all.all.items c.in_ok-all.ensures.items;
+      settled = settle.paired_none N c.args.plants.now (length (lanes N)) c.in_ok-all.all.items c.in_ok-all.ensures.items;
       room = omega (arith, c.in_ok-all.ensures.capacity, c.lanes-lanes.ensures);
       left = pair.all_left N c.requires.ended.0 c.args.plants.now c.requires.ended.1 c.requires.ended.2;
+      left_of = ran.none_taken c.args.plants.now;
     }
 
 pub reconcile_last-requires-clause-left : goal.reconcile_last-requires-clause-left
@@ -23,17 +26,26 @@ reconcile_last-requires-clause-left g c = pair.left_here c.args.network.now c.lo
 pub loop-done-preserved : goal.loop-done-preserved
 loop-done-preserved g c =
     let N = c.args.network.now in record {
-      settled = settle.settled_more N c.lanes-lanes.result (length (lanes N)) c.loop-done.done c.loop-done.all.items c.push.new.self.items c.in_ok-settled.settled
+      settled = settle.paired_more N c.args.plants.now c.lanes-lanes.result (length (lanes N)) c.loop-done.done c.loop-done.all.items c.push.new.self.items c.in_ok-settled.settled
           (pushed c.loop-done.all.items c.push.new.self.items c.in_ok-settled.settled _ c.push.ensures.items (ap is_ok c.unwrap.ensures)) c.lanes-lanes.ensures
-          c.in_ok-settled.ensures.settled c.loop-done.invariant.settled;
+          (record { settled = c.in_ok-settled.ensures.settled; of = ran.of_before N c.args.plants.now c.loop-done.plants _ c.in_ok-settled.settled c.loop-done.invariant.left_of c.in_ok-settled.ensures.of })
+          c.loop-done.invariant.settled;
       room = omega (arith, c.loop-done.invariant.room, c.push.ensures.capacity);
       left = pair.left_next N c.reconcile_last.new.plants c.lanes-lanes.result c.loop-done.done c.lanes-lanes.ensures c.loop-done-test.true c.in_ok-settled.ensures.left;
+      left_of = ran.left_of_left c.args.plants.now c.loop-done.plants c.reconcile_last.new.plants c.loop-done.invariant.left_of c.in_ok-settled.ensures.left_of;
     }
 
 pub returns-clause-lanes : goal.returns-clause-lanes
 returns-clause-lanes g c =
-    settle.settled_all c.args.network.now c.lanes-lanes.result c.loop-done.done c.loop-done.all.items c.as_mut_slice.result.now c.reverse.new.self c.loop-done.all.len c.lanes-lanes.ensures
-    (omega (arith, c.loop-done-test.false, c.loop-done.auto.done-end)) c.as_mut_slice.ensures.value c.reverse.ensures.after (omega (arith, c.loop-done.all.ok.0)) c.loop-done.invariant.settled
+    settle.are_settled c.args.network.now c.args.plants.now _
+    (settle.paired_all c.args.network.now c.args.plants.now c.lanes-lanes.result c.loop-done.done c.loop-done.all.items c.as_mut_slice.result.now c.reverse.new.self c.loop-done.all.len c.lanes-lanes.ensures
+    (omega (arith, c.loop-done-test.false, c.loop-done.auto.done-end)) c.as_mut_slice.ensures.value c.reverse.ensures.after (omega (arith, c.loop-done.all.ok.0)) c.loop-done.invariant.settled)
+
+pub returns-clause-ends : goal.returns-clause-ends
+returns-clause-ends g c =
+    settle.are_of_ends c.args.network.now c.args.plants.now _
+    (settle.paired_all c.args.network.now c.args.plants.now c.lanes-lanes.result c.loop-done.done c.loop-done.all.items c.as_mut_slice.result.now c.reverse.new.self c.loop-done.all.len c.lanes-lanes.ensures
+    (omega (arith, c.loop-done-test.false, c.loop-done.auto.done-end)) c.as_mut_slice.ensures.value c.reverse.ensures.after (omega (arith, c.loop-done.all.ok.0)) c.loop-done.invariant.settled)
 
 pub returns-clause-plans : goal.returns-clause-plans
 returns-clause-plans g c = pair.have_plans c.args.network.now c.loop-done.plants (length (lanes c.args.network.now) - c.loop-done.done) c.loop-done.invariant.left
@@ -61,6 +73,9 @@ unwrap-requires g c =
 pub returns-in_err-all-clause-lanes : goal.returns-in_err-all-clause-lanes
 returns-in_err-all-clause-lanes g c = IfOk-from_err c.from_residual.result (λ all. AreSettled c.args.network.now all.items) c.from_residual.ensures.0
 
+pub returns-in_err-all-clause-ends : goal.returns-in_err-all-clause-ends
+returns-in_err-all-clause-ends g c = IfOk-from_err c.from_residual.result (λ all. EachAt (IsOfEnds c.args.network.now c.args.plants.now) all.items) c.from_residual.ensures.0
+
 pub returns-in_err-all-clause-plans : goal.returns-in_err-all-clause-plans
 returns-in_err-all-clause-plans g c = IfOk-from_err c.from_residual.result (λ _. HavePlans c.args.network.now c.args.plants.now) c.from_residual.ensures.0
 
@@ -69,6 +84,10 @@ returns-in_err-all-clause-no_ends g c = IfOk-from_err c.from_residual.result (λ
 
 pub returns-in_err-settled-clause-lanes : goal.returns-in_err-settled-clause-lanes
 returns-in_err-settled-clause-lanes g c = IfOk-from_err c.from_residual-in_err-settled.result (λ all. AreSettled c.args.network.now all.items) c.from_residual-in_err-settled.ensures.0
+
+pub returns-in_err-settled-clause-ends : goal.returns-in_err-settled-clause-ends
+returns-in_err-settled-clause-ends g c =
+    IfOk-from_err c.from_residual-in_err-settled.result (λ all. EachAt (IsOfEnds c.args.network.now c.args.plants.now) all.items) c.from_residual-in_err-settled.ensures.0
 
 pub returns-in_err-settled-clause-plans : goal.returns-in_err-settled-clause-plans
 returns-in_err-settled-clause-plans g c = IfOk-from_err c.from_residual-in_err-settled.result (λ _. HavePlans c.args.network.now c.reconcile_last.new.plants) c.from_residual-in_err-settled.ensures.0

@@ -1,13 +1,14 @@
 use Rattle.std.proofs.Common.{◌-◌, ◌≤◌, length, vec_capacity}
 use Rattle.mrp_net.specs.Lanes.{lanes}
-use Rattle.mrp_run.specs.Ends.{HaveLeft}
-use Rattle.mrp_run.proofs.PairedSettled.{AreSettledFrom}
+use Rattle.mrp_run.specs.Ends.{HaveLeft, HaveLeftOf}
+use Rattle.mrp_run.proofs.PairedSettled.{ArePairedFrom}
 use Rattle.mrp_run.proofs.pairing.reconcile_all.Given as goal
 
 -- the lanes from the last on are settled, and the ends of the others are there yet
 abbrev pub invariant-loop-done : goal.invariant-loop-done
 invariant-loop-done g l = record {
-  settled : AreSettledFrom l.network (length (lanes l.network)) l.done l.all.items;
+  settled : ArePairedFrom l.network l.initial.plants (length (lanes l.network)) l.done l.all.items;
   room : length (lanes l.network) ≤ vec_capacity l.all;
   left : HaveLeft l.network (length (lanes l.network) - l.done) l.plants;
+  left_of : HaveLeftOf l.initial.plants l.plants;
 }

@@ -1,9 +1,11 @@
-use Rattle.std.proofs.Common.{sym, ap, ◌∙◌, refl}
+use Rattle.std.proofs.Common.{◌≡◌, ◌<◌, length, sym, ap, ◌∙◌, refl, subst, arith}
 use Rattle.mrp_net.specs.declared.lane.Lane.{Lane}
 use Rattle.mrp_run.proofs.Dealt.{lane_is}
 use Rattle.mrp_run.proofs.DealtLists.{there_is_one}
 use Rattle.mrp_run.proofs.Paired.{have_last, have_both}
+use Rattle.mrp_history.proofs.Owners.{sender_is_there, receiver_is_there}
 use Rattle.mrp_run.proofs.PairedSettled.{ok_anyway, settled_ok}
+use Rattle.mrp_run.proofs.Ran.{left_of_left, of_ends_ok}
 use Rattle.mrp_run.proofs.pairing.reconcile_last.Goals as goal
 
 pub unreachable-requires : goal.unreachable-requires
@@ -39,3 +41,21 @@ returns-clause-left g c =
     let both = have_both c.args.network.now c.args.lane.0 c.args.plants.now _ _ c.lane-between.result c.in-Some.send c.in-Some-last_take.take
     c.requires.left c.lane-between.ensures.value c.in-Some.ensures.last c.in-Some-last_take.ensures.last in
     ok_anyway c.reconcile.result _ record { names = both.before; first_lanes = both.first_lanes; ended = both.ended }
+
+pub returns-clause-of : goal.returns-clause-of
+returns-clause-of g c =
+    let N = c.args.network.now in
+    let both = have_both N c.args.lane.0 c.args.plants.now _ _ c.lane-between.result c.in-Some.send c.in-Some-last_take.take
+    c.requires.left c.lane-between.ensures.value c.in-Some.ensures.last c.in-Some-last_take.ensures.last in
+    let all : length c.args.plants.now ≡ length N.plants = c.requires.left.ended.all_plants in
+    let sender = sender_is_there N c.args.lane.0 c.requires.lane in
+    let receiver = receiver_is_there N c.args.lane.0 c.requires.lane in
+    of_ends_ok N c.args.plants.now c.last_send.new.plants c.args.lane.0 c.lane-between.result both.last c.in-Some.send c.in-Some-last_take.take c.reconcile.result
+    c.lane-between.ensures.value both.lane both.network both.sent both.took.0 c.reconcile.ensures.legal_sent c.in-Some.ensures.left
+    (subst (λ (b : Lane). b.sender.0 < length c.args.plants.now) (sym c.lane-between.ensures.value) (omega (arith, sender, all)))
+    (subst (λ (b : Lane). b.receiver.0 < length c.args.plants.now) (sym c.lane-between.ensures.value) (omega (arith, receiver, all)))
+    c.in-Some.ensures.there c.in-Some-last_take.ensures.there c.reconcile.ensures.sent c.reconcile.ensures.taken c.reconcile.ensures.left c.reconcile.ensures.left_at
+
+pub returns-clause-left_of : goal.returns-clause-left_of
+returns-clause-left_of g c =
+    ok_anyway c.reconcile.result _ (left_of_left c.args.plants.now c.last_send.new.plants c.last_take.new.plants c.in-Some.ensures.left c.in-Some-last_take.ensures.left)

@@ -21,7 +21,7 @@ add-requires-clause-fits g c = more_fits c.self.invariant.1 c.args.entry (subst 
 
 pub invariant_of-self-2 : goal.invariant_of-self-2
 invariant_of-self-2 g c =
-    sends_on _ c.self.inside.pass c.push.new.pass c.self.inside.lane.0 c.self.inside.tally c.add.new.self c.args.entry c.self.invariant
+    sends_on _ c.self.inside.pass c.push.new.pass c.self.inside.lane.0 c.self.inside.tally c.add.new.self c.args.entry g.S.Stamp.stamp c.self.invariant
     (subst (λ (e : End). IsNext e c.args.entry) (sym c.self.view_is) c.requires.legal) c.push.ensures.same c.in_default.ensures.sent c.add.ensures
 
 pub push-requires-clause-pass : goal.push-requires-clause-pass
@@ -38,10 +38,13 @@ invariant_of-self g c = stays_sending _ c.self.inside.pass c.push.new.pass c.sel
 
 pub returns-clause-name : goal.returns-clause-name
 returns-clause-name g c =
-    same_name (arc_value c.self.inside.mailbox) c.self.inside.pass c.push.new.pass c.self.inside.lane.0 _ _ c.self.view_is c.push.ensures.same (ap (λ (v : LaneView). v.network) c.in_default.ensures.sent)
+    same_name (arc_value c.self.inside.mailbox) c.self.inside.pass c.push.new.pass c.self.inside.lane.0 _ _ _ c.self.view_is c.push.ensures.same (ap (λ (v : LaneView). v.network) c.in_default.ensures.sent)
 
 pub returns-clause-sent : goal.returns-clause-sent
 returns-clause-sent g c = ap (λ (v : LaneView). v.sent) c.in_default.ensures.sent ∙ ap (λ (e : End). e.list ++ c.args.entry ∷ []) c.self.view_is
+
+pub returns-clause-stamped : goal.returns-clause-stamped
+returns-clause-stamped g c = ap (λ (v : LaneView). v.sent_at) c.in_default.ensures.sent ∙ ap (λ (e : End). e.stamps ++ g.S.Stamp.stamp ∷ []) c.self.view_is
 
 pub returns-in-Err-clause-sent : goal.returns-in-Err-clause-sent
 returns-in-Err-clause-sent g c = tt

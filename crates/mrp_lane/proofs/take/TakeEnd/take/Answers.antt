@@ -39,10 +39,15 @@ invariant_of-self g c =
 
 pub returns-clause-name : goal.returns-clause-name
 returns-clause-name g c =
-    same_name (arc_value c.self.inside.mailbox) c.self.inside.pass c.pop.new.pass c.self.inside.lane.0 _ _ c.self.view_is c.pop.ensures.same (ap (λ (v : LaneView). v.network) c.in_ok-entry.ensures.taken.0)
+    same_name (arc_value c.self.inside.mailbox) c.self.inside.pass c.pop.new.pass c.self.inside.lane.0 _ _ _ c.self.view_is c.pop.ensures.same (ap (λ (v : LaneView). v.network) c.in_ok-entry.ensures.taken.is)
 
 pub returns-clause-taken : goal.returns-clause-taken
-returns-clause-taken g c = ap (λ (v : LaneView). v.taken) c.in_ok-entry.ensures.taken.0 ∙ ap (λ (e : End). e.list ++ c.in_ok-entry.entry ∷ []) c.self.view_is
+returns-clause-taken g c = ap (λ (v : LaneView). v.taken) c.in_ok-entry.ensures.taken.is ∙ ap (λ (e : End). e.list ++ c.in_ok-entry.entry ∷ []) c.self.view_is
+
+pub returns-clause-stamped : goal.returns-clause-stamped
+returns-clause-stamped g c =
+    let took = c.in_ok-entry.ensures.taken in
+    (took.stamp, ap (λ (v : LaneView). v.taken_at) took.is ∙ ap (λ (e : End). e.stamps ++ took.stamp ∷ []) c.self.view_is)
 
 pub returns-clause-none : goal.returns-clause-none
 returns-clause-none g c = tt
