@@ -5,3 +5,4 @@ pub mod TextFacts
 pub mod RowFacts
 pub mod GateFacts
 pub mod OneReport
+pub mod FigureFacts

@@ -4,8 +4,8 @@ use Rattle.std.proofs.lemmas.List.{take-append-drop, drop_more}
 use Rattle.std.proofs.lemmas.Grind.{flat_map-append}
 use Rattle.std.specs.List.{flat_map}
 use Rattle.std.specs.Io.KnownBytes.{Appends}
-use Rattle.mrp_report.specs.Sending.{AppendsFront, AppendsSome}
-use Rattle.mrp_report.proofs.Fronts.{front-after, front-longer, some-front, some-whole, whole-after}
+use Rattle.mrp_sheet.specs.Sending.{AppendsFront, AppendsSome}
+use Rattle.mrp_sheet.proofs.Fronts.{front-after, front-longer, some-front, some-whole, whole-after}
 use Rattle.mrp_grammar.specs.declared.fault.TableFault.{TableFault}
 use Rattle.mrp_grammar.specs.declared.fault.TableFaultKind.{TableFaultKind}
 use Rattle.mrp_grammar.specs.declared.fault.TableFaultKind.TheVariants as kind

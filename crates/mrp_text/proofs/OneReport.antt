@@ -1,7 +1,9 @@
 -- The plan of a network that can be planned is one, and so is each report of a text; one that has a report is not refused.
-use Rattle.std.proofs.Common.{◌≡◌, ℕ, true, false, List, ◌++◌, Ok, Err, refl, sym, ap, ◌∙◌, subst, arith}
+use Rattle.std.proofs.Common.{◌≡◌, ℕ, true, false, List, ◌++◌, Option, Some, None, Ok, Err, refl, sym, ap, ap₂, ◌∙◌, subst, ⊎_elim, arith}
+use Rattle.std.proofs.lemmas.Option.{get_or_from_slice_get, slice_get_within}
 use Rattle.csv.specs.Reading.{strip_bom, records, default_config}
 use Rattle.mrp_lot.specs.One.{PlanRows}
+use Rattle.mrp_rows.specs.declared.numbers.PlantNo.{PlantNo}
 use Rattle.mrp_rows.specs.Table.{Table, IsTable, pair_no}
 use Rattle.mrp_net.specs.Sums.{pair_at}
 use Rattle.mrp_grammar.specs.declared.fault.TableFault.{TableFault}
@@ -19,16 +21,18 @@ use Rattle.mrp_loops.proofs.Upstream.{codes_are_one}
 use Rattle.mrp_loops.proofs.Within.{needs_within}
 use Rattle.mrp_plan.specs.Peg.{peg_terms}
 use Rattle.mrp_choice.specs.declared.choice.Heading.{Heading}
-use Rattle.mrp_report.specs.Headings.{header_row}
+use Rattle.mrp_sheet.specs.Headings.{header_row}
 use Rattle.mrp_report.specs.Report.{plan_text, late_text, peg_text, code_text}
+use Rattle.mrp_schedule.specs.Rows.{schedule_text}
 use Rattle.mrp_choice.specs.declared.choice.Choice.{Choice}
-use Rattle.mrp_choice.specs.declared.choice.Choice.TheVariants.{Plan, Check, Peg, Cums, Orders}
+use Rattle.mrp_choice.specs.declared.choice.Choice.TheVariants.{Plan, Check, Peg, Cums, Orders, Schedule, Pegs, Advice}
 use Rattle.mrp_text.specs.declared.fault.TextFault.{TextFault}
 use Rattle.mrp_text.specs.declared.fault.TextFault.TheVariants as fault
 use Rattle.mrp_text.specs.Answer.{IsAnswer, IsAnswerRefusal}
 use Rattle.mrp_text.specs.Fault.{status_of, table_status_of}
 use Rattle.mrp_text.specs.Laws.{BytesMakeOneTable, ReportsAreOne, ReportsExcludeRefusals}
 use Rattle.mrp_text.specs.Text.{IsHeaded, IsCodeReport, IsCumReport, IsPegRefusal, IsPegReport, IsPlanReport, IsPlanRows, IsRefusal, IsRunRefusal}
+use Rattle.mrp_text.specs.Text.{IsChosenPlant, IsPegsReport, IsScheduleRefusal, IsScheduleReport, IsUnknownPlant, name_of}
 
 -- ---- the plan
 
@@ -72,6 +76,21 @@ one_headed : (heading : Heading) (names : List (List ℕ)) (P : List ℕ → Typ
     → IsHeaded heading names P a → IsHeaded heading names P b → a ≡ b
 one_headed heading names P a b one x y = x.2 ∙ ap (λ (rows : List ℕ). header_row heading names ++ rows) (one x.0 y.0 x.1 y.1) ∙ sym y.2
 
+-- a name is that of one plant
+one_plant : (N : Table) (name : Option (List ℕ)) (f g : Option PlantNo) → IsTable N → IsChosenPlant N name f → IsChosenPlant N name g → f ≡ g
+one_plant N None None None table a b = refl
+one_plant N (Some name) (Some p) (Some q) table a b =
+    let place : ℕ → Option PlantNo = λ k. Some (record { 0 = k }) in
+    ap place (same_place N.plants p.0 q.0 name table.once.plants a b)
+one_plant N None (Some p) g table a b = absurd a
+one_plant N None None (Some q) table a b = absurd b
+one_plant N (Some name) None g table a b = absurd a
+one_plant N (Some name) (Some p) None table a b = absurd b
+
+one_schedule : (from to : Option (List ℕ)) (heading : Heading) (N : Table) (a b : List ℕ) → IsTable N → IsScheduleReport from to heading N a → IsScheduleReport from to heading N b → a ≡ b
+one_schedule from to heading N a b table x y =
+    x.4.1 ∙ ap₂ (λ (f g : Option PlantNo). schedule_text heading f g N) (one_plant N from x.0 y.0 table x.2 y.2) (one_plant N to x.1 y.1 table x.3 y.3) ∙ sym y.4.1
+
 one_answer : (choice : Choice) (N : Table) (a b : List ℕ) → IsTable N → IsAnswer choice N a → IsAnswer choice N b → a ≡ b
 one_answer (Plan workers capacity single) N a b table x y = x.1 ∙ sym y.1
 one_answer (Check heading) N a b table x y = one_headed heading _ (IsCodeReport N) a b (one_code_report N) x y
@@ -79,6 +98,9 @@ one_answer (Peg plant item period heading) N a b table x y =
     one_headed heading _ (IsPegReport plant.now item.now period N) a b (λ c d p q. one_peg_report plant.now item.now period N c d table p q) x y
 one_answer (Cums heading) N a b table x y = one_headed heading _ (IsCumReport N) a b (λ c d p q. p.1 ∙ sym q.1) x y
 one_answer (Orders until heading) N a b table x y = x.1 ∙ sym y.1
+one_answer (Schedule from to heading) N a b table x y = one_schedule (name_of from) (name_of to) heading N a b table x y
+one_answer (Pegs heading) N a b table x y = one_headed heading _ (IsPegsReport N) a b (λ c d p q. p.1 ∙ sym q.1) x y
+one_answer (Advice heading) N a b table x y = x.1 ∙ sym y.1
 
 pub one_report : ReportsAreOne
 one_report choice bytes a b x y =
@@ -112,6 +134,18 @@ peg_passes plant item period N text fault.NoPair is said = absurd (said.1 is.0 i
 peg_passes plant item period N text fault.NoPeriod is said = absurd (omega (arith, said.1.2, is.2.1))
 peg_passes plant item period N text f is said = sized_passes N f is.2.0 said
 
+-- nor is one about plants that are there
+known_plant : (N : Table) (name : Option (List ℕ)) (f : Option PlantNo) → IsChosenPlant N name f → IsUnknownPlant N name → ⊥
+known_plant N None f is unknown = unknown
+known_plant N (Some name) None is unknown = is
+known_plant N (Some name) (Some p) is unknown =
+    unknown (p.0, slice_get_within N.plants p.0 name is, get_or_from_slice_get N.plants p.0 name name is)
+
+schedule_passes : (from to : Option (List ℕ)) (heading : Heading) (N : Table) (text : List ℕ) (f : TextFault) → IsScheduleReport from to heading N text → IsScheduleRefusal from to N f → status_of f ≡ 3
+schedule_passes from to heading N text fault.NoPlant is said =
+    absurd (⊎_elim (known_plant N from is.0 is.2) (known_plant N to is.1 is.3) said.1)
+schedule_passes from to heading N text f is said = sized_passes N f is.4.0 said
+
 answer_passes : (choice : Choice) (N : Table) (text : List ℕ) (f : TextFault) → IsAnswer choice N text → IsAnswerRefusal choice N f → status_of f ≡ 3
 answer_passes (Plan workers capacity true) N text f is said = sized_passes N f is.0 said
 answer_passes (Plan workers capacity false) N text f is said = run_passes N f is.0 said
@@ -119,6 +153,9 @@ answer_passes (Check heading) N text f is said = sized_passes N f is.1.0 said
 answer_passes (Peg plant item period heading) N text f is said = peg_passes plant.now item.now period N is.0 f is.1 said
 answer_passes (Cums heading) N text f is said = sized_passes N f is.1.0 said
 answer_passes (Orders until heading) N text f is said = sized_passes N f is.0 said
+answer_passes (Schedule from to heading) N text f is said = schedule_passes (name_of from) (name_of to) heading N text f is said
+answer_passes (Pegs heading) N text f is said = sized_passes N f is.1.0 said
+answer_passes (Advice heading) N text f is said = sized_passes N f is.0 said
 
 -- nor are rows that make a table
 rows_pass : (rows : List (List (List ℕ))) (N : Table) (e : TableFault) (k : TableFaultKind) (above : Type 0) → Reads rows (Ok N) → OfRows k above (Reads rows (Err e)) → table_status_of k ≡ 3

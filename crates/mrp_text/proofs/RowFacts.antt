@@ -1,8 +1,8 @@
 -- What was written of a plan where memory was refused.
 use Rattle.std.proofs.Common.{◌≡◌, ◌≢◌, List, ℕ, Option, Result, Ok, Err, IfErr, inl, inr, ⊎_elim, subst, sym, refl}
 use Rattle.std.specs.Io.KnownBytes.{Appends}
-use Rattle.mrp_report.specs.declared.fault.ReportFault.{ReportFault}
-use Rattle.mrp_report.specs.declared.fault.ReportFault.TheVariants as report
+use Rattle.mrp_sheet.specs.declared.fault.ReportFault.{ReportFault}
+use Rattle.mrp_sheet.specs.declared.fault.ReportFault.TheVariants as report
 use Rattle.mrp_text.specs.declared.fault.TextFault.{TextFault}
 use Rattle.mrp_text.specs.declared.fault.TextFault.TheVariants as fault
 use Rattle.mrp_text.specs.Fault.{IsOfReport}

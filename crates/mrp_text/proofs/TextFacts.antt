@@ -3,10 +3,10 @@ use Rattle.std.proofs.Common.{◌≡◌, ℕ, List, ◌++◌, Option, None, Some
 use Rattle.std.specs.Io.KnownBytes.{Appends, Keeps}
 use Rattle.mrp_rows.specs.Table.{Table, IsTable}
 use Rattle.mrp_grammar.specs.declared.fault.TableFault.{TableFault}
-use Rattle.mrp_report.specs.Sending.{Sends}
-use Rattle.mrp_report.specs.declared.fault.ReportFault.{ReportFault}
-use Rattle.mrp_report.specs.declared.fault.ReportFault.TheVariants as report
-use Rattle.mrp_report.proofs.Fronts.{front-after, front-longer, some-longer}
+use Rattle.mrp_sheet.specs.Sending.{Sends}
+use Rattle.mrp_sheet.specs.declared.fault.ReportFault.{ReportFault}
+use Rattle.mrp_sheet.specs.declared.fault.ReportFault.TheVariants as report
+use Rattle.mrp_sheet.proofs.Fronts.{front-after, front-longer, some-longer}
 use Rattle.mrp_text.specs.declared.fault.TextFault.{TextFault}
 use Rattle.mrp_text.specs.declared.fault.TextFault.TheVariants as fault
 use Rattle.mrp_text.specs.Fault.{IsOfReport}

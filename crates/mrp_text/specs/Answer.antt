@@ -2,12 +2,13 @@
 use Rattle.std.specs.Prelude.{◌≢◌, ℕ, true, false, List, Result, Ok, Err}
 use Rattle.mrp_rows.specs.Table.{Table}
 use Rattle.mrp_choice.specs.declared.choice.Choice.{Choice}
-use Rattle.mrp_choice.specs.declared.choice.Choice.TheVariants.{Plan, Check, Peg, Cums, Orders}
+use Rattle.mrp_choice.specs.declared.choice.Choice.TheVariants.{Plan, Check, Peg, Cums, Orders, Schedule, Pegs, Advice}
 use Rattle.mrp_text.specs.declared.fault.TextFault.{TextFault}
 use Rattle.mrp_text.specs.declared.fault.TextFault.TheVariants.{GateShut, WriteFault}
 use Rattle.mrp_text.specs.Fault.{IsBeforeWriting, status_of}
-use Rattle.mrp_report.specs.Headings.{code_names, lane_names, peg_names}
+use Rattle.mrp_report.specs.Headings.{code_names, lane_names, peg_names, pegs_names}
 use Rattle.mrp_text.specs.Text.{IsPlanReport, IsCodeReport, IsPegReport, IsCumReport, IsOrderReport, IsHeaded, IsRefusal, IsRunRefusal, IsPegRefusal}
+use Rattle.mrp_text.specs.Text.{IsScheduleReport, IsPegsReport, IsAdviceReport, IsScheduleRefusal, name_of}
 
 -- the report that a choice asks for
 abbrev pub IsAnswer : Choice → Table → List ℕ → Type 0
@@ -16,6 +17,9 @@ IsAnswer (Check heading) = λ N. IsHeaded heading code_names (IsCodeReport N)
 IsAnswer (Peg plant item period heading) = λ N. IsHeaded heading peg_names (IsPegReport plant.now item.now period N)
 IsAnswer (Cums heading) = λ N. IsHeaded heading lane_names (IsCumReport N)
 IsAnswer (Orders until heading) = IsOrderReport until heading
+IsAnswer (Schedule from to heading) = IsScheduleReport (name_of from) (name_of to) heading
+IsAnswer (Pegs heading) = λ N. IsHeaded heading pegs_names (IsPegsReport N)
+IsAnswer (Advice heading) = IsAdviceReport heading
 
 -- what a refusal of the network says to a choice; no gate is ever shut there, and of turns that are used nothing is said
 abbrev pub IsAnswerRefusal : Choice → Table → TextFault → Type 0
@@ -25,6 +29,9 @@ IsAnswerRefusal (Check heading) = IsRefusal
 IsAnswerRefusal (Peg plant item period heading) = IsPegRefusal plant.now item.now period
 IsAnswerRefusal (Cums heading) = IsRefusal
 IsAnswerRefusal (Orders until heading) = IsRefusal
+IsAnswerRefusal (Schedule from to heading) = IsScheduleRefusal (name_of from) (name_of to)
+IsAnswerRefusal (Pegs heading) = IsRefusal
+IsAnswerRefusal (Advice heading) = IsRefusal
 
 -- the faults after which nothing of the report is written: of a plan those that are met before its first byte,
 -- of every other report all but a failed write
@@ -34,6 +41,9 @@ IsBeforeReport (Check heading) fault = fault ≢ WriteFault
 IsBeforeReport (Peg plant item period heading) fault = fault ≢ WriteFault
 IsBeforeReport (Cums heading) fault = fault ≢ WriteFault
 IsBeforeReport (Orders until heading) fault = fault ≢ WriteFault
+IsBeforeReport (Schedule from to heading) fault = fault ≢ WriteFault
+IsBeforeReport (Pegs heading) fault = fault ≢ WriteFault
+IsBeforeReport (Advice heading) fault = fault ≢ WriteFault
 
 -- no shut gate
 abbrev pub IsNoShutGate : TextFault → Type 0

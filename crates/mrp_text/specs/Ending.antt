@@ -2,8 +2,8 @@
 use Rattle.std.specs.Prelude.{◌≡◌, ℕ, List, codes, Option, Some, None, Result, Ok, Err, IfErr}
 use Rattle.std.specs.declared.io.ErrorKind.{ErrorKind}
 use Rattle.std.specs.declared.io.ErrorKind.TheVariants as cause
-use Rattle.mrp_report.specs.declared.fault.ReportFault.{ReportFault}
-use Rattle.mrp_report.specs.declared.fault.ReportFault.TheVariants.{WriteFault}
+use Rattle.mrp_sheet.specs.declared.fault.ReportFault.{ReportFault}
+use Rattle.mrp_sheet.specs.declared.fault.ReportFault.TheVariants.{WriteFault}
 use Rattle.mrp_text.specs.declared.fault.TextFault.{TextFault}
 use Rattle.mrp_text.specs.declared.fault.TextFault.TheVariants as fault
 use Rattle.mrp_text.specs.Lines.{SendsText, fault_line}

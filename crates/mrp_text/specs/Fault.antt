@@ -1,11 +1,11 @@
 -- What the faults of a text are called, and with which status the program ends.
 use Rattle.std.specs.Prelude.{◌≡◌, ℕ}
-use Rattle.mrp_report.specs.declared.fault.ReportFault.{ReportFault}
-use Rattle.mrp_report.specs.declared.fault.ReportFault.TheVariants as report
+use Rattle.mrp_sheet.specs.declared.fault.ReportFault.{ReportFault}
+use Rattle.mrp_sheet.specs.declared.fault.ReportFault.TheVariants as report
 use Rattle.mrp_grammar.specs.declared.fault.TableFaultKind.{TableFaultKind}
 use Rattle.mrp_grammar.specs.declared.fault.TableFaultKind.TheVariants as kind
 use Rattle.mrp_text.specs.declared.fault.TextFault.{TextFault}
-use Rattle.mrp_text.specs.declared.fault.TextFault.TheVariants.{Table, Loop, SupplyTooLarge, NeedTooLarge, NoPair, NoPeriod}
+use Rattle.mrp_text.specs.declared.fault.TextFault.TheVariants.{Table, Loop, SupplyTooLarge, NeedTooLarge, NoPair, NoPeriod, NoPlant}
 use Rattle.mrp_text.specs.declared.fault.TextFault.TheVariants.{ThreadRefused, GateShut, Stopped, WriteFault, Memory}
 
 -- the fault of a text after a fault of a report
@@ -27,6 +27,7 @@ status_of (SupplyTooLarge pair) = 1
 status_of (NeedTooLarge pair) = 1
 status_of NoPair = 1
 status_of NoPeriod = 1
+status_of NoPlant = 1
 status_of ThreadRefused = 3
 status_of (GateShut plant) = 3
 status_of Stopped = 3

@@ -6,3 +6,4 @@ pub mod Lines
 pub mod Text
 pub mod Runs
 pub mod Laws
+pub mod FigureLaws

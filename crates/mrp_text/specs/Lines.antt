@@ -1,7 +1,7 @@
 -- The lines that faults are reported by.
 use Rattle.std.specs.Prelude.{ℕ, List, [], ◌∷◌, ◌++◌, decimal, codes, string_bytes, Option, Result, MatchResult}
 use Rattle.std.specs.Io.KnownBytes.{Appends}
-use Rattle.mrp_report.specs.Sending.{AppendsFront}
+use Rattle.mrp_sheet.specs.Sending.{AppendsFront}
 use Rattle.std.specs.List.{flat_map}
 use Rattle.mrp_cal.specs.declared.fault.CalFault.{CalFault}
 use Rattle.mrp_cal.specs.declared.fault.CalFault.TheVariants.{BadDate, DaysOutOfRange, PastEnd}
@@ -10,7 +10,7 @@ use Rattle.mrp_grammar.specs.declared.fault.TableFaultKind.{TableFaultKind}
 use Rattle.mrp_grammar.specs.declared.fault.TableFaultKind.TheVariants as kind
 use Rattle.mrp_text.specs.declared.fault.PairName.{PairName}
 use Rattle.mrp_text.specs.declared.fault.TextFault.{TextFault}
-use Rattle.mrp_text.specs.declared.fault.TextFault.TheVariants.{Table, Loop, SupplyTooLarge, NeedTooLarge, NoPair, NoPeriod}
+use Rattle.mrp_text.specs.declared.fault.TextFault.TheVariants.{Table, Loop, SupplyTooLarge, NeedTooLarge, NoPair, NoPeriod, NoPlant}
 use Rattle.mrp_text.specs.declared.fault.TextFault.TheVariants.{ThreadRefused, GateShut, Stopped, WriteFault, Memory}
 
 -- the whole text was sent, or else a front of it
@@ -89,3 +89,4 @@ fault_line (GateShut plant) = gate_line (string_bytes plant)
 fault_line Stopped = codes "mrp: Stopped\n"
 fault_line WriteFault = codes "mrp: WriteFault\n"
 fault_line Memory = codes "mrp: Memory\n"
+fault_line NoPlant = codes "mrp: no plant\n"

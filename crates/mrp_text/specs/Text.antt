@@ -1,7 +1,9 @@
 -- What the text functions write, and what their refusals say.
-use Rattle.std.specs.Prelude.{◌≡◌, ℕ, ◌<◌, ◌≤◌, ◌⊎◌, List, [], ◌∷◌, ◌++◌, Option, Some, option_map, slice_get, length, Result, Ok, Err, string_bytes}
+use Rattle.std.specs.Prelude.{◌≡◌, ℕ, ◌<◌, ◌≤◌, ◌⊎◌, List, [], ◌∷◌, ◌++◌, Option, Some, None, option_map, slice_get, length, Contains, Result, Ok, Err, string_bytes}
+use Rattle.std.specs.Borrow.{Bor}
 use Rattle.std.specs.Io.KnownBytes.{Appends, Keeps}
 use Rattle.csv.specs.Reading.{strip_bom}
+use Rattle.mrp_rows.specs.declared.numbers.PlantNo.{PlantNo}
 use Rattle.mrp_rows.specs.Table.{Table, IsTable, horizon}
 use Rattle.mrp_grammar.specs.Reading.{OfRecords, Reads, TellsRows}
 use Rattle.mrp_net.specs.Names.{IsNamed}
@@ -12,11 +14,14 @@ use Rattle.mrp_loops.specs.Sized.{IsSized}
 use Rattle.mrp_loops.specs.BoundFaults.{IsSupplyTooLarge, IsNeedTooLarge}
 use Rattle.mrp_choice.specs.declared.choice.Heading.{Heading}
 use Rattle.mrp_plan.specs.Peg.{peg_terms}
-use Rattle.mrp_report.specs.Sending.{AppendsFront, AppendsSome}
-use Rattle.mrp_report.specs.Headings.{header_row}
+use Rattle.mrp_sheet.specs.Sending.{AppendsFront, AppendsSome}
+use Rattle.mrp_sheet.specs.Headings.{header_row}
 use Rattle.mrp_report.specs.Lanes.{lane_text}
 use Rattle.mrp_report.specs.Orders.{order_text}
 use Rattle.mrp_report.specs.Report.{plan_text, late_text, peg_text, code_text}
+use Rattle.mrp_report.specs.Pegs.{pegs_text}
+use Rattle.mrp_schedule.specs.Rows.{schedule_text}
+use Rattle.mrp_advice.specs.Rows.{advice_text}
 use Rattle.mrp_world.specs.Figures.{last_figures}
 use Rattle.mrp_text.specs.declared.fault.PairName.{PairName}
 use Rattle.mrp_text.specs.declared.fault.TextFault.{TextFault}
@@ -70,6 +75,34 @@ IsCumReport N text = IsPlannable N × (text ≡ lane_text N (last_figures N))
 -- columns above them where they are asked for
 abbrev pub IsOrderReport : Option ℕ → Heading → Table → List ℕ → Type 0
 IsOrderReport until heading N text = IsPlannable N × (text ≡ order_text heading until N (plan_of N))
+
+-- the schedule rows of the network, of the lanes from one supplier and to one customer where these are chosen
+abbrev pub AreSchedules : Option PlantNo → Option PlantNo → Heading → Table → List ℕ → Type 0
+AreSchedules from to heading N text = IsPlannable N × (text ≡ schedule_text heading from to N)
+
+-- the name that is given, if one is
+abbrev pub name_of : Option (Bor (List ℕ)) → Option (List ℕ)
+name_of = option_map (λ name. name.now)
+
+-- the plant of this name, where one is given
+abbrev pub IsChosenPlant : Table → Option (List ℕ) → Option PlantNo → Type 0
+IsChosenPlant N None None = Unit {0}
+IsChosenPlant N (Some name) (Some plant) = slice_get N.plants plant.0 ≡ Some name
+IsChosenPlant N _ _ = ⊥
+
+-- so, where the plants are chosen by these names
+abbrev pub IsScheduleReport : Option (List ℕ) → Option (List ℕ) → Heading → Table → List ℕ → Type 0
+IsScheduleReport from to heading N text =
+    (supplier : Option PlantNo) × (customer : Option PlantNo) × IsChosenPlant N from supplier × IsChosenPlant N to customer
+    × AreSchedules supplier customer heading N text
+
+-- the pegs rows of the plan of the network
+abbrev pub IsPegsReport : Table → List ℕ → Type 0
+IsPegsReport N text = IsPlannable N × (text ≡ pegs_text N (plan_of N))
+
+-- the advice rows of the plan of the network, with the names of their columns above them where they are asked for
+abbrev pub IsAdviceReport : Heading → Table → List ℕ → Type 0
+IsAdviceReport heading N text = IsPlannable N × (text ≡ advice_text heading N (plan_of N))
 
 -- rows of a report, with the names of its columns above them where they are asked for
 abbrev pub IsHeaded : Heading → List (List ℕ) → (List ℕ → Type 0) → List ℕ → Type 0
@@ -167,6 +200,16 @@ abbrev pub IsPegRefusal : List ℕ → List ℕ → ℕ → Table → TextFault 
 IsPegRefusal plant item period N fault.NoPair = IsPlannable N × ((x : ℕ) → ¬ (IsNamed N x plant item))
 IsPegRefusal plant item period N fault.NoPeriod = IsPlannable N × ((x : ℕ) × IsNamed N x plant item × (horizon N ≤ period))
 IsPegRefusal plant item period N fault = IsRefusal N fault
+
+-- a name is given, and no plant has it
+abbrev pub IsUnknownPlant : Table → Option (List ℕ) → Type 0
+IsUnknownPlant N None = ⊥
+IsUnknownPlant N (Some name) = ¬ Contains N.plants name
+
+-- the same of a question about plants: one of the names that are given is no plant's
+abbrev pub IsScheduleRefusal : Option (List ℕ) → Option (List ℕ) → Table → TextFault → Type 0
+IsScheduleRefusal from to N fault.NoPlant = IsPlannable N × (IsUnknownPlant N from ⊎ IsUnknownPlant N to)
+IsScheduleRefusal from to N fault = IsRefusal N fault
 
 -- what a refusal of the table says: it is the first fault of the rows
 abbrev pub IsTableRefusal : Option (List ℕ) → TextFault → Type 0

@@ -7,7 +7,8 @@ ghost use Rattle.mrp_text.specs.Text.{Writes, WritesRows, OfTable, IsPlanRows, I
 
 use crate::fault::{TextFault, status};
 use crate::text::{
-    drive_text, headed_check_text, headed_cums_text, headed_peg_text, orders_text, plan_text,
+    advice_text, drive_text, headed_check_text, headed_cums_text, headed_peg_text, orders_text,
+    pegs_text, plan_text, schedule_text,
 };
 use mrp_choice::Choice;
 use mrp_run::{NoGate, Settings};
@@ -20,9 +21,8 @@ use std::thread::Threads;
 ///
 /// # Errors
 ///
-/// As [`TextFault`] says. Nothing is written after a fault of the input; of the codes, the terms, the
-/// figures and the orders nothing after every fault but [`TextFault::WriteFault`]. A plan that isn't asked for on a single
-/// thread may wait.
+/// As [`TextFault`] says. Nothing is written after a fault of the input; of every report but the plan nothing
+/// after every fault but [`TextFault::WriteFault`]. A plan that isn't asked for on a single thread may wait.
 pub fn answer<T: Threads + Wait + Sync, R: Read + Drop, W: Write>(
     rt: &T,
     alloc: Global,
@@ -62,6 +62,11 @@ pub fn answer<T: Threads + Wait + Sync, R: Read + Drop, W: Write>(
         } => headed_peg_text(alloc, reader, writer, plant, item, period, heading),
         Choice::Cums { heading } => headed_cums_text(alloc, reader, writer, heading),
         Choice::Orders { until, heading } => orders_text(alloc, reader, writer, until, heading),
+        Choice::Schedule { from, to, heading } => {
+            schedule_text(alloc, reader, writer, from, to, heading)
+        }
+        Choice::Pegs { heading } => pegs_text(alloc, reader, writer, heading),
+        Choice::Advice { heading } => advice_text(alloc, reader, writer, heading),
     }
 }
 

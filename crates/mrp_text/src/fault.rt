@@ -58,6 +58,9 @@ pub enum TextFault {
     /// A growth was refused. Nothing is written, or of a plan all plan rows and no late order.
     #[error("out of memory")]
     Memory,
+    /// The table has no plant of a name that is given.
+    #[error("no such plant")]
+    NoPlant,
 }
 
 impl From<AllocError> for TextFault {
@@ -106,7 +109,8 @@ pub fn status(fault: &TextFault) -> u8
         | TextFault::SupplyTooLarge(_)
         | TextFault::NeedTooLarge(_)
         | TextFault::NoPair
-        | TextFault::NoPeriod => 1,
+        | TextFault::NoPeriod
+        | TextFault::NoPlant => 1,
         _ => 3,
     }
 }

@@ -1,6 +1,7 @@
 //! Laws of reports and refusals, each the contract of a function that does nothing.
 
 ghost use Rattle.mrp_text.specs.Laws.{BytesMakeOneTable, ReportsAreOne, ReportsExcludeRefusals};
+ghost use Rattle.mrp_text.specs.FigureLaws.{FiguresAreCalledFor};
 
 /// Bytes are those of one table at most.
 pub fn bytes_make_one_table()
@@ -8,7 +9,8 @@ pub fn bytes_make_one_table()
 {}
 
 /// Bytes have one report at most of each kind: one plan report, one code report, one cumulative report, one peg
-/// report of a pair in a period, and one order report up to a period.
+/// report of a pair in a period and one of the whole plan, one order report up to a period, one report of the
+/// schedules from and to plants, and one of messages for open orders.
 pub fn reports_are_one()
     ensures { ReportsAreOne }
 {}
@@ -17,4 +19,10 @@ pub fn reports_are_one()
 /// for but one of the machine, with status 3.
 pub fn reports_exclude_refusals()
     ensures { ReportsExcludeRefusals }
+{}
+
+/// The cumulative report and the delivery schedules of a table agree: on a schedule lane the figure that the
+/// cumulative report has as shipped is its opening figure and the pieces of all calls of the item's schedule.
+pub fn figures_are_called_for()
+    ensures { FiguresAreCalledFor }
 {}

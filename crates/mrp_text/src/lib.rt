@@ -6,10 +6,11 @@
 //! The planner as a library: a table from any reader, a report to any writer.
 //! [`plan_text`] writes the plan, each plant planned in a thread of its own, and [`drive_text`] the same
 //! plan on one thread; [`check_text`] writes the low-level codes, [`peg_text`] what a gross requirement
-//! consists of, [`cums_text`] the cumulative figures of the lanes between plants, and [`orders_text`] the
-//! planned orders; [`answer`] does the one of them that the words of a command line chose. A [`Heading`] says
-//! whether the names of the columns stand above the orders, and above the rows of [`headed_check_text`],
-//! [`headed_peg_text`] and [`headed_cums_text`].
+//! consists of, and [`pegs_text`] so of the whole plan, [`cums_text`] the cumulative figures of the lanes
+//! between plants, [`orders_text`] the planned orders, [`schedule_text`] the delivery schedules between plants,
+//! and [`advice_text`] which open orders to move; [`answer`] does the one of them that the words of a command
+//! line chose. A [`Heading`] says whether the names of the columns stand above the rows; of the codes, the
+//! terms and the figures they do by [`headed_check_text`], [`headed_peg_text`] and [`headed_cums_text`].
 //! Where a text was not written whole, a [`TextFault`] says why: [`write_fault`] writes the line that
 //! reports it, and [`status`] and [`exit_status`] are the statuses with which a program ends. [`ended`]
 //! does both after the work, [`after_help`] after help or the version, and [`unread`] where the arguments
@@ -32,12 +33,14 @@ mod writing;
 pub use answers::{answer, exit_status};
 pub use ending::{Ending, REFUSED, after_help, ended, unread};
 pub use fault::{PairName, TextFault, status};
-pub use laws::{bytes_make_one_table, reports_are_one, reports_exclude_refusals};
+pub use laws::{
+    bytes_make_one_table, figures_are_called_for, reports_are_one, reports_exclude_refusals,
+};
 pub use lines::write_fault;
 pub use mrp_choice::Heading;
 pub use mrp_report::ReportFault;
 pub use mrp_run::{Gate, NoGate, Settings};
 pub use text::{
-    check_text, cums_text, drive_text, headed_check_text, headed_cums_text, headed_peg_text,
-    orders_text, peg_text, plan_text,
+    advice_text, check_text, cums_text, drive_text, headed_check_text, headed_cums_text,
+    headed_peg_text, orders_text, peg_text, pegs_text, plan_text, schedule_text,
 };

@@ -2,7 +2,7 @@
 
 ghost use Rattle.std.specs.Prelude.{◌≡◌, IfErr};
 ghost use Rattle.std.specs.List.{flat_map};
-ghost use Rattle.mrp_report.specs.Sending.{AppendsSome};
+ghost use Rattle.mrp_sheet.specs.Sending.{AppendsSome};
 ghost use Rattle.mrp_text.specs.Lines.{fault_line, gate_line, SendsText, kind_word, calendar_word, loop_line, loop_word, pair_line, row_line, table_line};
 
 use crate::fault::{PairName, TextFault};
@@ -45,6 +45,7 @@ fn send_line<W: Write>(fault: &TextFault, writer: &mut W) -> Result<(), ReportFa
         TextFault::Stopped => send_words(b"mrp: Stopped\n", writer),
         TextFault::WriteFault => send_words(b"mrp: WriteFault\n", writer),
         TextFault::Memory => send_words(b"mrp: Memory\n", writer),
+        TextFault::NoPlant => send_words(b"mrp: no plant\n", writer),
     }
 }
 

@@ -11,14 +11,18 @@ ghost use Rattle.mrp_run.specs.Faults.{AllTurned, WasShut, WasSpent};
 ghost use Rattle.mrp_qty.specs.declared.limits.TheConstants.{MOST_TURNS};
 ghost use Rattle.mrp_text.specs.Fault.{IsBeforeWriting};
 ghost use Rattle.mrp_text.specs.Text.{Writes, WritesRows, OfTable, IsPlanReport, IsPlanRows, IsCodeReport};
-ghost use Rattle.mrp_report.specs.Headings.{code_names, lane_names, peg_names};
+ghost use Rattle.mrp_report.specs.Headings.{code_names, lane_names, peg_names, pegs_names};
 ghost use Rattle.mrp_text.specs.Text.{IsPegReport, IsCumReport, IsOrderReport, IsHeaded};
-ghost use Rattle.mrp_text.specs.Text.{IsRefusal, IsRunRefusal, IsPegRefusal, IsTextRefusal};
+ghost use Rattle.mrp_text.specs.Text.{IsAdviceReport, IsPegsReport, IsScheduleReport, name_of};
+ghost use Rattle.mrp_text.specs.Text.{IsRefusal, IsRunRefusal, IsPegRefusal, IsScheduleRefusal, IsTextRefusal};
 ghost use Rattle.mrp_choice.specs.declared.choice.TheConstants.{MOST_CAPACITY};
 
 use crate::fault::TextFault;
 use crate::network::network_of;
-use crate::writing::{write_codes, write_cums, write_orders, write_pegs, write_plan, write_run};
+use crate::writing::{
+    write_advice, write_all_pegs, write_codes, write_cums, write_orders, write_pegs, write_plan,
+    write_run, write_schedule,
+};
 use mrp_choice::{Heading, MOST_CAPACITY};
 use mrp_run::{Gate, Settings};
 use std::alloc::Global;
@@ -248,6 +252,86 @@ pub fn orders_text<R: Read + Drop, W: Write>(
 {
     let network = network_of(alloc, reader)?;
     let written = write_orders(alloc, &network, writer, until, heading);
+    drop(network);
+    written
+}
+
+/// Reads a table and writes the delivery schedules between its plants: for each item that a customer plant
+/// takes from a supplier plant what is in transit, then each delivery that is called for, with the cumulative
+/// figure in force, and where figures start anew the figure that is closed. Those from the plant named `from`
+/// alone, where it is given, and to the plant named `to`, with the names of the columns above them where
+/// `heading` says so.
+///
+/// The network is planned as a whole, as for orders: what a lane carries follows from the one plan.
+///
+/// # Errors
+///
+/// As [`TextFault`] says: [`TextFault::NoPlant`] where the table has no plant of a name that is given. After
+/// [`TextFault::WriteFault`] a front of the text is written, and nothing after every other fault.
+pub fn schedule_text<R: Read + Drop, W: Write>(
+    alloc: Global,
+    reader: R,
+    writer: &mut W,
+    from: Option<&str>,
+    to: Option<&str>,
+    heading: Heading,
+) -> Result<(), TextFault>
+    ensures text { Writes (W.contents writer.old) (W.contents writer.new) result
+        (λ text. OfTable (R.remaining reader) (λ N. IsScheduleReport (name_of from.entry) (name_of to.entry) heading N text)) }
+    ensures refusal { IfErr result (IsTextRefusal (R.remaining reader) (IsScheduleRefusal (name_of from.entry) (name_of to.entry))) }
+    ensures untouched { IfErr result (λ fault. fault ≢ TextFault.WriteFault → writer.new ≡ writer.old) }
+{
+    let network = network_of(alloc, reader)?;
+    let written = write_schedule(alloc, &network, writer, from, to, heading);
+    drop(network);
+    written
+}
+
+/// Reads a table and writes the pegging of its whole plan: what each gross requirement of each pair and
+/// period consists of, with the names of the columns above the rows where `heading` says so. The rows are
+/// built and sent by pieces; room for them is taken before the first.
+///
+/// # Errors
+///
+/// As [`TextFault`] says. After [`TextFault::WriteFault`] a front of the text is written, and nothing
+/// after every other fault.
+pub fn pegs_text<R: Read + Drop, W: Write>(
+    alloc: Global,
+    reader: R,
+    writer: &mut W,
+    heading: Heading,
+) -> Result<(), TextFault>
+    ensures text { Writes (W.contents writer.old) (W.contents writer.new) result
+        (λ text. OfTable (R.remaining reader) (λ N. IsHeaded heading pegs_names (IsPegsReport N) text)) }
+    ensures refusal { IfErr result (IsTextRefusal (R.remaining reader) IsRefusal) }
+    ensures untouched { IfErr result (λ fault. fault ≢ TextFault.WriteFault → writer.new ≡ writer.old) }
+{
+    let network = network_of(alloc, reader)?;
+    let written = write_all_pegs(alloc, &network, writer, heading);
+    drop(network);
+    written
+}
+
+/// Reads a table and writes which of its open orders, receipts and shipments, to expedite, to defer and to
+/// cancel, since they are needed in another period than they come in, with the names of the columns above the
+/// rows where `heading` says so.
+///
+/// # Errors
+///
+/// As [`TextFault`] says. After [`TextFault::WriteFault`] a front of the text is written, and nothing
+/// after every other fault.
+pub fn advice_text<R: Read + Drop, W: Write>(
+    alloc: Global,
+    reader: R,
+    writer: &mut W,
+    heading: Heading,
+) -> Result<(), TextFault>
+    ensures text { Writes (W.contents writer.old) (W.contents writer.new) result (λ text. OfTable (R.remaining reader) (λ N. IsAdviceReport heading N text)) }
+    ensures refusal { IfErr result (IsTextRefusal (R.remaining reader) IsRefusal) }
+    ensures untouched { IfErr result (λ fault. fault ≢ TextFault.WriteFault → writer.new ≡ writer.old) }
+{
+    let network = network_of(alloc, reader)?;
+    let written = write_advice(alloc, &network, writer, heading);
     drop(network);
     written
 }

@@ -1,7 +1,7 @@
 //! What a text function writes of a network: the plan, the codes, the pegs, the figures of the lanes, the
-//! planned orders.
+//! planned orders, the delivery schedules, and the messages for open orders.
 
-ghost use Rattle.std.specs.Prelude.{◌≡◌, ◌≢◌, ◌≤◌, ◌<◌, IfErr, OnOk, length};
+ghost use Rattle.std.specs.Prelude.{◌≡◌, ◌≢◌, ◌≤◌, ◌<◌, IfErr, IfOk, OnOk, length};
 ghost use Rattle.mrp_rows.specs.Table.{IsPair, horizon};
 ghost use Rattle.mrp_net.specs.Plan.{Fits};
 ghost use Rattle.mrp_loops.specs.Loop.{AreCodes};
@@ -9,21 +9,24 @@ ghost use Rattle.mrp_run.specs.Faults.{AllTurned, WasShut, WasSpent};
 ghost use Rattle.mrp_qty.specs.declared.limits.TheConstants.{MOST_TURNS};
 ghost use Rattle.mrp_text.specs.Fault.{IsBeforeWriting, IsLate};
 ghost use Rattle.mrp_text.specs.Text.{Writes, WritesRows, IsPlannable, IsPlanReport, IsPlanRows, IsCodeReport};
-ghost use Rattle.mrp_report.specs.Headings.{code_names, lane_names, peg_names};
+ghost use Rattle.mrp_report.specs.Headings.{code_names, lane_names, peg_names, pegs_names};
 ghost use Rattle.mrp_text.specs.Text.{IsPegReport, IsCumReport, IsPegs, IsOrderReport, IsHeaded};
-ghost use Rattle.mrp_text.specs.Text.{IsRefusal, IsRunRefusal, IsPegRefusal};
+ghost use Rattle.mrp_text.specs.Text.{AreSchedules, IsAdviceReport, IsChosenPlant, IsPegsReport, IsScheduleReport, IsUnknownPlant, name_of};
+ghost use Rattle.mrp_text.specs.Text.{IsRefusal, IsRunRefusal, IsPegRefusal, IsScheduleRefusal};
 ghost use Rattle.mrp_choice.specs.declared.choice.TheConstants.{MOST_CAPACITY};
 
 use crate::fault::TextFault;
 use crate::firm::{driven_figures, driven_plan};
 use crate::network::{levels_of, sized_of};
 use crate::run::run_plan;
+use mrp_advice::advice_rows;
 use mrp_choice::{Heading, MOST_CAPACITY};
 use mrp_loops::{Levels, SizedNet};
-use mrp_net::{Network, PairNo};
+use mrp_net::{Network, PairNo, PlantNo};
 use mrp_plan::{Plan, peg, plan_all};
-use mrp_report::{code_rows, lane_rows, late_rows, order_rows, peg_rows, plan_rows};
+use mrp_report::{code_rows, lane_rows, late_rows, order_rows, peg_rows, pegs_rows, plan_rows};
 use mrp_run::{Gate, Settings};
+use mrp_schedule::schedule_rows;
 use std::alloc::Global;
 use std::io::Write;
 use std::sync::Wait;
@@ -234,5 +237,125 @@ fn report_orders<W: Write>(
 {
     let plan = plan_all(alloc, net)?;
     order_rows(alloc, net, &plan, until, heading, writer)?;
+    Ok(())
+}
+
+/// Writes the schedule rows of a network, of the lanes from one supplier and to one customer where these are
+/// named.
+pub(crate) fn write_schedule<W: Write>(
+    alloc: Global,
+    network: &Network,
+    writer: &mut W,
+    from: Option<&str>,
+    to: Option<&str>,
+    heading: Heading,
+) -> Result<(), TextFault>
+    ensures text { Writes (W.contents writer.old) (W.contents writer.new) result (IsScheduleReport (name_of from.entry) (name_of to.entry) heading network.now) }
+    ensures refusal { IfErr result (IsScheduleRefusal (name_of from.entry) (name_of to.entry) network.now) }
+    ensures untouched { IfErr result (λ fault. fault ≢ TextFault.WriteFault → writer.new ≡ writer.old) }
+{
+    let levels = levels_of(alloc, network)?;
+    let net = sized_of(alloc, network, &levels)?;
+    let supplier = plant_named(network, from)?;
+    let customer = plant_named(network, to)?;
+    report_schedule(alloc, &net, writer, supplier, customer, heading)
+}
+
+/// The plant of a name, where one is given.
+fn plant_named(network: &Network, name: Option<&str>) -> Result<Option<PlantNo>, TextFault>
+    ensures plant { IfOk result (IsChosenPlant network.now (name_of name.entry)) }
+    ensures unknown { IfErr result (λ fault. (fault ≡ TextFault.NoPlant) × IsUnknownPlant network.now (name_of name.entry)) }
+{
+    let Some(name) = name else {
+        return Ok(None);
+    };
+    match network.find_plant(name) {
+        Some(plant) => Ok(Some(plant)),
+        None => Err(TextFault::NoPlant),
+    }
+}
+
+/// Writes the schedule rows of a sized network.
+fn report_schedule<W: Write>(
+    alloc: Global,
+    net: &SizedNet<'_>,
+    writer: &mut W,
+    supplier: Option<PlantNo>,
+    customer: Option<PlantNo>,
+    heading: Heading,
+) -> Result<(), TextFault>
+    requires { IsPlannable net.now.network }
+    ensures text { Writes (W.contents writer.old) (W.contents writer.new) result (AreSchedules supplier customer heading net.now.network) }
+    ensures fault { IfErr result IsLate }
+    ensures untouched { IfErr result (λ fault. fault ≢ TextFault.WriteFault → writer.new ≡ writer.old) }
+{
+    let plan = plan_all(alloc, net)?;
+    schedule_rows(alloc, net, &plan, supplier, customer, heading, writer)?;
+    Ok(())
+}
+
+/// Writes the pegs rows of a network.
+pub(crate) fn write_all_pegs<W: Write>(
+    alloc: Global,
+    network: &Network,
+    writer: &mut W,
+    heading: Heading,
+) -> Result<(), TextFault>
+    ensures text { Writes (W.contents writer.old) (W.contents writer.new) result (IsHeaded heading pegs_names (IsPegsReport network.now)) }
+    ensures refusal { IfErr result (IsRefusal network.now) }
+    ensures untouched { IfErr result (λ fault. fault ≢ TextFault.WriteFault → writer.new ≡ writer.old) }
+{
+    let levels = levels_of(alloc, network)?;
+    let net = sized_of(alloc, network, &levels)?;
+    report_all_pegs(alloc, &net, writer, heading)
+}
+
+/// Writes the pegs rows of a sized network.
+fn report_all_pegs<W: Write>(
+    alloc: Global,
+    net: &SizedNet<'_>,
+    writer: &mut W,
+    heading: Heading,
+) -> Result<(), TextFault>
+    requires { IsPlannable net.now.network }
+    ensures text { Writes (W.contents writer.old) (W.contents writer.new) result (IsHeaded heading pegs_names (IsPegsReport net.now.network)) }
+    ensures fault { IfErr result IsLate }
+    ensures untouched { IfErr result (λ fault. fault ≢ TextFault.WriteFault → writer.new ≡ writer.old) }
+{
+    let plan = plan_all(alloc, net)?;
+    pegs_rows(alloc, net, &plan, heading, writer)?;
+    Ok(())
+}
+
+/// Writes the advice rows of a network.
+pub(crate) fn write_advice<W: Write>(
+    alloc: Global,
+    network: &Network,
+    writer: &mut W,
+    heading: Heading,
+) -> Result<(), TextFault>
+    ensures text { Writes (W.contents writer.old) (W.contents writer.new) result (IsAdviceReport heading network.now) }
+    ensures refusal { IfErr result (IsRefusal network.now) }
+    ensures untouched { IfErr result (λ fault. fault ≢ TextFault.WriteFault → writer.new ≡ writer.old) }
+{
+    let levels = levels_of(alloc, network)?;
+    let net = sized_of(alloc, network, &levels)?;
+    report_advice(alloc, &net, writer, heading)
+}
+
+/// Writes the advice rows of a sized network.
+fn report_advice<W: Write>(
+    alloc: Global,
+    net: &SizedNet<'_>,
+    writer: &mut W,
+    heading: Heading,
+) -> Result<(), TextFault>
+    requires { IsPlannable net.now.network }
+    ensures text { Writes (W.contents writer.old) (W.contents writer.new) result (IsAdviceReport heading net.now.network) }
+    ensures fault { IfErr result IsLate }
+    ensures untouched { IfErr result (λ fault. fault ≢ TextFault.WriteFault → writer.new ≡ writer.old) }
+{
+    let plan = plan_all(alloc, net)?;
+    advice_rows(alloc, net, &plan, heading, writer)?;
     Ok(())
 }

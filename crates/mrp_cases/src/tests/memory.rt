@@ -1,9 +1,14 @@
 //! Texts where memory is refused: what is written is the right text, or a front of it.
 
-use super::reports::{TWO_PLANTS_CUMS, TWO_PLANTS_ORDERS, TWO_PLANTS_PLAN};
+use super::reports::{
+    EARLY, EARLY_ADVICE, TWO_PLANTS_CUMS, TWO_PLANTS_ORDERS, TWO_PLANTS_PEGS, TWO_PLANTS_PLAN,
+    TWO_PLANTS_SCHEDULE,
+};
 use mrp_choice::Heading;
 use mrp_tables::TableFaultKind;
-use mrp_text::{TextFault, cums_text, drive_text, orders_text};
+use mrp_text::{
+    TextFault, advice_text, cums_text, drive_text, orders_text, pegs_text, schedule_text,
+};
 use mrp_worked::TWO_PLANTS;
 use std::alloc::Global;
 use std::test::Fail;
@@ -48,6 +53,55 @@ fn orders_or_is_refused(alloc: Global) -> Result<bool, Fail> {
         Heading::Names,
     );
     Ok(is_written_or_refused(&answer, orders.as_slice(), TWO_PLANTS_ORDERS))
+}
+
+/// Whether the schedules are written, or memory was refused.
+fn schedules_or_is_refused(alloc: Global) -> Result<bool, Fail> {
+    let mut schedules = Vec::with_capacity(alloc, ROOM)?;
+    let answer = schedule_text(
+        alloc,
+        TWO_PLANTS.as_bytes(),
+        &mut schedules,
+        Some("B"),
+        None,
+        Heading::Names,
+    );
+    Ok(is_written_or_refused(&answer, schedules.as_slice(), TWO_PLANTS_SCHEDULE))
+}
+
+/// Whether the pegs are written, or memory was refused.
+fn pegs_or_is_refused(alloc: Global) -> Result<bool, Fail> {
+    let mut pegs = Vec::with_capacity(alloc, ROOM)?;
+    let answer = pegs_text(alloc, TWO_PLANTS.as_bytes(), &mut pegs, Heading::Names);
+    Ok(is_written_or_refused(&answer, pegs.as_slice(), TWO_PLANTS_PEGS))
+}
+
+/// Whether the advice is written, or memory was refused.
+fn advice_or_is_refused(alloc: Global) -> Result<bool, Fail> {
+    let mut advice = Vec::with_capacity(alloc, ROOM)?;
+    let answer = advice_text(alloc, EARLY.as_bytes(), &mut advice, Heading::Names);
+    Ok(is_written_or_refused(&answer, advice.as_slice(), EARLY_ADVICE))
+}
+
+/// With an allocation refused its assertion holds, or the room of the writer is refused.
+#[test]
+fn schedules_where_memory_is_refused(rt: HostRuntime) -> Result<(), Fail> {
+    assert!(rt; schedules_or_is_refused(rt.alloc())?);
+    Ok(())
+}
+
+/// With an allocation refused its assertion holds, or the room of the writer is refused.
+#[test]
+fn pegs_where_memory_is_refused(rt: HostRuntime) -> Result<(), Fail> {
+    assert!(rt; pegs_or_is_refused(rt.alloc())?);
+    Ok(())
+}
+
+/// With an allocation refused its assertion holds, or the room of the writer is refused.
+#[test]
+fn advice_where_memory_is_refused(rt: HostRuntime) -> Result<(), Fail> {
+    assert!(rt; advice_or_is_refused(rt.alloc())?);
+    Ok(())
 }
 
 /// With an allocation refused its assertion holds, or the room of the writer is refused.

@@ -22,3 +22,25 @@ plan,A,X,1,2026-01-12,0,0,0,22,0\nplan,A,X,2,2026-01-19,30,8,22,0,0\n\
 plan,A,X,3,2026-01-26,0,0,0,0,0\nplan,B,X,0,2026-01-05,0,0,0,0,0\n\
 plan,B,X,1,2026-01-12,22,0,22,22,0\nplan,B,X,2,2026-01-19,0,0,0,0,0\n\
 plan,B,X,3,2026-01-26,0,0,0,0,0\n";
+
+/// The delivery schedule between them, below the names of the columns.
+pub(super) const TWO_PLANTS_SCHEDULE: &str =
+    "row,kind,supplier,customer,item,period,date,quantity,cumulative\n\
+schedule,opening,B,A,X,,,8,108\nschedule,call,B,A,X,1,2026-01-12,22,130\n";
+
+/// What each of their gross requirements consists of, below the names of the columns.
+pub(super) const TWO_PLANTS_PEGS: &str =
+    "row,plant,item,period,source,by_plant,by_item,release,per,quantity\n\
+pegs,A,X,2,demand,A,X,30,1,30\npegs,B,X,1,plant,A,X,22,1,22\n";
+
+/// Two receipts of which the first is needed later than it comes and the second never: with five on hand, nine
+/// are required in period 3.
+pub(super) const EARLY: &str =
+    "run,2026-01-05,7,4,,,,\nplant,P1,,,,,,\npair,P1,WHEEL,buy,lot,1,5,0\n\
+demand,P1,WHEEL,3,9,,,\nreceipt,P1,WHEEL,1,4,,,\nreceipt,P1,WHEEL,2,6,,,\n";
+
+/// What is advised of them, below the names of the columns.
+pub(super) const EARLY_ADVICE: &str =
+    "row,action,kind,plant,item,supplier,period,date,quantity,needed,needed_date\n\
+advice,defer,receipt,P1,WHEEL,,1,2026-01-12,4,3,2026-01-26\n\
+advice,cancel,receipt,P1,WHEEL,,2,2026-01-19,6,,\n";

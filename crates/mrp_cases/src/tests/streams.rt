@@ -4,7 +4,9 @@ ghost use Rattle.mrp_choice.specs.Range.{IsInRange};
 
 use super::is_report;
 use super::outcomes::outcome;
-use super::reports::{BICYCLE_PLAN, TWO_PLANTS_CUMS};
+use super::reports::{
+    BICYCLE_PLAN, EARLY, EARLY_ADVICE, TWO_PLANTS_CUMS, TWO_PLANTS_PEGS, TWO_PLANTS_SCHEDULE,
+};
 use mrp_choice::{Choice, Heading};
 use mrp_tables::TableFaultKind;
 use mrp_text::{TextFault, answer, check_text, drive_text, status};
@@ -239,6 +241,9 @@ enum Asked {
     Terms,
     Figures,
     Orders,
+    Schedules,
+    Pegs,
+    Advice,
 }
 
 /// The choice that asks for it.
@@ -272,6 +277,17 @@ fn choice_of(asked: Asked) -> Choice<'static>
             until: None,
             heading: Heading::Names,
         },
+        Asked::Schedules => Choice::Schedule {
+            from: None,
+            to: None,
+            heading: Heading::Names,
+        },
+        Asked::Pegs => Choice::Pegs {
+            heading: Heading::Names,
+        },
+        Asked::Advice => Choice::Advice {
+            heading: Heading::Names,
+        },
     }
 }
 
@@ -283,7 +299,7 @@ struct Written {
 }
 
 /// A report of each choice, of three writes at least.
-const REPORTS: [Written; 6] = [
+const REPORTS: [Written; 9] = [
     Written {
         asked: Asked::PlanByThreads,
         table: BICYCLE,
@@ -314,6 +330,21 @@ const REPORTS: [Written; 6] = [
         table: BICYCLE,
         report: "row,plant,item,supply,quantity,release,release_date,due,due_date,late\n\
 order,P1,BIKE,make,10,2,2026-01-19,3,2026-01-26,0\norder,P1,WHEEL,buy,20,1,2026-01-12,2,2026-01-19,0\n",
+    },
+    Written {
+        asked: Asked::Schedules,
+        table: TWO_PLANTS,
+        report: TWO_PLANTS_SCHEDULE,
+    },
+    Written {
+        asked: Asked::Pegs,
+        table: TWO_PLANTS,
+        report: TWO_PLANTS_PEGS,
+    },
+    Written {
+        asked: Asked::Advice,
+        table: EARLY,
+        report: EARLY_ADVICE,
     },
 ];
 

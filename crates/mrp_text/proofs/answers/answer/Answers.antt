@@ -1,5 +1,5 @@
 use Rattle.std.proofs.Common.{◌≡◌, false, rules}
-use Rattle.mrp_text.specs.Text.{IsPegRefusal, IsRefusal, IsRunRefusal}
+use Rattle.mrp_text.specs.Text.{IsPegRefusal, IsRefusal, IsRunRefusal, IsScheduleRefusal, name_of}
 use Rattle.mrp_text.proofs.GateFacts.{never_gate, open_answer, open_refuses}
 use Rattle.mrp_text.proofs.RowFacts.{rows-kept}
 use Rattle.mrp_text.proofs.answers.answer.Goals as goal
@@ -63,3 +63,30 @@ returns-in-Orders-clause-gate g c = never_gate _ IsRefusal c.orders_text.result 
 
 pub returns-in-Orders-clause-rows : goal.returns-in-Orders-clause-rows
 returns-in-Orders-clause-rows g c = rows-kept g.W.Write.contents _ _ c.orders_text.result _ c.orders_text.ensures.untouched
+
+pub returns-in-Schedule-clause-text : goal.returns-in-Schedule-clause-text
+returns-in-Schedule-clause-text g c = rw (c.in-Schedule.is) c.schedule_text.ensures.text
+
+pub returns-in-Schedule-clause-gate : goal.returns-in-Schedule-clause-gate
+returns-in-Schedule-clause-gate g c = never_gate _ (IsScheduleRefusal (name_of c.in-Schedule.from) (name_of c.in-Schedule.to)) c.schedule_text.result (λ N name said. said) c.schedule_text.ensures.refusal
+
+pub returns-in-Schedule-clause-rows : goal.returns-in-Schedule-clause-rows
+returns-in-Schedule-clause-rows g c = rows-kept g.W.Write.contents _ _ c.schedule_text.result _ c.schedule_text.ensures.untouched
+
+pub returns-in-Pegs-clause-text : goal.returns-in-Pegs-clause-text
+returns-in-Pegs-clause-text g c = rw (c.in-Pegs.is) c.pegs_text.ensures.text
+
+pub returns-in-Pegs-clause-gate : goal.returns-in-Pegs-clause-gate
+returns-in-Pegs-clause-gate g c = never_gate _ IsRefusal c.pegs_text.result (λ N name said. said) c.pegs_text.ensures.refusal
+
+pub returns-in-Pegs-clause-rows : goal.returns-in-Pegs-clause-rows
+returns-in-Pegs-clause-rows g c = rows-kept g.W.Write.contents _ _ c.pegs_text.result _ c.pegs_text.ensures.untouched
+
+pub returns-in-Advice-clause-text : goal.returns-in-Advice-clause-text
+returns-in-Advice-clause-text g c = rw (c.in-Advice.is) c.advice_text.ensures.text
+
+pub returns-in-Advice-clause-gate : goal.returns-in-Advice-clause-gate
+returns-in-Advice-clause-gate g c = never_gate _ IsRefusal c.advice_text.result (λ N name said. said) c.advice_text.ensures.refusal
+
+pub returns-in-Advice-clause-rows : goal.returns-in-Advice-clause-rows
+returns-in-Advice-clause-rows g c = rows-kept g.W.Write.contents _ _ c.advice_text.result _ c.advice_text.ensures.untouched

@@ -3,7 +3,7 @@ use Rattle.std.specs.Io.KnownBytes.{Appends}
 use Rattle.std.specs.IoError.{error_kind}
 use Rattle.std.specs.Prelude.{codes, OnErr, OnOk, Option, Result, Ok, Err}
 use Rattle.std.specs.declared.io.ErrorKind.TheVariants as cause
-use Rattle.mrp_report.specs.Sending.{AppendsFront}
+use Rattle.mrp_sheet.specs.Sending.{AppendsFront}
 use Rattle.mrp_text.specs.Lines.{SendsText}
 use Rattle.mrp_text.proofs.ending.unread.Goals as goal
 

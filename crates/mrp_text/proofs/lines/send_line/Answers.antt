@@ -23,3 +23,6 @@ returns-in-WriteFault g c = rw c.in-WriteFault.is c.send_words-in-WriteFault.ens
 
 pub returns-in-Memory : goal.returns-in-Memory
 returns-in-Memory g c = rw c.in-Memory.is c.send_words-in-Memory.ensures
+
+pub returns-in-NoPlant : goal.returns-in-NoPlant
+returns-in-NoPlant g c = rw c.in-NoPlant.is c.send_words-in-NoPlant.ensures

@@ -1,5 +1,5 @@
 use Rattle.mrp_text.specs.Lines.{loop_line}
-use Rattle.mrp_report.proofs.Fronts.{front-after, front-longer}
+use Rattle.mrp_sheet.proofs.Fronts.{front-after, front-longer}
 use Rattle.mrp_text.proofs.LineFacts.{sends-after}
 use Rattle.mrp_text.proofs.lines.send_loop_line.Goals as goal
 

@@ -2,7 +2,8 @@ use Rattle.std.proofs.Common.{◌++◌, List, Err, ap, refl, ◌∙◌}
 use Rattle.std.proofs.lemmas.Result.{err_from_is_err_and}
 use Rattle.mrp_lot.specs.One.{PlanRows}
 use Rattle.mrp_plan.specs.Peg.{peg_terms}
-use Rattle.mrp_report.specs.Headings.{header_row, peg_names}
+use Rattle.mrp_sheet.specs.Headings.{header_row}
+use Rattle.mrp_report.specs.Headings.{peg_names}
 use Rattle.mrp_report.specs.Report.{peg_text}
 use Rattle.mrp_text.specs.Text.{IsHeaded, IsPegs}
 use Rattle.mrp_text.proofs.TextFacts.{report-fails}
