@@ -6,7 +6,9 @@ import re
 import subprocess
 
 TOP = os.path.dirname(os.path.dirname(os.path.realpath(__file__)))
-COMMANDS = ("check", "plan", "plan --single", "peg A X 0", "cums", "orders")
+COMMANDS = ("check", "plan", "plan --single", "peg A X 0", "cums", "orders", "schedule --from none", "pegs", "advice")
+# The words that ask for the reports that are stored beside the tables of examples/, by the ends of their names.
+STORED = {"plan": "plan", "cums": "cums", **{it: f"{it} --header" for it in ("orders", "schedule", "pegs", "advice")}}
 # With how many workers a plant and records a mailbox a plan is made: the answer is the same.
 SETTINGS = ("", " --single", " --single --capacity 1", " --workers 1 --capacity 1", " --workers 1 --capacity 65536")
 SETTINGS += (" --workers 2 --capacity 1", " --workers 2 --capacity 65536", " --workers 64 --capacity 1", " --workers 64 --capacity 65536")
@@ -16,6 +18,11 @@ HEAD = "run,2026-01-05,7,4,,,,\nplant,A,,,,,,\nplant,B,,,,,,\npair,A,X,make,lot,
 
 class Different(AssertionError):
     """The program answers something else than the case says."""
+
+
+def examples():
+    """Returns the paths of the tables of examples/; the name of a report has a second point."""
+    return sorted(it for it in glob.glob(f"{TOP}/examples/*.csv") if os.path.basename(it).count(".") == 1)
 
 
 def answer(program, words, table):
@@ -44,10 +51,10 @@ def refused(program, table, line, commands=COMMANDS):
 
 
 def blocks(text):
-    """Returns title, table, and what follows it, of each case of a file."""
+    """Returns title, table, and what follows it, of each case of a file, without the remarks."""
     for block in re.split(r"^== ", text, flags=re.MULTILINE)[1:]:
         title, _, rest = block.rstrip("\n").partition("\n")
-        rows = rest.split("\n") if rest else []
+        rows = [it for it in rest.split("\n") if not it.startswith("#")] if rest else []
         at = next((at for at, it in enumerate(rows) if it.startswith(("$ ", "! "))), len(rows))
         yield title, "".join(f"{it}\n" for it in rows[:at]), rows[at:]
 
@@ -148,7 +155,7 @@ TWO_PLANTS = "run,2026-01-05,7,1,,,,\nplant,A,,,,,,\nplant,B,,,,,,\npair,A,X,fro
 
 
 def kinds_have_their_limits(program):
-    """So many rows of a kind are read, and one more is refused."""
+    """So many rows of a kind are read, and one more is refused; a million open orders make as many messages."""
     plants = "run,2026-01-05,7,4,,,,\n" + numbered(64, "plant,P", ",,,,,,")
     pairs = ONE_PLANT + numbered(20_000, "pair,A,X", ",make,lot,0,0,0")
     some = ONE_PLANT + numbered(1000, "pair,A,X", ",make,lot,0,0,0")
@@ -159,9 +166,11 @@ def kinds_have_their_limits(program):
         if answer(program, "check", most).startswith("1 mrp: row"):
             raise Different(f"{row - 1} rows are refused: {answer(program, 'check', most)}")
         refused(program, most + more, f"row {row}: TooMany", ("check",))
-    amounts = ("demand,A,X,0,1,,,\n", "receipt,A,X,0,1,,,\n", "ship,B,A,X,0,1,,\n")
-    for row in amounts:
+    amounts = {"demand,A,X,0,1,,,\n": "", "receipt,A,X,0,1,,,\n": "advice,cancel,receipt,A,X,,0,2026-01-05,1,,\n"}
+    amounts["ship,B,A,X,0,1,,\n"] = "advice,cancel,ship,A,X,B,0,2026-01-05,1,,\n"
+    for row, message in amounts.items():
         expect(program, "check", TWO_PLANTS + row * 1_000_000, "code,A,X,0\ncode,B,X,1\n")
+        expect(program, "advice", TWO_PLANTS + row * 1_000_000, message * 1_000_000)
         refused(program, TWO_PLANTS + row * 1_000_001, "row 1000006: TooMany", ("check",))
     expect(program, "check", TWO_PLANTS + "".join(it * 1_000_000 for it in amounts), "code,A,X,0\ncode,B,X,1\n")
 
@@ -175,10 +184,11 @@ def faults_are_named_in_large_tables(program):
 
 
 def a_part_goes_into_all_others(program):
-    """19,999 pairs are made of one part for their safety stocks: its code, and what it is asked for by."""
+    """19,999 pairs are made of one part for their safety stocks: its code, and what it is asked for by, alone and in the whole plan."""
     table = ONE_PLANT + numbered(19_999, "pair,A,X", ",make,lot,0,0,1") + "pair,A,F,buy,lot,0,0,0\n" + numbered(19_999, "bill,A,X", ",F,1,,,")
     expect(program, "check", table, numbered(19_999, "code,A,X", ",0") + "code,A,F,1\n")
     expect(program, "peg A F 0", table, numbered(19_999, "peg,bill,A,X", ",1,1,1"))
+    expect(program, "pegs", table, numbered(19_999, "pegs,A,F,0,bill,A,X", ",1,1,1"))
 
 
 def each_of_20000_pairs_has_a_late_order(program):
@@ -190,13 +200,19 @@ def each_of_20000_pairs_has_a_late_order(program):
 
 
 def plants_take_from_each_other(program):
-    """64 plants of which each takes an item from each other, and a chain of 64."""
+    """64 plants of which each takes an item from each other, for a safety stock of 1, and a chain of 64."""
     table = "run,2026-01-05,7,1,,,,\n" + numbered(64, "plant,P", ",,,,,,")
     for item, plant in itertools.product(range(64), range(64)):
         table += f"pair,P{plant},I{item},buy,lot,0,0,0\n" if plant == item else f"pair,P{plant},I{item},from:P{item},lot,0,0,1\n"
     figures = answer(program, "cums", table).splitlines()
     if len(figures) != 8_064 or any(not it.startswith("lane,") for it in figures):
         raise Different(f"{len(figures)} rows of figures")
+    calls = {(it, to): f"schedule,{{}},P{it},P{to},I{it},{{}}\n" for to, it in itertools.product(range(64), range(64)) if it != to}
+    both = {lane: row.format("opening", ",,0,0") + row.format("call", "0,2026-01-05,1,1") for lane, row in calls.items()}
+    expect(program, "schedule", table, "".join(both.values()))
+    expect(program, "schedule --from P7", table, "".join(rows for (it, _), rows in both.items() if it == 7))
+    expect(program, "schedule --to P63", table, "".join(rows for (_, to), rows in both.items() if to == 63))
+    expect(program, "schedule --from P63 --to P0", table, both[63, 0])
     chain = "run,2026-01-05,7,4,,,,\n" + numbered(64, "plant,P", ",,,,,,") + "".join(f"pair,P{it},X,from:P{it + 1},lot,0,0,0\n" for it in range(63))
     chain += "pair,P63,X,buy,lot,0,0,0\ndemand,P0,X,3,5,,,\n"
     for firm in (table, chain):
@@ -206,7 +222,7 @@ def plants_take_from_each_other(program):
 
 
 def long_names_make_long_reports(program):
-    """Two plants and 10,000 items of 20 characters: more than a million bytes of figures, and 5,000 that start anew."""
+    """Two plants and 10,000 items of 20 characters: more than a million bytes of figures and of schedules, and 5,000 that start anew."""
     sender, customer, item = "B" * 20, "A" * 20, "ITEM-OF-A-NAME-"
 
     def taken(count):
@@ -221,8 +237,31 @@ def long_names_make_long_reports(program):
     for table, count in ((taken(10_000), 10_000), (anew, 5_000)):
         wanted = figures(count, "despatch", sender, customer) + figures(count, "schedule", customer, sender)
         expect(program, "cums", table, wanted)
+    opened, closed = (f"schedule,{kind},{sender},{customer},{item}" for kind in ("opening", "reset"))
+    expect(program, "schedule", taken(10_000), numbered(10_000, opened, ",,,0,0"))
+    expect(program, "schedule", anew, "".join(f"{opened}{it},,,0,0\n{closed}{it},0,2026-01-05,,0\n" for it in range(5_000)))
     codes = numbered(10_000, f"code,{customer},{item}", ",0") + numbered(10_000, f"code,{sender},{item}", ",1")
     expect(program, "check", taken(10_000), codes)
+
+
+def pegs_are_those_of_each_pair_and_period(program):
+    """The pegging of the whole plan is what each question is answered, with the pair and the period before it."""
+    with open(f"{TOP}/examples/three_plants.csv", encoding="utf-8") as file:
+        table = file.read()
+    pairs = [it.split(",")[1:3] for it in table.splitlines() if it.startswith("pair,")]
+    asked = ((plant, item, t, answer(program, f"peg {plant} {item} {t}", table)) for plant, item in pairs for t in range(6))
+    expect(program, "pegs", table, "".join(f"pegs,{plant},{item},{t},{it[4:]}\n" for plant, item, t, rows in asked for it in rows.splitlines()))
+
+
+def each_of_20000_pairs_has_an_open_order(program):
+    """That nobody needs, and one pair has as many, which stand in the table from the last period to the first."""
+    pairs = numbered(20_000, "pair,A,F", ",buy,lot,1,0,0")
+    messages = numbered(20_000, "advice,cancel,receipt,A,F", ",,0,2026-01-05,1,,")
+    expect(program, "advice", ONE_PLANT + pairs + numbered(20_000, "receipt,A,F", ",0,1,,,"), messages)
+    falling = "".join(f"receipt,A,X,{t},{t + 1},,,\n" * 250 for t in reversed(range(80)))
+    table = f"run,2026-01-01,1,80,,,,\nplant,A,,,,,,\npair,A,X,buy,lot,0,0,0\ndemand,A,X,79,1000000000,,,\n{falling}"
+    days = [f"2026-01-{it:02}" for it in range(1, 32)] + [f"2026-02-{it:02}" for it in range(1, 29)] + [f"2026-03-{it:02}" for it in range(1, 22)]
+    expect(program, "advice", table, "".join(f"advice,defer,receipt,A,X,,{t},{days[t]},{t + 1},79,2026-03-21\n" * 250 for t in range(79)))
 
 
 MADE = (
@@ -238,6 +277,8 @@ MADE = (
     each_of_20000_pairs_has_a_late_order,
     plants_take_from_each_other,
     long_names_make_long_reports,
+    pegs_are_those_of_each_pair_and_period,
+    each_of_20000_pairs_has_an_open_order,
 )
 
 

@@ -4,7 +4,9 @@ It is written for shortness from the manual (docs/tables.md, docs/reports.md, do
 (docs/definitions.md): it plans the whole network at once, on one thread, and drives no lanes or records.
 """
 import re
+from bisect import bisect_right
 from datetime import date, timedelta
+from itertools import accumulate
 from typing import NamedTuple
 
 COLUMNS = {
@@ -36,6 +38,9 @@ HEADERS = {
     "peg": "row,source,plant,item,release,per,quantity",
     "cums": "row,kind,sender,receiver,item,opening,shipped,received,transit",
     "orders": "row,plant,item,supply,quantity,release,release_date,due,due_date,late",
+    "schedule": "row,kind,supplier,customer,item,period,date,quantity,cumulative",
+    "pegs": "row,plant,item,period,source,by_plant,by_item,release,per,quantity",
+    "advice": "row,action,kind,plant,item,supplier,period,date,quantity,needed,needed_date",
 }
 NAME = re.compile(r"[A-Za-z0-9._-]{1,20}")
 NUMBER = re.compile(r"0|[1-9][0-9]{0,15}")
@@ -157,8 +162,8 @@ class Firm:
 
     def __init__(self, table):
         self.periods, self.kind, self.counts, self.said = 0, None, {}, set()
-        self.plants, self.pairs, self.bills, self.cums, self.ships = [], {}, {}, {}, []
-        self.demand, self.incoming = {}, {}
+        self.plants, self.pairs, self.bills, self.cums, self.ships, self.resets = [], {}, {}, {}, [], {}
+        self.demand, self.incoming, self.open_orders = {}, {}, {}
         count = 0
         for count, fields in enumerate(rows(table), 1):
             fault = self.spelling_fault(fields) or self.fault([it.decode() for it in fields])
@@ -248,15 +253,22 @@ class Firm:
         elif kind == "pair":
             self.pairs[first, second] = Pair(count, third, sources_of(third), rule_of(more[0]), *map(int, more[1:4]))
             self.demand[first, second], self.incoming[first, second] = [0] * self.periods, [0] * self.periods
+            self.open_orders[first, second] = []
         elif kind == "bill":
             self.bills[first, second, third] = int(more[0])
-        elif kind in ("demand", "receipt"):
-            (self.demand if kind == "demand" else self.incoming)[first, second][int(third)] += int(more[0])
+        elif kind == "demand":
+            self.demand[first, second][int(third)] += int(more[0])
+        elif kind == "receipt":
+            self.incoming[first, second][int(third)] += int(more[0])
+            self.open_orders[first, second].append((int(third), kind, "", int(more[0])))
         elif kind == "ship":
             self.ships.append(((first, second, third), int(more[0]), int(more[1])))
             self.incoming[second, third][int(more[0])] += int(more[1])
+            self.open_orders[second, third].append((int(more[0]), kind, first, int(more[1])))
         elif kind == "cum":
             self.cums[first, second, third] = int(more[0])
+        elif kind == "reset":
+            self.resets[first, second, third] = int(more[0])
 
     def find_edges(self):
         """Finds the demanders of each pair, in table order."""
@@ -332,11 +344,15 @@ class Firm:
         lot = given[-1]
         return -(-max(net, *given[:-1], 0) // lot) * lot
 
+    def day(self, period):
+        """Returns the first day of a period."""
+        return self.first + timedelta(days=self.days * period)
+
     def plan_report(self):
         """Yields the fields of the plan rows and late rows."""
         for pair, plan in self.plans.items():
             for t, figures in enumerate(zip(*plan)):
-                yield "plan", *pair, t, self.first + timedelta(days=self.days * t), *figures
+                yield "plan", *pair, t, self.day(t), *figures
         for pair, plan in self.plans.items():
             for t, quantity in enumerate(plan.order[: self.pairs[pair].lead]):
                 if quantity:
@@ -344,13 +360,12 @@ class Firm:
 
     def order_report(self, until=103):
         """Yields the fields of the order rows: of each planned order receipt that is released in that period or before it."""
-        days = [self.first + timedelta(days=self.days * t) for t in range(self.periods)]
         for pair, plan in self.plans.items():
             row = self.pairs[pair]
             for due, quantity in enumerate(plan.order):
                 release = max(0, due - row.lead)
                 if quantity and release <= int(until):
-                    yield "order", *pair, row.supply, quantity, release, days[release], due, days[due], max(0, row.lead - due)
+                    yield "order", *pair, row.supply, quantity, release, self.day(release), due, self.day(due), max(0, row.lead - due)
 
     def code_report(self):
         for pair in self.pairs:
@@ -362,31 +377,88 @@ class Firm:
             raise Refused("mrp: no pair")
         if t >= self.periods:
             raise Refused("mrp: no period")
+        yield from (("peg", *it) for it in self.terms(pair, t))
+
+    def terms(self, pair, t):
+        """Returns what a gross requirement consists of, but for what is 0: the pair's own demand, and what its demanders ask."""
         own = self.demand[pair][t]
         terms = [("demand", *pair, own, 1, own)]
         for edge in self.demanders[pair]:
             released = edge.part(self.plans[edge.pair].release[t])
-            terms.append(("bill" if edge.pair[0] == plant else "plant", *edge.pair, released, edge.per, released * edge.per))
-        yield from (("peg", *it) for it in terms if it[-1])
+            terms.append(("bill" if edge.pair[0] == pair[0] else "plant", *edge.pair, released, edge.per, released * edge.per))
+        return [it for it in terms if it[-1]]
 
-    def lane_report(self):
-        """Yields the fields of the lane rows: a customer's suppliers in table order, and despatch before schedule."""
+    def pegs_report(self):
+        """Yields the fields of the pegs rows: what each gross requirement of the plan consists of."""
+        for pair in self.pairs:
+            for t in range(self.periods):
+                yield from (("pegs", *pair, t, *it) for it in self.terms(pair, t))
+
+    def lanes(self):
+        """Yields supplier, customer, and the items of each lane with what the lane has of each: a customer's suppliers in table order."""
         for customer in self.plants:
             taken = {item: row.sources for (plant, item), row in self.pairs.items() if plant == customer and row.sources}
             for supplier in self.plants:
-                items = {item: (low, high) for item, sources in taken.items() for plant, low, high in sources if plant == supplier}
-                for kind in ("despatch", "schedule"):
-                    for item, shares in items.items():
-                        yield self.lane_row(kind, supplier, customer, item, shares)
+                found = ((item, low, high) for item, sources in taken.items() for plant, low, high in sources if plant == supplier)
+                yield supplier, customer, {item: Edge((customer, item), 1, low, high) for item, low, high in found}
 
-    def lane_row(self, kind, supplier, customer, item, shares):
-        opening = self.cums.get((supplier, customer, item), 0)
-        shipped = opening + sum(it[2] for it in self.ships if it[0] == (supplier, customer, item))
-        if kind == "despatch":
-            return "lane", kind, supplier, customer, item, opening, shipped, shipped, 0
-        edge = Edge((customer, item), 1, *shares)
-        called = shipped + sum(edge.part(it) for it in self.plans[edge.pair].release)
-        return "lane", kind, customer, supplier, item, shipped, called, called, 0
+    def figures(self, lane, edge):
+        """Returns the cumulative figure of a lane's item, what is in transit, and what is called for in each period."""
+        transit = sum(quantity for ship, _, quantity in self.ships if ship == lane)
+        return self.cums.get(lane, 0), transit, [edge.part(it) for it in self.plans[edge.pair].release]
+
+    def lane_report(self):
+        """Yields the fields of the lane rows: despatch before schedule."""
+        for supplier, customer, items in self.lanes():
+            for kind in ("despatch", "schedule"):
+                for item, edge in items.items():
+                    opening, transit, calls = self.figures((supplier, customer, item), edge)
+                    shipped, called = opening + transit, opening + transit + sum(calls)
+                    if kind == "despatch":
+                        yield "lane", kind, supplier, customer, item, opening, shipped, shipped, 0
+                    else:
+                        yield "lane", kind, customer, supplier, item, shipped, called, called, 0
+
+    def schedule_report(self, supplier=None, customer=None):
+        """Yields the fields of the schedule rows, of all plants or of a supplier, a customer or both."""
+        if not {supplier, customer} <= {None, *self.plants}:
+            raise Refused("mrp: no plant")
+        for lane_supplier, lane_customer, items in self.lanes():
+            if supplier in (None, lane_supplier) and customer in (None, lane_customer):
+                for item, edge in items.items():
+                    lane = (lane_supplier, lane_customer, item)
+                    yield from (("schedule", kind, *lane, *it) for kind, *it in self.schedule_of(lane, edge))
+
+    def schedule_of(self, lane, edge):
+        """Returns the schedule of a lane's item: each row's kind, period, day, quantity and cumulative figure."""
+        opening, transit, calls = self.figures(lane, edge)
+        opening += transit
+        anew = self.resets.get(lane, self.periods)
+        closed = opening + sum(calls[:anew])
+        # (by period; where figures start anew, this stands before the call of its period)
+        found = [(anew, 0, "reset", "", closed)] if lane in self.resets else []
+        for t, quantity in enumerate(calls):
+            if quantity:
+                found.append((t, 1, "call", quantity, opening + sum(calls[: t + 1]) - closed * (t >= anew)))
+        return [("opening", "", "", transit, opening), *((kind, t, self.day(t), *it) for t, _, kind, *it in sorted(found))]
+
+    def advice_report(self):
+        """Yields the fields of the advice rows: an open order is needed where what comes before it no longer covers requirements and safety stock."""
+        for pair, plan in self.plans.items():
+            row, required = self.pairs[pair], [*accumulate(plan.gross)]
+            covered = row.on_hand - row.safety
+            # (receipts stand before shipments in the table)
+            for period, kind, supplier, quantity in sorted(self.open_orders[pair], key=lambda it: it[0]):
+                needed = bisect_right(required, covered)
+                covered += quantity
+                if needed != period:
+                    action = "cancel" if needed == self.periods else "expedite" if needed < period else "defer"
+                    when = ("", "") if action == "cancel" else (needed, self.day(needed))
+                    yield "advice", action, kind, *pair, supplier, period, self.day(period), quantity, *when
+
+
+REPORTS = {"plan": Firm.plan_report, "check": Firm.code_report, "peg": Firm.peg_report, "cums": Firm.lane_report, "orders": Firm.order_report}
+REPORTS |= {"schedule": Firm.schedule_report, "pegs": Firm.pegs_report, "advice": Firm.advice_report}
 
 
 class Oracle:
@@ -399,12 +471,11 @@ class Oracle:
             self.firm, self.refused = None, str(line)
 
     def answer(self, command, *asked, header=False):
-        """Returns the answer to a command: plan, check, peg with a pair and a period, cums, or orders with a period or none."""
+        """Returns the answer to a command; peg is asked with a pair and a period, orders with a period or none, schedule with a supplier and a customer or none."""
         if self.refused:
             return refusal(self.refused)
-        reports = {"plan": Firm.plan_report, "check": Firm.code_report, "peg": Firm.peg_report, "cums": Firm.lane_report, "orders": Firm.order_report}
         try:
-            fields = list(reports[command](self.firm, *asked))
+            fields = list(REPORTS[command](self.firm, *asked))
         except Refused as line:
             return refusal(str(line))
         lines = [*([HEADERS[command]] if header else []), *(",".join(map(str, it)) for it in fields)]

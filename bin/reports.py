@@ -1,5 +1,6 @@
 """The reports of mrp as the tools for planners read them, and how these tools speak."""
 import argparse
+import mmap
 import os
 import re
 import shutil
@@ -13,6 +14,7 @@ TOOL = ("bin/" if os.path.basename(HERE) == "bin" else "") + os.path.basename(sy
 LABELS = ("Gross requirements", "Scheduled receipts", "Projected available", "Planned order receipts", "Planned order releases")
 WITH_DELAYS = "Available with delays"
 NAME, NUMBER, DATE = r"([A-Za-z0-9._-]{1,20})", r"(0|[1-9][0-9]{0,15})", r"([0-9]{4}-[0-9]{2}-[0-9]{2})"
+SUPPLY = r"(make|buy|from:[A-Za-z0-9._:-]{1,99})"
 
 
 def row(*fields):
@@ -23,6 +25,10 @@ def row(*fields):
 PLAN = row("plan", NAME, NAME, NUMBER, DATE, NUMBER, NUMBER, NUMBER, NUMBER, NUMBER)
 LATE = row("late", NAME, NAME, NUMBER, NUMBER, NUMBER)
 LANE = row("lane", "(despatch|schedule)", NAME, NAME, NAME, NUMBER, NUMBER, NUMBER, NUMBER)
+ORDER = row("order", NAME, NAME, SUPPLY, NUMBER, NUMBER, DATE, NUMBER, DATE, NUMBER)
+SCHEDULE = row("schedule", "(opening|call|reset)", NAME, NAME, NAME, f"{NUMBER}?", f"{DATE}?", f"{NUMBER}?", NUMBER)
+PEGS = row("pegs", NAME, NAME, NUMBER, "(demand|bill|plant)", NAME, NAME, NUMBER, NUMBER, NUMBER)
+ADVICE = row("advice", "(expedite|defer|cancel)", "(receipt|ship)", NAME, NAME, f"{NAME}?", NUMBER, DATE, NUMBER, f"{NUMBER}?", f"{DATE}?")
 
 
 class Refused(Exception):
@@ -77,6 +83,69 @@ class Lane(NamedTuple):
     transit: int
 
 
+class Order(NamedTuple):
+    """A planned order, with the periods of its release and its due date and their first days; `late` periods are missing."""
+
+    plant: str
+    item: str
+    supply: str
+    quantity: int
+    release: int
+    release_date: str
+    due: int
+    due_date: str
+    late: int
+
+
+class Schedule(NamedTuple):
+    """A row of a delivery schedule: its opening, a call, or a reset, which has no quantity. An opening has no period and no date."""
+
+    kind: str
+    supplier: str
+    customer: str
+    item: str
+    period: int
+    date: str
+    quantity: int
+    cumulative: int
+
+
+class Peg(NamedTuple):
+    """A term of the gross requirement of a pair in a period, and the pair that asks for it."""
+
+    plant: str
+    item: str
+    period: int
+    source: str
+    by_plant: str
+    by_item: str
+    release: int
+    per: int
+    quantity: int
+
+
+class Advice(NamedTuple):
+    """A message for an open order that comes in `period`. One to cancel isn't needed in any; a receipt has no supplier."""
+
+    action: str
+    kind: str
+    plant: str
+    item: str
+    supplier: str
+    period: int
+    date: str
+    quantity: int
+    needed: int
+    needed_date: str
+
+
+# The rows but those of a plan, by their first word.
+ROWS = {b"late": (LATE, Late), b"lane": (LANE, Lane), b"order": (ORDER, Order)}
+ROWS |= {b"schedule": (SCHEDULE, Schedule), b"pegs": (PEGS, Peg), b"advice": (ADVICE, Advice)}
+# The names of their columns, as --header writes them above a report.
+HEADERS = {",".join(("row", *kind._fields)).encode() for _, kind in ROWS.values() if kind is not Late}
+
+
 def fields(pattern, line, number):
     """Returns the fields of a row, as bytes."""
     found = pattern.fullmatch(line)
@@ -84,6 +153,13 @@ def fields(pattern, line, number):
         shown = line[:60].decode(errors="replace").rstrip()
         raise Refused(f"row {number} is no row of a report: {shown!r}")
     return found.groups()
+
+
+def named(line, number):
+    """Returns a row by the names of its columns. Numbers are int, and a field that the row hasn't is nothing."""
+    pattern, kind = ROWS.get(line.partition(b",")[0], (LATE, Late))
+    texts = zip(fields(pattern, line, number), kind.__annotations__.values())
+    return kind(*(None if text is None else of(text) if of is int else text.decode() for text, of in texts))
 
 
 def record_of(lines, number):
@@ -103,9 +179,9 @@ def day(dates, period):
 
 
 def parts(file, wanted=lambda plant, item: True):
-    """Yields the parts of a report in its order: a Record for each pair that is wanted, a pair of names for each other one, and each Late and Lane.
+    """Yields the parts of a report in its order: a Record for each pair that is wanted, a pair of names for each other one, and each other row.
 
-    The file gives bytes and is read once, a line at a time; rows of pairs that aren't wanted are passed over.
+    The file gives bytes and is read once, a line at a time; plan rows of pairs that aren't wanted, and rows of names, are passed over.
     """
     front, lines, number = None, [], 0
     for number, line in enumerate(file, 1):
@@ -124,27 +200,51 @@ def parts(file, wanted=lambda plant, item: True):
                 lines = [line]
             else:
                 yield plant, item
-        elif kind == b"late,":
-            plant, item, *figures = fields(LATE, line, number)
-            yield Late(plant.decode(), item.decode(), *map(int, figures))
-        else:
-            *names, opening, shipped, received, transit = fields(LANE, line, number)
-            yield Lane(*(it.decode() for it in names), *map(int, (opening, shipped, received, transit)))
+        elif line.rstrip() not in HEADERS:
+            yield named(line, number)
     if lines:
         yield record_of(lines, number)
     if not number:
         raise Refused("the report is empty")
 
 
-def places(file):
-    """Returns where in a report the rows of each pair begin, as a number of bytes."""
-    found, front, place = {}, None, 0
-    for number, line in enumerate(file, 1):
-        if not (front and line.startswith(front)) and line.startswith(b"plan,"):
-            plant, item = (it.decode() for it in fields(PLAN, line, number)[:2])
-            found[plant, item], front = place, f"plan,{plant},{item},".encode()
-        place += len(line)
-    return found
+class Sorted:
+    """A report in a file, without names of columns, in which pairs stand in the order of a table and of a pair rows by a rising number.
+
+    Rows are found by halving, so that a large report isn't read.
+    """
+
+    def __init__(self, path, number, places):
+        """Takes the name of the rising number, and the place of each pair in the table."""
+        self.number, self.places = number, places
+        with open(path, "rb") as file:
+            self.bytes = mmap.mmap(file.fileno(), 0, access=mmap.ACCESS_READ) if os.fstat(file.fileno()).st_size else b""
+
+    def row(self, place):
+        """Returns the row that begins at a byte, and where the next one begins."""
+        end = self.bytes.find(b"\n", place) + 1 or len(self.bytes)
+        return named(self.bytes[place:end], f"at byte {place}"), end
+
+    def key(self, row):
+        return self.places[row.plant, row.item], getattr(row, self.number)
+
+    def first(self, key):
+        """Returns where the first row stands whose key isn't below another."""
+        low, high = 0, len(self.bytes)
+        while low < high:
+            middle = self.bytes.rfind(b"\n", low, (low + high) // 2) + 1 or low
+            row, end = self.row(middle)
+            low, high = (end, high) if self.key(row) < key else (low, middle)
+        return low
+
+    def rows(self, pair, number=0, end=10**16):
+        """Yields the rows of a pair with that number up to another, which isn't among them."""
+        at, last = self.first((self.places[pair], number)), (self.places[pair], end)
+        while at < len(self.bytes):
+            row, at = self.row(at)
+            if self.key(row) >= last:
+                return
+            yield row
 
 
 class Words(argparse.ArgumentParser):

@@ -2,15 +2,17 @@
 _mrp() {
     local word=${COMP_WORDS[COMP_CWORD]} before=${COMP_WORDS[COMP_CWORD - 1]} words=
     case $before in
-        --workers | --capacity | --until) return ;;
+        --workers | --capacity | --until | --from | --to) return ;;
     esac
     if [ "$COMP_CWORD" -eq 1 ]; then
-        words="plan check peg cums orders --help --version"
+        words="plan check peg cums orders schedule pegs advice --help --version"
     elif [ "${COMP_WORDS[1]}" = plan ]; then
         words="--single --workers --capacity --help"
     elif [ "${COMP_WORDS[1]}" = orders ]; then
         words="--until --header --help"
-    elif [[ ${COMP_WORDS[1]} =~ ^(check|peg|cums)$ ]]; then
+    elif [ "${COMP_WORDS[1]}" = schedule ]; then
+        words="--from --to --header --help"
+    elif [[ ${COMP_WORDS[1]} =~ ^(check|peg|cums|pegs|advice)$ ]]; then
         words="--header --help"
     else
         words="--help"

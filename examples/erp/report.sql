@@ -1,24 +1,55 @@
--- Reads plan.csv and cums.csv, the reports of mrp plan and mrp cums, and shows them: sqlite3 firm.db < report.sql
--- All or nothing: where a report is missing, or plan.csv has no rows, the database is as it was, and the status is 1.
+-- Reads the reports of mrp and shows them: sqlite3 firm.db < report.sql
+-- plan.csv and cums.csv are those of mrp plan and mrp cums; orders.csv, schedule.csv, pegs.csv and advice.csv have the names of
+-- their columns above them (--header).
+-- All or nothing: where a report is missing, plan.csv has no rows, or another has no names, the database is as it was, and the
+-- status is 1.
 .bail on
 .mode csv
 BEGIN IMMEDIATE;
 DROP TABLE IF EXISTS plan_rows;
-DROP TABLE IF EXISTS late_rows;
 DROP TABLE IF EXISTS lane_rows;
+DROP TABLE IF EXISTS order_rows;
+DROP TABLE IF EXISTS schedule_rows;
+DROP TABLE IF EXISTS pegs_rows;
+DROP TABLE IF EXISTS advice_rows;
 CREATE TABLE plan_rows (kind TEXT, plant TEXT, item TEXT, period INTEGER, date TEXT,
     gross INTEGER, incoming INTEGER, "order" INTEGER, release INTEGER, available INTEGER);
-CREATE TABLE late_rows (kind TEXT, plant TEXT, item TEXT, period INTEGER, quantity INTEGER, "by" INTEGER);
 CREATE TABLE lane_rows (kind TEXT, lane TEXT, sender TEXT, receiver TEXT, item TEXT,
     opening INTEGER, shipped INTEGER, received INTEGER, transit INTEGER);
+CREATE TABLE order_rows ("row" TEXT, plant TEXT, item TEXT, supply TEXT, quantity INTEGER,
+    release INTEGER, release_date TEXT, due INTEGER, due_date TEXT, late INTEGER);
+CREATE TABLE schedule_rows ("row" TEXT, kind TEXT, supplier TEXT, customer TEXT, item TEXT,
+    period INTEGER, date TEXT, quantity INTEGER, cumulative INTEGER);
+CREATE TABLE pegs_rows ("row" TEXT, plant TEXT, item TEXT, period INTEGER, source TEXT, by_plant TEXT, by_item TEXT,
+    release INTEGER, per INTEGER, quantity INTEGER);
+CREATE TABLE advice_rows ("row" TEXT, action TEXT, kind TEXT, plant TEXT, item TEXT, supplier TEXT,
+    period INTEGER, date TEXT, quantity INTEGER, needed INTEGER, needed_date TEXT);
 .import "|grep '^plan,' plan.csv" plan_rows
-.import "|grep '^late,' plan.csv || true" late_rows
 .import cums.csv lane_rows
-CREATE INDEX late_orders ON late_rows (plant, item);
+.import orders.csv order_rows
+.import schedule.csv schedule_rows
+.import pegs.csv pegs_rows
+.import advice.csv advice_rows
+CREATE INDEX late_orders ON order_rows (plant, item) WHERE late > 0;
 
--- a plan without rows is none: this stops here
-CREATE TEMP TABLE found (plan_rows INTEGER CONSTRAINT "plan.csv has no rows" CHECK (plan_rows > 0));
-INSERT INTO found SELECT count(*) FROM plan_rows;
+-- a plan without rows is none, and so is another report without the names of its columns: this stops here
+CREATE TEMP TABLE found (
+    plan_rows INTEGER CONSTRAINT "plan.csv has no rows" CHECK (plan_rows > 0),
+    orders TEXT CONSTRAINT "orders.csv has no names of columns" CHECK (orders = 'supply'),
+    schedule TEXT CONSTRAINT "schedule.csv has no names of columns" CHECK (schedule = 'customer'),
+    pegs TEXT CONSTRAINT "pegs.csv has no names of columns" CHECK (pegs = 'by_plant'),
+    advice TEXT CONSTRAINT "advice.csv has no names of columns" CHECK (advice = 'action')
+);
+INSERT INTO found SELECT
+    (SELECT count(*) FROM plan_rows),
+    coalesce((SELECT supply FROM order_rows WHERE "row" = 'row'), ''),
+    coalesce((SELECT customer FROM schedule_rows WHERE "row" = 'row'), ''),
+    coalesce((SELECT by_plant FROM pegs_rows WHERE "row" = 'row'), ''),
+    coalesce((SELECT action FROM advice_rows WHERE "row" = 'row'), '');
+DELETE FROM order_rows WHERE "row" = 'row';
+DELETE FROM schedule_rows WHERE "row" = 'row';
+DELETE FROM pegs_rows WHERE "row" = 'row';
+DELETE FROM advice_rows WHERE "row" = 'row';
 
 -- the record of each pair, period by period; with delays a late order counts from when it comes
 DROP VIEW IF EXISTS record;
@@ -26,19 +57,28 @@ CREATE VIEW record AS
 SELECT plant, item, period, date AS first_day, gross AS gross_requirements, incoming AS scheduled_receipts, available AS projected_available,
     available - (
         SELECT coalesce(sum(quantity), 0)
-        FROM late_rows AS late_row
-        WHERE late_row.plant = plan_rows.plant AND late_row.item = plan_rows.item
-            AND plan_rows.period BETWEEN late_row.period AND late_row.period + late_row."by" - 1
+        FROM order_rows
+        WHERE order_rows.plant = plan_rows.plant AND order_rows.item = plan_rows.item AND late > 0
+            AND plan_rows.period BETWEEN due AND due + late - 1
     ) AS available_with_delays,
     "order" AS planned_order_receipts, release AS planned_order_releases
 FROM plan_rows;
 
+-- planned orders, and those to be released now
+DROP VIEW IF EXISTS planned_order;
+CREATE VIEW planned_order AS
+SELECT plant, item, supply, quantity, release AS release_period, release_date, due AS due_period, due_date, late AS periods_late
+FROM order_rows;
+DROP VIEW IF EXISTS to_release;
+CREATE VIEW to_release AS
+SELECT plant, item, supply, quantity, due_date, periods_late FROM planned_order WHERE release_period = 0;
+
 -- late orders: when they are due, and when they come if they are released now
 DROP VIEW IF EXISTS late;
 CREATE VIEW late AS
-SELECT late_rows.plant, late_rows.item, late_rows.period, date AS due, quantity, "by" AS periods_late, late_rows.period + "by" AS comes_in
-FROM late_rows
-JOIN plan_rows USING (plant, item, period);
+SELECT plant, item, due AS period, due_date AS due, quantity, late AS periods_late, due + late AS comes_in
+FROM order_rows
+WHERE late > 0;
 
 -- what each supplier has shipped, and has still to ship, of each item to each customer
 DROP VIEW IF EXISTS in_transit;
@@ -48,4 +88,20 @@ SELECT despatch.sender AS supplier, despatch.receiver AS customer, despatch.item
 FROM lane_rows AS despatch
 JOIN lane_rows AS schedule ON schedule.sender = despatch.receiver AND schedule.receiver = despatch.sender AND schedule.item = despatch.item
 WHERE despatch.lane = 'despatch' AND schedule.lane = 'schedule';
+
+-- what each supplier is to ship and when, with the cumulative figure in force; a reset closes a figure and has no quantity
+DROP VIEW IF EXISTS delivery_schedule;
+CREATE VIEW delivery_schedule AS
+SELECT supplier, customer, item, kind, nullif(date, '') AS leaves, nullif(quantity, '') AS quantity, cumulative
+FROM schedule_rows;
+
+-- what each gross requirement consists of; the largest table makes ten million rows, and who asks for none leaves them out
+DROP VIEW IF EXISTS pegging;
+CREATE VIEW pegging AS
+SELECT plant, item, period, source, by_plant, by_item, release, per, quantity FROM pegs_rows;
+
+-- open orders to expedite, to defer and to cancel; one to cancel isn't needed
+DROP VIEW IF EXISTS exception_message;
+CREATE VIEW exception_message AS
+SELECT action, kind, plant, item, nullif(supplier, '') AS supplier, quantity, date AS comes, nullif(needed_date, '') AS needed FROM advice_rows;
 COMMIT;
