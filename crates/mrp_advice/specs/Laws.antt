@@ -41,7 +41,7 @@ OrdersAreKept = (N : Table) → IsTable N → IsPermutation (all_orders N) (flat
 abbrev pub OrdersComeIn : Type 0
 OrdersComeIn = (N : Table) (x t : ℕ) → sum_by (λ o. o.quantity) (orders_in N x t) ≡ incoming N x t
 
--- the report of an accepted table is read back: what a spreadsheet shows of it is the fields that its rows are made of
+-- the report of an accepted table is read back: what csv reads of it by its defaults is the fields that its rows are made of
 abbrev pub AdviceIsReadBack : Type 0
 AdviceIsReadBack =
     (N : Table) → IsTable N → (heading : Heading) (table : List PlanRows) → IsReadAs (advice_text heading N table) (advice_sheet heading N table)

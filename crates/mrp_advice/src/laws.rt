@@ -23,8 +23,8 @@ pub fn open_orders_come_in()
     ensures sums { OrdersComeIn }
 {}
 
-/// A reader of comma-separated values finds in the report of an accepted table exactly the fields that its rows
-/// are made of, with the names of the columns first, where they are asked for.
+/// What csv reads by its defaults of the report of an accepted table is exactly the fields that its rows are made
+/// of, with the names of the columns first, where they are asked for, and none of them needs quotes.
 pub fn advice_is_read_back()
     ensures { AdviceIsReadBack }
 {}

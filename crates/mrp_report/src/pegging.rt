@@ -49,8 +49,8 @@ pub(crate) struct PegLine<'a> {
 /// # Errors
 ///
 /// - [`ReportFault::WriteFault`] where a write fails or takes nothing; a prefix of the report is
-///   written. The rows are sent piece by piece from one room. What builds and sends them has no
-///   allocator, so it is never out of memory.
+///   written. The rows are sent piece by piece from one room, which never grows (by construction; no
+///   clause says so).
 /// - [`ReportFault::Memory`] where the allocation of the room fails; nothing is written.
 pub fn pegs_rows<W: Write>(
     alloc: Global,

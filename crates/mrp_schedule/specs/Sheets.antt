@@ -25,7 +25,7 @@ lanes_sheet from to N = flat_map (λ lane. flat_map (item_sheet N lane) (lane_it
 abbrev pub schedule_sheet : Heading → Option PlantNo → Option PlantNo → Table → Sheet
 schedule_sheet heading from to N = header_sheet heading schedule_names ++ lanes_sheet from to N
 
--- the report of an accepted table is read back: what a spreadsheet shows of it is the fields that its rows are made of
+-- the report of an accepted table is read back: what csv reads of it by its defaults is the fields that its rows are made of
 abbrev pub SchedulesAreReadBack : Type 0
 SchedulesAreReadBack =
     (N : Table) → IsTable N → (heading : Heading) (from to : Option PlantNo)

@@ -3,8 +3,9 @@
 ghost use Rattle.mrp_schedule.specs.Laws.{TextsCarrySchedules, FiguresAddUp, CallsAreReleased};
 ghost use Rattle.mrp_schedule.specs.Sheets.{SchedulesAreReadBack};
 
-/// A schedule is what the lane carries: behind its opening stand exactly the lines and the reset of the item's
-/// records in every whole text of the lane, in whatever order the text has its items.
+/// A schedule is what the lane carries: behind its opening stand exactly the lines of the item's records in every
+/// whole text of the lane and its reset, with the period that the table says, in whatever order the text has its
+/// items.
 pub fn texts_carry_schedules()
     ensures { TextsCarrySchedules }
 {}

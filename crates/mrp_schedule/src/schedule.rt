@@ -17,14 +17,15 @@ use mrp_plan::Plan;
 use mrp_qty::{Memory, Qty};
 
 /// Appends the delivery schedule of an item of a schedule lane to a list: its opening, its calls by a plan that
-/// fits the network, in rising periods, and its reset before the first call that is counted anew.
+/// fits the network, in rising periods, and its reset before the first call that is counted anew, or behind
+/// all calls where there is none.
 ///
-/// A schedule has at most two lines more than there are periods, and where the list has room
-/// for so many none is asked for. No room of the list is given back.
+/// Where the list has room for two lines more than there are periods it is never refused. No room of the list
+/// is given back.
 ///
 /// # Errors
 ///
-/// [`Memory`] where the list has to grow and that is refused; it is as it was then.
+/// [`Memory`] where the list hasn't that room and growing is refused; it is as it was then.
 pub fn add_schedule(
     lines: &mut Vec<ScheduleLine>,
     net: &SizedNet,

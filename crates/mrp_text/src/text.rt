@@ -313,8 +313,8 @@ pub fn pegs_text<R: Read + Drop, W: Write>(
 }
 
 /// Reads a table and writes which of its open orders, receipts and shipments, to expedite, to defer and to
-/// cancel, since they are needed in another period than they come in, with the names of the columns above the
-/// rows where `heading` says so.
+/// cancel, since they are needed in another period than they come in, or in none of the plan, with the names of
+/// the columns above the rows where `heading` says so.
 ///
 /// # Errors
 ///
