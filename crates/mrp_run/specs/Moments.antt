@@ -34,8 +34,8 @@ pub record IsShown (N : Table) (agents : ℕ → AgentState) (sends takes : ℕ 
   pub planned : (p : ℕ) → p < length N.plants → (x : ℕ) → IsPairAt N p x
       → s.planned x ≡ is_planned (agents p).progress.planned (pair_place (agents p).view x)
 
--- whenever each plant is at work and the two ends of each lane are in order, some events have led to exactly what the
--- plants show
+-- wherever each plant is at work and the two ends of each lane are in order, some events lead to a state with exactly
+-- what the plants show
 abbrev pub MomentsAreReached : Type 0
 MomentsAreReached =
     (N : Table) → IsSized N → (agents : ℕ → AgentState) (sends takes : ℕ → List End)

@@ -36,7 +36,7 @@ abbrev pub IsRun : Table → List Carried → Type 0
 IsRun N lanes_of =
     (capacity : ℕ) → 1 ≤ capacity → (s : State) × IsReached N capacity s × IsFinished N s × HasLists lanes_of s
 
--- the plans are the plan of the network, each lane carried its whole text, and all of it is a run of the events
+-- the plans are the plan of the network, each lane carried its whole text, and the lists are those of a run of the events
 pub record IsOutcome (N : Table) (o : Outcome) : Type 0 where
   pub plans : o.plans.items ≡ plan_of N
   pub lanes : AreSettled N o.lanes.items

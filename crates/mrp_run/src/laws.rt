@@ -9,10 +9,9 @@ pub fn settled_lanes_are_counted()
     ensures { SettledLanesAreCounted }
 {}
 
-/// Whenever each plant of a network is at work and the two ends of each lane are in order, as the rule of its mailbox
-/// says, what the threads have done together is a list of events: from the opening state they lead to the state with
-/// exactly the lists of all ends and the pairs that the agents have planned. A moment lies between the steps of a
-/// plant; that all threads are at such moments at once is said nowhere.
+/// Wherever each plant of a network is at work and the two ends of each lane are in order, within a capacity, some
+/// events lead from the opening state to a state with exactly the lists of all ends and the pairs that the agents have
+/// planned. A moment lies between the steps of a plant; that all threads are at such moments at once is said nowhere.
 pub fn moments_are_reached()
     ensures { MomentsAreReached }
 {}

@@ -39,8 +39,9 @@ pub struct Outcome {
 ///
 /// The outcome is the one plan of the network, and what went over its lanes: when the two ends of a lane were
 /// joined, the list of all records that had been sent was a whole text of the lane, the list of those that had
-/// been taken was the same, nothing was left, and the figures are those of these lists. So it is for every number
-/// of workers and every capacity. That these ends are those which the threads of the plants used, and that a run
+/// been taken was the same, nothing was left, and the figures are those of these lists. For every capacity some
+/// events lead from the opening state to a finished state with these lists. So it is for every number of workers and
+/// every capacity. That these ends are those which the threads of the plants used, and that a run
 /// has a thread for each plant, as many workers and as much room as `settings` says, stands in no clause. The gate
 /// was open to the first turns of each plant, one or more. It isn't claimed that a run ends.
 ///
