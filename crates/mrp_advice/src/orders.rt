@@ -6,7 +6,7 @@ use mrp_rows::{PairNo, PlantNo};
 /// What kind of open order it is.
 #[derive(Clone, Copy, Debug)]
 pub enum OrderKind {
-    /// A scheduled receipt from outside the firm or from the pair's own shop.
+    /// A scheduled receipt of the table, whatever it comes from.
     Receipt,
     /// A shipment that is on its way from that plant of the firm.
     Ship(PlantNo),

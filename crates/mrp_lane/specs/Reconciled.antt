@@ -66,7 +66,7 @@ carried pass count left figures = record {
 }
 
 -- the number of the lane and the counts are those of the lists, which are legal beginnings; what was sent is what
--- was taken and then what is left, and so are its stamps, one for each record; the figures are the lists'
+-- was taken and then what is left, and so are its stamps, as many left as records; the figures are the lists'
 pub record IsCounted (number sends takes : ℕ) (c : Carried) : Type 0 where
   pub lane : number ≡ c.lane
   pub there : number < length (lanes c.network)

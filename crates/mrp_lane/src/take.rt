@@ -48,7 +48,7 @@ impl TakeEnd {
         self.lane
     }
 
-    /// Takes the first record out of the mailbox, or answers `None` where the queue under it finds none; nothing
+    /// Takes the next record out of the mailbox, or answers `None` where the queue under it finds none; nothing
     /// is changed then. That it was empty at one moment of the call is what the kit says of its queue, and no
     /// clause of this call. It allocates nothing (by construction; no clause says so).
     pub fn take<R: Wait>(&mut self, rt: &R) -> Option<Record>
@@ -65,7 +65,7 @@ impl TakeEnd {
     }
 }
 
-/// Pops the first record.
+/// Pops the next record.
 pub(crate) fn pop<R: Wait>(rt: &R, mailbox: &Mailbox, pass: &mut LanePass) -> Option<Record>
     requires pass { IsPassOf mailbox.now pass.old }
     requires takes { (view pass.old).takes ≡ true }

@@ -5,7 +5,7 @@ ghost use Rattle.mrp_run.specs.Steps.{IsAtWork, Keeps};
 use crate::plant::Plant;
 use std::sync::Wait;
 
-/// Books the first record of a lane that comes in, and answers whether there was one.
+/// Books the next record of a lane that comes in, and answers whether there was one.
 pub(crate) fn book_next<R: Wait>(rt: &R, plant: &mut Plant, k: usize) -> bool
     requires work { IsAtWork plant.old }
     requires lane { k < length plant.old.takes.items }

@@ -9,7 +9,12 @@ use csv::{QuoteStyle, Writer, WriterBuilder};
 use mrp_choice::Heading;
 use std::alloc::Global;
 
-/// Room for so many rows of at most so many bytes each.
+/// A writer that holds no rows, in whose room so many rows of at most so many bytes each fit (by construction;
+/// no clause says how much that is).
+///
+/// # Errors
+///
+/// [`ReportFault::Memory`] where the room is refused.
 pub fn room_for(alloc: Global, rows: usize, longest: usize) -> Result<Writer<Vec<u8>>, ReportFault>
     ensures empty { IfOk result (λ rows. written rows ≡ []) }
     ensures between { IfOk result IsBetweenRows }

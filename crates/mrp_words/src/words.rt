@@ -104,10 +104,11 @@ const ORDERS_EXAMPLE: &str = "Example: mrp orders --until 0 < bicycle.csv";
 const SCHEDULE: &str = "Write the delivery schedules between plants";
 
 const SCHEDULE_LONG: &str =
-    "Writes the delivery schedules, item by item, those alone from one supplier plant\n\
-or to one customer plant where these are given: what is in transit (opening),\n\
-then each delivery that is called for (call), and where figures start anew\n\
-(reset). CUMULATIVE is the figure in force, at a reset the one that it closes.\n\n  \
+    "Writes the delivery schedules, item by item: what is in transit (opening), then\n\
+each delivery that is called for (call), and where figures start anew (reset).\n\
+--from keeps the schedules of one supplier plant, --to those of one customer\n\
+plant, and both together those between the two. CUMULATIVE is the figure in\n\
+force, at a reset the one that it closes.\n\n  \
 schedule,KIND,SUPPLIER,CUSTOMER,ITEM,PERIOD,DATE,QUANTITY,CUMULATIVE";
 
 const SCHEDULE_EXAMPLE: &str = "Example: mrp schedule --from BRN --to HAM < firm.csv";
@@ -124,8 +125,8 @@ const ADVICE: &str = "Write which open orders to expedite, to defer and to cance
 
 const ADVICE_LONG: &str =
     "Writes the open orders, receipts and shipments, that are needed in another\n\
-period than they come in: ACTION is expedite, defer, or cancel where nothing\n\
-needs them. It changes no plan.\n\n  \
+period than they come in: ACTION is expedite, defer, or cancel, the last where\n\
+what is there and comes before is enough in all periods. It changes no plan.\n\n  \
 advice,ACTION,KIND,PLANT,ITEM,SUPPLIER,PERIOD,DATE,QUANTITY,NEEDED,NEEDED_DATE";
 
 const ADVICE_EXAMPLE: &str = "Example: mrp advice < firm.csv";
@@ -533,7 +534,7 @@ fn chosen<'a>(matches: &ArgMatches<'a>) -> Choice<'a>
     }
 }
 
-/// The choice of a report of orders.
+/// The choice of a report on the whole plan: its orders, schedules, pegs or advice.
 fn reporting<'a>(name: &str, values: &ArgMatches<'a>) -> Choice<'a>
     requires { IsWholeReport name.now (rows_of (found_of values.now)) }
     ensures range { IsInRange result }
