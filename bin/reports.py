@@ -1,4 +1,4 @@
-"""The reports of mrp as the tools for planners read them, and how these tools speak."""
+"""The reports of mrp as the tools for planners read them, and how all tools speak."""
 import argparse
 import mmap
 import os
@@ -9,8 +9,9 @@ from typing import NamedTuple
 
 HERE = os.path.dirname(os.path.realpath(__file__))
 TOP = os.path.dirname(HERE)
-# (bin/install puts the tools elsewhere, and links to them)
-TOOL = ("bin/" if os.path.basename(HERE) == "bin" else "") + os.path.basename(sys.argv[0])
+# (bin/install puts the tools for planners elsewhere, and links to them)
+FOLDER = os.path.basename(os.path.dirname(os.path.realpath(sys.argv[0])))
+TOOL = (f"{FOLDER}/" if FOLDER in ("bin", "tools") else "") + os.path.basename(sys.argv[0])
 LABELS = ("Gross requirements", "Scheduled receipts", "Projected available", "Planned order receipts", "Planned order releases")
 WITH_DELAYS = "Available with delays"
 NAME, NUMBER, DATE = r"([A-Za-z0-9._-]{1,20})", r"(0|[1-9][0-9]{0,15})", r"([0-9]{4}-[0-9]{2}-[0-9]{2})"

@@ -1,4 +1,4 @@
-"""Firms made from a source of chance, and damage to their tables: for bin/torture."""
+"""Firms made from a source of chance, and damage to their tables: for tools/torture."""
 
 NAMES = ("A", "B", "S", "NORTH", "south", "P-1", "-", "--help", ".", "_x", "007", "1E5", "plan", "a.b-c_d", "X" * 20, "Q2", "Y", "z9", "W", "from")
 QUANTITIES = (1, 2, 5, 7, 30, 99, 1000, 10**6)

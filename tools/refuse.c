@@ -1,4 +1,4 @@
-/* Refuses what a program asks of the machine, at a place. bin/torture builds it, and loads it before the program.
+/* Refuses what a program asks of the machine, at a place. tools/torture builds it, and loads it before the program.
 
    REFUSE is KIND FIRST LAST HOW PIECE. Of the requests of that kind (memory, read, write or thread) those from the FIRST
    to the LAST, counted from 1, are refused: HOW is fail, or interrupt (a read or write that is to be tried again), or

@@ -5,10 +5,13 @@ import re
 import shutil
 import signal
 import subprocess
+import sys
 import tempfile
 import threading
 
 TOP = os.path.dirname(os.path.dirname(os.path.realpath(__file__)))
+# (the tools beside this file speak as those of bin/ do, by its module reports, and import this one before it)
+sys.path.append(f"{TOP}/bin")
 PARTS = ("src", "specs", "proofs")
 RUNNING, STOPPED = set(), threading.Event()
 

@@ -1,4 +1,4 @@
-"""What mrp has to answer of a table, by a second planner: for bin/torture, which compares.
+"""What mrp has to answer of a table, by a second planner: for tools/torture, which compares.
 
 It is written for shortness from the manual (docs/tables.md, docs/reports.md, docs/faults.md) and the definitions
 (docs/definitions.md): it plans the whole network at once, on one thread, and drives no lanes or records.
