@@ -21,7 +21,8 @@ use Rattle.mrp_plant.specs.AgentStays.{agent_stays}
 use Rattle.mrp_plant.specs.Agents.{ShowsAgent}
 use Rattle.mrp_plant.specs.Moments.{Moment, IsAt, IsOut, IsIn, IsOwn, IsNext}
 use Rattle.mrp_mailbox.specs.Mailbox.{Held}
-use Rattle.mrp_world.specs.World.{nothing_held, box_at, AreSomewhere, Lead}
+use Rattle.mrp_world.specs.World.{nothing_held, box_at}
+use Rattle.mrp_world.specs.Moves.{AreSomewhere, Lead}
 use Rattle.mrp_world.proofs.Makes.{boxes_hold}
 use Rattle.mrp_world.proofs.Steps as step
 use Rattle.mrp_firm_cases.specs.Hands.{AreAlone, AreInRun, IsHanded}

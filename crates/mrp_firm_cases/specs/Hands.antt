@@ -6,7 +6,8 @@ use Rattle.mrp_events.specs.State.{State}
 use Rattle.mrp_agent.specs.State.{AgentState}
 use Rattle.mrp_plant.specs.Agents.{ShowsAgent}
 use Rattle.mrp_mailbox.specs.Mailbox.{Held}
-use Rattle.mrp_world.specs.World.{box_at, AreAt}
+use Rattle.mrp_world.specs.World.{box_at}
+use Rattle.mrp_world.specs.Moves.{AreAt}
 
 -- the agents of a network and these mailboxes show a state of its runs
 pub record AreInRun (N : Table) (agents : List AgentState) (boxes : List Held) : Type 0 where

@@ -12,7 +12,8 @@ use Rattle.mrp_events.proofs.Keeping.{opening_is_reached, reached_goes_on, runs_
 use Rattle.mrp_world.specs.Driving.{LeadOn}
 use Rattle.mrp_plant.specs.Moments.{Showing}
 use Rattle.mrp_mailbox.specs.Mailbox.{Held}
-use Rattle.mrp_world.specs.World.{PlantsShow, BoxesHold, AreAt, AreSomewhere, Lead, Acts, MayLead, AllRests, WorldState, WorldShows, IsWorld, Runs}
+use Rattle.mrp_world.specs.World.{PlantsShow, WorldState}
+use Rattle.mrp_world.specs.Moves.{BoxesHold, AreAt, AreSomewhere, Lead, Acts, MayLead, AllRests, WorldShows, IsWorld, Runs}
 use Rattle.mrp_world.proofs.Counts.{texts_are_few}
 use Rattle.mrp_world.proofs.Makes.{is_world}
 use Rattle.mrp_world.proofs.Worlds.{world}

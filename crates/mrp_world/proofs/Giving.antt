@@ -8,7 +8,7 @@ use Rattle.mrp_events.specs.State.{State, IsFinished}
 use Rattle.mrp_plant.specs.Gathering.{own_plans, HasPlannedAll}
 use Rattle.mrp_plant.specs.Moments.{Moment, Showing, IsAt}
 use Rattle.mrp_mailbox.specs.Mailbox.{Held}
-use Rattle.mrp_world.specs.World.{AreAt}
+use Rattle.mrp_world.specs.Moves.{AreAt}
 use Rattle.mrp_world.proofs.Makes.{each_more}
 use Rattle.mrp_world.proofs.Steps.{moment, plant_is_at}
 

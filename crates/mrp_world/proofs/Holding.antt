@@ -11,20 +11,29 @@ use Rattle.mrp_events.proofs.Ordering.{lanes_keep_order, closed_lanes_are_whole}
 use Rattle.mrp_local.specs.Local.{IsLocal}
 use Rattle.mrp_local.proofs.Planned.{local_plans_are_the_plan}
 use Rattle.mrp_plant.specs.Moments.{Showing}
-use Rattle.mrp_world.specs.Headline.{Keeping, OrderIsKept, NothingIsLost, ClosedLanesAreWhole, PlansAreThePlan, PlansAreLocal, IsComplete}
-use Rattle.mrp_world.specs.World.{PlantsShow, WorldState, WorldShows}
-use Rattle.mrp_world.proofs.Pieces.{shipped_is}
+use Rattle.mrp_world.specs.Headline.{Keeping, OrderIsKept, NothingIsLost, ClosedLanesAreWhole, PlansAreThePlan, IsComplete}
+use Rattle.mrp_world.specs.PlansLocal.{PlansAreLocal}
+use Rattle.mrp_world.specs.World.{PlantsShow, Shows, WorldState, box_at}
+use Rattle.mrp_world.specs.Moves.{WorldShows}
+use Rattle.mrp_events.proofs.Ordering as lost
 use Rattle.mrp_world.proofs.Steps.{owner_within}
 
-pub order_is_kept : {A : Type 0} (shows : Showing A) (w : WorldState A) (s : State) → WorldShows shows w s → OrderIsKept w s
-order_is_kept shows w s shown l within = lanes_keep_order w.network w.capacity s shown.parts.reached l within
+-- what a world shows with its room and its steps it shows
+pub it_shows : {A : Type 0} (shows : Showing A) (w : WorldState A) → ((s : State) × WorldShows shows w s) → (s : State) × Shows shows w s
+it_shows shows w some =
+    let at = some.1.parts in
+    (some.0, record { sized = at.sized; reached = at.reached; plants = at.shown; boxes = at.held.each })
 
-pub nothing_is_lost : {A : Type 0} (shows : Showing A) (w : WorldState A) (s : State) → WorldShows shows w s → NothingIsLost w s
-nothing_is_lost shows w s shown l within item there = shipped_is shows w.network w.capacity w.plants w.boxes s l item shown.parts within there
+pub order_is_kept : {A : Type 0} (shows : Showing A) (w : WorldState A) (s : State) → Shows shows w s → OrderIsKept w s
+order_is_kept shows w s shown l within = lanes_keep_order w.network w.capacity s shown.reached l within
 
-pub closed_are_whole : {A : Type 0} (shows : Showing A) (w : WorldState A) (s : State) → WorldShows shows w s → ClosedLanesAreWhole w s
+pub nothing_is_lost : {A : Type 0} (shows : Showing A) (w : WorldState A) (s : State) → Shows shows w s → NothingIsLost w s
+nothing_is_lost shows w s shown l within item there =
+    lost.nothing_is_lost w.network shown.sized.table w.capacity s shown.reached l within item there (box_at w.boxes l).records (shown.boxes l within)
+
+pub closed_are_whole : {A : Type 0} (shows : Showing A) (w : WorldState A) (s : State) → Shows shows w s → ClosedLanesAreWhole w s
 closed_are_whole shows w s shown l within closed =
-    let law = closed_lanes_are_whole w.network w.capacity s shown.parts.reached l within closed in record { whole = law.0; all = law.1 }
+    let law = closed_lanes_are_whole w.network w.capacity s shown.reached l within closed in record { whole = law.0; all = law.1 }
 
 -- ---- plans
 
@@ -43,28 +52,28 @@ at_plant {A} shows N plants s shown p known P says = elim ((slice_get_cases plan
 ]
 
 pub plans_are_local : {A : Type 0} (shows : Showing A) (kept : Keeping A) → KeepsLocally shows kept
-    → (w : WorldState A) (s : State) → WorldShows shows w s → PlansAreLocal kept w s
+    → (w : WorldState A) (s : State) → Shows shows w s → PlansAreLocal kept w s
 plans_are_local {A} shows kept keeps w s shown p known =
-    at_plant shows w.network w.plants s shown.parts.shown p known (λ (plant : A). IsLocal (plant_rows w.network p) s.taken s.planned (kept plant))
+    at_plant shows w.network w.plants s shown.plants p known (λ (plant : A). IsLocal (plant_rows w.network p) s.taken s.planned (kept plant))
     (λ plant here. keeps w.network p s plant here)
 
 pub plans_are_the_plan : {A : Type 0} (shows : Showing A) (kept : Keeping A) → KeepsLocally shows kept
-    → (w : WorldState A) (s : State) → WorldShows shows w s → PlansAreThePlan kept w s
+    → (w : WorldState A) (s : State) → Shows shows w s → PlansAreThePlan kept w s
 plans_are_the_plan {A} shows kept keeps w s shown x pair planned =
-    let sized = shown.parts.sized in
+    let sized = shown.sized in
     let p : ℕ = (pair_at w.network x).plant.0 in
-    at_plant shows w.network w.plants s shown.parts.shown p (owner_within w.network sized x pair)
+    at_plant shows w.network w.plants s shown.plants p (owner_within w.network sized x pair)
     (λ (plant : A). kept plant x ≡ rows_at (plan_of w.network) x)
     (λ plant here.
     local_plans_are_the_plan w.network sized.table sized.loop_free p s.taken s.planned (kept plant)
     (record {
-      legal = λ l within receiver. (lanes_keep_order w.network w.capacity s shown.parts.reached l within).taken;
+      legal = λ l within receiver. (lanes_keep_order w.network w.capacity s shown.reached l within).taken;
       local = keeps w.network p s plant here;
     })
     x (record { pair = pair; at_plant = refl }) planned)
 
 pub finished_is_complete : {A : Type 0} (shows : Showing A) (kept : Keeping A) → KeepsLocally shows kept
-    → (w : WorldState A) (s : State) → WorldShows shows w s → IsFinished w.network s → IsComplete kept w s
+    → (w : WorldState A) (s : State) → Shows shows w s → IsFinished w.network s → IsComplete kept w s
 finished_is_complete shows kept keeps w s shown finished = record {
   whole = λ l within. closed_are_whole shows w s shown l within (finished.closed l within);
   plans = λ x pair. plans_are_the_plan shows kept keeps w s shown x pair (finished.planned x pair);

@@ -11,7 +11,8 @@ use Rattle.mrp_events.proofs.Keeping.{opening_is_reached}
 use Rattle.mrp_events.specs.Loads.{steps}
 use Rattle.mrp_plant.specs.Moments.{Showing}
 use Rattle.mrp_mailbox.specs.Mailbox.{Held}
-use Rattle.mrp_world.specs.World.{nothing_held, PlantsShow, BoxesHold, WorldShows, IsWorld}
+use Rattle.mrp_world.specs.World.{nothing_held, PlantsShow}
+use Rattle.mrp_world.specs.Moves.{BoxesHold, WorldShows, IsWorld}
 
 or_less : (k n : ℕ) → (k < n) ⊎ (n ≤ k)
 or_less k n = grind arith

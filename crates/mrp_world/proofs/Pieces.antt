@@ -17,7 +17,8 @@ use Rattle.mrp_events.proofs.Small.{legal_cums_are_small}
 use Rattle.mrp_world.specs.Figures.{figure_at}
 use Rattle.mrp_plant.specs.Moments.{Moment, Showing, IsAt, IsIn, Receives}
 use Rattle.mrp_mailbox.specs.Mailbox.{Held}
-use Rattle.mrp_world.specs.World.{box_at, AreAt, AreSomewhere}
+use Rattle.mrp_world.specs.World.{box_at}
+use Rattle.mrp_world.specs.Moves.{AreAt, AreSomewhere}
 use Rattle.mrp_world.proofs.Steps.{moment, plant_is_at, box_is, may_receive, receiver_within}
 
 -- what has been shipped is what has been received and what waits

@@ -18,7 +18,8 @@ use Rattle.mrp_events.proofs.Keeping.{reached_goes_on}
 use Rattle.mrp_events.proofs.Small.{beginnings_are_no_longer}
 use Rattle.mrp_plant.specs.Moments.{Moment, Showing, IsAt, IsOut, IsIn, IsOwn, IsNext, Sends, Receives, Has, AgreeAt}
 use Rattle.mrp_mailbox.specs.Mailbox.{Held}
-use Rattle.mrp_world.specs.World.{nothing_held, box_at, PlantsShow, BoxesHold, AreAt, AreSomewhere, Lead, LeadNowhere}
+use Rattle.mrp_world.specs.World.{nothing_held, box_at, PlantsShow}
+use Rattle.mrp_world.specs.Moves.{BoxesHold, AreAt, AreSomewhere, Lead, LeadNowhere}
 
 -- ---- one value changed
 

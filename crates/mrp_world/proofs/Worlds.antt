@@ -14,7 +14,8 @@ use Rattle.mrp_events.proofs.Finishing.{no_schedule_sticks}
 use Rattle.mrp_plant.specs.Moments.{Moment, Showing, IsAt, IsOwn, Has}
 use Rattle.mrp_world.proofs.Steps.{moment, plant_is_at, owner_among, owner_known}
 use Rattle.mrp_mailbox.specs.Mailbox.{Held}
-use Rattle.mrp_world.specs.World.{AreAt, AreSomewhere, Lead, LeadNowhere, AllRests, MayLead, WorldState, WorldShows, IsWorld, Runs}
+use Rattle.mrp_world.specs.World.{WorldState}
+use Rattle.mrp_world.specs.Moves.{AreAt, AreSomewhere, Lead, LeadNowhere, AllRests, MayLead, WorldShows, IsWorld, Runs}
 
 abbrev pub world : {A : Type 0} → Table → ℕ → List A → List Held → ℕ → WorldState A
 world N capacity plants boxes left = record { network = N; capacity = capacity; plants = plants; boxes = boxes; left = left }

@@ -5,7 +5,7 @@ use Rattle.mrp_events.specs.declared.event.Event.{Event}
 use Rattle.mrp_events.specs.State.{State, Run}
 use Rattle.mrp_plant.specs.Moments.{Showing}
 use Rattle.mrp_mailbox.specs.Mailbox.{Held}
-use Rattle.mrp_world.specs.World.{AreAt}
+use Rattle.mrp_world.specs.Moves.{AreAt}
 
 -- from each state that they show the events lead to one that they show then
 pub record LeadOn {A : Type 0} (shows : Showing A) (N : Table) (plants : List A) (boxes : List Held)

@@ -6,13 +6,11 @@ use Rattle.mrp_rows.specs.Table.{IsPair}
 use Rattle.mrp_net.specs.Lanes.{lanes, lane_at, lane_items}
 use Rattle.mrp_net.specs.Plan.{rows_at, plan_of}
 use Rattle.mrp_net.specs.Sums.{pair_at}
-use Rattle.mrp_view.specs.View.{plant_rows}
 use Rattle.mrp_record.specs.Entries.{contents, is_closed, moved}
 use Rattle.mrp_record.specs.Text.{IsWhole}
 use Rattle.mrp_events.specs.Laws.{KeepsOrder, cum_on}
 use Rattle.mrp_events.specs.Loads.{loads}
 use Rattle.mrp_events.specs.State.{State}
-use Rattle.mrp_local.specs.Local.{IsLocal}
 use Rattle.mrp_world.specs.World.{WorldState, box_at}
 
 -- each lane has booked its sender's records in order and at most once, and nothing follows its closing record
@@ -43,17 +41,11 @@ Keeping A = A → ℕ → PlanRows
 abbrev pub KeepsThePlan : {A : Type 0} → Keeping A → WorldState A → ℕ → Type 0
 KeepsThePlan kept w x = IsSomeAnd (slice_get w.plants (pair_at w.network x).plant.0) (λ plant. kept plant x ≡ rows_at (plan_of w.network) x)
 
--- so it is of each pair that is planned, at every moment
+-- so it is of each pair that is planned
 abbrev pub PlansAreThePlan : {A : Type 0} → Keeping A → WorldState A → State → Type 0
 PlansAreThePlan kept w s = (x : ℕ) → IsPair w.network x → s.planned x ≡ true → KeepsThePlan kept w x
 
--- and each plant has made its plans from its own rows and from the records that have come to it
-abbrev pub PlansAreLocal : {A : Type 0} → Keeping A → WorldState A → State → Type 0
-PlansAreLocal kept w s =
-    (p : ℕ) → p < length w.network.plants
-    → IsSomeAnd (slice_get w.plants p) (λ plant. IsLocal (plant_rows w.network p) s.taken s.planned (kept plant))
-
--- in a finished state each lane has brought its whole text, and each pair has its plan, that of the one plan
+-- each lane has brought its whole text, and the plant of each pair keeps its rows of the one plan
 pub record IsComplete {A : Type 0} (kept : Keeping A) (w : WorldState A) (s : State) : Type 0 where
   pub whole : (l : ℕ) → l < length (lanes w.network) → HasBroughtAll w s l
   pub plans : (x : ℕ) → IsPair w.network x → KeepsThePlan kept w x

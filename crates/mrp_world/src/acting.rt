@@ -4,7 +4,7 @@ ghost use Rattle.mrp_rows.specs.Table.{IsPair};
 ghost use Rattle.mrp_net.specs.Lanes.{lanes};
 ghost use Rattle.mrp_events.specs.declared.event.Event.TheVariants.{Send, Receive, Plan};
 ghost use Rattle.mrp_mailbox.specs.Mailbox.{Held};
-ghost use Rattle.mrp_world.specs.World.{Acts, AreSomewhere, Lead, LeadNowhere};
+ghost use Rattle.mrp_world.specs.Moves.{Acts, AreSomewhere, Lead, LeadNowhere};
 
 use mrp_events::Event;
 use mrp_mailbox::Mailbox;

@@ -1,7 +1,7 @@
 //! Plants and mailboxes, driven until nothing moves.
 ghost use Rattle.std.specs.Prelude.{◌≡◌, true, false, List};
 ghost use Rattle.mrp_events.specs.declared.event.Event.{Event};
-ghost use Rattle.mrp_world.specs.World.{AreSomewhere, Lead, AllRests};
+ghost use Rattle.mrp_world.specs.Moves.{AreSomewhere, Lead, AllRests};
 ghost use Rattle.mrp_world.specs.Driving.{LeadOn};
 
 use crate::acting::act_on;

@@ -3,7 +3,7 @@ ghost use Rattle.std.specs.Prelude.{◌≡◌, ◌<◌, ◌++◌, ℕ, Contains,
 ghost use Rattle.mrp_net.specs.Lanes.{lanes, lane_at, lane_items};
 ghost use Rattle.mrp_events.specs.State.{State};
 ghost use Rattle.mrp_world.specs.Figures.{figure_at, figures_on, figures_of};
-ghost use Rattle.mrp_world.specs.World.{AreAt, AreSomewhere};
+ghost use Rattle.mrp_world.specs.Moves.{AreAt, AreSomewhere};
 
 use mrp_book::LaneFigure;
 use mrp_mailbox::Mailbox;

@@ -3,7 +3,7 @@ ghost use Rattle.std.specs.Prelude.{◌<◌, ℕ, IfOk, List, length};
 ghost use Rattle.mrp_events.specs.State.{State, IsFinished};
 ghost use Rattle.mrp_gather.specs.Given.{HaveGiven};
 ghost use Rattle.mrp_mailbox.specs.Mailbox.{Held};
-ghost use Rattle.mrp_world.specs.World.{AreAt};
+ghost use Rattle.mrp_world.specs.Moves.{AreAt};
 
 use mrp_net::Network;
 use mrp_netting::PairPlan;

@@ -2,29 +2,49 @@
 //! nothing.
 ghost use Rattle.mrp_events.specs.State.{State, IsFinished};
 ghost use Rattle.mrp_world.specs.Figures.{FiguresAreOfLanes, FinishedFiguresAreLast};
-ghost use Rattle.mrp_world.specs.Headline.{OrderIsKept, NothingIsLost, ClosedLanesAreWhole, PlansAreThePlan, PlansAreLocal, IsComplete};
-ghost use Rattle.mrp_world.specs.World.{WorldShows};
+ghost use Rattle.mrp_world.specs.Headline.{OrderIsKept, NothingIsLost, ClosedLanesAreWhole, PlansAreThePlan, IsComplete};
+ghost use Rattle.mrp_world.specs.Moves.{WorldShows};
+ghost use Rattle.mrp_world.specs.PlansLocal.{PlansAreLocal};
+ghost use Rattle.mrp_world.specs.World.{Shows};
 
 use crate::world::World;
 use mrp_plant::Plant;
 
-/// The headline. A network without loops and within the bound, any capacity, any list of events: a world, once
-/// there was memory to make it, always shows some state of the network's runs, and in each state that it shows
+/// The headline. Every world, of a network without loops and within the bound, with any capacity and after any list
+/// of events, shows some state of the network's runs. In each state that it shows
 ///
-/// - each lane has booked its sender's records in order, at most once, none after closing;
+/// - the receiver of each lane has booked its sender's records in order, at most once, none after closing;
 /// - cumulative shipped less cumulative received is the sum in the mailbox;
 /// - a lane whose closing record is booked has brought its whole text, each line once;
-/// - what a plant keeps as the plan of a planned pair are the pair's rows of the one plan of the whole network,
-///   and what its own rows, the records that have come to it and the plans of the pair's parents give;
+/// - what a plant keeps as the plan of a planned pair are the pair's rows of the one plan of the whole network;
 /// - where it is finished, every line of every lane was booked once, and every pair has its plan.
+///
+/// That a world can be made where memory is there, and that each enabled event moves it, is said by its calls
+/// ([`World::new`], [`World::apply`], [`World::run`], [`World::enabled`], [`World::drive`]).
 pub fn headline<P: Plant>(world: &World<P>)
-    ensures shows { (s : State) × WorldShows P.shows world.now s }
-    ensures order { (s : State) → WorldShows P.shows world.now s → OrderIsKept world.now s }
-    ensures figures { (s : State) → WorldShows P.shows world.now s → NothingIsLost world.now s }
-    ensures closed { (s : State) → WorldShows P.shows world.now s → ClosedLanesAreWhole world.now s }
-    ensures plans { (s : State) → WorldShows P.shows world.now s → PlansAreThePlan P.kept world.now s }
-    ensures local { (s : State) → WorldShows P.shows world.now s → PlansAreLocal P.kept world.now s }
-    ensures finished { (s : State) → WorldShows P.shows world.now s → IsFinished world.now.network s → IsComplete P.kept world.now s }
+    ensures shows { (s : State) × Shows P.shows world.now s }
+    ensures order { (s : State) → Shows P.shows world.now s → OrderIsKept world.now s }
+    ensures figures { (s : State) → Shows P.shows world.now s → NothingIsLost world.now s }
+    ensures closed { (s : State) → Shows P.shows world.now s → ClosedLanesAreWhole world.now s }
+    ensures plans { (s : State) → Shows P.shows world.now s → PlansAreThePlan P.kept world.now s }
+    ensures finished { (s : State) → Shows P.shows world.now s → IsFinished world.now.network s → IsComplete P.kept world.now s }
+{
+    let _left = world.steps_left();
+}
+
+/// What plants keep as plans they have made for themselves: in each state that a world shows, what a plant keeps
+/// as the plan of a planned pair is what its own rows, the records that have come to it and the plans of the pair's
+/// parents give.
+pub fn plans_are_local<P: Plant>(world: &World<P>)
+    ensures { (s : State) → Shows P.shows world.now s → PlansAreLocal P.kept world.now s }
+{
+    let _left = world.steps_left();
+}
+
+/// The state that a world shows is the one that its calls speak of: its mailboxes have room for all that they may
+/// ever hold, and the steps that are left are counted.
+pub fn steps_are_counted<P: Plant>(world: &World<P>)
+    ensures { (s : State) × WorldShows P.shows world.now s }
 {
     let _left = world.steps_left();
 }

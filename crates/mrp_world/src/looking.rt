@@ -3,7 +3,7 @@ ghost use Rattle.std.specs.Prelude.{◌≡◌, ℕ, ◌<◌, ◌≤◌, List, le
 ghost use Rattle.mrp_net.specs.Lanes.{lanes};
 ghost use Rattle.mrp_events.specs.declared.event.Event.TheVariants.{Plan};
 ghost use Rattle.mrp_mailbox.specs.Mailbox.{Held};
-ghost use Rattle.mrp_world.specs.World.{AreSomewhere, MayLead, LaneRests, PlantRests, AllRests};
+ghost use Rattle.mrp_world.specs.Moves.{AreSomewhere, MayLead, LaneRests, PlantRests, AllRests};
 
 use mrp_events::Event;
 use mrp_mailbox::Mailbox;

@@ -1,7 +1,8 @@
 //! How the plants and the mailboxes of a world are made.
 ghost use Rattle.std.specs.Prelude.{◌≡◌, ◌≤◌, IfOk};
 ghost use Rattle.mrp_events.specs.State.{opening_state};
-ghost use Rattle.mrp_world.specs.World.{PlantsShow, BoxesHold};
+ghost use Rattle.mrp_world.specs.World.{PlantsShow};
+ghost use Rattle.mrp_world.specs.Moves.{BoxesHold};
 
 use mrp_loops::SizedNet;
 use mrp_mailbox::Mailbox;

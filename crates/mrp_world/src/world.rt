@@ -42,7 +42,8 @@ pub struct World<'a, P: Plant> {
 
 impl<'a, P: Plant> Model for World<'a, P> {
     ghost use Rattle.std.specs.Prelude.{};
-    ghost use Rattle.mrp_world.specs.World.{WorldState, IsWorld};
+    ghost use Rattle.mrp_world.specs.World.{WorldState};
+    ghost use Rattle.mrp_world.specs.Moves.{IsWorld};
 
     ghost Value = { WorldState P };
 
@@ -66,7 +67,7 @@ impl<'a, P: Plant> World<'a, P> {
     ghost use Rattle.mrp_net.specs.Sums.{pair_at};
     ghost use Rattle.mrp_world.specs.Enabled.{CountsEnabled};
     ghost use Rattle.mrp_world.specs.Figures.{figures_of, last_figures, IsLaneFigure};
-    ghost use Rattle.mrp_world.specs.World.{Runs, WorldShows};
+    ghost use Rattle.mrp_world.specs.Moves.{Runs, WorldShows};
 
     /// A world before the first event.
     ///

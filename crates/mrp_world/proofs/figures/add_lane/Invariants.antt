@@ -1,7 +1,7 @@
 use Rattle.std.proofs.Common.{◌≡◌, ◌++◌, ℕ, map, take}
 use Rattle.mrp_events.specs.State.{State}
 use Rattle.mrp_world.specs.Figures.{figure_at}
-use Rattle.mrp_world.specs.World.{AreAt}
+use Rattle.mrp_world.specs.Moves.{AreAt}
 use Rattle.mrp_world.proofs.figures.add_lane.Given as goal
 
 -- the figures of the items so far are added

@@ -1,5 +1,5 @@
 use Rattle.std.proofs.Common.{arith}
-use Rattle.mrp_world.specs.World.{LaneRests}
+use Rattle.mrp_world.specs.Moves.{LaneRests}
 use Rattle.mrp_world.proofs.Looks as look
 use Rattle.mrp_world.proofs.looking.moving_among.Goals as goal
 

@@ -1,5 +1,5 @@
 use Rattle.std.proofs.Common.{ℕ, ◌<◌, ◌≤◌}
-use Rattle.mrp_world.specs.World.{LaneRests}
+use Rattle.mrp_world.specs.Moves.{LaneRests}
 use Rattle.mrp_world.proofs.looking.moving_among.Given as goal
 
 -- the lanes so far rest

@@ -1,5 +1,5 @@
 use Rattle.std.proofs.Common.{arith}
-use Rattle.mrp_world.specs.World.{PlantRests}
+use Rattle.mrp_world.specs.Moves.{PlantRests}
 use Rattle.mrp_world.proofs.Looks as look
 use Rattle.mrp_world.proofs.looking.ready_among.Goals as goal
 

@@ -1,5 +1,5 @@
 use Rattle.std.proofs.Common.{ℕ, ◌<◌, ◌≤◌}
-use Rattle.mrp_world.specs.World.{PlantRests}
+use Rattle.mrp_world.specs.Moves.{PlantRests}
 use Rattle.mrp_world.proofs.looking.ready_among.Given as goal
 
 -- the plants so far rest

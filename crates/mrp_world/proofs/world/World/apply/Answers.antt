@@ -1,5 +1,5 @@
 use Rattle.std.proofs.Common.{◌≡◌, ◌≤◌, sym, ap, subst, ◌∙◌, arith}
-use Rattle.mrp_world.specs.World.{IsWorld}
+use Rattle.mrp_world.specs.Moves.{IsWorld}
 use Rattle.std.proofs.lemmas.Bool.{true≢false}
 use Rattle.mrp_world.proofs.Looks as look
 use Rattle.mrp_world.proofs.Worlds as world

@@ -4,7 +4,7 @@ use Rattle.mrp_rows.specs.Table.{Table}
 use Rattle.mrp_events.specs.declared.event.Event.{Event}
 use Rattle.mrp_events.specs.Progress.{steps_left}
 use Rattle.mrp_world.specs.Enabled.{CountsEnabled}
-use Rattle.mrp_world.specs.World.{Runs}
+use Rattle.mrp_world.specs.Moves.{Runs}
 use Rattle.mrp_world.proofs.Enabling.{run_counts}
 use Rattle.mrp_world.proofs.Worlds as world
 use Rattle.mrp_world.proofs.world.World.run.Goals as goal

@@ -1,5 +1,5 @@
 use Rattle.std.proofs.Common.{◌≤◌, take}
-use Rattle.mrp_world.specs.World.{Runs}
+use Rattle.mrp_world.specs.Moves.{Runs}
 use Rattle.mrp_world.proofs.world.World.run.Given as goal
 
 -- the events so far have happened, and no more steps are left
