@@ -6,7 +6,8 @@ use Rattle.csv.specs.Reading.{strip_bom}
 use Rattle.mrp_lot.specs.One.{PlanRows}
 use Rattle.mrp_rows.specs.Table.{IsTable, Table}
 use Rattle.mrp_net.specs.Sums.{pair_at}
-use Rattle.mrp_sheet.specs.Dates.{date_at, dates_of}
+use Rattle.mrp_sheet.specs.Dates.{dates_of}
+use Rattle.mrp_sheet.specs.DateLists.{date_at}
 use Rattle.mrp_sheet.specs.Names.{item_of, pairs_of, plant_of}
 use Rattle.mrp_sheet.specs.Rows.{row}
 use Rattle.mrp_sheet.specs.Sheets.{IsPlain}

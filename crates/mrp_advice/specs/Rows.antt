@@ -4,7 +4,8 @@ use Rattle.std.specs.List.{flat_map}
 use Rattle.mrp_lot.specs.One.{PlanRows}
 use Rattle.mrp_rows.specs.Table.{Table}
 use Rattle.mrp_choice.specs.declared.choice.Heading.{Heading}
-use Rattle.mrp_sheet.specs.Dates.{date_at, dates_of}
+use Rattle.mrp_sheet.specs.Dates.{dates_of}
+use Rattle.mrp_sheet.specs.DateLists.{date_at}
 use Rattle.mrp_sheet.specs.Headings.{header_row}
 use Rattle.mrp_sheet.specs.Names.{item_of, pairs_of, plant_name, plant_of}
 use Rattle.mrp_sheet.specs.Rows.{row}

@@ -7,7 +7,7 @@ ghost use Rattle.mrp_net.specs.Plan.{Fits};
 ghost use Rattle.mrp_loops.specs.Sized.{IsSized};
 ghost use Rattle.mrp_sheet.specs.Dates.{dates_of};
 ghost use Rattle.mrp_sheet.specs.Headings.{header_row};
-ghost use Rattle.mrp_sheet.specs.Rows.{IsBetweenRows, written};
+ghost use Rattle.mrp_sheet.specs.Writing.{IsBetweenRows, written};
 ghost use Rattle.mrp_sheet.specs.Sending.{Sends};
 ghost use Rattle.mrp_advice.specs.Advice.{advice_for};
 ghost use Rattle.mrp_advice.specs.AdviceLines.{HasSender, IsAdvice, IsAdvised, IsLine, IsOpenOrder, line_row, line_text, message_text};

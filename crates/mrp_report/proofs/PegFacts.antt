@@ -15,7 +15,7 @@ use Rattle.mrp_sheet.specs.Names.{item_of, plant_of}
 use Rattle.mrp_sheet.specs.Rows.{row}
 use Rattle.mrp_report.specs.Pegs.{pegs_row, period_pegs_text}
 use Rattle.mrp_report.specs.PegParts.{edges_text, pegs_part, term_part, term_text}
-use Rattle.mrp_report.specs.Report.{source_word}
+use Rattle.mrp_report.specs.Terms.{source_word}
 
 -- the row of the parts is the row of the fields
 pub pegs_parts_row : (N : Table) (x t : ℕ) (term : PegTerm) → row (pegs_part (plant_of N x) (item_of N x) ∷ term_part N t term ∷ []) ≡ pegs_row N x t term

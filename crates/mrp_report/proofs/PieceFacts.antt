@@ -6,7 +6,8 @@ use Rattle.std.specs.Io.KnownBytes.{Appends}
 use Rattle.csv.proofs.WriteFacts.{appends-none}
 use Rattle.mrp_lot.specs.One.{PlanRows}
 use Rattle.mrp_rows.specs.Table.{Table}
-use Rattle.mrp_report.specs.Report.{pairs_text, plan_text}
+use Rattle.mrp_report.specs.Report.{plan_text}
+use Rattle.mrp_report.specs.Parts.{pairs_text}
 use Rattle.mrp_sheet.specs.Sending.{AppendsFront}
 use Rattle.mrp_sheet.proofs.Fronts.{front-after, front-longer, whole-after}
 

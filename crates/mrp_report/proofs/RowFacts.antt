@@ -7,7 +7,7 @@ use Rattle.mrp_lot.specs.declared.params.PairParams.{PairParams}
 use Rattle.mrp_rows.specs.Table.{Table, IsPair, horizon}
 use Rattle.mrp_net.specs.Sums.{params_at, row_of, incoming}
 use Rattle.mrp_net.specs.Plan.{Fits, gross, rows_at}
-use Rattle.mrp_report.specs.Report.{HasPeriods}
+use Rattle.mrp_report.specs.Parts.{HasPeriods}
 
 -- the rows of a pair's plan have the periods of its given rows
 one_has : (pair : PairParams) (incoming gross : List ℕ) (n : ℕ) → length incoming ≡ n → length gross ≡ n → HasPeriods (one pair incoming gross) n

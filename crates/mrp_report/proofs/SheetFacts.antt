@@ -21,15 +21,16 @@ use Rattle.mrp_plan.specs.declared.terms.PegTerm.{PegTerm}
 use Rattle.mrp_plan.specs.declared.terms.PegSource.{PegSource}
 use Rattle.mrp_plan.specs.declared.terms.PegSource.TheVariants.{Demand, Bill, Plant}
 use Rattle.mrp_book.specs.declared.figure.LaneFigure.{LaneFigure}
-use Rattle.mrp_report.specs.declared.plan.Period.{Period}
 use Rattle.mrp_sheet.specs.Dates.{dates_of}
 use Rattle.mrp_report.specs.Headings.{code_names, lane_names, order_names, peg_names, pegs_names}
 use Rattle.mrp_report.specs.Lanes.{figure_fields, figure_row, kind_word, lane_text}
 use Rattle.mrp_report.specs.Laws.{CodesAreReadBack, FiguresAreReadBack, LateOrdersAreReadBack, OrdersAreReadBack, PegsAreReadBack, PlanIsReadBack, PlanWithLateOrdersIsReadBack, TermsAreReadBack}
 use Rattle.mrp_report.specs.Orders.{order_fields, order_row, order_text, orders_text, pair_orders_text, supply_at}
 use Rattle.mrp_report.specs.Pegs.{pair_pegs_text, pegs_fields, pegs_row, pegs_text, period_pegs_text}
-use Rattle.mrp_report.specs.Report.{code_fields, code_row, code_text, late_fields, late_row, late_text, pair_text, peg_fields, peg_row, peg_text, period_at, plan_fields, plan_row, plan_text, source_word}
-use Rattle.mrp_sheet.specs.Dates.{date_at}
+use Rattle.mrp_report.specs.Report.{late_fields, late_text, pair_text, plan_fields, plan_text}
+use Rattle.mrp_report.specs.Codes.{code_fields, code_row, code_text}
+use Rattle.mrp_report.specs.Terms.{peg_fields, peg_row, peg_text, source_word}
+use Rattle.mrp_sheet.specs.DateLists.{date_at}
 use Rattle.mrp_sheet.specs.Names.{item_of, pairs_of, plant_of}
 use Rattle.mrp_sheet.specs.Rows.{row}
 use Rattle.mrp_sheet.specs.Sheets.{IsPlain}
@@ -41,21 +42,21 @@ use Rattle.mrp_sheet.proofs.ReadBack.{IsRow, all_each, all_map, row_each, rows_e
 
 -- ---- the plan
 
-plan_is_row : (plant item date : List ℕ) (period : Period) → IsPlain plant → IsPlain item → IsPlain date → IsRow (plan_fields plant item date period)
+plan_is_row : (plant item date : List ℕ) (rows : PlanRows) (t : ℕ) → IsPlain plant → IsPlain item → IsPlain date → IsRow (plan_fields plant item date rows t)
 unfolding row strip_bom
-plan_is_row plant item date period p i d = record {
+plan_is_row plant item date rows t p i d = record {
   plain =
-      let are : ArePlain (plan_fields plant item date period) =
-      more refl (more p (more i (number period.number (more d (number period.gross (number period.incoming
-      (number period.order (number period.release (number period.available none))))))))) in
+      let are : ArePlain (plan_fields plant item date rows t) =
+      more refl (more p (more i (number t (more d (number (slice_index rows.gross t) (number (slice_index rows.incoming t)
+      (number (slice_index rows.order t) (number (slice_index rows.release t) (number (slice_index rows.available t) none))))))))) in
       are.all;
   many = omega arith;
   front = λ rest. refl;
 }
 
 pair_is_sheet : (plant item : List ℕ) (dates : List (List ℕ)) (rows : PlanRows) → pair_text plant item dates rows ≡ flat_map row (pair_sheet plant item dates rows)
-unfolding pair_text plan_row
-pair_is_sheet plant item dates rows = row_each (λ t. plan_fields plant item (date_at dates t) (period_at rows t)) (range_with_len 0 (length dates))
+unfolding pair_text
+pair_is_sheet plant item dates rows = row_each (λ t. plan_fields plant item (date_at dates t) rows t) (range_with_len 0 (length dates))
 
 plan_is_sheet : (N : Table) (table : List PlanRows) → plan_text N table ≡ flat_map row (plan_sheet N table)
 unfolding plan_text
@@ -67,8 +68,8 @@ plan_is_sheet N table =
 plan_rows_are : (N : Table) → IsTable N → (table : List PlanRows) → All IsRow (plan_sheet N table)
 plan_rows_are N is table =
     all_each (λ x. pair_sheet (plant_of N x) (item_of N x) (dates_of N.calendar) (rows_at table x))
-    (λ x. all_map (λ t. plan_fields (plant_of N x) (item_of N x) (date_at (dates_of N.calendar) t) (period_at (rows_at table x) t))
-    (λ t. plan_is_row (plant_of N x) (item_of N x) (date_at (dates_of N.calendar) t) (period_at (rows_at table x) t)
+    (λ x. all_map (λ t. plan_fields (plant_of N x) (item_of N x) (date_at (dates_of N.calendar) t) (rows_at table x) t)
+    (λ t. plan_is_row (plant_of N x) (item_of N x) (date_at (dates_of N.calendar) t) (rows_at table x) t
     (plant_plain N is (pair_at N x).plant.0) (item_plain N is (pair_at N x).item.0) (dates_plain N.calendar t))
     (range_with_len 0 (length (dates_of N.calendar))))
     (pairs_of N)
@@ -86,14 +87,13 @@ late_is_row plant item late p i = record {
   front = λ rest. refl;
 }
 
-orders_are_sheet : (plant item : List ℕ) (late : List Late) → flat_map (late_row plant item) late ≡ flat_map row (map (late_fields plant item) late)
-unfolding late_row
+orders_are_sheet : (plant item : List ℕ) (late : List Late) → flat_map (λ l. row (late_fields plant item l)) late ≡ flat_map row (map (late_fields plant item) late)
 orders_are_sheet plant item late = row_each (late_fields plant item) late
 
 late_is_sheet : (N : Table) (table : List PlanRows) → late_text N table ≡ flat_map row (late_sheet N table)
 unfolding late_text
 late_is_sheet N table =
-    rows_each (λ x. flat_map (late_row (plant_of N x) (item_of N x)) (rows_at table x).late)
+    rows_each (λ x. flat_map (λ late. row (late_fields (plant_of N x) (item_of N x) late)) (rows_at table x).late)
     (λ x. map (late_fields (plant_of N x) (item_of N x)) (rows_at table x).late)
     (λ x. orders_are_sheet (plant_of N x) (item_of N x) (rows_at table x).late) (pairs_of N)
 

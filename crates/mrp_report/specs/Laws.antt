@@ -11,7 +11,9 @@ use Rattle.mrp_sheet.specs.Headings.{header_row}
 use Rattle.mrp_report.specs.Lanes.{lane_text}
 use Rattle.mrp_report.specs.Orders.{order_text}
 use Rattle.mrp_report.specs.Pegs.{pegs_text}
-use Rattle.mrp_report.specs.Report.{code_text, late_text, peg_text, plan_text}
+use Rattle.mrp_report.specs.Report.{late_text, plan_text}
+use Rattle.mrp_report.specs.Codes.{code_text}
+use Rattle.mrp_report.specs.Terms.{peg_text}
 use Rattle.mrp_sheet.specs.Sheets.{IsReadAs, header_sheet}
 use Rattle.mrp_report.specs.Sheets.{code_sheet, lane_sheet, late_sheet, order_sheet, peg_sheet, pegs_sheet, plan_sheet}
 

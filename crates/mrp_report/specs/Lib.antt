@@ -9,3 +9,5 @@ pub mod Pegs
 pub mod PegParts
 pub mod Sheets
 pub mod Laws
+pub mod Terms
+pub mod Codes

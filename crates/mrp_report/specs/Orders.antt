@@ -13,7 +13,7 @@ use Rattle.mrp_plan.specs.declared.orders.PlannedOrder.{PlannedOrder}
 use Rattle.mrp_sheet.specs.Dates.{dates_of}
 use Rattle.mrp_sheet.specs.Headings.{header_row}
 use Rattle.mrp_report.specs.Headings.{order_names}
-use Rattle.mrp_sheet.specs.Dates.{date_at}
+use Rattle.mrp_sheet.specs.DateLists.{date_at}
 use Rattle.mrp_sheet.specs.Names.{item_of, pairs_of, plant_of}
 use Rattle.mrp_sheet.specs.Rows.{row}
 

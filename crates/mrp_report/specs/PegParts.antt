@@ -8,11 +8,11 @@ use Rattle.mrp_net.specs.declared.edge.Edge.{Edge}
 use Rattle.mrp_plan.specs.Peg.{edge_term, is_asked}
 use Rattle.mrp_plan.specs.declared.terms.PegTerm.{PegTerm}
 use Rattle.mrp_sheet.specs.Names.{item_of, plant_of}
-use Rattle.mrp_sheet.specs.Rows.{joined}
+use Rattle.mrp_sheet.specs.Writing.{joined}
 use Rattle.mrp_report.specs.declared.pegging.PegLine.{PegLine}
 use Rattle.mrp_report.specs.declared.room.TheConstants.{LONGEST_PAIR}
 use Rattle.mrp_report.specs.Pegs.{pegs_row}
-use Rattle.mrp_report.specs.Report.{source_word}
+use Rattle.mrp_report.specs.Terms.{source_word}
 
 -- what all rows of a pair begin with: the word, its plant and its item
 abbrev pub pegs_part : List ℕ → List ℕ → List ℕ

@@ -7,7 +7,7 @@ use Rattle.mrp_plan.specs.Peg.{peg_terms}
 use Rattle.mrp_plan.specs.declared.terms.PegTerm.{PegTerm}
 use Rattle.mrp_sheet.specs.Names.{item_of, pairs_of, plant_of}
 use Rattle.mrp_sheet.specs.Rows.{row}
-use Rattle.mrp_report.specs.Report.{source_word}
+use Rattle.mrp_report.specs.Terms.{source_word}
 
 -- the fields of the row of a term of a pair's gross requirement in a period: the pair and the period, where the requirement comes
 -- from, the pair that asks, its release, the pieces for each piece of it, and their product

@@ -15,14 +15,16 @@ use Rattle.mrp_report.specs.Headings.{order_names}
 use Rattle.mrp_report.specs.Lanes.{figure_fields}
 use Rattle.mrp_report.specs.Orders.{order_fields, supply_at}
 use Rattle.mrp_report.specs.Pegs.{pegs_fields}
-use Rattle.mrp_report.specs.Report.{code_fields, late_fields, peg_fields, period_at, plan_fields}
-use Rattle.mrp_sheet.specs.Dates.{date_at}
+use Rattle.mrp_report.specs.Report.{late_fields, plan_fields}
+use Rattle.mrp_report.specs.Codes.{code_fields}
+use Rattle.mrp_report.specs.Terms.{peg_fields}
+use Rattle.mrp_sheet.specs.DateLists.{date_at}
 use Rattle.mrp_sheet.specs.Names.{item_of, pairs_of, plant_of}
 use Rattle.mrp_sheet.specs.Sheets.{Sheet, header_sheet}
 
 -- the plan: a row for each pair in table order and each period in rising order
 abbrev pub pair_sheet : List ℕ → List ℕ → List (List ℕ) → PlanRows → Sheet
-pair_sheet plant item dates rows = map (λ t. plan_fields plant item (date_at dates t) (period_at rows t)) (range_with_len 0 (length dates))
+pair_sheet plant item dates rows = map (λ t. plan_fields plant item (date_at dates t) rows t) (range_with_len 0 (length dates))
 
 abbrev pub plan_sheet : Table → List PlanRows → Sheet
 plan_sheet N table = flat_map (λ x. pair_sheet (plant_of N x) (item_of N x) (dates_of N.calendar) (rows_at table x)) (pairs_of N)

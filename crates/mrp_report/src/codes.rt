@@ -5,9 +5,9 @@ ghost use Rattle.mrp_rows.specs.Table.{IsPair};
 ghost use Rattle.mrp_loops.specs.Loop.{AreCodes};
 ghost use Rattle.mrp_report.specs.Headings.{code_names};
 ghost use Rattle.mrp_sheet.specs.Headings.{header_row};
-ghost use Rattle.mrp_sheet.specs.Rows.{IsBetweenRows, written};
+ghost use Rattle.mrp_sheet.specs.Writing.{IsBetweenRows, written};
 ghost use Rattle.mrp_sheet.specs.Sending.{Sends};
-ghost use Rattle.mrp_report.specs.Report.{code_row, code_text};
+ghost use Rattle.mrp_report.specs.Codes.{code_row, code_text};
 
 use csv::Writer;
 use itoa::Buffer;

@@ -5,7 +5,7 @@ ghost use Rattle.mrp_net.specs.Lanes.{lanes};
 ghost use Rattle.mrp_sheet.specs.Headings.{header_row};
 ghost use Rattle.mrp_report.specs.Headings.{lane_names};
 ghost use Rattle.mrp_report.specs.Lanes.{kind_word, lane_row, lane_text, IsFigure};
-ghost use Rattle.mrp_sheet.specs.Rows.{IsBetweenRows, written};
+ghost use Rattle.mrp_sheet.specs.Writing.{IsBetweenRows, written};
 ghost use Rattle.mrp_sheet.specs.Sending.{Sends};
 
 use csv::Writer;

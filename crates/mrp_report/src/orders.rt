@@ -8,7 +8,7 @@ ghost use Rattle.mrp_sheet.specs.Headings.{header_row};
 ghost use Rattle.mrp_report.specs.Headings.{order_names};
 ghost use Rattle.mrp_report.specs.Orders.{order_text, orders_text, pair_orders_text, supply_at};
 ghost use Rattle.mrp_report.specs.OrderLines.{IsLine, due_text, line_row, line_text};
-ghost use Rattle.mrp_sheet.specs.Rows.{IsBetweenRows, written};
+ghost use Rattle.mrp_sheet.specs.Writing.{IsBetweenRows, written};
 ghost use Rattle.mrp_sheet.specs.Sending.{Sends};
 
 use crate::supply::put_supply;

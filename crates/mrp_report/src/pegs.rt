@@ -4,9 +4,9 @@ ghost use Rattle.std.specs.Prelude.{◌≡◌, ◌++◌, Err, OnOk, IfOk, IfErr,
 ghost use Rattle.mrp_rows.specs.Table.{IsPair};
 ghost use Rattle.mrp_sheet.specs.Headings.{header_row};
 ghost use Rattle.mrp_report.specs.Headings.{peg_names};
-ghost use Rattle.mrp_sheet.specs.Rows.{IsBetweenRows, written};
+ghost use Rattle.mrp_sheet.specs.Writing.{IsBetweenRows, written};
 ghost use Rattle.mrp_sheet.specs.Sending.{Sends};
-ghost use Rattle.mrp_report.specs.Report.{peg_row, peg_text, source_word};
+ghost use Rattle.mrp_report.specs.Terms.{peg_row, peg_text, source_word};
 
 use csv::Writer;
 use itoa::Buffer;

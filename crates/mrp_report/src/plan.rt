@@ -10,7 +10,8 @@ ghost use Rattle.std.specs.Io.KnownBytes.{Appends};
 ghost use Rattle.mrp_sheet.specs.Sending.{AppendsFront, Sends};
 ghost use Rattle.mrp_sheet.specs.Dates.{dates_of};
 ghost use Rattle.mrp_report.specs.Parts.{pair_part, parts_text, period_part};
-ghost use Rattle.mrp_report.specs.Report.{HasPeriod, HasPeriods, pairs_text, period_at, plan_text};
+ghost use Rattle.mrp_report.specs.Report.{plan_text};
+ghost use Rattle.mrp_report.specs.Parts.{HasPeriod, HasPeriods, pairs_text, period_at};
 
 use crate::room::{LONGEST_PAIR, name_pair, put_parts};
 use itoa::write_digits;

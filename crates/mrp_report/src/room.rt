@@ -2,7 +2,8 @@
 
 ghost use Rattle.std.specs.Prelude.{◌≡◌, ◌+◌, ◌≤◌, ◌++◌, ◌∷◌, [], take, length, IfOk, OnOk, IfErr, OnErr};
 ghost use Rattle.std.specs.Io.KnownBytes.{Appends};
-ghost use Rattle.mrp_sheet.specs.Rows.{joined, row};
+ghost use Rattle.mrp_sheet.specs.Rows.{row};
+ghost use Rattle.mrp_sheet.specs.Writing.{joined};
 ghost use Rattle.mrp_sheet.specs.Sending.{AppendsFront};
 ghost use Rattle.mrp_report.specs.Gathering.{Gathers};
 

@@ -8,7 +8,8 @@ use Rattle.mrp_rows.specs.declared.numbers.PlantNo.{PlantNo}
 use Rattle.mrp_rows.specs.Table.{IsTable, Table}
 use Rattle.mrp_net.specs.declared.lane.Lane.{Lane}
 use Rattle.mrp_net.specs.Lanes.{customer_of, lane_items, lanes, supplier_of}
-use Rattle.mrp_sheet.specs.Dates.{date_at, dates_of}
+use Rattle.mrp_sheet.specs.Dates.{dates_of}
+use Rattle.mrp_sheet.specs.DateLists.{date_at}
 use Rattle.mrp_sheet.specs.Names.{item_name}
 use Rattle.mrp_sheet.specs.Rows.{row}
 use Rattle.mrp_sheet.specs.Sheets.{IsPlain}

@@ -8,7 +8,7 @@ ghost use Rattle.mrp_net.specs.Plan.{Fits};
 ghost use Rattle.mrp_net.specs.Routes.{IsLane};
 ghost use Rattle.mrp_sheet.specs.Dates.{dates_of};
 ghost use Rattle.mrp_sheet.specs.Headings.{header_row};
-ghost use Rattle.mrp_sheet.specs.Rows.{IsBetweenRows, written};
+ghost use Rattle.mrp_sheet.specs.Writing.{IsBetweenRows, written};
 ghost use Rattle.mrp_sheet.specs.Sending.{Sends};
 ghost use Rattle.mrp_schedule.specs.declared.line.ScheduleLine.TheVariants.{Opening, Call, Reset};
 ghost use Rattle.mrp_schedule.specs.Rows.{is_asked, is_between, item_text, lane_text, lanes_text, schedule_names, schedule_text};

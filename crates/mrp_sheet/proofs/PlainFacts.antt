@@ -13,7 +13,7 @@ use Rattle.mrp_cal.specs.Days.{date_at as day_parts}
 use Rattle.mrp_spell.specs.Spelling.{is_name_byte}
 use Rattle.mrp_rows.specs.Table.{IsName, IsTable, Table}
 use Rattle.mrp_sheet.specs.Dates.{dates_of, period_date}
-use Rattle.mrp_sheet.specs.Dates.{date_at}
+use Rattle.mrp_sheet.specs.DateLists.{date_at}
 use Rattle.mrp_sheet.specs.Sheets.{IsPlain}
 
 pub both_true : (a b : Bool) → (a && b) ≡ true → (a ≡ true) × (b ≡ true)

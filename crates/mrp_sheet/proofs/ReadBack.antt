@@ -9,7 +9,8 @@ use Rattle.csv.specs.Machine.{line_feed, next_record}
 use Rattle.csv.specs.Reading.{default_config, records_from, strip_bom}
 use Rattle.csv.specs.Writing.{comma, default_writer, field_text, fields_text, is_blank, row_text}
 use Rattle.csv.specs.declared.parser.State.TheVariants as st
-use Rattle.mrp_sheet.specs.Rows.{joined, plain_writer, row}
+use Rattle.mrp_sheet.specs.Rows.{row}
+use Rattle.mrp_sheet.specs.Writing.{joined, plain_writer}
 use Rattle.mrp_sheet.specs.Sheets.{IsPlain, IsReadAs, Sheet}
 use Rattle.mrp_sheet.proofs.RowFacts.{row_plain}
 

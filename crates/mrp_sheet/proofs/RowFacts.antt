@@ -15,10 +15,12 @@ use Rattle.std.proofs.lemmas.Option.{get_or_from_slice_get}
 use Rattle.mrp_rows.specs.Table.{Table}
 use Rattle.std.proofs.lemmas.List.FromFn.{map-range_with_len_more}
 use Rattle.mrp_net.specs.Names.{IsNamed}
-use Rattle.mrp_sheet.specs.Rows.{joined, plain_writer, row}
+use Rattle.mrp_sheet.specs.Rows.{row}
+use Rattle.mrp_sheet.specs.Writing.{joined, plain_writer}
 use Rattle.mrp_cal.specs.Calendar.{CalendarTerms, first_day}
 use Rattle.mrp_cal.specs.Days.{day_text}
-use Rattle.mrp_sheet.specs.Dates.{first_dates, period_date}
+use Rattle.mrp_sheet.specs.Dates.{period_date}
+use Rattle.mrp_sheet.specs.DateLists.{first_dates}
 use Rattle.mrp_sheet.specs.Names.{plant_of, item_of}
 
 -- fields after the first, with a comma before each

@@ -1,5 +1,5 @@
 -- The dates of a plan's periods.
-use Rattle.std.specs.Prelude.{ℕ, List, [], map, slice_index_or}
+use Rattle.std.specs.Prelude.{ℕ, List, map}
 use Rattle.std.specs.List.{range_with_len}
 use Rattle.mrp_cal.specs.Calendar.{CalendarTerms, first_day}
 use Rattle.mrp_cal.specs.Days.{day_text}
@@ -8,14 +8,6 @@ use Rattle.mrp_cal.specs.Days.{day_text}
 unfoldable pub period_date : CalendarTerms → ℕ → List ℕ
 period_date calendar t = day_text (first_day calendar t)
 
--- the dates of the first periods
-abbrev pub first_dates : CalendarTerms → ℕ → List (List ℕ)
-first_dates calendar count = map (period_date calendar) (range_with_len 0 count)
-
 -- the dates of all periods
 abbrev pub dates_of : CalendarTerms → List (List ℕ)
-dates_of calendar = first_dates calendar calendar.periods
-
--- the date of a period, of a list of dates
-abbrev pub date_at : List (List ℕ) → ℕ → List ℕ
-date_at dates t = slice_index_or dates t []
+dates_of calendar = map (period_date calendar) (range_with_len 0 calendar.periods)

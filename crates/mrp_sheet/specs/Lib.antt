@@ -4,3 +4,5 @@ pub mod Dates
 pub mod Headings
 pub mod Names
 pub mod Sheets
+pub mod Writing
+pub mod DateLists

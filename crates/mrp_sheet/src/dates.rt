@@ -1,7 +1,8 @@
 //! The dates of a plan's periods as texts.
 
 ghost use Rattle.std.specs.Prelude.{◌≡◌, ◌<◌, IfOk, IfErr, length};
-ghost use Rattle.mrp_sheet.specs.Dates.{date_at, dates_of};
+ghost use Rattle.mrp_sheet.specs.Dates.{dates_of};
+ghost use Rattle.mrp_sheet.specs.DateLists.{date_at};
 
 use crate::ReportFault;
 use mrp_cal::Calendar;

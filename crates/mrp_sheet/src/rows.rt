@@ -2,7 +2,8 @@
 
 ghost use Rattle.std.specs.Prelude.{◌≡◌, ◌≤◌, ◌++◌, map, IfOk, OnOk, IfErr, [], length};
 ghost use Rattle.mrp_sheet.specs.Headings.{header_row};
-ghost use Rattle.mrp_sheet.specs.Rows.{row, IsBetweenRows, written};
+ghost use Rattle.mrp_sheet.specs.Rows.{row};
+ghost use Rattle.mrp_sheet.specs.Writing.{IsBetweenRows, written};
 
 use crate::ReportFault;
 use csv::{QuoteStyle, Writer, WriterBuilder};

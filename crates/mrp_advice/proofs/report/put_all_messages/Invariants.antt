@@ -1,6 +1,6 @@
 use Rattle.std.proofs.Common.{◌≡◌, ◌++◌}
 use Rattle.std.specs.List.{flat_map, range_with_len}
-use Rattle.mrp_sheet.specs.Rows.{IsBetweenRows, written}
+use Rattle.mrp_sheet.specs.Writing.{IsBetweenRows, written}
 use Rattle.mrp_advice.specs.Rows.{pair_text}
 use Rattle.mrp_advice.proofs.report.put_all_messages.Given as goal
 

@@ -1,7 +1,7 @@
 use Rattle.std.proofs.Common.{◌≡◌, ◌++◌}
 use Rattle.std.specs.Prelude.{filter_map}
 use Rattle.std.specs.List.{flat_map, range_with_len}
-use Rattle.mrp_sheet.specs.Rows.{IsBetweenRows, written}
+use Rattle.mrp_sheet.specs.Writing.{IsBetweenRows, written}
 use Rattle.mrp_advice.specs.Advice.{advice_at}
 use Rattle.mrp_advice.specs.AdviceLines.{line_row}
 use Rattle.mrp_advice.specs.Covered.{Covers}

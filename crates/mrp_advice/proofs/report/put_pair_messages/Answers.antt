@@ -1,6 +1,6 @@
 use Rattle.std.proofs.Common.{◌≡◌, ◌∙◌, ◌++◌, ap}
 use Rattle.std.proofs.lemmas.Result.{on_ok_weaker}
-use Rattle.mrp_sheet.specs.Rows.{written}
+use Rattle.mrp_sheet.specs.Writing.{written}
 use Rattle.mrp_advice.specs.OpenOrders.{open_orders}
 use Rattle.mrp_advice.proofs.LineFacts.{line_has_dates, line_is_pair, pair_is_advised}
 use Rattle.mrp_net.specs.Plan.{rows_at}

@@ -1,6 +1,6 @@
 use Rattle.std.proofs.Common.{◌≡◌, length, arith}
 use Rattle.std.specs.Prelude.{slice_index}
-use Rattle.mrp_report.specs.Report.{code_row, code_text}
+use Rattle.mrp_report.specs.Codes.{code_row, code_text}
 use Rattle.mrp_sheet.specs.Names.{plant_of, item_of}
 use Rattle.mrp_sheet.proofs.RowFacts.{rows-more, plant_is, item_is, headed_rows}
 use Rattle.mrp_report.proofs.codes.code_text.Goals as goal

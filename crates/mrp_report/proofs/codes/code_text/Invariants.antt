@@ -1,8 +1,8 @@
 use Rattle.std.proofs.Common.{◌≡◌, ◌++◌}
 use Rattle.std.specs.Prelude.{slice_index}
 use Rattle.std.specs.List.{flat_map, range_with_len}
-use Rattle.mrp_sheet.specs.Rows.{IsBetweenRows, written}
-use Rattle.mrp_report.specs.Report.{code_row}
+use Rattle.mrp_sheet.specs.Writing.{IsBetweenRows, written}
+use Rattle.mrp_report.specs.Codes.{code_row}
 use Rattle.mrp_sheet.specs.Names.{plant_of, item_of}
 use Rattle.mrp_report.proofs.codes.code_text.Given as goal
 

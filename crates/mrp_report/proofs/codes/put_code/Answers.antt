@@ -1,5 +1,5 @@
 use Rattle.std.proofs.Common.{rules}
-use Rattle.mrp_report.specs.Report.{code_row}
+use Rattle.mrp_report.specs.Codes.{code_row}
 use Rattle.mrp_report.proofs.codes.put_code.Goals as goal
 
 pub returns-clause-row : goal.returns-clause-row

@@ -1,7 +1,8 @@
 use Rattle.std.proofs.Common.{◌≡◌, length, arith}
 use Rattle.std.specs.List.{flat_map}
 use Rattle.mrp_net.specs.Plan.{rows_at}
-use Rattle.mrp_report.specs.Report.{late_row, late_text}
+use Rattle.mrp_report.specs.Report.{late_text}
+use Rattle.mrp_report.specs.Parts.{late_row}
 use Rattle.mrp_sheet.specs.Names.{plant_of, item_of}
 use Rattle.mrp_sheet.proofs.RowFacts.{rows-more, plant_is, item_is, all_rows}
 use Rattle.mrp_report.proofs.late.late_text.Goals as goal
@@ -18,7 +19,7 @@ pairs-preserved c =
     }
 
 pub returns-clause-text : goal.returns-clause-text
-unfolding late_text
+unfolding late_text late_row
 returns-clause-text c =
     let at_end : c.pairs.x ≡ length c.network-network.result.now.pairs = omega arith in
     rw (← c.network-network.ensures.value)

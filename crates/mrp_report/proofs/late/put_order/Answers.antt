@@ -1,5 +1,5 @@
 use Rattle.std.proofs.Common.{rules}
-use Rattle.mrp_report.specs.Report.{late_row}
+use Rattle.mrp_report.specs.Parts.{late_row}
 use Rattle.mrp_report.proofs.late.put_order.Goals as goal
 
 pub returns-clause-row : goal.returns-clause-row

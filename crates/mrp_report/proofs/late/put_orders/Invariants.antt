@@ -1,7 +1,7 @@
 use Rattle.std.proofs.Common.{◌≡◌, ◌++◌, take}
 use Rattle.std.specs.List.{flat_map}
-use Rattle.mrp_sheet.specs.Rows.{IsBetweenRows, written}
-use Rattle.mrp_report.specs.Report.{late_row}
+use Rattle.mrp_sheet.specs.Writing.{IsBetweenRows, written}
+use Rattle.mrp_report.specs.Parts.{late_row}
 use Rattle.mrp_report.proofs.late.put_orders.Given as goal
 
 -- the rows of the orders before the i-th are there

@@ -1,6 +1,6 @@
 use Rattle.std.proofs.Common.{◌≡◌, arith, take}
 use Rattle.std.proofs.lemmas.List.{take_all}
-use Rattle.mrp_report.specs.Report.{peg_text}
+use Rattle.mrp_report.specs.Terms.{peg_text}
 use Rattle.mrp_sheet.proofs.RowFacts.{headed_rows}
 use Rattle.mrp_report.proofs.pegs.peg_text.Goals as goal
 

@@ -1,5 +1,5 @@
 use Rattle.std.proofs.Common.{rules}
-use Rattle.mrp_report.specs.Report.{peg_row}
+use Rattle.mrp_report.specs.Terms.{peg_row}
 use Rattle.mrp_sheet.proofs.RowFacts.{plant_is, item_is}
 use Rattle.mrp_report.proofs.pegs.put_term.Goals as goal
 

@@ -1,8 +1,8 @@
 use Rattle.std.proofs.Common.{◌≡◌, ◌≤◌, ◌+◌, ◌*◌, ◌++◌, length, take}
 use Rattle.std.specs.List.{flat_map, range_with_len}
 use Rattle.mrp_report.specs.Parts.{parts_row}
-use Rattle.mrp_sheet.specs.Dates.{date_at}
-use Rattle.mrp_report.specs.Report.{period_at}
+use Rattle.mrp_sheet.specs.DateLists.{date_at}
+use Rattle.mrp_report.specs.Parts.{period_at}
 use Rattle.mrp_report.proofs.plan.put_pair.Given as goal
 
 -- the rows of the periods before t are there, and there is room for those of the rest

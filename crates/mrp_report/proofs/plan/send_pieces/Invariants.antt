@@ -1,6 +1,6 @@
 use Rattle.std.proofs.Common.{length, ◌-◌, ◌*◌, ◌≤◌}
 use Rattle.std.specs.Io.KnownBytes.{Appends}
-use Rattle.mrp_report.specs.Report.{pairs_text}
+use Rattle.mrp_report.specs.Parts.{pairs_text}
 use Rattle.mrp_report.proofs.plan.send_pieces.Given as goal
 
 -- the rows of the first pairs are sent, and there is room for the next

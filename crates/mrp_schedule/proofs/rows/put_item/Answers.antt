@@ -3,7 +3,7 @@ use Rattle.std.proofs.lemmas.Result.{on_ok_weaker}
 use Rattle.mrp_rows.specs.Table.{Table}
 use Rattle.mrp_net.specs.declared.lane.Lane.{Lane}
 use Rattle.mrp_net.specs.Lanes.{lane_at}
-use Rattle.mrp_sheet.specs.Rows.{written}
+use Rattle.mrp_sheet.specs.Writing.{written}
 use Rattle.mrp_schedule.specs.declared.line.ScheduleLine.{ScheduleLine}
 use Rattle.mrp_schedule.specs.ItemRows.{AreOfItem}
 use Rattle.mrp_schedule.specs.Schedule.{schedule_of}

@@ -4,7 +4,7 @@ use Rattle.std.proofs.lemmas.List.{take_all}
 use Rattle.mrp_rows.specs.declared.numbers.ItemNo.{ItemNo}
 use Rattle.mrp_rows.specs.Table.{Table}
 use Rattle.mrp_net.specs.Lanes.{lane_at, lane_items}
-use Rattle.mrp_sheet.specs.Rows.{written}
+use Rattle.mrp_sheet.specs.Writing.{written}
 use Rattle.mrp_schedule.specs.Rows.{item_text, lane_text}
 use Rattle.mrp_schedule.proofs.rows.put_items.Goals as goal
 

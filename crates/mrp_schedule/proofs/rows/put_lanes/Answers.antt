@@ -4,7 +4,7 @@ use Rattle.std.proofs.lemmas.List.{take_all}
 use Rattle.mrp_rows.specs.Table.{Table}
 use Rattle.mrp_net.specs.declared.lane.Lane.{Lane}
 use Rattle.mrp_net.specs.Lanes.{lanes}
-use Rattle.mrp_sheet.specs.Rows.{written}
+use Rattle.mrp_sheet.specs.Writing.{written}
 use Rattle.mrp_schedule.specs.ItemRows.{asked_text}
 use Rattle.mrp_schedule.specs.Rows.{lanes_text}
 use Rattle.mrp_schedule.proofs.RowFacts.{asked_are_kept}

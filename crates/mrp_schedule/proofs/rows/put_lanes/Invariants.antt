@@ -1,7 +1,7 @@
 use Rattle.std.proofs.Common.{◌≡◌, ◌++◌, take}
 use Rattle.std.specs.List.{flat_map}
 use Rattle.mrp_net.specs.Lanes.{lanes}
-use Rattle.mrp_sheet.specs.Rows.{IsBetweenRows, written}
+use Rattle.mrp_sheet.specs.Writing.{IsBetweenRows, written}
 use Rattle.mrp_schedule.specs.ItemRows.{asked_text}
 use Rattle.mrp_schedule.proofs.rows.put_lanes.Given as goal
 

@@ -1,5 +1,5 @@
 use Rattle.std.proofs.Common.{◌≡◌, ◌∙◌, ap, arith}
-use Rattle.mrp_sheet.specs.Dates.{first_dates}
+use Rattle.mrp_sheet.specs.DateLists.{first_dates}
 use Rattle.mrp_sheet.proofs.RowFacts.{dates-more}
 use Rattle.mrp_sheet.proofs.dates.date_texts.Goals as goal
 

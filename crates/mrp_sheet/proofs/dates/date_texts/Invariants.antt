@@ -1,5 +1,5 @@
 use Rattle.std.proofs.Common.{◌≡◌}
-use Rattle.mrp_sheet.specs.Dates.{first_dates}
+use Rattle.mrp_sheet.specs.DateLists.{first_dates}
 use Rattle.mrp_sheet.proofs.dates.date_texts.Given as goal
 
 -- the dates of the periods before t are there

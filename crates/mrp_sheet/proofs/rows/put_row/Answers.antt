@@ -1,7 +1,7 @@
 use Rattle.std.proofs.Common.{arith}
 use Rattle.std.proofs.lemmas.List.{length-map}
 use Rattle.csv.specs.Writing.{writer_setup}
-use Rattle.mrp_sheet.specs.Rows.{written}
+use Rattle.mrp_sheet.specs.Writing.{written}
 use Rattle.mrp_sheet.proofs.RowFacts.{row_added}
 use Rattle.mrp_sheet.proofs.rows.put_row.Goals as goal
 
