@@ -11,7 +11,7 @@ use Rattle.mrp_text.specs.declared.fault.TextFault.TheVariants as fault
 use Rattle.mrp_choice.specs.declared.choice.Choice.TheVariants.{Plan}
 use Rattle.mrp_text.specs.Answer.{IsAnswerRefusal, IsNoShutGate}
 use Rattle.mrp_text.specs.Runs.{IsInNetwork, IsOfRun}
-use Rattle.mrp_text.specs.Text.{IsRunFault, IsRunRefusal, IsTextRefusal}
+use Rattle.mrp_text.specs.Refusals.{IsRunFault, IsRunRefusal, IsTextRefusal}
 
 pub in_network : (Shut Spent : ℕ → Type 0) (N : Table) (f : RunFault) → IsFaultIn Shut Spent N f → IsInNetwork N f
 in_network Shut Spent N run.Memory is = tt
@@ -46,7 +46,7 @@ open_text : (Open : ℕ → ℕ → Type 0) (crew turns : ℕ) (Spent : ℕ → 
     → IsTextRefusal known (IsRunRefusal (λ _. ⊥) (λ _. Unit {0})) f
 open_text Open crew turns Spent known (fault.Table e) said = said
 open_text Open crew turns Spent known fault.Memory said = said
-open_text Open crew turns Spent known f said = (said.0, said.1, said.2, open_refusal Open crew turns Spent said.0 f said.3)
+open_text Open crew turns Spent known f said = (said.0, said.1, open_refusal Open crew turns Spent said.0 f said.2)
 
 pub open_refuses : {U : Type 0} (Open : ℕ → ℕ → Type 0) (crew turns : ℕ) (Spent : ℕ → Type 0) (known : Option (List ℕ)) (r : Result U TextFault)
     → IfErr r (IsTextRefusal known (IsOpenRefusal Open crew turns Spent)) → IfErr r (IsTextRefusal known (IsRunRefusal (λ _. ⊥) (λ _. Unit {0})))
@@ -62,7 +62,7 @@ open_answer Open crew turns Spent known r workers capacity false e said = open_r
 -- ---- a refusal that is no shut gate
 
 no_gate : (known : Option (List ℕ)) (says : Table → TextFault → Type 0) (f : TextFault) → ((N : Table) (name : _) → ¬ says N (fault.GateShut name)) → IsTextRefusal known says f → IsNoShutGate f
-no_gate known says (fault.GateShut name) never said = never said.0 name said.3
+no_gate known says (fault.GateShut name) never said = never said.0 name said.2
 no_gate known says _ never said = tt
 
 pub never_gate : {U : Type 0} (known : Option (List ℕ)) (says : Table → TextFault → Type 0) (r : Result U TextFault) → ((N : Table) (name : _) → ¬ says N (fault.GateShut name))

@@ -4,7 +4,7 @@ use Rattle.std.proofs.lemmas.List.{map_more}
 use Rattle.mrp_rows.specs.declared.numbers.PairNo.{PairNo}
 use Rattle.mrp_rows.specs.Table.{Table}
 use Rattle.mrp_text.specs.declared.fault.PairName.{PairName}
-use Rattle.mrp_text.specs.Text.{AreCalled, IsCalled}
+use Rattle.mrp_text.specs.Refusals.{AreCalled, IsCalled}
 
 -- one more name
 pub called-more : (N : Table) (xs : List ℕ) (names : List PairName) (x : ℕ) (name : PairName) → AreCalled N xs names → IsCalled N x name

@@ -22,7 +22,9 @@ use Rattle.mrp_loops.proofs.Within.{needs_within}
 use Rattle.mrp_plan.specs.Peg.{peg_terms}
 use Rattle.mrp_choice.specs.declared.choice.Heading.{Heading}
 use Rattle.mrp_sheet.specs.Headings.{header_row}
-use Rattle.mrp_report.specs.Report.{plan_text, late_text, peg_text, code_text}
+use Rattle.mrp_report.specs.Report.{plan_text, late_text}
+use Rattle.mrp_report.specs.Codes.{code_text}
+use Rattle.mrp_report.specs.Terms.{peg_text}
 use Rattle.mrp_schedule.specs.Rows.{schedule_text}
 use Rattle.mrp_choice.specs.declared.choice.Choice.{Choice}
 use Rattle.mrp_choice.specs.declared.choice.Choice.TheVariants.{Plan, Check, Peg, Cums, Orders, Schedule, Pegs, Advice}
@@ -31,8 +33,12 @@ use Rattle.mrp_text.specs.declared.fault.TextFault.TheVariants as fault
 use Rattle.mrp_text.specs.Answer.{IsAnswer, IsAnswerRefusal}
 use Rattle.mrp_text.specs.Fault.{status_of, table_status_of}
 use Rattle.mrp_text.specs.Laws.{BytesMakeOneTable, ReportsAreOne, ReportsExcludeRefusals}
-use Rattle.mrp_text.specs.Text.{IsHeaded, IsCodeReport, IsCumReport, IsPegRefusal, IsPegReport, IsPlanReport, IsPlanRows, IsRefusal, IsRunRefusal}
-use Rattle.mrp_text.specs.Text.{IsChosenPlant, IsPegsReport, IsScheduleRefusal, IsScheduleReport, IsUnknownPlant, name_of}
+use Rattle.mrp_text.specs.Text.{IsPlanReport}
+use Rattle.mrp_text.specs.Refusals.{IsPegRefusal, IsRefusal, IsRunRefusal}
+use Rattle.mrp_text.specs.Reports.{IsHeaded, IsCodeReport, IsCumReport, IsPegReport, IsPlanRows}
+use Rattle.mrp_text.proofs.TableFacts.{tables_are_read}
+use Rattle.mrp_text.specs.Refusals.{IsScheduleRefusal, IsUnknownPlant}
+use Rattle.mrp_text.specs.Reports.{IsChosenPlant, IsPegsReport, IsScheduleReport, name_of}
 
 -- ---- the plan
 
@@ -53,7 +59,7 @@ are_plan_rows N plans sized fits = (sized, ap (plan_text N) (the_plan N plans si
 -- bytes make one table
 pub one_table : BytesMakeOneTable
 one_table bytes N M a b =
-    let same = reads_one_way (records default_config (strip_bom bytes)) (Ok N) (Ok M) a b in
+    let same = reads_one_way (records default_config (strip_bom bytes)) (Ok N) (Ok M) ((tables_are_read bytes N).0 a) ((tables_are_read bytes M).0 b) in
     cc
 
 -- names are those of one pair
@@ -104,7 +110,7 @@ one_answer (Advice heading) N a b table x y = x.1 ∙ sym y.1
 
 pub one_report : ReportsAreOne
 one_report choice bytes a b x y =
-    one_answer choice y.0 a b y.1 (subst (λ (N : Table). IsAnswer choice N a) (one_table bytes x.0 y.0 x.2 y.2) x.3) y.3
+    one_answer choice y.0 a b y.1.table (subst (λ (N : Table). IsAnswer choice N a) (one_table bytes x.0 y.0 x.1 y.1) x.2) y.2
 
 -- ---- no refusal beside it
 
@@ -164,7 +170,7 @@ rows_pass rows N e kind.Memory above read said = refl
 rows_pass rows N e _ above read said = let same = reads_one_way rows (Ok N) (Err e) read said in absurd (cc)
 
 pub accepted_passes : ReportsExcludeRefusals
-accepted_passes choice bytes text (fault.Table e) is said = rows_pass (records default_config (strip_bom bytes)) is.0 e e.kind _ is.2 said
+accepted_passes choice bytes text (fault.Table e) is said = rows_pass (records default_config (strip_bom bytes)) is.0 e e.kind _ ((tables_are_read bytes is.0).0 is.1) said
 accepted_passes choice bytes text fault.Memory is said = refl
 accepted_passes choice bytes text f is said =
-    answer_passes choice is.0 text f is.3 (subst (λ (N : Table). IsAnswerRefusal choice N f) (one_table bytes said.0 is.0 said.2 is.2) said.3)
+    answer_passes choice is.0 text f is.2 (subst (λ (N : Table). IsAnswerRefusal choice N f) (one_table bytes said.0 is.0 said.1 is.1) said.2)

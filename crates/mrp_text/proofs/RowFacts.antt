@@ -6,7 +6,7 @@ use Rattle.mrp_sheet.specs.declared.fault.ReportFault.TheVariants as report
 use Rattle.mrp_text.specs.declared.fault.TextFault.{TextFault}
 use Rattle.mrp_text.specs.declared.fault.TextFault.TheVariants as fault
 use Rattle.mrp_text.specs.Fault.{IsOfReport}
-use Rattle.mrp_text.specs.Text.{WritesRows}
+use Rattle.mrp_text.specs.Reports.{WritesRows}
 
 -- where nothing was sent
 pub none-sent : {W U : Type 0} (contents : W → Option (List ℕ)) (w : W) (r : Result U TextFault) (P : List ℕ → Type 0) → WritesRows contents w w r P

@@ -1,7 +1,7 @@
 -- What became of a text that was sent, and what its refusals say.
 use Rattle.std.proofs.Common.{◌≡◌, ℕ, List, ◌++◌, Option, None, Some, Result, Ok, Err, IfErr, inl, inr, ⊎_elim, subst, sym, refl}
 use Rattle.std.specs.Io.KnownBytes.{Appends, Keeps}
-use Rattle.mrp_rows.specs.Table.{Table, IsTable}
+use Rattle.mrp_rows.specs.Table.{Table}
 use Rattle.mrp_grammar.specs.declared.fault.TableFault.{TableFault}
 use Rattle.mrp_sheet.specs.Sending.{Sends}
 use Rattle.mrp_sheet.specs.declared.fault.ReportFault.{ReportFault}
@@ -10,7 +10,8 @@ use Rattle.mrp_sheet.proofs.Fronts.{front-after, front-longer, some-longer}
 use Rattle.mrp_text.specs.declared.fault.TextFault.{TextFault}
 use Rattle.mrp_text.specs.declared.fault.TextFault.TheVariants as fault
 use Rattle.mrp_text.specs.Fault.{IsOfReport}
-use Rattle.mrp_text.specs.Text.{IsTableOf, IsTextRefusal, Writes}
+use Rattle.mrp_text.specs.Text.{IsTableOf, Writes}
+use Rattle.mrp_text.specs.Refusals.{IsTextRefusal}
 
 -- what was written of a text of one kind was written of a text of each kind that it is of
 pub writes-of : {U : Type 0} (a b : Option (List ℕ)) (r : Result U TextFault) (P Q : List ℕ → Type 0)
@@ -22,16 +23,16 @@ writes-of a b (Err fault.Memory) P Q along written =
 writes-of a b (Err _) P Q along written = written
 
 -- what a fault says of a network that was read, it says of the text
-refused-of : (known : Option (List ℕ)) (says : Table → TextFault → Type 0) (N : Table) (f : TextFault) → IsTable N → IsTableOf known N
+refused-of : (known : Option (List ℕ)) (says : Table → TextFault → Type 0) (N : Table) (f : TextFault) → IsTableOf known N
     → ((e : TableFault) → ¬ says N (fault.Table e)) → says N f → IsTextRefusal known says f
-refused-of known says N (fault.Table e) table rows none said = absurd (none e said)
-refused-of known says N fault.Memory table rows none said = tt
-refused-of known says N _ table rows none said = (N, table, rows, said)
+refused-of known says N (fault.Table e) is none said = absurd (none e said)
+refused-of known says N fault.Memory is none said = tt
+refused-of known says N _ is none said = (N, is, said)
 
-pub refuses-of : {U : Type 0} (known : Option (List ℕ)) (says : Table → TextFault → Type 0) (N : Table) (r : Result U TextFault) → IsTable N → IsTableOf known N
+pub refuses-of : {U : Type 0} (known : Option (List ℕ)) (says : Table → TextFault → Type 0) (N : Table) (r : Result U TextFault) → IsTableOf known N
     → ((e : TableFault) → ¬ says N (fault.Table e)) → IfErr r (says N) → IfErr r (IsTextRefusal known says)
-refuses-of known says N (Ok u) table rows none said = tt
-refuses-of known says N (Err f) table rows none said = refused-of known says N f table rows none said
+refuses-of known says N (Ok u) is none said = tt
+refuses-of known says N (Err f) is none said = refused-of known says N f is none said
 
 -- bytes stay as they are
 keeps-all : (a : Option (List ℕ)) → Keeps a a

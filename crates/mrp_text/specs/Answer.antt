@@ -7,8 +7,11 @@ use Rattle.mrp_text.specs.declared.fault.TextFault.{TextFault}
 use Rattle.mrp_text.specs.declared.fault.TextFault.TheVariants.{GateShut, WriteFault}
 use Rattle.mrp_text.specs.Fault.{IsBeforeWriting, status_of}
 use Rattle.mrp_report.specs.Headings.{code_names, lane_names, peg_names, pegs_names}
-use Rattle.mrp_text.specs.Text.{IsPlanReport, IsCodeReport, IsPegReport, IsCumReport, IsOrderReport, IsHeaded, IsRefusal, IsRunRefusal, IsPegRefusal}
-use Rattle.mrp_text.specs.Text.{IsScheduleReport, IsPegsReport, IsAdviceReport, IsScheduleRefusal, name_of}
+use Rattle.mrp_text.specs.Text.{IsPlanReport}
+use Rattle.mrp_text.specs.Refusals.{IsRefusal, IsRunRefusal, IsPegRefusal}
+use Rattle.mrp_text.specs.Reports.{IsCodeReport, IsPegReport, IsCumReport, IsOrderReport, IsHeaded}
+use Rattle.mrp_text.specs.Refusals.{IsScheduleRefusal}
+use Rattle.mrp_text.specs.Reports.{IsScheduleReport, IsPegsReport, IsAdviceReport, name_of}
 
 -- the report that a choice asks for
 abbrev pub IsAnswer : Choice → Table → List ℕ → Type 0

@@ -7,7 +7,7 @@ use Rattle.mrp_loops.specs.declared.sized.BoundFault.{BoundFault}
 use Rattle.mrp_loops.specs.declared.sized.BoundFault.TheVariants as bound
 use Rattle.mrp_text.specs.declared.fault.TextFault.{TextFault}
 use Rattle.mrp_text.specs.declared.fault.TextFault.TheVariants as fault
-use Rattle.mrp_text.specs.Text.{AreCalled, IsCalled}
+use Rattle.mrp_text.specs.Refusals.{AreCalled, IsCalled}
 
 -- a loop is of pairs of the network
 abbrev pub AreLoopPairs : Table → LoopFault → Type 0

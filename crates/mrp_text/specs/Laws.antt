@@ -1,11 +1,18 @@
 -- What holds of the reports and refusals of one text.
-use Rattle.std.specs.Prelude.{◌≡◌, List, ℕ, Some}
+use Rattle.std.specs.Prelude.{◌≡◌, ◌↔◌, List, ℕ, Some, Ok}
+use Rattle.csv.specs.Reading.{default_config, records, strip_bom}
 use Rattle.mrp_rows.specs.Table.{Table}
+use Rattle.mrp_grammar.specs.Reading.{Reads}
 use Rattle.mrp_choice.specs.declared.choice.Choice.{Choice}
 use Rattle.mrp_text.specs.declared.fault.TextFault.{TextFault}
 use Rattle.mrp_text.specs.Answer.{IsAnswer, IsAnswerRefusal}
 use Rattle.mrp_text.specs.Fault.{status_of}
-use Rattle.mrp_text.specs.Text.{IsTableOf, IsTextRefusal, OfTable}
+use Rattle.mrp_text.specs.Text.{IsTableOf, OfTable}
+use Rattle.mrp_text.specs.Refusals.{IsTextRefusal}
+
+-- bytes are a table exactly where the grammar reads that table in their records
+abbrev pub TablesAreRead : Type 0
+TablesAreRead = (bytes : List ℕ) (N : Table) → IsTableOf (Some bytes) N ↔ Reads (records default_config (strip_bom bytes)) (Ok N)
 
 -- bytes make one table at most
 abbrev pub BytesMakeOneTable : Type 0

@@ -7,3 +7,8 @@ pub mod Text
 pub mod Runs
 pub mod Laws
 pub mod FigureLaws
+pub mod Reports
+pub mod Refusals
+pub mod Worked
+pub mod Pumps
+pub mod PumpsReports

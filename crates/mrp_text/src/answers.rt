@@ -3,7 +3,9 @@
 ghost use Rattle.std.specs.Prelude.{◌≡◌, IfErr};
 ghost use Rattle.mrp_choice.specs.Range.{IsInRange};
 ghost use Rattle.mrp_text.specs.Answer.{IsAnswer, IsAnswerRefusal, IsBeforeReport, IsNoShutGate, exit_status_of};
-ghost use Rattle.mrp_text.specs.Text.{Writes, WritesRows, OfTable, IsPlanRows, IsTextRefusal};
+ghost use Rattle.mrp_text.specs.Text.{Writes, OfTable};
+ghost use Rattle.mrp_text.specs.Refusals.{IsTextRefusal};
+ghost use Rattle.mrp_text.specs.Reports.{WritesRows, IsPlanRows};
 
 use crate::fault::{TextFault, status};
 use crate::text::{

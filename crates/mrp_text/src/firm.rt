@@ -1,10 +1,10 @@
 //! The plants of a network with the mailboxes between them, driven until all have planned.
 
 ghost use Rattle.std.specs.Prelude.{◌≡◌, ◌≤◌, All, IfOk, IfErr};
+ghost use Rattle.mrp_loops.specs.Sized.{IsSized};
 ghost use Rattle.mrp_net.specs.Plan.{Fits};
 ghost use Rattle.mrp_report.specs.Lanes.{IsFigure};
 ghost use Rattle.mrp_world.specs.Figures.{last_figures};
-ghost use Rattle.mrp_text.specs.Text.{IsPlannable};
 ghost use Rattle.mrp_choice.specs.declared.choice.TheConstants.{MOST_CAPACITY};
 
 use crate::fault::TextFault;
@@ -25,7 +25,7 @@ pub(crate) fn driven_plan(
     capacity: u64,
 ) -> Result<Plan, TextFault>
     requires capacity { (1 ≤ capacity) × (capacity ≤ MOST_CAPACITY) }
-    requires plannable { IsPlannable net.now.network }
+    requires plannable { IsSized net.now.network }
     ensures fits { IfOk result (Fits net.now.network) }
     ensures fault { IfErr result (λ fault. fault ≡ TextFault.Memory) }
 {

@@ -1,7 +1,13 @@
 //! Laws of reports and refusals, each the contract of a function that does nothing.
 
-ghost use Rattle.mrp_text.specs.Laws.{BytesMakeOneTable, ReportsAreOne, ReportsExcludeRefusals};
+ghost use Rattle.mrp_text.specs.Laws.{BytesMakeOneTable, ReportsAreOne, ReportsExcludeRefusals, TablesAreRead};
 ghost use Rattle.mrp_text.specs.FigureLaws.{FiguresAreCalledFor};
+
+/// Bytes are a table, written out, exactly where the grammar reads it: what is said of the table of some bytes is
+/// said of the table that is read in them.
+pub fn tables_are_read()
+    ensures { TablesAreRead }
+{}
 
 /// Bytes are those of one table at most.
 pub fn bytes_make_one_table()

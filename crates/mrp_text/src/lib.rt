@@ -28,6 +28,7 @@ mod lines;
 mod network;
 mod run;
 mod text;
+mod worked;
 mod writing;
 
 pub use answers::{answer, exit_status};
@@ -35,6 +36,7 @@ pub use ending::{Ending, REFUSED, after_help, ended, unread};
 pub use fault::{PairName, TextFault, status};
 pub use laws::{
     bytes_make_one_table, figures_are_called_for, reports_are_one, reports_exclude_refusals,
+    tables_are_read,
 };
 pub use lines::write_fault;
 pub use mrp_choice::Heading;
@@ -43,4 +45,9 @@ pub use mrp_run::{Gate, NoGate, Settings};
 pub use text::{
     advice_text, check_text, cums_text, drive_text, headed_check_text, headed_cums_text,
     headed_peg_text, orders_text, peg_text, pegs_text, plan_text, schedule_text,
+};
+pub use worked::{
+    bicycle_is_planned, bicycle_is_written, firm_of_two_is_planned, firm_of_two_is_written,
+    pumps_are_advised, pumps_are_counted, pumps_are_ordered, pumps_are_planned,
+    pumps_are_scheduled, pumps_are_written,
 };

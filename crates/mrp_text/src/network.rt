@@ -1,11 +1,14 @@
 //! The network of a table, its low-level codes and its figures within the bound, or the fault that there is.
 
-ghost use Rattle.std.specs.Prelude.{◌≡◌, map, IfOk, IfErr, All};
-ghost use Rattle.mrp_rows.specs.Table.{IsTable, IsPair};
+ghost use Rattle.std.specs.Prelude.{◌≡◌, map, option_map, IfOk, IfErr, All, Ok};
+ghost use Rattle.csv.specs.Reading.{strip_bom};
+ghost use Rattle.mrp_loops.specs.Sized.{IsSized};
+ghost use Rattle.mrp_rows.specs.Table.{IsPair};
+ghost use Rattle.mrp_grammar.specs.Reading.{OfRecords, TellsRows};
 ghost use Rattle.mrp_loops.specs.Loop.{AreCodes, IsLoopFree};
-ghost use Rattle.mrp_text.specs.Text.{IsTableOf, IsPlannable};
-ghost use Rattle.mrp_text.specs.Text.{IsCalled, AreCalled};
-ghost use Rattle.mrp_text.specs.Text.{IsLoopRefusal, IsBoundRefusal, IsTableRefusal, IsReadRefusal};
+ghost use Rattle.mrp_text.specs.Text.{IsTableOf};
+ghost use Rattle.mrp_text.specs.Refusals.{IsCalled, AreCalled};
+ghost use Rattle.mrp_text.specs.Refusals.{IsLoopRefusal, IsBoundRefusal, IsTableRefusal, IsReadRefusal};
 ghost use Rattle.mrp_text.specs.Checks.{AreLoopPairs, IsOfLoop, IsBoundPair, IsOfBound};
 
 use crate::fault::{PairName, TextFault};
@@ -18,7 +21,6 @@ use std::io::Read;
 
 /// The network of the table.
 pub(crate) fn network_of<R: Read + Drop>(alloc: Global, reader: R) -> Result<Network, TextFault>
-    ensures table { IfOk result IsTable }
     ensures rows { IfOk result (IsTableOf (R.remaining reader)) }
     ensures refusal { IfErr result (IsReadRefusal (R.remaining reader)) }
 {
@@ -31,7 +33,7 @@ pub(crate) fn network_of<R: Read + Drop>(alloc: Global, reader: R) -> Result<Net
 
 /// The table.
 fn tables_of<R: Read + Drop>(alloc: Global, reader: R) -> Result<Tables, TextFault>
-    ensures rows { IfOk result (IsTableOf (R.remaining reader)) }
+    ensures rows { IfOk result (λ tables. OfRecords (option_map strip_bom (R.remaining reader)) (TellsRows (Ok tables))) }
     ensures refusal { IfErr result (IsTableRefusal (R.remaining reader)) }
 {
     match read_tables_uncounted(alloc, reader) {
@@ -82,7 +84,7 @@ pub(crate) fn sized_of<'a>(
     requires codes { AreCodes network.now levels.now }
     requires loop_free { IsLoopFree network.now }
     ensures network { IfOk result (λ net. net.network ≡ network.now) }
-    ensures plannable { IfOk result (λ _. IsPlannable network.now) }
+    ensures plannable { IfOk result (λ _. IsSized network.now) }
     ensures refusal { IfErr result (IsBoundRefusal network.now levels.now) }
 {
     match bound(alloc, network, levels) {

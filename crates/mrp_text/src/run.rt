@@ -1,11 +1,12 @@
 //! A network run by a thread for each plant, for its plan.
 
 ghost use Rattle.std.specs.Prelude.{◌<◌, IfOk, IfErr, OnOk, length};
+ghost use Rattle.mrp_loops.specs.Sized.{IsSized};
 ghost use Rattle.mrp_net.specs.Plan.{Fits};
 ghost use Rattle.mrp_run.specs.Faults.{AllTurned, WasShut, WasSpent};
 ghost use Rattle.mrp_qty.specs.declared.limits.TheConstants.{MOST_TURNS};
 ghost use Rattle.mrp_text.specs.Runs.{IsInNetwork, IsOfRun, IsShutFor};
-ghost use Rattle.mrp_text.specs.Text.{IsPlannable, IsRunFault};
+ghost use Rattle.mrp_text.specs.Refusals.{IsRunFault};
 
 use crate::fault::TextFault;
 use mrp_loops::SizedNet;
@@ -24,7 +25,7 @@ pub(crate) fn run_plan<T: Threads + Wait + Sync, G: Gate>(
     settings: Settings,
     gate: &G,
 ) -> Result<Plan, TextFault>
-    requires plannable { IsPlannable net.now.network }
+    requires plannable { IsSized net.now.network }
     ensures fits { IfOk result (Fits net.now.network) }
     ensures turned { OnOk result (AllTurned G.turn_open MOST_TURNS (length net.now.network.plants)) }
     ensures fault { IfErr result (IsRunFault (WasShut G.turn_open G.turn_shut G.worker_shut settings.workers MOST_TURNS) (WasSpent G.turn_open MOST_TURNS) net.now.network) }

@@ -10,11 +10,12 @@ ghost use Rattle.std.specs.Prelude.{◌≡◌, ◌≢◌, ◌≤◌, IfErr, OnOk
 ghost use Rattle.mrp_run.specs.Faults.{AllTurned, WasShut, WasSpent};
 ghost use Rattle.mrp_qty.specs.declared.limits.TheConstants.{MOST_TURNS};
 ghost use Rattle.mrp_text.specs.Fault.{IsBeforeWriting};
-ghost use Rattle.mrp_text.specs.Text.{Writes, WritesRows, OfTable, IsPlanReport, IsPlanRows, IsCodeReport};
+ghost use Rattle.mrp_text.specs.Text.{Writes, OfTable, IsPlanReport};
+ghost use Rattle.mrp_text.specs.Reports.{WritesRows, IsPlanRows, IsCodeReport};
 ghost use Rattle.mrp_report.specs.Headings.{code_names, lane_names, peg_names, pegs_names};
-ghost use Rattle.mrp_text.specs.Text.{IsPegReport, IsCumReport, IsOrderReport, IsHeaded};
-ghost use Rattle.mrp_text.specs.Text.{IsAdviceReport, IsPegsReport, IsScheduleReport, name_of};
-ghost use Rattle.mrp_text.specs.Text.{IsRefusal, IsRunRefusal, IsPegRefusal, IsScheduleRefusal, IsTextRefusal};
+ghost use Rattle.mrp_text.specs.Reports.{IsPegReport, IsCumReport, IsOrderReport, IsHeaded};
+ghost use Rattle.mrp_text.specs.Reports.{IsAdviceReport, IsPegsReport, IsScheduleReport, name_of};
+ghost use Rattle.mrp_text.specs.Refusals.{IsRefusal, IsRunRefusal, IsPegRefusal, IsScheduleRefusal, IsTextRefusal};
 ghost use Rattle.mrp_choice.specs.declared.choice.TheConstants.{MOST_CAPACITY};
 
 use crate::fault::TextFault;

@@ -2,17 +2,20 @@
 //! planned orders, the delivery schedules, and the messages for open orders.
 
 ghost use Rattle.std.specs.Prelude.{◌≡◌, ◌≢◌, ◌≤◌, ◌<◌, IfErr, IfOk, OnOk, length};
+ghost use Rattle.mrp_loops.specs.Sized.{IsSized};
 ghost use Rattle.mrp_rows.specs.Table.{IsPair, horizon};
 ghost use Rattle.mrp_net.specs.Plan.{Fits};
 ghost use Rattle.mrp_loops.specs.Loop.{AreCodes};
 ghost use Rattle.mrp_run.specs.Faults.{AllTurned, WasShut, WasSpent};
 ghost use Rattle.mrp_qty.specs.declared.limits.TheConstants.{MOST_TURNS};
 ghost use Rattle.mrp_text.specs.Fault.{IsBeforeWriting, IsLate};
-ghost use Rattle.mrp_text.specs.Text.{Writes, WritesRows, IsPlannable, IsPlanReport, IsPlanRows, IsCodeReport};
+ghost use Rattle.mrp_text.specs.Text.{Writes, IsPlanReport};
+ghost use Rattle.mrp_text.specs.Reports.{WritesRows, IsPlanRows, IsCodeReport};
 ghost use Rattle.mrp_report.specs.Headings.{code_names, lane_names, peg_names, pegs_names};
-ghost use Rattle.mrp_text.specs.Text.{IsPegReport, IsCumReport, IsPegs, IsOrderReport, IsHeaded};
-ghost use Rattle.mrp_text.specs.Text.{AreSchedules, IsAdviceReport, IsChosenPlant, IsPegsReport, IsScheduleReport, IsUnknownPlant, name_of};
-ghost use Rattle.mrp_text.specs.Text.{IsRefusal, IsRunRefusal, IsPegRefusal, IsScheduleRefusal};
+ghost use Rattle.mrp_text.specs.Reports.{IsPegReport, IsCumReport, IsPegs, IsOrderReport, IsHeaded};
+ghost use Rattle.mrp_text.specs.Refusals.{IsUnknownPlant};
+ghost use Rattle.mrp_text.specs.Reports.{AreSchedules, IsAdviceReport, IsChosenPlant, IsPegsReport, IsScheduleReport, name_of};
+ghost use Rattle.mrp_text.specs.Refusals.{IsRefusal, IsRunRefusal, IsPegRefusal, IsScheduleRefusal};
 ghost use Rattle.mrp_choice.specs.declared.choice.TheConstants.{MOST_CAPACITY};
 
 use crate::fault::TextFault;
@@ -79,7 +82,7 @@ fn report_plan<W: Write>(
     plan: &Plan,
     writer: &mut W,
 ) -> Result<(), TextFault>
-    requires plannable { IsPlannable net.now.network }
+    requires plannable { IsSized net.now.network }
     requires fits { Fits net.now.network plan.now }
     ensures text { Writes (W.contents writer.old) (W.contents writer.new) result (IsPlanReport net.now.network) }
     ensures rows { WritesRows W.contents writer.old writer.new result (IsPlanRows net.now.network) }
@@ -115,7 +118,7 @@ fn report_codes<W: Write>(
     heading: Heading,
 ) -> Result<(), TextFault>
     requires codes { AreCodes network.now levels.now }
-    requires plannable { IsPlannable network.now }
+    requires plannable { IsSized network.now }
     ensures text { Writes (W.contents writer.old) (W.contents writer.new) result (IsHeaded heading code_names (IsCodeReport network.now)) }
     ensures fault { IfErr result IsLate }
     ensures untouched { IfErr result (λ fault. fault ≢ TextFault.WriteFault → writer.new ≡ writer.old) }
@@ -159,7 +162,7 @@ fn report_pegs<W: Write>(
     period: usize,
     heading: Heading,
 ) -> Result<(), TextFault>
-    requires plannable { IsPlannable net.now.network }
+    requires plannable { IsSized net.now.network }
     requires pair { IsPair net.now.network x.0 }
     requires period { period < horizon net.now.network }
     ensures text { Writes (W.contents writer.old) (W.contents writer.new) result (IsHeaded heading peg_names (IsPegs net.now.network x.0 period)) }
@@ -195,7 +198,7 @@ fn report_cums<W: Write>(
     writer: &mut W,
     heading: Heading,
 ) -> Result<(), TextFault>
-    requires { IsPlannable net.now.network }
+    requires { IsSized net.now.network }
     ensures text { Writes (W.contents writer.old) (W.contents writer.new) result (IsHeaded heading lane_names (IsCumReport net.now.network)) }
     ensures fault { IfErr result IsLate }
     ensures untouched { IfErr result (λ fault. fault ≢ TextFault.WriteFault → writer.new ≡ writer.old) }
@@ -230,7 +233,7 @@ fn report_orders<W: Write>(
     until: Option<u64>,
     heading: Heading,
 ) -> Result<(), TextFault>
-    requires { IsPlannable net.now.network }
+    requires { IsSized net.now.network }
     ensures text { Writes (W.contents writer.old) (W.contents writer.new) result (IsOrderReport until heading net.now.network) }
     ensures fault { IfErr result IsLate }
     ensures untouched { IfErr result (λ fault. fault ≢ TextFault.WriteFault → writer.new ≡ writer.old) }
@@ -284,7 +287,7 @@ fn report_schedule<W: Write>(
     customer: Option<PlantNo>,
     heading: Heading,
 ) -> Result<(), TextFault>
-    requires { IsPlannable net.now.network }
+    requires { IsSized net.now.network }
     ensures text { Writes (W.contents writer.old) (W.contents writer.new) result (AreSchedules supplier customer heading net.now.network) }
     ensures fault { IfErr result IsLate }
     ensures untouched { IfErr result (λ fault. fault ≢ TextFault.WriteFault → writer.new ≡ writer.old) }
@@ -317,7 +320,7 @@ fn report_all_pegs<W: Write>(
     writer: &mut W,
     heading: Heading,
 ) -> Result<(), TextFault>
-    requires { IsPlannable net.now.network }
+    requires { IsSized net.now.network }
     ensures text { Writes (W.contents writer.old) (W.contents writer.new) result (IsHeaded heading pegs_names (IsPegsReport net.now.network)) }
     ensures fault { IfErr result IsLate }
     ensures untouched { IfErr result (λ fault. fault ≢ TextFault.WriteFault → writer.new ≡ writer.old) }
@@ -350,7 +353,7 @@ fn report_advice<W: Write>(
     writer: &mut W,
     heading: Heading,
 ) -> Result<(), TextFault>
-    requires { IsPlannable net.now.network }
+    requires { IsSized net.now.network }
     ensures text { Writes (W.contents writer.old) (W.contents writer.new) result (IsAdviceReport heading net.now.network) }
     ensures fault { IfErr result IsLate }
     ensures untouched { IfErr result (λ fault. fault ≢ TextFault.WriteFault → writer.new ≡ writer.old) }

@@ -1,5 +1,6 @@
 use Rattle.std.proofs.Common.{◌≡◌, false, rules}
-use Rattle.mrp_text.specs.Text.{IsPegRefusal, IsRefusal, IsRunRefusal, IsScheduleRefusal, name_of}
+use Rattle.mrp_text.specs.Refusals.{IsPegRefusal, IsRefusal, IsRunRefusal, IsScheduleRefusal}
+use Rattle.mrp_text.specs.Reports.{name_of}
 use Rattle.mrp_text.proofs.GateFacts.{never_gate, open_answer, open_refuses}
 use Rattle.mrp_text.proofs.RowFacts.{rows-kept}
 use Rattle.mrp_text.proofs.answers.answer.Goals as goal

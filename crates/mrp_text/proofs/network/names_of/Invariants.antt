@@ -1,5 +1,5 @@
 use Rattle.std.proofs.Common.{map, take}
-use Rattle.mrp_text.specs.Text.{AreCalled}
+use Rattle.mrp_text.specs.Refusals.{AreCalled}
 use Rattle.mrp_text.proofs.network.names_of.Given as goal
 
 -- the pairs before this one have their names

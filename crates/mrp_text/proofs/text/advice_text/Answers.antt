@@ -1,12 +1,13 @@
-use Rattle.mrp_text.specs.Text.{IsAdviceReport, IsRefusal}
+use Rattle.mrp_text.specs.Refusals.{IsRefusal}
+use Rattle.mrp_text.specs.Reports.{IsAdviceReport}
 use Rattle.mrp_text.proofs.TextFacts.{refuses-of, writes-of}
 use Rattle.mrp_text.proofs.text.advice_text.Goals as goal
 
 pub returns-clause-text : goal.returns-clause-text
 returns-clause-text g c =
     writes-of _ _ c.write_advice-written.result (IsAdviceReport c.args.heading c.in_ok-network.network) _
-    (λ text is. (c.in_ok-network.network, c.in_ok-network.ensures.table, c.in_ok-network.ensures.rows, is)) c.write_advice-written.ensures.text
+    (λ text is. (c.in_ok-network.network, c.in_ok-network.ensures.rows, is)) c.write_advice-written.ensures.text
 
 pub returns-clause-refusal : goal.returns-clause-refusal
 returns-clause-refusal g c =
-    refuses-of _ IsRefusal c.in_ok-network.network c.write_advice-written.result c.in_ok-network.ensures.table c.in_ok-network.ensures.rows (λ e said. said) c.write_advice-written.ensures.refusal
+    refuses-of _ IsRefusal c.in_ok-network.network c.write_advice-written.result c.in_ok-network.ensures.rows (λ e said. said) c.write_advice-written.ensures.refusal

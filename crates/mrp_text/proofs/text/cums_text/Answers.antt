@@ -1,9 +1,9 @@
 use Rattle.std.proofs.Common.{subst, sym}
-use Rattle.mrp_text.specs.Text.{IsCumReport}
+use Rattle.mrp_text.specs.Reports.{IsCumReport}
 use Rattle.mrp_text.proofs.TextFacts.{writes-of}
 use Rattle.mrp_text.proofs.text.cums_text.Goals as goal
 
 pub returns-clause-text : goal.returns-clause-text
 returns-clause-text g c =
     writes-of _ _ c.headed_cums_text.result _ _
-    (λ text is. (is.0, is.1, is.2, subst (IsCumReport is.0) (sym is.3.2) is.3.1)) c.headed_cums_text.ensures.text
+    (λ text is. (is.0, is.1, subst (IsCumReport is.0) (sym is.2.2) is.2.1)) c.headed_cums_text.ensures.text

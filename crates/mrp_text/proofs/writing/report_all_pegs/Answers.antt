@@ -4,7 +4,7 @@ use Rattle.mrp_lot.specs.One.{PlanRows}
 use Rattle.mrp_sheet.specs.Headings.{header_row}
 use Rattle.mrp_report.specs.Headings.{pegs_names}
 use Rattle.mrp_report.specs.Pegs.{pegs_text}
-use Rattle.mrp_text.specs.Text.{IsHeaded, IsPegsReport}
+use Rattle.mrp_text.specs.Reports.{IsHeaded, IsPegsReport}
 use Rattle.mrp_text.proofs.TextFacts.{report-fails}
 use Rattle.mrp_text.proofs.writing.report_all_pegs.Goals as goal
 

@@ -2,8 +2,8 @@ use Rattle.std.proofs.Common.{◌++◌, Err, ap, refl}
 use Rattle.std.proofs.lemmas.Result.{err_from_is_err_and}
 use Rattle.mrp_report.specs.Headings.{code_names}
 use Rattle.mrp_sheet.specs.Headings.{header_row}
-use Rattle.mrp_report.specs.Report.{code_text}
-use Rattle.mrp_text.specs.Text.{IsCodeReport, IsHeaded}
+use Rattle.mrp_report.specs.Codes.{code_text}
+use Rattle.mrp_text.specs.Reports.{IsCodeReport, IsHeaded}
 use Rattle.mrp_text.proofs.TextFacts.{report-fails}
 use Rattle.mrp_text.proofs.writing.report_codes.Goals as goal
 

@@ -4,8 +4,8 @@ use Rattle.mrp_lot.specs.One.{PlanRows}
 use Rattle.mrp_plan.specs.Peg.{peg_terms}
 use Rattle.mrp_sheet.specs.Headings.{header_row}
 use Rattle.mrp_report.specs.Headings.{peg_names}
-use Rattle.mrp_report.specs.Report.{peg_text}
-use Rattle.mrp_text.specs.Text.{IsHeaded, IsPegs}
+use Rattle.mrp_report.specs.Terms.{peg_text}
+use Rattle.mrp_text.specs.Reports.{IsHeaded, IsPegs}
 use Rattle.mrp_text.proofs.TextFacts.{report-fails}
 use Rattle.mrp_text.proofs.writing.report_pegs.Goals as goal
 

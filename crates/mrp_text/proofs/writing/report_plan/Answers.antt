@@ -2,7 +2,8 @@ use Rattle.std.proofs.Common.{Err, ap}
 use Rattle.std.proofs.lemmas.Result.{err_from_is_err_and}
 use Rattle.mrp_sheet.proofs.Fronts.{whole-after}
 use Rattle.mrp_report.specs.Report.{late_text, plan_text}
-use Rattle.mrp_text.specs.Text.{IsPlanReport, IsPlanRows}
+use Rattle.mrp_text.specs.Text.{IsPlanReport}
+use Rattle.mrp_text.specs.Reports.{IsPlanRows}
 use Rattle.mrp_text.proofs.OneReport.{are_plan_rows, is_plan_report}
 use Rattle.mrp_text.proofs.RowFacts.{late-fails, rows-fail}
 use Rattle.mrp_text.proofs.TextFacts.{first-fails, rest-fails}

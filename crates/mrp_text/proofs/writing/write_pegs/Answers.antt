@@ -1,7 +1,7 @@
 use Rattle.std.proofs.Common.{rules, subst}
 use Rattle.mrp_rows.specs.Table.{Table}
 use Rattle.mrp_report.specs.Headings.{peg_names}
-use Rattle.mrp_text.specs.Text.{IsHeaded, IsPegReport, IsPegs}
+use Rattle.mrp_text.specs.Reports.{IsHeaded, IsPegReport, IsPegs}
 use Rattle.mrp_text.proofs.TextFacts.{writes-of}
 use Rattle.mrp_text.proofs.writing.write_pegs.Goals as goal
 

@@ -1,10 +1,12 @@
 use Rattle.std.proofs.Common.{subst, sym}
+use Rattle.mrp_loops.specs.Sized.{IsSized}
 use Rattle.mrp_rows.specs.Table.{Table}
-use Rattle.mrp_text.specs.Text.{IsPlanReport, IsPlanRows, IsPlannable, Writes, WritesRows}
+use Rattle.mrp_text.specs.Text.{IsPlanReport, Writes}
+use Rattle.mrp_text.specs.Reports.{IsPlanRows, WritesRows}
 use Rattle.mrp_text.proofs.writing.write_plan.Goals as goal
 
 pub driven_plan-requires-clause-plannable : goal.driven_plan-requires-clause-plannable
-driven_plan-requires-clause-plannable g c = subst (λ (N : Table). IsPlannable N) (sym c.in_ok-net.ensures.network) c.in_ok-net.ensures.plannable
+driven_plan-requires-clause-plannable g c = subst (λ (N : Table). IsSized N) (sym c.in_ok-net.ensures.network) c.in_ok-net.ensures.plannable
 
 pub returns-clause-text : goal.returns-clause-text
 returns-clause-text g c =

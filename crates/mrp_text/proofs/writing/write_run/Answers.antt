@@ -2,7 +2,8 @@ use Rattle.std.proofs.Common.{length, subst}
 use Rattle.mrp_qty.specs.declared.limits.TheConstants.{MOST_TURNS}
 use Rattle.mrp_rows.specs.Table.{Table}
 use Rattle.mrp_run.specs.Faults.{AllTurned}
-use Rattle.mrp_text.specs.Text.{IsPlanReport, IsPlanRows, Writes, WritesRows}
+use Rattle.mrp_text.specs.Text.{IsPlanReport, Writes}
+use Rattle.mrp_text.specs.Reports.{IsPlanRows, WritesRows}
 use Rattle.mrp_text.proofs.GateFacts.{on_ok}
 use Rattle.mrp_text.proofs.writing.write_run.Goals as goal
 

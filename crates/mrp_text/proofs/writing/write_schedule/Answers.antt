@@ -1,11 +1,12 @@
 use Rattle.std.proofs.Common.{subst, sym}
+use Rattle.mrp_loops.specs.Sized.{IsSized}
 use Rattle.mrp_rows.specs.Table.{Table}
-use Rattle.mrp_text.specs.Text.{AreSchedules, IsPlannable, IsScheduleReport, name_of}
+use Rattle.mrp_text.specs.Reports.{AreSchedules, IsScheduleReport, name_of}
 use Rattle.mrp_text.proofs.TextFacts.{writes-of}
 use Rattle.mrp_text.proofs.writing.write_schedule.Goals as goal
 
 pub report_schedule-requires : goal.report_schedule-requires
-report_schedule-requires g c = subst (λ (N : Table). IsPlannable N) (sym c.in_ok-net.ensures.network) c.in_ok-net.ensures.plannable
+report_schedule-requires g c = subst (λ (N : Table). IsSized N) (sym c.in_ok-net.ensures.network) c.in_ok-net.ensures.plannable
 
 -- the plants that were found have these names, and the sized network is the one that was given
 pub returns-clause-text : goal.returns-clause-text
