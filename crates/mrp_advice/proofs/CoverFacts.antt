@@ -1,6 +1,6 @@
 -- The first period in which what a pair has isn't enough, from how far it reaches.
 use Rattle.std.proofs.Common.{◌≡◌, ℕ, ◌+◌, ◌<◌, ◌≤◌, List, length, slice_index, sym, arith}
-use Rattle.std.specs.Prelude.{Option, Some, None}
+use Rattle.std.specs.Prelude.{Some, None}
 use Rattle.std.proofs.lemmas.Bool.{le-ltb, lt-ltb}
 use Rattle.std.proofs.lemmas.List.Sums.{sum_by_more}
 use Rattle.mrp_advice.specs.declared.cover.Cover.{Cover}

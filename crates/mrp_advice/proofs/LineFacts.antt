@@ -1,10 +1,10 @@
 -- The rows of a pair's messages, open order by open order.
-use Rattle.std.proofs.Common.{◌≡◌, ◌∙◌, ℕ, zero, suc, ◌+◌, ◌<◌, ◌≤◌, Bool, true, false, cond, List, [], ◌∷◌, ◌++◌, length, refl, sym, ap, subst, arith, add-one, append_assoc}
-use Rattle.std.specs.Prelude.{All, Option, Some, None, IfSome, filter_map, option_map}
+use Rattle.std.proofs.Common.{◌≡◌, ◌∙◌, ℕ, zero, suc, ◌+◌, ◌<◌, ◌≤◌, Bool, List, [], ◌∷◌, ◌++◌, length, refl, sym, ap, subst, arith, add-one, append_assoc}
+use Rattle.std.specs.Prelude.{Option, Some, None, IfSome, filter_map, option_map}
 use Rattle.std.specs.List.{cons_option, find, flat_map, range_with_len}
 use Rattle.std.proofs.lemmas.Bool.{cond_both}
 use Rattle.std.proofs.lemmas.Grind.{flat_map-append}
-use Rattle.std.proofs.lemmas.List.{append-nil, get_or_default}
+use Rattle.std.proofs.lemmas.List.{append-nil}
 use Rattle.std.proofs.lemmas.List.Elements.{filter_map-append}
 use Rattle.std.proofs.lemmas.List.FromFn.{length-map-range_with_len}
 use Rattle.mrp_group.proofs.Grouping.{range-suc}
@@ -12,7 +12,7 @@ use Rattle.mrp_lot.specs.One.{PlanRows}
 use Rattle.mrp_rows.specs.declared.rows.PairRow.{PairRow}
 use Rattle.mrp_rows.specs.Table.{Table, IsPair, horizon}
 use Rattle.mrp_net.specs.Plan.{Fits, gross as required_in, rows_at}
-use Rattle.mrp_net.specs.Sums.{pair_at, row_of}
+use Rattle.mrp_net.specs.Sums.{pair_at}
 use Rattle.mrp_loops.specs.Sized.{IsSized}
 use Rattle.mrp_loops.proofs.Within.{gross_within_need}
 use Rattle.mrp_plan.proofs.Pegs.{fitting_gross}
@@ -22,9 +22,9 @@ use Rattle.mrp_advice.specs.declared.advice.Action.{Action}
 use Rattle.mrp_advice.specs.declared.advice.Advice.{Advice}
 use Rattle.mrp_advice.specs.declared.orders.OpenOrder.{OpenOrder}
 use Rattle.mrp_advice.specs.declared.report.AdviceLine.{AdviceLine}
-use Rattle.mrp_advice.specs.Advice.{action_for, advice_at, advice_for, messages, no_order, order_at}
+use Rattle.mrp_advice.specs.Advice.{action_for, advice_at, advice_for, messages, order_at}
 use Rattle.mrp_advice.specs.AdviceLines.{IsAdvice, IsAdvised, IsLine, IsOpenOrder, line_row, line_text, message_text}
-use Rattle.mrp_advice.specs.Needed.{first_short, had_before, is_short, needed}
+use Rattle.mrp_advice.specs.Needed.{first_short, had_before, is_short}
 use Rattle.mrp_advice.specs.OpenOrders.{open_orders}
 use Rattle.mrp_advice.specs.Rows.{advice_row, pair_text}
 use Rattle.mrp_advice.proofs.Coming.{open_in_table, orders-le}

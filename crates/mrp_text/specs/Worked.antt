@@ -1,5 +1,5 @@
 -- Two tables that were worked by hand: the rows that say them, and the report of their plan.
-use Rattle.std.specs.Prelude.{◌≡◌, ℕ, List, [], ◌∷◌, ◌++◌, pos, codes}
+use Rattle.std.specs.Prelude.{◌≡◌, [], ◌∷◌, ◌++◌, pos, codes}
 use Rattle.mrp_lot.specs.declared.rule.Rule.TheVariants.{LotForLot}
 use Rattle.mrp_rows.specs.declared.rows.Supply.TheVariants.{Make, Buy, From}
 use Rattle.mrp_rows.specs.Table.{Table}

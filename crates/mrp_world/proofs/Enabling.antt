@@ -1,5 +1,5 @@
 -- How many events of a run are enabled: as many as its steps become fewer.
-use Rattle.std.proofs.Common.{◌≡◌, ℕ, ◌+◌, ◌-◌, ◌≤◌, inl, inr, List, [], ◌∷◌, refl, ap, subst, arith}
+use Rattle.std.proofs.Common.{◌≡◌, ℕ, ◌+◌, ◌-◌, ◌≤◌, inl, inr, List, [], ◌∷◌, refl, ap, arith}
 use Rattle.mrp_rows.specs.Table.{Table}
 use Rattle.mrp_events.specs.declared.event.Event.{Event}
 use Rattle.mrp_events.specs.Progress.{steps_left}

@@ -1,4 +1,4 @@
-use Rattle.std.proofs.Common.{◌≡◌, ◌∙◌, arith}
+use Rattle.std.proofs.Common.{◌≡◌, ◌∙◌}
 use Rattle.std.proofs.lemmas.List.{get_or_default}
 use Rattle.mrp_advice.specs.Advice.{no_order, order_at}
 use Rattle.mrp_advice.proofs.LineFacts.{had_next, rows_next}
