@@ -22,11 +22,11 @@ use Rattle.mrp_advice.specs.declared.advice.Action.{Action}
 use Rattle.mrp_advice.specs.declared.advice.Advice.{Advice}
 use Rattle.mrp_advice.specs.declared.orders.OpenOrder.{OpenOrder}
 use Rattle.mrp_advice.specs.declared.report.AdviceLine.{AdviceLine}
-use Rattle.mrp_advice.specs.Advice.{action_for, advice_at, advice_for, messages, order_at}
-use Rattle.mrp_advice.specs.AdviceLines.{IsAdvice, IsAdvised, IsLine, IsOpenOrder, line_row, line_text, message_text}
+use Rattle.mrp_advice.specs.Advice.{action_for, advice_at, advice_for, messages, open_order_at}
+use Rattle.mrp_advice.specs.AdviceLines.{IsAdvice, IsAdvised, IsAdviceLine, IsOpenOrder, advice_line_row, advice_line_text, message_text}
 use Rattle.mrp_advice.specs.Needed.{first_short, had_before, is_short}
 use Rattle.mrp_advice.specs.OpenOrders.{open_orders}
-use Rattle.mrp_advice.specs.Rows.{advice_row, pair_text}
+use Rattle.mrp_advice.specs.Rows.{advice_row, pair_advice_text}
 use Rattle.mrp_advice.proofs.Coming.{open_in_table, orders-le}
 use Rattle.mrp_advice.proofs.Needing.{had_more}
 
@@ -54,11 +54,11 @@ advice_is N order safety gross had advice periods is same =
 
 -- ---- one open order more
 
-one_row : (line : AdviceLine) (o : Option Advice) → flat_map (line_row line) (cons_option o []) ≡ message_text line o
+one_row : (line : AdviceLine) (o : Option Advice) → flat_map (advice_line_row line) (cons_option o []) ≡ message_text line o
 one_row line None = refl
-one_row line (Some advice) = append-nil (line_row line advice)
+one_row line (Some advice) = append-nil (advice_line_row line advice)
 
-module _ (line : AdviceLine) (pair : PairRow) (gross : List ℕ) (orders : List OpenOrder) (i : ℕ) (order : OpenOrder) (same : order ≡ order_at orders i) where
+module _ (line : AdviceLine) (pair : PairRow) (gross : List ℕ) (orders : List OpenOrder) (i : ℕ) (order : OpenOrder) (same : order ≡ open_order_at orders i) where
   pub had_next : (had after : ℕ) → i < length orders → had ≡ had_before pair orders i → after ≡ had + order.quantity → after ≡ had_before pair orders (i + 1)
   had_next had after within now grown =
       let quantity = ap (λ (o : OpenOrder). o.quantity) same in
@@ -73,27 +73,27 @@ module _ (line : AdviceLine) (pair : PairRow) (gross : List ℕ) (orders : List 
       ∙ ap (filter_map (advice_at pair gross orders)) (range-suc i)
       ∙ filter_map-append (advice_at pair gross orders) (range_with_len 0 i) (i ∷ [])
 
-  pub rows_next : (had : ℕ) (before now after : List ℕ) → had ≡ had_before pair orders i → now ≡ before ++ flat_map (line_row line) (so_far i)
-      → after ≡ now ++ message_text line (advice_for order (first_short pair.safety gross had)) → after ≡ before ++ flat_map (line_row line) (so_far (i + 1))
+  pub rows_next : (had : ℕ) (before now after : List ℕ) → had ≡ had_before pair orders i → now ≡ before ++ flat_map (advice_line_row line) (so_far i)
+      → after ≡ now ++ message_text line (advice_for order (first_short pair.safety gross had)) → after ≡ before ++ flat_map (advice_line_row line) (so_far (i + 1))
   rows_next had before now after has written grown =
       let advice = advice_at pair gross orders i in
-      let rows = flat_map (line_row line) in
+      let rows = flat_map (advice_line_row line) in
       let text : advice_for order (first_short pair.safety gross had) ≡ advice =
       ap (λ (o : OpenOrder). advice_for o (first_short pair.safety gross had)) same
-      ∙ ap (λ (n : ℕ). advice_for (order_at orders i) (first_short pair.safety gross n)) has in
+      ∙ ap (λ (n : ℕ). advice_for (open_order_at orders i) (first_short pair.safety gross n)) has in
       grown
       ∙ ap (λ (z : List ℕ). z ++ message_text line (advice_for order (first_short pair.safety gross had))) written
       ∙ ap (λ (o : Option Advice). (before ++ rows (so_far i)) ++ message_text line o) text
       ∙ append_assoc before (rows (so_far i)) (message_text line advice)
       ∙ ap (λ (z : List ℕ). before ++ (rows (so_far i) ++ z)) (sym (one_row line advice))
-      ∙ ap (λ (z : List ℕ). before ++ z) (sym (flat_map-append (line_row line) (so_far i) (cons_option advice [])))
+      ∙ ap (λ (z : List ℕ). before ++ z) (sym (flat_map-append (advice_line_row line) (so_far i) (cons_option advice [])))
       ∙ ap (λ (z : List Advice). before ++ rows z) (sym one_more)
 
 -- ---- the rows of a line are those of its pair
 
-pub line_is_pair : (N : Table) (table : List PlanRows) (x : ℕ) (line : AdviceLine) (pair : PairRow) (gross : List ℕ) (orders : List OpenOrder) → IsLine N x line
-    → pair ≡ pair_at N x → gross ≡ (rows_at table x).gross → orders ≡ open_orders N x → line_text line pair gross orders ≡ pair_text N table x
-unfolding pair_text
+pub line_is_pair : (N : Table) (table : List PlanRows) (x : ℕ) (line : AdviceLine) (pair : PairRow) (gross : List ℕ) (orders : List OpenOrder) → IsAdviceLine N x line
+    → pair ≡ pair_at N x → gross ≡ (rows_at table x).gross → orders ≡ open_orders N x → advice_line_text line pair gross orders ≡ pair_advice_text N table x
+unfolding pair_advice_text
 line_is_pair N table x line pair gross orders is at required mine =
     let rows : Table → List ℕ → List ℕ → List (List ℕ) → List ℕ = λ n p i d. flat_map (advice_row n p i d) (messages pair gross orders) in
     let own : PairRow → List ℕ → List OpenOrder → List ℕ =
@@ -107,7 +107,7 @@ line_is_pair N table x line pair gross orders is at required mine =
     ∙ ap (λ (o : List OpenOrder). own (pair_at N x) (rows_at table x).gross o) mine
 
 -- a date for each period
-pub line_has_dates : (N : Table) (x : ℕ) (line : AdviceLine) → IsLine N x line → length line.dates.now ≡ horizon line.network.now
+pub line_has_dates : (N : Table) (x : ℕ) (line : AdviceLine) → IsAdviceLine N x line → length line.dates.now ≡ horizon line.network.now
 line_has_dates N x line is =
     ap (λ (l : List (List ℕ)). length l) is.dates
     ∙ length-map-range_with_len (period_date N.calendar) 0 (horizon N)
@@ -115,7 +115,7 @@ line_has_dates N x line is =
 
 -- what a plan that fits a sized network requires of a pair is within the bound, and so is what the pair has
 pub pair_is_advised : (N : Table) (table : List PlanRows) (x : ℕ) (line : AdviceLine) (pair : PairRow) (gross : List ℕ) (orders : List OpenOrder) → IsSized N → Fits N table → IsPair N x
-    → IsLine N x line → pair ≡ pair_at N x → gross ≡ (rows_at table x).gross → orders ≡ open_orders N x → IsAdvised line.network.now pair gross orders
+    → IsAdviceLine N x line → pair ≡ pair_at N x → gross ≡ (rows_at table x).gross → orders ≡ open_orders N x → IsAdvised line.network.now pair gross orders
 pair_is_advised N table x line pair gross orders sized fits in_table is at required mine =
     let within = gross_within_need N sized sized.needs sized.are_needs table fits x in_table in
     let bound = sized.within x in_table in

@@ -7,7 +7,7 @@ use Rattle.std.proofs.lemmas.List.Sums.{sum_by_more, sum_by-take-le}
 use Rattle.mrp_lot.proofs.RangeLaws.{sum_by-range-suc}
 use Rattle.mrp_rows.specs.declared.rows.PairRow.{PairRow}
 use Rattle.mrp_advice.specs.declared.orders.OpenOrder.{OpenOrder}
-use Rattle.mrp_advice.specs.Advice.{no_order, order_at}
+use Rattle.mrp_advice.specs.Advice.{no_order, open_order_at}
 use Rattle.mrp_advice.specs.Laws.{NeedsRise, TimelyOrdersSuffice, timely}
 use Rattle.mrp_advice.specs.Needed.{gross_to, had_before, is_needed_by, is_short, needed}
 use Rattle.mrp_advice.proofs.Finding.{found_by, found_in, passed_over}
@@ -33,7 +33,7 @@ pub gross_to-le : (gross : List ℕ) (u t : ℕ) → u ≤ t → gross_to gross 
 gross_to-le gross u t by = front-le (λ (n : ℕ). n) gross (u + 1) (t + 1) (omega arith)
 
 -- one order more
-pub had_more : (pair : PairRow) (orders : List OpenOrder) (i : ℕ) → i < length orders → had_before pair orders (i + 1) ≡ had_before pair orders i + (order_at orders i).quantity
+pub had_more : (pair : PairRow) (orders : List OpenOrder) (i : ℕ) → i < length orders → had_before pair orders (i + 1) ≡ had_before pair orders i + (open_order_at orders i).quantity
 had_more pair orders i within = omega (arith, sum_by_more (λ (o : OpenOrder). o.quantity) orders i no_order within)
 
 module _ (pair : PairRow) (gross : List ℕ) (orders : List OpenOrder) (t : ℕ) where
@@ -52,11 +52,11 @@ module _ (pair : PairRow) (gross : List ℕ) (orders : List OpenOrder) (t : ℕ)
 
   -- what comes of an order by then
   part : ℕ → ℕ
-  part i = cond (is_needed_by t (needed pair gross orders i)) (order_at orders i).quantity 0
+  part i = cond (is_needed_by t (needed pair gross orders i)) (open_order_at orders i).quantity 0
 
-  comes : (i : ℕ) → is_needed_by t (needed pair gross orders i) ≡ true → part i ≡ (order_at orders i).quantity
+  comes : (i : ℕ) → is_needed_by t (needed pair gross orders i) ≡ true → part i ≡ (open_order_at orders i).quantity
   unfolding part
-  comes i by = cond-true (is_needed_by t (needed pair gross orders i)) (order_at orders i).quantity 0 by
+  comes i by = cond-true (is_needed_by t (needed pair gross orders i)) (open_order_at orders i).quantity 0 by
 
   abbrev come : ℕ → ℕ
   come k = pair.on_hand + sum_by part (range_with_len 0 k)

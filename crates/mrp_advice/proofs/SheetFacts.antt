@@ -7,7 +7,7 @@ use Rattle.mrp_lot.specs.One.{PlanRows}
 use Rattle.mrp_rows.specs.Table.{IsTable, Table}
 use Rattle.mrp_net.specs.Sums.{pair_at}
 use Rattle.mrp_sheet.specs.Dates.{dates_of}
-use Rattle.mrp_sheet.specs.DateLists.{date_at}
+use Rattle.mrp_sheet.specs.DateLists.{date_in}
 use Rattle.mrp_sheet.specs.Names.{item_of, pairs_of, plant_of}
 use Rattle.mrp_sheet.specs.Rows.{row}
 use Rattle.mrp_sheet.specs.Sheets.{IsPlain}
@@ -21,19 +21,19 @@ use Rattle.mrp_advice.specs.declared.orders.OrderKind.{OrderKind}
 use Rattle.mrp_advice.specs.declared.orders.OrderKind.TheVariants.{Receipt, Ship}
 use Rattle.mrp_advice.specs.Advice.{pair_advice}
 use Rattle.mrp_advice.specs.Laws.{AdviceIsReadBack}
-use Rattle.mrp_advice.specs.Rows.{action_word, advice_fields, advice_names, advice_row, advice_text, kind_word, messages_text, needed_date, needed_period, pair_text, supplier_name}
-use Rattle.mrp_advice.specs.Sheets.{pair_sheet}
+use Rattle.mrp_advice.specs.Rows.{action_word, advice_fields, advice_names, advice_row, advice_text, order_kind_word, messages_text, needed_date, needed_period, pair_advice_text, sender_name}
+use Rattle.mrp_advice.specs.Sheets.{pair_advice_sheet}
 
 action_plain : (action : Action) → IsPlain (action_word action)
 action_plain Expedite = refl
 action_plain Defer = refl
 action_plain Cancel = refl
 
-kind_plain : (kind : OrderKind) → IsPlain (kind_word kind)
+kind_plain : (kind : OrderKind) → IsPlain (order_kind_word kind)
 kind_plain Receipt = refl
 kind_plain (Ship from) = refl
 
-supplier_plain : (N : Table) → IsTable N → (kind : OrderKind) → IsPlain (supplier_name N kind)
+supplier_plain : (N : Table) → IsTable N → (kind : OrderKind) → IsPlain (sender_name N kind)
 supplier_plain N is Receipt = refl
 supplier_plain N is (Ship from) = plant_plain N is from.0
 
@@ -41,12 +41,12 @@ period_plain : (needed : Option ℕ) → IsPlain (needed_period needed)
 period_plain None = refl
 period_plain (Some t) = number_plain t
 
-date_plain : (dates : List (List ℕ)) → ((t : ℕ) → IsPlain (date_at dates t)) → (needed : Option ℕ) → IsPlain (needed_date dates needed)
+date_plain : (dates : List (List ℕ)) → ((t : ℕ) → IsPlain (date_in dates t)) → (needed : Option ℕ) → IsPlain (needed_date dates needed)
 date_plain dates each None = refl
 date_plain dates each (Some t) = each t
 
 advice_is_row : (N : Table) → IsTable N → (plant item : List ℕ) (dates : List (List ℕ)) (advice : Advice) → IsPlain plant → IsPlain item
-    → ((t : ℕ) → IsPlain (date_at dates t)) → IsRow (advice_fields N plant item dates advice)
+    → ((t : ℕ) → IsPlain (date_in dates t)) → IsRow (advice_fields N plant item dates advice)
 unfolding row strip_bom
 advice_is_row N is plant item dates advice p i d = record {
   plain =
@@ -70,15 +70,15 @@ advice_names_are_row = record {
   front = λ rest. refl;
 }
 
-messages_are_sheet : (N : Table) (table : List PlanRows) → messages_text N table ≡ flat_map row (flat_map (pair_sheet N table) (pairs_of N))
-unfolding messages_text pair_text advice_row
+messages_are_sheet : (N : Table) (table : List PlanRows) → messages_text N table ≡ flat_map row (flat_map (pair_advice_sheet N table) (pairs_of N))
+unfolding messages_text pair_advice_text advice_row
 messages_are_sheet N table =
-    rows_each (pair_text N table) (pair_sheet N table)
+    rows_each (pair_advice_text N table) (pair_advice_sheet N table)
     (λ x. row_each (advice_fields N (plant_of N x) (item_of N x) (dates_of N.calendar)) (pair_advice N table x)) (pairs_of N)
 
-rows_are : (N : Table) → IsTable N → (table : List PlanRows) → All IsRow (flat_map (pair_sheet N table) (pairs_of N))
+rows_are : (N : Table) → IsTable N → (table : List PlanRows) → All IsRow (flat_map (pair_advice_sheet N table) (pairs_of N))
 rows_are N is table =
-    all_each (pair_sheet N table)
+    all_each (pair_advice_sheet N table)
     (λ x. all_map (advice_fields N (plant_of N x) (item_of N x) (dates_of N.calendar))
     (λ advice. advice_is_row N is (plant_of N x) (item_of N x) (dates_of N.calendar) advice (plant_plain N is (pair_at N x).plant.0)
     (item_plain N is (pair_at N x).item.0) (dates_plain N.calendar))
@@ -88,5 +88,5 @@ rows_are N is table =
 pub advice_is_read : AdviceIsReadBack
 unfolding advice_text
 advice_is_read N is heading table =
-    headed_read heading advice_names advice_names_are_row (messages_text N table) (flat_map (pair_sheet N table) (pairs_of N))
+    headed_read heading advice_names advice_names_are_row (messages_text N table) (flat_map (pair_advice_sheet N table) (pairs_of N))
     (messages_are_sheet N table) (rows_are N is table)

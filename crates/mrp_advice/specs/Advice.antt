@@ -28,12 +28,12 @@ abbrev pub no_order : OpenOrder
 no_order = record { kind = Receipt; pair = record { 0 = 0 }; period = 0; quantity = 0 }
 
 -- the i-th of the open orders
-abbrev pub order_at : List OpenOrder → ℕ → OpenOrder
-order_at orders i = slice_index_or orders i no_order
+abbrev pub open_order_at : List OpenOrder → ℕ → OpenOrder
+open_order_at orders i = slice_index_or orders i no_order
 
 -- the message for it
 abbrev pub advice_at : PairRow → List ℕ → List OpenOrder → ℕ → Option Advice
-advice_at pair gross orders i = advice_for (order_at orders i) (needed pair gross orders i)
+advice_at pair gross orders i = advice_for (open_order_at orders i) (needed pair gross orders i)
 
 -- the messages for the open orders of a pair with these gross requirements, in the order of the orders
 abbrev pub messages : PairRow → List ℕ → List OpenOrder → List Advice

@@ -15,23 +15,23 @@ use Rattle.mrp_advice.specs.Advice.{messages}
 use Rattle.mrp_advice.specs.Rows.{advice_row}
 
 -- what the rows of a pair's messages have in common
-pub record IsLine (N : Table) (x : ℕ) (line : AdviceLine) : Type 0 where
+pub record IsAdviceLine (N : Table) (x : ℕ) (line : AdviceLine) : Type 0 where
   pub network : line.network.now ≡ N
   pub plant : line.plant.now ≡ plant_of N x
   pub item : line.item.now ≡ item_of N x
   pub dates : line.dates.now ≡ dates_of N.calendar
 
 -- the row of a message, and that of an open order where it has one
-abbrev pub line_row : AdviceLine → Advice → List ℕ
-line_row line advice = advice_row line.network.now line.plant.now line.item.now line.dates.now advice
+abbrev pub advice_line_row : AdviceLine → Advice → List ℕ
+advice_line_row line advice = advice_row line.network.now line.plant.now line.item.now line.dates.now advice
 
 abbrev pub message_text : AdviceLine → Option Advice → List ℕ
 message_text line None = []
-message_text line (Some advice) = line_row line advice
+message_text line (Some advice) = advice_line_row line advice
 
 -- those of all messages of a pair
-abbrev pub line_text : AdviceLine → PairRow → List ℕ → List OpenOrder → List ℕ
-line_text line pair gross orders = flat_map (line_row line) (messages pair gross orders)
+abbrev pub advice_line_text : AdviceLine → PairRow → List ℕ → List OpenOrder → List ℕ
+advice_line_text line pair gross orders = flat_map (advice_line_row line) (messages pair gross orders)
 
 -- a shipment comes from a plant of the table
 abbrev pub HasSender : Table → OrderKind → Type 0

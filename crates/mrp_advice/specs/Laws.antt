@@ -8,7 +8,7 @@ use Rattle.mrp_choice.specs.declared.choice.Heading.{Heading}
 use Rattle.mrp_net.specs.Sums.{incoming}
 use Rattle.mrp_sheet.specs.Sheets.{IsReadAs}
 use Rattle.mrp_advice.specs.declared.orders.OpenOrder.{OpenOrder}
-use Rattle.mrp_advice.specs.Advice.{order_at}
+use Rattle.mrp_advice.specs.Advice.{open_order_at}
 use Rattle.mrp_advice.specs.Needed.{gross_to, is_needed_by, needed}
 use Rattle.mrp_advice.specs.OpenOrders.{all_orders, open_orders, orders_in}
 use Rattle.mrp_advice.specs.Rows.{advice_text}
@@ -17,7 +17,7 @@ use Rattle.mrp_advice.specs.Sheets.{advice_sheet}
 -- what has come by a period if each open order of a pair comes when it is needed, and one that is needed in no period never
 abbrev pub timely : PairRow → List ℕ → List OpenOrder → ℕ → ℕ
 timely pair gross orders t =
-    sum_by (λ i. if is_needed_by t (needed pair gross orders i) then (order_at orders i).quantity else 0) (range_with_len 0 (length orders))
+    sum_by (λ i. if is_needed_by t (needed pair gross orders i) then (open_order_at orders i).quantity else 0) (range_with_len 0 (length orders))
 
 -- then the balance without any planned order is at safety stock or above in each period before one in which an order is
 -- needed, and in all periods of the horizon where an order is needed in none

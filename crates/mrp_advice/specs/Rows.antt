@@ -5,9 +5,9 @@ use Rattle.mrp_lot.specs.One.{PlanRows}
 use Rattle.mrp_rows.specs.Table.{Table}
 use Rattle.mrp_choice.specs.declared.choice.Heading.{Heading}
 use Rattle.mrp_sheet.specs.Dates.{dates_of}
-use Rattle.mrp_sheet.specs.DateLists.{date_at}
+use Rattle.mrp_sheet.specs.DateLists.{date_in}
 use Rattle.mrp_sheet.specs.Headings.{header_row}
-use Rattle.mrp_sheet.specs.Names.{item_of, pairs_of, plant_name, plant_of}
+use Rattle.mrp_sheet.specs.Names.{item_of, pairs_of, name_of_plant, plant_of}
 use Rattle.mrp_sheet.specs.Rows.{row}
 use Rattle.mrp_advice.specs.declared.advice.Action.{Action}
 use Rattle.mrp_advice.specs.declared.advice.Action.TheVariants.{Expedite, Defer, Cancel}
@@ -28,14 +28,14 @@ action_word Expedite = text_bytes "expedite"
 action_word Defer = text_bytes "defer"
 action_word Cancel = text_bytes "cancel"
 
-abbrev pub kind_word : OrderKind → List ℕ
-kind_word Receipt = text_bytes "receipt"
-kind_word (Ship from) = text_bytes "ship"
+abbrev pub order_kind_word : OrderKind → List ℕ
+order_kind_word Receipt = text_bytes "receipt"
+order_kind_word (Ship from) = text_bytes "ship"
 
 -- the sender of a shipment; a receipt has none
-abbrev pub supplier_name : Table → OrderKind → List ℕ
-supplier_name N Receipt = []
-supplier_name N (Ship from) = plant_name N from
+abbrev pub sender_name : Table → OrderKind → List ℕ
+sender_name N Receipt = []
+sender_name N (Ship from) = name_of_plant N from
 
 -- the period in which an order is needed and its first day, and nothing where it is needed in none
 abbrev pub needed_period : Option ℕ → List ℕ
@@ -44,13 +44,13 @@ needed_period (Some t) = decimal t
 
 abbrev pub needed_date : List (List ℕ) → Option ℕ → List ℕ
 needed_date dates None = []
-needed_date dates (Some t) = date_at dates t
+needed_date dates (Some t) = date_in dates t
 
 -- the fields of the row of a message: what to do, what the order is, when it is due, and when it is needed
 abbrev pub advice_fields : Table → List ℕ → List ℕ → List (List ℕ) → Advice → List (List ℕ)
 advice_fields N plant item dates advice =
-    text_bytes "advice" ∷ action_word advice.action ∷ kind_word advice.order.kind ∷ plant ∷ item ∷ supplier_name N advice.order.kind
-    ∷ decimal advice.order.period ∷ date_at dates advice.order.period ∷ decimal advice.order.quantity
+    text_bytes "advice" ∷ action_word advice.action ∷ order_kind_word advice.order.kind ∷ plant ∷ item ∷ sender_name N advice.order.kind
+    ∷ decimal advice.order.period ∷ date_in dates advice.order.period ∷ decimal advice.order.quantity
     ∷ needed_period advice.needed ∷ needed_date dates advice.needed ∷ []
 
 -- that row
@@ -58,12 +58,12 @@ unfoldable pub advice_row : Table → List ℕ → List ℕ → List (List ℕ) 
 advice_row N plant item dates advice = row (advice_fields N plant item dates advice)
 
 -- the rows of a pair's messages, in the order of its open orders
-unfoldable pub pair_text : Table → List PlanRows → ℕ → List ℕ
-pair_text N table x = flat_map (advice_row N (plant_of N x) (item_of N x) (dates_of N.calendar)) (pair_advice N table x)
+unfoldable pub pair_advice_text : Table → List PlanRows → ℕ → List ℕ
+pair_advice_text N table x = flat_map (advice_row N (plant_of N x) (item_of N x) (dates_of N.calendar)) (pair_advice N table x)
 
 -- the messages of each pair, in table order
 unfoldable pub messages_text : Table → List PlanRows → List ℕ
-messages_text N table = flat_map (pair_text N table) (pairs_of N)
+messages_text N table = flat_map (pair_advice_text N table) (pairs_of N)
 
 -- the report: the names of its columns, where they are asked for, and the messages
 unfoldable pub advice_text : Heading → Table → List PlanRows → List ℕ

@@ -8,13 +8,13 @@ ghost use Rattle.mrp_loops.specs.Sized.{IsSized};
 ghost use Rattle.mrp_sheet.specs.Dates.{dates_of};
 ghost use Rattle.mrp_sheet.specs.Headings.{header_row};
 ghost use Rattle.mrp_sheet.specs.Writing.{IsBetweenRows, written};
-ghost use Rattle.mrp_sheet.specs.Sending.{Sends};
+ghost use Rattle.mrp_sheet.specs.Sending.{SendsReport};
 ghost use Rattle.mrp_advice.specs.Advice.{advice_for};
-ghost use Rattle.mrp_advice.specs.AdviceLines.{HasSender, IsAdvice, IsAdvised, IsLine, IsOpenOrder, line_row, line_text, message_text};
+ghost use Rattle.mrp_advice.specs.AdviceLines.{HasSender, IsAdvice, IsAdvised, IsAdviceLine, IsOpenOrder, advice_line_row, advice_line_text, message_text};
 ghost use Rattle.mrp_advice.specs.Covered.{Covers};
 ghost use Rattle.mrp_advice.specs.Gathered.{AreOpenOrders};
 ghost use Rattle.mrp_advice.specs.Needed.{first_short};
-ghost use Rattle.mrp_advice.specs.Rows.{action_word, advice_names, advice_text, kind_word, messages_text, needed_date, needed_period, pair_text, supplier_name};
+ghost use Rattle.mrp_advice.specs.Rows.{action_word, advice_names, advice_text, order_kind_word, messages_text, needed_date, needed_period, pair_advice_text, sender_name};
 
 use crate::cover::{Cover, next_advice};
 use crate::gathering::open_orders;
@@ -79,7 +79,7 @@ pub fn advice_rows<W: Write>(
     out: &mut W,
 ) -> Result<(), ReportFault>
     requires fits { Fits net.now.network plan.now }
-    ensures text { Sends (W.contents out.old) (W.contents out.new) result (advice_text heading net.now.network plan.now) }
+    ensures text { SendsReport (W.contents out.old) (W.contents out.new) result (advice_text heading net.now.network plan.now) }
     ensures untouched { result ≡ Err ReportFault.Memory → out.new ≡ out.old }
 {
     let network = net.network();
@@ -173,7 +173,7 @@ fn put_pair_messages(
     requires orders { AreOpenOrders report.now.network.now report.now.orders.now.rows.items report.now.orders.now.starts.items }
     requires dates { report.now.dates.now ≡ dates_of report.now.network.now.calendar }
     requires pair { IsPair report.now.network.now x.0 }
-    ensures rows { OnOk result (written rows.new ≡ written rows.old ++ pair_text report.now.network.now report.now.plan.now x.0) }
+    ensures rows { OnOk result (written rows.new ≡ written rows.old ++ pair_advice_text report.now.network.now report.now.plan.now x.0) }
     ensures between { OnOk result (IsBetweenRows rows.new) }
     ensures fault { IfErr result (λ fault. fault ≡ ReportFault.Memory) }
 {
@@ -187,7 +187,7 @@ fn put_pair_messages(
 fn line_of<'a>(report: &AdviceReport<'a>, x: PairNo) -> AdviceLine<'a>
     requires dates { report.now.dates.now ≡ dates_of report.now.network.now.calendar }
     requires pair { IsPair report.now.network.now x.0 }
-    ensures { IsLine report.now.network.now x.0 result }
+    ensures { IsAdviceLine report.now.network.now x.0 result }
 {
     let (plant, item) = report.network.pair_name(x);
     AdviceLine {
@@ -209,7 +209,7 @@ fn put_messages<'a>(
     requires between { IsBetweenRows rows.old }
     requires dates { length line.now.dates.now ≡ horizon line.now.network.now }
     requires advised { IsAdvised line.now.network.now pair gross.now orders.now }
-    ensures rows { OnOk result (written rows.new ≡ written rows.old ++ line_text line.now pair gross.now orders.now) }
+    ensures rows { OnOk result (written rows.new ≡ written rows.old ++ advice_line_text line.now pair gross.now orders.now) }
     ensures between { OnOk result (IsBetweenRows rows.new) }
     ensures fault { IfErr result (λ fault. fault ≡ ReportFault.Memory) }
 {
@@ -278,7 +278,7 @@ fn put_advice<'a>(
     requires between { IsBetweenRows rows.old }
     requires dates { length line.now.dates.now ≡ horizon line.now.network.now }
     requires advice { IsAdvice line.now.network.now advice }
-    ensures row { OnOk result (written rows.new ≡ written rows.old ++ line_row line.now advice) }
+    ensures row { OnOk result (written rows.new ≡ written rows.old ++ advice_line_row line.now advice) }
     ensures between { OnOk result (IsBetweenRows rows.new) }
     ensures fault { IfErr result (λ fault. fault ≡ ReportFault.Memory) }
 {
@@ -317,7 +317,7 @@ fn action_word<'a>(action: Action) -> &'a [u8]
 
 /// What a row calls a kind of open order.
 fn kind_word<'a>(kind: OrderKind) -> &'a [u8]
-    ensures { result.now ≡ kind_word kind }
+    ensures { result.now ≡ order_kind_word kind }
 {
     match kind {
         OrderKind::Receipt => b"receipt",
@@ -328,7 +328,7 @@ fn kind_word<'a>(kind: OrderKind) -> &'a [u8]
 /// The name of a shipment's sender, which a receipt has not.
 fn supplier_name(network: &Network, kind: OrderKind) -> &[u8]
     requires { HasSender network.now kind }
-    ensures { result.now ≡ supplier_name network.now kind }
+    ensures { result.now ≡ sender_name network.now kind }
 {
     match kind {
         OrderKind::Receipt => b"",

@@ -12,7 +12,7 @@ use Rattle.mrp_view.specs.declared.view.IncomingLane.{IncomingLane}
 use Rattle.mrp_view.specs.View.{PlantRows}
 use Rattle.mrp_view.proofs.Once.{one}
 use Rattle.mrp_record.specs.declared.record.Record.{Record}
-use Rattle.mrp_record.specs.Entries.{Entry, LineOf, EndOf, ResetOf, Delivery, content, contents, entries_of, deliveries, delivery_of, is_of, is_end, is_ended}
+use Rattle.mrp_record.specs.Entries.{Entry, LineOf, EndOf, ResetOf, Delivery, content, contents, entries_of, deliveries, entry_delivery, is_of, is_end, is_ended}
 use Rattle.mrp_record.specs.Laws.{quantity_in}
 use Rattle.mrp_events.specs.State.{changed}
 use Rattle.mrp_local.specs.Local.{pieces_in, is_of_kind, booked_on}
@@ -86,17 +86,17 @@ brought item period e = pieces_in item period (e ∷ [])
 pub pieces_more : (item period : ℕ) (records : List Record) (r : Record) → pieces_in item period (contents (records ++ r ∷ [])) ≡ pieces_in item period (contents records) + brought item period (content r)
 pieces_more item period records r =
     let pieces : Delivery → ℕ = λ line. cond (eqb line.period period) line.quantity 0 in
-    ap (λ (z : List Entry). quantity_in period (filter_map delivery_of z)) (entries_more item records r)
-    ∙ ap (quantity_in period) (filter_map-append delivery_of (entries_of item (contents records)) (entries_of item (content r ∷ [])))
+    ap (λ (z : List Entry). quantity_in period (filter_map entry_delivery z)) (entries_more item records r)
+    ∙ ap (quantity_in period) (filter_map-append entry_delivery (entries_of item (contents records)) (entries_of item (content r ∷ [])))
     ∙ sum_by-append pieces (deliveries item (contents records)) (deliveries item (content r ∷ []))
 
 pub other_brings_nothing : (item period : ℕ) (e : Entry) → is_of item e ≡ false → brought item period e ≡ 0
-other_brings_nothing item period e other = ap (λ (b : Bool). quantity_in period (filter_map delivery_of (cond b (e ∷ []) []))) other
+other_brings_nothing item period e other = ap (λ (b : Bool). quantity_in period (filter_map entry_delivery (cond b (e ∷ []) []))) other
 
 pub line_brings : (item period quantity cumulative other t : ℕ) → item ≡ other → period ≡ t → brought other t (LineOf item period quantity cumulative) ≡ quantity
 line_brings item period quantity cumulative other t is at =
     let here : brought other t (LineOf item period quantity cumulative) ≡ 0 + cond (eqb period t) quantity 0 =
-    ap (λ (b : Bool). quantity_in t (filter_map delivery_of (cond b (LineOf item period quantity cumulative ∷ []) []))) (eq-eqb item other is) in
+    ap (λ (b : Bool). quantity_in t (filter_map entry_delivery (cond b (LineOf item period quantity cumulative ∷ []) []))) (eq-eqb item other is) in
     let all : cond (eqb period t) quantity 0 ≡ quantity = ap (λ (b : Bool). cond b quantity 0) (eq-eqb period t at) in
     omega (arith, here, all)
 
@@ -105,7 +105,7 @@ line_brings_later item period quantity cumulative other t at =
     elim (cases_Bool (eqb item other)) as (λ _. brought other t (LineOf item period quantity cumulative) ≡ 0) [
       | inl is ↦
           let here : brought other t (LineOf item period quantity cumulative) ≡ 0 + cond (eqb period t) quantity 0 =
-          ap (λ (b : Bool). quantity_in t (filter_map delivery_of (cond b (LineOf item period quantity cumulative ∷ []) []))) is in
+          ap (λ (b : Bool). quantity_in t (filter_map entry_delivery (cond b (LineOf item period quantity cumulative ∷ []) []))) is in
           let nothing : cond (eqb period t) quantity 0 ≡ 0 = ap (λ (b : Bool). cond b quantity 0) (ne_eqb period t at) in
           omega (arith, here, nothing)
       | inr not ↦ other_brings_nothing other t (LineOf item period quantity cumulative) not

@@ -15,9 +15,9 @@ use Rattle.mrp_book.specs.Figures.{Figures, figures}
 use Rattle.mrp_ready.specs.Progress.{Progress}
 use Rattle.mrp_events.specs.State.{changed}
 use Rattle.mrp_agent.specs.State.{AgentState, book_at, incoming_at, incoming_place, no_book, no_incoming}
-use Rattle.mrp_agent.specs.After.{after_booked, came_by, called_by, ended_place, items_of, BlockEnded, IsAwaited}
+use Rattle.mrp_agent.specs.After.{after_booked, came_by, called_after, ended_place, items_of, BlockEnded, IsAwaited}
 use Rattle.mrp_agent.specs.Kept.{Indexes, IsKept}
-use Rattle.mrp_agent.specs.Shows.{form_of, BooksShow, Shows}
+use Rattle.mrp_agent.specs.Shows.{form_of, BooksShow, ShowsHistory}
 use Rattle.mrp_agent.proofs.Arriving.{with_taken}
 use Rattle.mrp_agent.proofs.Booked.{booked_kept, booked_shows, ends_awaited}
 
@@ -32,7 +32,7 @@ pub record IsOnLane (A : AgentState) (I : Indexes) (l j : ℕ) (was : Figures) :
 pub record HasAdded (A : AgentState) (I : Indexes) (j : ℕ) (r : Record) (lanes : List IncomingLane) (lane : IncomingLane) (came called : List ℕ) (progress : Progress) : Type 0 where
   pub lanes_are : lanes ≡ A.view.incoming
   pub comes : came ≡ came_by (get_or lanes j lane).kind A.view A.came r
-  pub calls : called ≡ called_by (get_or lanes j lane).kind A.view A.called r
+  pub calls : called ≡ called_after (get_or lanes j lane).kind A.view A.called r
   pub ended : BlockEnded (ended_place I.items r) A.progress progress
 
 module _ {A : AgentState} {I : Indexes} {l j : ℕ} {was : Figures} (on : IsOnLane A I l j was) (r : Record) where
@@ -57,16 +57,16 @@ module _ {A : AgentState} {I : Indexes} {l j : ℕ} {was : Figures} (on : IsOnLa
 
   -- a refused record goes on with no list that is shown
   pub refused_is : (fault : BookFault)
-      → ((F : LaneForm) (records : List Record) → book.Shows F was records → (first_fault (figures F records) r ≡ Some fault) × (IsInForm F (records ++ r ∷ []) → ⊥))
+      → ((F : LaneForm) (records : List Record) → book.BookShows F was records → (first_fault (figures F records) r ≡ Some fault) × (IsInForm F (records ++ r ∷ []) → ⊥))
       → (taken : ℕ → List Record) → BooksShow A taken
       → (first_fault (figures (form_of A.view Lane) (taken l)) r ≡ Some fault) × (IsInForm (form_of A.view Lane) (taken l ++ r ∷ []) → ⊥)
   refused_is fault refused taken shows =
-      let shown : book.Shows (form_of A.view Lane) was (taken Lane.number.0) = subst (λ (z : Figures). book.Shows (form_of A.view Lane) z (taken Lane.number.0)) (sym was_is) (shows Place on.within) in
-      refused (form_of A.view Lane) (taken l) (subst (λ (n : ℕ). book.Shows (form_of A.view Lane) was (taken n)) number_is shown)
+      let shown : book.BookShows (form_of A.view Lane) was (taken Lane.number.0) = subst (λ (z : Figures). book.BookShows (form_of A.view Lane) z (taken Lane.number.0)) (sym was_is) (shows Place on.within) in
+      refused (form_of A.view Lane) (taken l) (subst (λ (n : ℕ). book.BookShows (form_of A.view Lane) was (taken n)) number_is shown)
 
-  module _ {now : Figures} (booked : (F : LaneForm) (records : List Record) → book.Shows F was records → book.Shows F now (records ++ r ∷ [])) where
-    on_lane : (records : List Record) → book.Shows (form_of A.view Lane) (book_at A Place) records → book.Shows (form_of A.view Lane) now (records ++ r ∷ [])
-    on_lane records shows = booked (form_of A.view Lane) records (subst (λ (z : Figures). book.Shows (form_of A.view Lane) z records) (sym was_is) shows)
+  module _ {now : Figures} (booked : (F : LaneForm) (records : List Record) → book.BookShows F was records → book.BookShows F now (records ++ r ∷ [])) where
+    on_lane : (records : List Record) → book.BookShows (form_of A.view Lane) (book_at A Place) records → book.BookShows (form_of A.view Lane) now (records ++ r ∷ [])
+    on_lane records shows = booked (form_of A.view Lane) records (subst (λ (z : Figures). book.BookShows (form_of A.view Lane) z records) (sym was_is) shows)
 
     pub ends : IfSome (ended_place I.items r) (IsAwaited A.progress)
     ends =
@@ -83,7 +83,7 @@ module _ {A : AgentState} {I : Indexes} {l j : ℕ} {was : Figures} (on : IsOnLa
           ∙ ap (λ (z : List ℕ). record A { books = set A.books Place now; came = z; called = called; progress = progress })
           (added.comes ∙ ap (λ (z : LaneKind). came_by z A.view A.came r) (kind_is lanes lane added.lanes_are))
           ∙ ap (λ (z : List ℕ). record A { books = set A.books Place now; came = came_by Lane.kind A.view A.came r; called = z; progress = progress })
-          (added.calls ∙ ap (λ (z : LaneKind). called_by z A.view A.called r) (kind_is lanes lane added.lanes_are))
+          (added.calls ∙ ap (λ (z : LaneKind). called_after z A.view A.called r) (kind_is lanes lane added.lanes_are))
 
       ended_is : BlockEnded (ended_place (items_of A.view) r) A.progress progress
       ended_is = subst (λ (items : List ItemNo). BlockEnded (ended_place items r) A.progress progress) on.kept.indexes.items added.ended
@@ -91,9 +91,9 @@ module _ {A : AgentState} {I : Indexes} {l j : ℕ} {was : Figures} (on : IsOnLa
       pub kept_now : IsKept New I
       kept_now = subst (λ (z : AgentState). IsKept z I) (sym new_is) (booked_kept A on.kept.view on.kept.rooms Place on.within r now progress on_lane I on.kept ended_is)
 
-      pub shows_now : (sent taken : ℕ → List Record) (planned : ℕ → Bool) → Shows A sent taken planned → Shows New sent (changed taken l (taken l ++ r ∷ [])) planned
+      pub shows_now : (sent taken : ℕ → List Record) (planned : ℕ → Bool) → ShowsHistory A sent taken planned → ShowsHistory New sent (changed taken l (taken l ++ r ∷ [])) planned
       shows_now sent taken planned shows =
-          let after : Shows New sent (with_taken A.view taken Place r) planned =
-          subst (λ (z : AgentState). Shows z sent (with_taken A.view taken Place r) planned) (sym new_is)
+          let after : ShowsHistory New sent (with_taken A.view taken Place r) planned =
+          subst (λ (z : AgentState). ShowsHistory z sent (with_taken A.view taken Place r) planned) (sym new_is)
           (booked_shows A on.kept.view on.kept.rooms Place on.within r now progress on_lane ended_is sent taken planned shows) in
-          subst (λ (n : ℕ). Shows New sent (changed taken n (taken n ++ r ∷ [])) planned) number_is after
+          subst (λ (n : ℕ). ShowsHistory New sent (changed taken n (taken n ++ r ∷ [])) planned) number_is after

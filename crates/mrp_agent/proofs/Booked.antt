@@ -12,12 +12,12 @@ use Rattle.mrp_view.specs.declared.view.IncomingItem.{IncomingItem}
 use Rattle.mrp_view.specs.declared.view.IncomingLane.{IncomingLane}
 use Rattle.mrp_view.specs.declared.view.OutgoingLane.{OutgoingLane}
 use Rattle.mrp_view.specs.declared.view.PlantPair.{PlantPair}
-use Rattle.mrp_view.specs.Loads.{Load, call_of, load_at, no_load}
+use Rattle.mrp_view.specs.Loads.{OutgoingLoad, call_of, load_at, no_load}
 use Rattle.mrp_view.specs.Seen.{IsView, IsOwnOf}
 use Rattle.mrp_view.specs.View.{PlantRows}
 use Rattle.mrp_record.specs.declared.record.Record.{Record}
 use Rattle.mrp_record.specs.declared.record.Record.TheVariants.{Line, ItemEnd, Reset, Close}
-use Rattle.mrp_record.specs.Entries.{Entry, closed_of, content, contents, delivery_of, entries_of, figure_after, is_end, is_ended, is_of}
+use Rattle.mrp_record.specs.Entries.{Entry, closed_of, content, contents, entry_delivery, entries_of, figure_after, is_end, is_ended, is_of}
 use Rattle.mrp_record.specs.Form.{EntryFits}
 use Rattle.mrp_record.specs.Laws.{quantity_in}
 use Rattle.mrp_book.specs.Figures as book
@@ -29,9 +29,9 @@ use Rattle.mrp_ready.specs.Progress.{Progress, is_planned}
 use Rattle.mrp_local.specs.Goods.{goods_by, goods_of, called_for, by_period_from, IsSendable}
 use Rattle.mrp_local.specs.Local.{amount_at, asked_within, booked_on, is_of_kind, lanes_in, local_gross, local_incoming, local_plan, local_row, AwaitsNothing, Carries, IsLocal, IsPlannedLocally}
 use Rattle.mrp_agent.specs.State.{AgentState, book_at, incoming_at, outgoing_at, out_at, pair_place, plans_of, no_book, no_incoming}
-use Rattle.mrp_agent.specs.After.{after_booked, added_for, came_by, called_by, ended_place, items_of, place_of, with_line, BlockEnded, IsAwaited}
+use Rattle.mrp_agent.specs.After.{after_booked, added_for, came_by, called_after, ended_place, items_of, place_of, with_line, BlockEnded, IsAwaited}
 use Rattle.mrp_agent.specs.Kept.{HasRooms, HasTaken, Indexes, IsKept}
-use Rattle.mrp_agent.specs.Shows.{awaited, form_of, joins_of, up_to_last, Awaits, BooksShow, Comes, IsCalled, OutShows, Shows}
+use Rattle.mrp_agent.specs.Shows.{awaited, form_of, joins_of, up_to_last, Awaits, BooksShow, Comes, IsCalled, OutShows, ShowsHistory}
 use Rattle.mrp_agent.proofs.Arriving.{booked_after, brought, entries_stay, sum_each, with_taken}
 use Rattle.mrp_agent.proofs.Bringing.{line_comes, no_item, open_on, IsOpenOn}
 use Rattle.mrp_agent.proofs.Ending.{falls, is_awaited}
@@ -58,7 +58,7 @@ came_length : (kind : LaneKind) (V : PlantRows) (came : List ℕ) (r : Record) �
 came_length Despatch V came r = line_length (items_of V) V.horizon came r
 came_length Schedule V came r = refl
 
-called_length : (kind : LaneKind) (V : PlantRows) (called : List ℕ) (r : Record) → length (called_by kind V called r) ≡ length called
+called_length : (kind : LaneKind) (V : PlantRows) (called : List ℕ) (r : Record) → length (called_after kind V called r) ≡ length called
 called_length Despatch V called r = refl
 called_length Schedule V called r = line_length (items_of V) V.horizon called r
 
@@ -97,8 +97,8 @@ module _ (V : PlantRows) (taken : ℕ → List Record) (planned : ℕ → Bool) 
 
   booked_same : (kind : LaneKind) (t : ℕ) → booked_on kind V Later p.item t ≡ booked_on kind V taken p.item t
   booked_same kind t =
-      let pieces : (ℕ → List Record) → IncomingLane → ℕ = λ lists lane. quantity_in t (filter_map delivery_of (entries_of p.item.0 (contents (lists lane.number.0)))) in
-      sum_each (pieces Later) (pieces taken) (lanes_in kind V) (λ lane. ap (λ (z : List Entry). quantity_in t (filter_map delivery_of z)) (same_entries lane.number.0))
+      let pieces : (ℕ → List Record) → IncomingLane → ℕ = λ lists lane. quantity_in t (filter_map entry_delivery (entries_of p.item.0 (contents (lists lane.number.0)))) in
+      sum_each (pieces Later) (pieces taken) (lanes_in kind V) (λ lane. ap (λ (z : List Entry). quantity_in t (filter_map entry_delivery z)) (same_entries lane.number.0))
 
   still_ready : AwaitsNothing V Later planned p
   still_ready = record { parents = ready.parents; brought = λ i d inside carries. ap (list_any is_end) (same_entries (get_or V.incoming i d).number.0) ∙ ready.brought i d inside carries }
@@ -115,7 +115,7 @@ module _ (V : PlantRows) (taken : ℕ → List Record) (planned : ℕ → Bool) 
 -- ---- what is shown
 
 module _ (A : AgentState) (view : IsView A.view) (rooms : HasRooms A) (k : ℕ) (within : k < length A.view.incoming) (r : Record) (figures : Figures) (progress : Progress)
-    (booked : (records : List Record) → book.Shows (form_of A.view (incoming_at A.view k)) (book_at A k) records → book.Shows (form_of A.view (incoming_at A.view k)) figures (records ++ r ∷ [])) where
+    (booked : (records : List Record) → book.BookShows (form_of A.view (incoming_at A.view k)) (book_at A k) records → book.BookShows (form_of A.view (incoming_at A.view k)) figures (records ++ r ∷ [])) where
   abbrev New : AgentState
   New = after_booked A k r figures progress
 
@@ -136,25 +136,25 @@ module _ (A : AgentState) (view : IsView A.view) (rooms : HasRooms A) (k : ℕ) 
         apart (only_place (λ (z : IncomingLane). eqb z.number.0 l) A.view.incoming i k no_incoming (view.incoming_once l) inside within
         (eq-eqb (incoming_at A.view i).number.0 l same) (eq-eqb l l refl))
 
-    book_there : book.Shows (form_of A.view Lane) (book_at New k) (Then Lane.number.0)
+    book_there : book.BookShows (form_of A.view Lane) (book_at New k) (Then Lane.number.0)
     book_there =
         let is : book_at New k ≡ figures = get_or-set_same A.books k figures no_book (omega (arith, within, rooms.books)) in
         let l : ℕ = Lane.number.0 in
-        subst (λ (z : List Record). book.Shows (form_of A.view Lane) (book_at New k) z) (sym (changed_there taken l (taken l ++ r ∷ [])))
-        (subst (λ (z : Figures). book.Shows (form_of A.view Lane) z (taken l ++ r ∷ [])) (sym is) (booked (taken l) (shows k within)))
+        subst (λ (z : List Record). book.BookShows (form_of A.view Lane) (book_at New k) z) (sym (changed_there taken l (taken l ++ r ∷ [])))
+        (subst (λ (z : Figures). book.BookShows (form_of A.view Lane) z (taken l ++ r ∷ [])) (sym is) (booked (taken l) (shows k within)))
 
-    book_elsewhere : (i : ℕ) → i < length A.view.incoming → (i ≡ k → ⊥) → book.Shows (form_of A.view (incoming_at A.view i)) (book_at New i) (Then (incoming_at A.view i).number.0)
+    book_elsewhere : (i : ℕ) → i < length A.view.incoming → (i ≡ k → ⊥) → book.BookShows (form_of A.view (incoming_at A.view i)) (book_at New i) (Then (incoming_at A.view i).number.0)
     book_elsewhere i inside other =
         let is : book_at New i ≡ book_at A i = get_or-set_other A.books k i figures no_book other in
         let l : ℕ = Lane.number.0 in
         let n : ℕ = (incoming_at A.view i).number.0 in
-        subst (λ (z : List Record). book.Shows (form_of A.view (incoming_at A.view i)) (book_at New i) z) (sym (changed_elsewhere taken l (taken l ++ r ∷ []) n (lanes_apart i inside other)))
-        (subst (λ (z : Figures). book.Shows (form_of A.view (incoming_at A.view i)) z (taken n)) (sym is) (shows i inside))
+        subst (λ (z : List Record). book.BookShows (form_of A.view (incoming_at A.view i)) (book_at New i) z) (sym (changed_elsewhere taken l (taken l ++ r ∷ []) n (lanes_apart i inside other)))
+        (subst (λ (z : Figures). book.BookShows (form_of A.view (incoming_at A.view i)) z (taken n)) (sym is) (shows i inside))
 
     pub books_show : BooksShow New Then
     books_show i inside =
-        elim (cases_eq i k) as (λ _. book.Shows (form_of A.view (incoming_at A.view i)) (book_at New i) (Then (incoming_at A.view i).number.0)) [
-          | inl e ↦ subst (λ (z : ℕ). book.Shows (form_of A.view (incoming_at A.view z)) (book_at New z) (Then (incoming_at A.view z).number.0)) (sym e) book_there
+        elim (cases_eq i k) as (λ _. book.BookShows (form_of A.view (incoming_at A.view i)) (book_at New i) (Then (incoming_at A.view i).number.0)) [
+          | inl e ↦ subst (λ (z : ℕ). book.BookShows (form_of A.view (incoming_at A.view z)) (book_at New z) (Then (incoming_at A.view z).number.0)) (sym e) book_there
           | inr other ↦ book_elsewhere i inside other
         ]
 
@@ -179,7 +179,7 @@ module _ (A : AgentState) (view : IsView A.view) (rooms : HasRooms A) (k : ℕ) 
         before t inside ∙ ap up_to_last (omega (arith, more, off))
 
     called_more : (p : PlantPair) → Contains A.view.pairs p → IsCalled A taken p → (kind : LaneKind) → Lane.kind ≡ kind → (t : ℕ) → t < A.view.horizon
-        → amount_at A.view (called_by kind A.view A.called r) p.number t ≡ up_to_last (amount_at A.view A.view.demands p.number t + booked_on Schedule A.view Then p.item t)
+        → amount_at A.view (called_after kind A.view A.called r) p.number t ≡ up_to_last (amount_at A.view A.view.demands p.number t + booked_on Schedule A.view Then p.item t)
     called_more p there before Despatch kind t inside =
         let more = booked_after Schedule A.view taken k r p.item t view.incoming_once within in
         let off : cond (is_of_kind Schedule Lane.kind) (brought p.item.0 t (content r)) 0 ≡ 0 = ap (λ (z : LaneKind). cond (is_of_kind Schedule z) (brought p.item.0 t (content r)) 0) kind in
@@ -200,7 +200,7 @@ module _ (A : AgentState) (view : IsView A.view) (rooms : HasRooms A) (k : ℕ) 
           plan = h.plan ∙ sym (plan_same A.view taken planned k within r fits p h.ready plans);
         }
 
-    goods_stay : (planned : ℕ → Bool) (plans : ℕ → PlanRows) → IsLocal A.view taken planned plans → (i : Load) → IsOwnOf A.view (call_of i).customer i.item → (kind : LaneKind) → (kind ≡ Schedule → planned (call_of i).customer.0 ≡ true)
+    goods_stay : (planned : ℕ → Bool) (plans : ℕ → PlanRows) → IsLocal A.view taken planned plans → (i : OutgoingLoad) → IsOwnOf A.view (call_of i).customer i.item → (kind : LaneKind) → (kind ≡ Schedule → planned (call_of i).customer.0 ≡ true)
         → (l : ℕ) → goods_by kind A.view taken plans l i ≡ goods_by kind A.view Then plans l i
     goods_stay planned plans local i own Despatch decided l = refl
     goods_stay planned plans local i (p, there, number, its) Schedule decided l =
@@ -235,8 +235,8 @@ module _ (A : AgentState) (view : IsView A.view) (rooms : HasRooms A) (k : ℕ) 
             ∙ sym (ap (λ (z : LaneKind). goods_by z A.view Then (plans_of A) lane.number.0 (load_at lane.items j)) kind)
 
   -- the record is appended to what was taken, and nothing else has changed
-  pub booked_shows : BlockEnded (ended_place (items_of A.view) r) A.progress progress → (sent taken : ℕ → List Record) (planned : ℕ → Bool) → Shows A sent taken planned
-      → Shows New sent (with_taken A.view taken k r) planned
+  pub booked_shows : BlockEnded (ended_place (items_of A.view) r) A.progress progress → (sent taken : ℕ → List Record) (planned : ℕ → Bool) → ShowsHistory A sent taken planned
+      → ShowsHistory New sent (with_taken A.view taken k r) planned
   booked_shows ended sent taken planned shows = record {
     books = books_show taken shows.books;
     waits = still_awaits taken shows.books ended shows.waits;

@@ -18,7 +18,7 @@ use Rattle.mrp_record.specs.Entries.{Entry, LineOf, EndOf, ResetOf, Closing, con
 use Rattle.mrp_record.specs.Form.{FormItem, EntryFits, GoesOn, item_on}
 use Rattle.mrp_book.specs.Figures as book
 use Rattle.mrp_local.specs.Local.{amount_at}
-use Rattle.mrp_agent.specs.State.{pair_place, no_pair}
+use Rattle.mrp_agent.specs.State.{pair_place, no_plant_pair}
 use Rattle.mrp_agent.specs.After.{added_for, items_of, place_of, with_line}
 use Rattle.mrp_agent.specs.Shows.{form_of, up_to_last, book_item}
 use Rattle.mrp_agent.proofs.Arriving.{brought, line_brings, line_brings_later, other_brings_nothing, end_brings_nothing, reset_brings_nothing}
@@ -36,23 +36,23 @@ place-map {X} p f (x ∷ xs) =
 
 pub record IsPlaced (V : PlantRows) (p : PlantPair) : Type 0 where
   pub within : pair_place V p.number.0 < length V.pairs
-  pub there : get_or V.pairs (pair_place V p.number.0) no_pair ≡ p
+  pub there : get_or V.pairs (pair_place V p.number.0) no_plant_pair ≡ p
   pub item : place_of (items_of V) p.item ≡ Some (pair_place V p.number.0)
 
 pub placed : (V : PlantRows) → IsView V → (p : PlantPair) → Contains V.pairs p → IsPlaced V p
 placed V view p (k, within, is) =
-    let at : get_or V.pairs k no_pair ≡ p = get_or_default V.pairs k no_pair p within ∙ is in
+    let at : get_or V.pairs k no_plant_pair ≡ p = get_or_default V.pairs k no_plant_pair p within ∙ is in
     let number : pair_place V p.number.0 ≡ k =
-    place_is_only (λ (q : PlantPair). eqb q.number.0 p.number.0) V.pairs k no_pair (view.numbers_once p.number.0) within
-    (eq-eqb (get_or V.pairs k no_pair).number.0 p.number.0 (ap (λ (q : PlantPair). q.number.0) at)) in
+    place_is_only (λ (q : PlantPair). eqb q.number.0 p.number.0) V.pairs k no_plant_pair (view.numbers_once p.number.0) within
+    (eq-eqb (get_or V.pairs k no_plant_pair).number.0 p.number.0 (ap (λ (q : PlantPair). q.number.0) at)) in
     let item : position_or_len (λ (q : PlantPair). eqb q.item.0 p.item.0) V.pairs ≡ k =
-    place_is_only (λ (q : PlantPair). eqb q.item.0 p.item.0) V.pairs k no_pair (view.items_once p.item.0) within
-    (eq-eqb (get_or V.pairs k no_pair).item.0 p.item.0 (ap (λ (q : PlantPair). q.item.0) at)) in
+    place_is_only (λ (q : PlantPair). eqb q.item.0 p.item.0) V.pairs k no_plant_pair (view.items_once p.item.0) within
+    (eq-eqb (get_or V.pairs k no_plant_pair).item.0 p.item.0 (ap (λ (q : PlantPair). q.item.0) at)) in
     let found : position_or_len (λ (i : ItemNo). eqb i.0 p.item.0) (items_of V) ≡ k = place-map (λ (i : ItemNo). eqb i.0 p.item.0) (λ (q : PlantPair). q.item) V.pairs ∙ item in
     let inside = length-map V.pairs (λ (q : PlantPair). q.item) in
     record {
       within = omega (arith, number, within);
-      there = ap (λ (n : ℕ). get_or V.pairs n no_pair) number ∙ at;
+      there = ap (λ (n : ℕ). get_or V.pairs n no_plant_pair) number ∙ at;
       item = place_known (λ (i : ItemNo). eqb i.0 p.item.0) (items_of V) (omega (arith, found, within, inside)) ∙ ap (λ (n : ℕ). Some n) (found ∙ sym number);
     }
 
@@ -62,8 +62,8 @@ item_there V view p there item y e same =
     let n : ℕ = position_or_len (λ (i : ItemNo). eqb i.0 item.0) (items_of V) in
     let h = placed V view p there in
     let passes : eqb (get_or (items_of V) n item).0 item.0 ≡ true = passes_at_first (λ (i : ItemNo). eqb i.0 item.0) (items_of V) item (omega (arith, at.0, at.1)) in
-    let read : get_or (items_of V) (pair_place V p.number.0) item ≡ (get_or V.pairs (pair_place V p.number.0) no_pair).item =
-    get_or-map (λ (q : PlantPair). q.item) V.pairs (pair_place V p.number.0) no_pair item h.within in
+    let read : get_or (items_of V) (pair_place V p.number.0) item ≡ (get_or V.pairs (pair_place V p.number.0) no_plant_pair).item =
+    get_or-map (λ (q : PlantPair). q.item) V.pairs (pair_place V p.number.0) no_plant_pair item h.within in
     let is : (get_or (items_of V) n item).0 ≡ p.item.0 =
     ap (λ (m : ℕ). (get_or (items_of V) m item).0) (at.0 ∙ sym same) ∙ ap (λ (i : ItemNo). i.0) read ∙ ap (λ (q : PlantPair). q.item.0) h.there in
     sym is ∙ eqb-true (get_or (items_of V) n item).0 item.0 passes
@@ -141,16 +141,16 @@ record IsAmong (items : List IncomingItem) (n : ℕ) (i : FormItem) : Type 0 whe
   is : (get_or items place no_item).item.0 ≡ n
   same : i.item ≡ n
 
-found_among : (items : List IncomingItem) (n : ℕ) (i : FormItem) → find (λ z. z.item == n) (map book.form_item (map book_item items)) ≡ Some i → IsAmong items n i
+found_among : (items : List IncomingItem) (n : ℕ) (i : FormItem) → find (λ z. z.item == n) (map book.book_form_item (map book_item items)) ≡ Some i → IsAmong items n i
 found_among [] n i e = absurd (cc e)
 found_among (x ∷ items) n i e =
     elim (cases_Bool (eqb x.item.0 n)) as (λ _. IsAmong (x ∷ items) n i) [
       | inl here ↦
-          let some : Some (book.form_item (book_item x)) ≡ Some i = rw here at e in
-          let it : book.form_item (book_item x) ≡ i = cc some in
+          let some : Some (book.book_form_item (book_item x)) ≡ Some i = rw here at e in
+          let it : book.book_form_item (book_item x) ≡ i = cc some in
           record { place = 0; within = omega arith; is = eqb-true x.item.0 n here; same = ap (λ (z : FormItem). z.item) (sym it) ∙ eqb-true x.item.0 n here }
       | inr later ↦
-          let rest : find (λ (z : FormItem). z.item == n) (map book.form_item (map book_item items)) ≡ Some i = rw later at e in
+          let rest : find (λ (z : FormItem). z.item == n) (map book.book_form_item (map book_item items)) ≡ Some i = rw later at e in
           let h = found_among items n i rest in
           record { place = suc h.place; within = omega (arith, h.within); is = h.is; same = h.same }
     ]

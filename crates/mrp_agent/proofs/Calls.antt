@@ -10,7 +10,7 @@ use Rattle.mrp_view.specs.declared.view.Call.{Call}
 use Rattle.mrp_view.specs.declared.view.OutgoingItem.{OutgoingItem}
 use Rattle.mrp_view.specs.declared.view.OutgoingLane.{OutgoingLane}
 use Rattle.mrp_view.specs.Loads.{bare, call_of, load_at, no_load}
-use Rattle.mrp_view.specs.Seen.{IsOwn, IsCalled, IsScheduleLane}
+use Rattle.mrp_view.specs.Seen.{IsOwnPair, HasCall, IsScheduleLane}
 use Rattle.mrp_record.specs.declared.record.Record.{Record}
 use Rattle.mrp_book.specs.Figures.{Figures}
 use Rattle.mrp_cursor.specs.declared.remainder.Remainder.{Remainder}
@@ -19,7 +19,7 @@ use Rattle.mrp_cursor.specs.Next.{next_record, stepped}
 use Rattle.mrp_agent.specs.State.{AgentState, book_at, incoming_at, incoming_place, out_at, pair_place, plans_of, no_out}
 use Rattle.mrp_agent.specs.After.{after_sent}
 use Rattle.mrp_agent.specs.Kept.{HasTaken, Indexes, IsKept, IsShowing}
-use Rattle.mrp_agent.specs.Sending.{AreShares, left_at, left_to_call, next_out, remainder, remainder_by}
+use Rattle.mrp_agent.specs.Sending.{IsCallShare, left_at, left_to_call, next_out, remainder, remainder_by}
 use Rattle.mrp_agent.specs.Sent.{GivenIsLegal, NoneCanBeSent, IsAppended}
 use Rattle.mrp_agent.specs.Shows.{form_of}
 use Rattle.mrp_agent.proofs.Leaving.{place_before}
@@ -38,18 +38,18 @@ showing_at A has k within =
 
 pub record CallFacts (A : AgentState) (lane : OutgoingLane) (j : ℕ) : Type 0 where
   pub there : (load_at lane.items j).call ≡ Some (call_of (load_at lane.items j))
-  pub own : IsOwn A.view (call_of (load_at lane.items j)).customer
+  pub own : IsOwnPair A.view (call_of (load_at lane.items j)).customer
   pub customer : pair_place A.view (call_of (load_at lane.items j)).customer.0 < length A.plans
   pub before : incoming_place A.view (lane.number.0 - 1) < length A.view.incoming
   pub book : incoming_place A.view (lane.number.0 - 1) < length A.books
   pub showing : IsShowing (book_at A (incoming_place A.view (lane.number.0 - 1)))
-  pub shares : AreShares (call_of (load_at lane.items j))
+  pub shares : IsCallShare (call_of (load_at lane.items j))
   pub after : 1 ≤ lane.number.0
 
 pub call_facts : (A : AgentState) {I : Indexes} → IsKept A I → (lane : OutgoingLane) → Contains A.view.outgoing lane → lane.kind ≡ Schedule → (j : ℕ) → j < length lane.items → CallFacts A lane j
 call_facts A kept lane there kind j within =
     let sched = All-contains (λ (z : OutgoingLane). z.kind ≡ Schedule → IsScheduleLane A.view z) A.view.outgoing lane kept.view.schedules there kind in
-    let called : IsCalled A.view (load_at lane.items j) = sched.calls j no_load within in
+    let called : HasCall A.view (load_at lane.items j) = sched.calls j no_load within in
     let own = own_of A lane j sched within in
     let at = place_before A kept.taken.taken kept.view kept.taken.books lane sched in
     record {

@@ -9,13 +9,13 @@ use Rattle.mrp_lot.specs.declared.params.PairParams.{PairParams}
 use Rattle.mrp_rows.specs.declared.numbers.PairNo.{PairNo}
 use Rattle.mrp_local.specs.Local.{amount_at, asked_within}
 use Rattle.mrp_agent.specs.Drafts.{drafted, drafted_gross, drafted_incoming}
-use Rattle.mrp_agent.specs.Kept.{HasPeriods, Indexes, IsKept}
-use Rattle.mrp_agent.specs.State.{AgentState, pair_of, plans_of}
+use Rattle.mrp_agent.specs.Kept.{HasPlanRows, Indexes, IsKept}
+use Rattle.mrp_agent.specs.State.{AgentState, pair_owned, plans_of}
 use Rattle.mrp_agent.proofs.Placing.{IsAtPlace, place_within}
 
-pub drafted_periods : (A : AgentState) (x : PairNo) → HasPeriods A.view (drafted A x)
+pub drafted_periods : (A : AgentState) (x : PairNo) → HasPlanRows A.view (drafted A x)
 drafted_periods A x =
-    let params : PairParams = (pair_of A.view x).params in
+    let params : PairParams = (pair_owned A.view x).params in
     let incoming : List ℕ = drafted_incoming A x in
     let gross : List ℕ = drafted_gross A x in
     let size : length gross ≡ A.view.horizon =
@@ -29,7 +29,7 @@ drafted_periods A x =
 pub old_periods : {A : AgentState} {I : Indexes} {x : PairNo} {place : ℕ} {old : PlanRows} → IsAtPlace A I x place → old ≡ get_or A.plans place old → length old.gross ≡ A.view.horizon
 old_periods {A} {I} {x} {place} {old} h at =
     let within : place < length A.plans = omega (arith, place_within h, h.kept.rooms.plans.count) in
-    (subst (HasPeriods A.view) (sym at) (h.kept.rooms.plans.periods place old within)).gross
+    (subst (HasPlanRows A.view) (sym at) (h.kept.rooms.plans.periods place old within)).gross
 
 pub same_periods : {A : AgentState} {I : Indexes} {x : PairNo} {place : ℕ} {old new : PlanRows} → IsAtPlace A I x place → old ≡ get_or A.plans place old → new ≡ drafted A x
     → length old.gross ≡ length new.gross
@@ -48,7 +48,7 @@ kept_written {A} {I} {x} {place} {desk} {plan} h is same =
         called = kept.rooms.called;
         plans = record {
           count = length-set A.plans place plan ∙ kept.rooms.plans.count;
-          periods = All-set (HasPeriods A.view) A.plans place plan (subst (HasPeriods A.view) (sym is) (drafted_periods A x)) kept.rooms.plans.periods;
+          periods = All-set (HasPlanRows A.view) A.plans place plan (subst (HasPlanRows A.view) (sym is) (drafted_periods A x)) kept.rooms.plans.periods;
         };
         progress = kept.rooms.progress;
         cursors = kept.rooms.cursors;

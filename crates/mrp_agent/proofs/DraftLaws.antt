@@ -11,7 +11,7 @@ use Rattle.mrp_rows.specs.Table.{Table}
 use Rattle.mrp_net.specs.declared.lane.LaneKind.TheVariants.{Schedule}
 use Rattle.mrp_net.proofs.Members.{Contains-from_in}
 use Rattle.mrp_view.specs.declared.view.PlantPair.{PlantPair}
-use Rattle.mrp_view.specs.Seen.{IsOwn}
+use Rattle.mrp_view.specs.Seen.{IsOwnPair}
 use Rattle.mrp_view.specs.View.{PlantRows, is_of_plant, plant_pair, plant_pairs, plant_rows}
 use Rattle.mrp_loops.specs.Sized.{IsSized}
 use Rattle.mrp_record.specs.declared.record.Record.{Record}
@@ -19,9 +19,9 @@ use Rattle.mrp_local.specs.Laws.{IsPairAt, IsReadyAt, PlansLocally}
 use Rattle.mrp_local.specs.Local.{amount_at, asked_within, booked_on, local_incoming, local_gross, local_row, IsLocal}
 use Rattle.mrp_local.proofs.Planned as network
 use Rattle.mrp_local.proofs.Seeing.{sees_pair}
-use Rattle.mrp_agent.specs.State.{AgentState, pair_of, pair_place, plans_of, no_pair}
+use Rattle.mrp_agent.specs.State.{AgentState, pair_owned, pair_place, plans_of, no_plant_pair}
 use Rattle.mrp_agent.specs.Shows.{up_to_last}
-use Rattle.mrp_agent.specs.Laws.{WorksIn, DraftsAreThePlan, DraftsAreWithin, numbered}
+use Rattle.mrp_agent.specs.Laws.{WorksIn, AgentDraftsAreThePlan, AgentDraftsAreWithin, numbered}
 use Rattle.mrp_agent.proofs.Drafts.{map_same}
 use Rattle.mrp_agent.proofs.Owning.{own_within}
 
@@ -40,18 +40,18 @@ in_row V amount t low =
 -- ---- the pair
 
 module _ (N : Table) (plant x : ℕ) (at : IsPairAt N plant x) where
-  own_pair : IsOwn (plant_rows N plant) (numbered x)
+  own_pair : IsOwnPair (plant_rows N plant) (numbered x)
   own_pair = (plant_pair N x, Contains-from_in (plant_pairs N plant) (plant_pair N x) (sees_pair N plant x at), refl)
 
-  pair_is : pair_of (plant_rows N plant) (numbered x) ≡ plant_pair N x
+  pair_is : pair_owned (plant_rows N plant) (numbered x) ≡ plant_pair N x
   pair_is =
       let numbers : List ℕ = filter (is_of_plant N plant) (range_with_len 0 (length N.pairs)) in
       let place : ℕ = pair_place (plant_rows N plant) x in
       let within : place < length (plant_pairs N plant) = own_within (plant_rows N plant) (numbered x) own_pair in
-      let known : get_or (plant_pairs N plant) place no_pair ≡ plant_pair N (get_or numbers place 0) =
-      get_or-map (plant_pair N) numbers place 0 no_pair (omega (arith, within, length-map numbers (plant_pair N))) in
-      let found : (get_or (plant_pairs N plant) place no_pair).number.0 ≡ x =
-      eqb-true (get_or (plant_pairs N plant) place no_pair).number.0 x (passes_at_first (λ (p : PlantPair). p.number.0 == x) (plant_pairs N plant) no_pair within) in
+      let known : get_or (plant_pairs N plant) place no_plant_pair ≡ plant_pair N (get_or numbers place 0) =
+      get_or-map (plant_pair N) numbers place 0 no_plant_pair (omega (arith, within, length-map numbers (plant_pair N))) in
+      let found : (get_or (plant_pairs N plant) place no_plant_pair).number.0 ≡ x =
+      eqb-true (get_or (plant_pairs N plant) place no_plant_pair).number.0 x (passes_at_first (λ (p : PlantPair). p.number.0 == x) (plant_pairs N plant) no_plant_pair within) in
       let same : get_or numbers place 0 ≡ x = sym (ap (λ (p : PlantPair). p.number.0) known) ∙ found in
       known ∙ ap (plant_pair N) same
 
@@ -87,7 +87,7 @@ plans_locally N plant A sent taken planned w =
 -- the rows that it drafts from
 abbrev RowsAre : Table → (ℕ → List Record) → (ℕ → PlanRows) → List ℕ → List ℕ → ℕ → PlantRows → PlantRows → Type 0
 RowsAre N taken plans came called x R V =
-    (pair_of V (numbered x) ≡ plant_pair N x)
+    (pair_owned V (numbered x) ≡ plant_pair N x)
     × (local_row V (λ t. amount_at V came (numbered x) t) ≡ local_row R (local_incoming R taken (plant_pair N x)))
     × (local_row V (λ t. amount_at V called (numbered x) t + asked_within V plans (numbered x) t) ≡ local_row R (local_gross R taken plans (plant_pair N x)))
 
@@ -105,7 +105,7 @@ rows_are N sized plant A sent taken planned w x at ready =
     subst (RowsAre N taken (plans_of A) A.came A.called x R) (sym w.view)
     (pair_is N plant x at, incoming_is R taken (plans_of A) A.came A.called p small comes is_called, gross_is R taken (plans_of A) A.came A.called p small comes is_called)
 
-pub drafts_are_within : DraftsAreWithin
+pub drafts_are_within : AgentDraftsAreWithin
 drafts_are_within N sized plant A sent taken planned w x at ready =
     let R : PlantRows = plant_rows N plant in
     let p : PlantPair = plant_pair N x in
@@ -118,7 +118,7 @@ drafts_are_within N sized plant A sent taken planned w x at ready =
     (subst (λ (z : List ℕ). IsWithin p.params z gross) (sym rows.1)
     (subst (λ (z : List ℕ). IsWithin p.params (local_row R (local_incoming R taken p)) z) (sym rows.2) small))
 
-pub drafts_are_the_plan : DraftsAreThePlan
+pub drafts_are_the_plan : AgentDraftsAreThePlan
 drafts_are_the_plan N sized plant A sent taken planned w x at ready =
     let R : PlantRows = plant_rows N plant in
     let p : PlantPair = plant_pair N x in

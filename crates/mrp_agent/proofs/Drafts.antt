@@ -10,12 +10,12 @@ use Rattle.mrp_lot.specs.One.{IsWithin, one}
 use Rattle.mrp_rows.specs.declared.numbers.PairNo.{PairNo}
 use Rattle.mrp_view.specs.declared.view.PlantEdge.{PlantEdge}
 use Rattle.mrp_view.specs.declared.view.PlantPair.{PlantPair}
-use Rattle.mrp_view.specs.Seen.{IsView, IsOwn, IsPlantEdge}
+use Rattle.mrp_view.specs.Seen.{IsView, IsOwnPair, IsPlantEdge}
 use Rattle.mrp_view.specs.View.{PlantRows}
 use Rattle.mrp_local.specs.Local.{amount_at, asked_within}
 use Rattle.mrp_agent.specs.declared.edges.ParentEdge.{ParentEdge}
-use Rattle.mrp_agent.specs.State.{AgentState, pair_place, pair_of, plans_of, no_plan, no_pair}
-use Rattle.mrp_agent.specs.Asking.{asked_by, asked_on, CanAsk, HasDraft, grossed}
+use Rattle.mrp_agent.specs.State.{AgentState, pair_place, pair_owned, plans_of, no_plan, no_plant_pair}
+use Rattle.mrp_agent.specs.Asking.{asked_by, asked_on, ParentCanAsk, HasDraft, grossed}
 use Rattle.mrp_agent.specs.Drafts.{drafted, drafted_incoming, drafted_gross}
 use Rattle.mrp_agent.specs.Kept.{parent_edge, HasRooms}
 use Rattle.mrp_agent.specs.Rows.{edges_at, part_at}
@@ -44,13 +44,13 @@ row_within place pairs periods within =
 -- ---- the parents
 
 -- two of the plant's pairs stand at one place where they have one number
-pub places_apart : (V : PlantRows) (x y : PairNo) → IsOwn V x → IsOwn V y → pair_place V x.0 ≡ pair_place V y.0 → x.0 ≡ y.0
+pub places_apart : (V : PlantRows) (x y : PairNo) → IsOwnPair V x → IsOwnPair V y → pair_place V x.0 ≡ pair_place V y.0 → x.0 ≡ y.0
 places_apart V x y own_x own_y same =
-    let at : (z : PairNo) → IsOwn V z → (get_or V.pairs (pair_place V z.0) no_pair).number.0 ≡ z.0 = λ z own.
-    eqb-true (get_or V.pairs (pair_place V z.0) no_pair).number.0 z.0 (passes_at_first (λ (p : PlantPair). eqb p.number.0 z.0) V.pairs no_pair (own_within V z own)) in
-    sym (at x own_x) ∙ ap (λ (k : ℕ). (get_or V.pairs k no_pair).number.0) same ∙ at y own_y
+    let at : (z : PairNo) → IsOwnPair V z → (get_or V.pairs (pair_place V z.0) no_plant_pair).number.0 ≡ z.0 = λ z own.
+    eqb-true (get_or V.pairs (pair_place V z.0) no_plant_pair).number.0 z.0 (passes_at_first (λ (p : PlantPair). eqb p.number.0 z.0) V.pairs no_plant_pair (own_within V z own)) in
+    sym (at x own_x) ∙ ap (λ (k : ℕ). (get_or V.pairs k no_plant_pair).number.0) same ∙ at y own_y
 
-same_component : (V : PlantRows) (x : PairNo) (e : PlantEdge) → IsOwn V x → IsPlantEdge V e → (pair_place V e.component.0 == pair_place V x.0) ≡ (e.component.0 == x.0)
+same_component : (V : PlantRows) (x : PairNo) (e : PlantEdge) → IsOwnPair V x → IsPlantEdge V e → (pair_place V e.component.0 == pair_place V x.0) ≡ (e.component.0 == x.0)
 same_component V x e own is =
     elim (cases_eq e.component.0 x.0) as (λ _. eqb (pair_place V e.component.0) (pair_place V x.0) ≡ eqb e.component.0 x.0) [
       | inl same ↦ eq-eqb (pair_place V e.component.0) (pair_place V x.0) (ap (pair_place V) same) ∙ sym (eq-eqb e.component.0 x.0 same)
@@ -60,7 +60,7 @@ same_component V x e own is =
     ]
 
 -- what the edges by places ask is what the plant's edges do
-pub asked_is : (A : AgentState) (x : PairNo) → IsOwn A.view x → (t : ℕ) (es : List PlantEdge) → All (IsPlantEdge A.view) es
+pub asked_is : (A : AgentState) (x : PairNo) → IsOwnPair A.view x → (t : ℕ) (es : List PlantEdge) → All (IsPlantEdge A.view) es
     → asked_by A.plans (filter (λ e. e.component == pair_place A.view x.0) (map (parent_edge A.view) es)) t
     ≡ sum_by (λ e. if e.component.0 == x.0 then e.per * slice_index (plans_of A e.parent.0).release t else 0) es
 asked_is A x own t [] h = refl
@@ -89,7 +89,7 @@ map_same f g a (suc n) same =
     let later = map_same f g (a + 1) n (λ t h. same t (omega arith)) in
     ap (λ (z : ℕ). z ∷ map f (range_with_len (a + 1) n)) (same a (omega arith)) ∙ ap (λ (z : List ℕ). g a ∷ z) later
 
-module _ (A : AgentState) (view : IsView A.view) (rooms : HasRooms A) (x : PairNo) (own : IsOwn A.view x) where
+module _ (A : AgentState) (view : IsView A.view) (rooms : HasRooms A) (x : PairNo) (own : IsOwnPair A.view x) where
   abbrev Part : List ℕ → List ℕ
   Part = part_at A.view.horizon (pair_place A.view x.0)
 
@@ -126,23 +126,23 @@ module _ (A : AgentState) (view : IsView A.view) (rooms : HasRooms A) (x : PairN
       ap (λ (n : ℕ). n + asked_by A.plans (edges_at A.view (pair_place A.view x.0)) t) (called_at t lower)
       ∙ ap (λ (n : ℕ). amount_at A.view A.called x t + n) (asked_is A x own t A.view.edges view.edges))
 
-  can_ask : (e : PlantEdge) → IsPlantEdge A.view e → CanAsk A.plans (length (Part A.called)) (parent_edge A.view e)
+  can_ask : (e : PlantEdge) → IsPlantEdge A.view e → ParentCanAsk A.plans (length (Part A.called)) (parent_edge A.view e)
   can_ask e is =
       let within : pair_place A.view e.parent.0 < length A.plans = omega (arith, own_within A.view e.parent is.parent, rooms.plans.count) in
       record { known = within; periods_are = (rooms.plans.periods (pair_place A.view e.parent.0) no_plan within).gross ∙ sym called_length }
 
-  pub has_draft : IsWithin (pair_of A.view x).params (drafted_incoming A x) (drafted_gross A x)
-      → HasDraft (pair_of A.view x).params (Part A.came) (Part A.called) (edges_at A.view (pair_place A.view x.0)) A.plans
+  pub has_draft : IsWithin (pair_owned A.view x).params (drafted_incoming A x) (drafted_gross A x)
+      → HasDraft (pair_owned A.view x).params (Part A.came) (Part A.called) (edges_at A.view (pair_place A.view x.0)) A.plans
   has_draft within = record {
     within =
-        subst (λ (z : List ℕ). IsWithin (pair_of A.view x).params z (grossed (Part A.called) (edges_at A.view (pair_place A.view x.0)) A.plans)) (sym came_is)
-        (subst (λ (z : List ℕ). IsWithin (pair_of A.view x).params (drafted_incoming A x) z) (sym gross_is) within);
+        subst (λ (z : List ℕ). IsWithin (pair_owned A.view x).params z (grossed (Part A.called) (edges_at A.view (pair_place A.view x.0)) A.plans)) (sym came_is)
+        (subst (λ (z : List ℕ). IsWithin (pair_owned A.view x).params (drafted_incoming A x) z) (sym gross_is) within);
     edges_are =
-        All-filter (λ (e : ParentEdge). e.component == pair_place A.view x.0) (CanAsk A.plans (length (Part A.called))) (map (parent_edge A.view) A.view.edges)
-        (All-map (CanAsk A.plans (length (Part A.called))) (parent_edge A.view) A.view.edges (λ k d h. can_ask (get_or A.view.edges k d) (view.edges k d h)));
+        All-filter (λ (e : ParentEdge). e.component == pair_place A.view x.0) (ParentCanAsk A.plans (length (Part A.called))) (map (parent_edge A.view) A.view.edges)
+        (All-map (ParentCanAsk A.plans (length (Part A.called))) (parent_edge A.view) A.view.edges (λ k d h. can_ask (get_or A.view.edges k d) (view.edges k d h)));
   }
 
-  pub drafted_is : one (pair_of A.view x).params (Part A.came) (grossed (Part A.called) (edges_at A.view (pair_place A.view x.0)) A.plans) ≡ drafted A x
+  pub drafted_is : one (pair_owned A.view x).params (Part A.came) (grossed (Part A.called) (edges_at A.view (pair_place A.view x.0)) A.plans) ≡ drafted A x
   drafted_is =
-      ap (λ (z : List ℕ). one (pair_of A.view x).params z (grossed (Part A.called) (edges_at A.view (pair_place A.view x.0)) A.plans)) came_is
-      ∙ ap (λ (z : List ℕ). one (pair_of A.view x).params (drafted_incoming A x) z) gross_is
+      ap (λ (z : List ℕ). one (pair_owned A.view x).params z (grossed (Part A.called) (edges_at A.view (pair_place A.view x.0)) A.plans)) came_is
+      ∙ ap (λ (z : List ℕ). one (pair_owned A.view x).params (drafted_incoming A x) z) gross_is

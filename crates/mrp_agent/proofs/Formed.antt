@@ -11,7 +11,7 @@ use Rattle.mrp_loops.specs.Sized.{IsSized}
 use Rattle.mrp_record.specs.declared.record.Record.{Record}
 use Rattle.mrp_record.specs.Form.{FormItem, LaneForm, IsInForm}
 use Rattle.mrp_record.specs.Text.{IsBeginning}
-use Rattle.mrp_book.specs.Figures.{form_item, rises_on}
+use Rattle.mrp_book.specs.Figures.{book_form_item, rises_on}
 use Rattle.mrp_events.specs.LoadLaws.{lane_form}
 use Rattle.mrp_events.specs.Loads.{loads, is_rising}
 use Rattle.mrp_events.specs.Seen.{form_item_of, seen_form}
@@ -32,7 +32,7 @@ form_with periods rising items = record { rising = rising; horizon = periods; it
 form_is : (V : PlantRows) (lane : IncomingLane) → seen_form V.horizon lane ≡ form_of V lane
 form_is V lane =
     ap (λ (b : Bool). form_with V.horizon b (map form_item_of lane.items)) (rising_is lane.kind)
-    ∙ ap (form_with V.horizon (rises_on lane.kind)) (sym (map-map form_item book_item lane.items))
+    ∙ ap (form_with V.horizon (rises_on lane.kind)) (sym (map-map book_form_item book_item lane.items))
 
 -- it is the form by which the lane's receiver books
 pub form_same : (N : Table) (p : ℕ) (V : PlantRows) → V ≡ plant_rows N p → (l : ℕ) → Contains (incoming_lanes N p) (incoming_lane N l)

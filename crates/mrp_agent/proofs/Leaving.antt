@@ -11,8 +11,8 @@ use Rattle.mrp_net.specs.declared.lane.LaneKind.TheVariants.{Despatch, Schedule}
 use Rattle.mrp_net.specs.declared.lane.Shipment.{Shipment}
 use Rattle.mrp_view.specs.declared.view.IncomingLane.{IncomingLane}
 use Rattle.mrp_view.specs.declared.view.OutgoingLane.{OutgoingLane}
-use Rattle.mrp_view.specs.Loads.{Load, call_of, load_at, no_load}
-use Rattle.mrp_view.specs.Seen.{IsView, IsOutgoingLane, IsScheduleLane, lane_before, despatched}
+use Rattle.mrp_view.specs.Loads.{OutgoingLoad, call_of, load_at, no_load}
+use Rattle.mrp_view.specs.Seen.{IsView, IsOutgoingLane, IsScheduleLane, lane_before, despatched_item}
 use Rattle.mrp_view.proofs.Once.{count-map}
 use Rattle.mrp_record.specs.declared.record.Record.{Record}
 use Rattle.mrp_record.specs.Entries.{Delivery, contents, cum}
@@ -23,20 +23,20 @@ use Rattle.mrp_book.specs.Faults.{find_item}
 use Rattle.mrp_book.specs.Figures as book
 use Rattle.mrp_book.specs.Figures.{Figures}
 use Rattle.mrp_book.proofs.Showing.{shown}
-use Rattle.mrp_cursor.specs.Next.{IsLeft, IsNext, IsRemainder}
+use Rattle.mrp_cursor.specs.Next.{IsWhatIsLeft, IsNextLine, IsRemainder}
 use Rattle.mrp_cursor.proofs.Lists.{drop_there, none_there}
 use Rattle.mrp_local.specs.Goods.{called_for, by_period_from, goods_of, goods_by}
 use Rattle.mrp_agent.specs.State.{AgentState, incoming_at, incoming_place, outgoing_at, book_at, out_at, plans_of, no_incoming}
-use Rattle.mrp_agent.specs.Sending.{figure_of, figure_in, next_shipment, shipment_line, call_line, remainder, remainder_by, left_at}
+use Rattle.mrp_agent.specs.Sending.{booked_figure, figure_in, next_shipment, shipment_line, call_line, remainder, remainder_by, left_at}
 use Rattle.mrp_agent.specs.Shows.{BooksShow, form_of, book_item}
 use Rattle.mrp_agent.proofs.Looking.{place_is_only, place_found}
 
 -- ---- lines
 
-shipments_left : (shipments : List Shipment) (mark : ℕ) → IsNext (λ m. map delivery_of (drop m shipments)) mark (next_shipment shipments mark)
+shipments_left : (shipments : List Shipment) (mark : ℕ) → IsNextLine (λ m. map delivery_of (drop m shipments)) mark (next_shipment shipments mark)
 shipments_left shipments mark = by (slice_get shipments mark) refl
   where
-    by : (o : Option Shipment) → slice_get shipments mark ≡ o → IsNext (λ m. map delivery_of (drop m shipments)) mark (option_map (shipment_line mark) o)
+    by : (o : Option Shipment) → slice_get shipments mark ≡ o → IsNextLine (λ m. map delivery_of (drop m shipments)) mark (option_map (shipment_line mark) o)
     by None e = ap (λ (z : List Shipment). map delivery_of z) (drop_all mark shipments (none_there shipments mark e))
     by (Some s) e =
         ap (λ (z : List Shipment). map delivery_of z) (drop_there shipments mark s e)
@@ -73,10 +73,10 @@ first_passes amount (suc n) mark line e =
           skip ∙ first_passes amount n (mark + 1) line rest ∙ ap (λ (z : ℕ). line ∷ calls_from amount (line.period + 1) (z - (line.period + 1))) count
     ]
 
-calls_left : (amount : ℕ → ℕ) (horizon mark : ℕ) → IsNext (by_period_from amount horizon) mark (option_map call_line (find has_pieces (map (delivery_in amount) (range_with_len mark (horizon - mark)))))
+calls_left : (amount : ℕ → ℕ) (horizon mark : ℕ) → IsNextLine (by_period_from amount horizon) mark (option_map call_line (find has_pieces (map (delivery_in amount) (range_with_len mark (horizon - mark)))))
 calls_left amount horizon mark = by (find has_pieces (map (delivery_in amount) (range_with_len mark (horizon - mark)))) refl
   where
-    by : (o : Option Delivery) → find has_pieces (map (delivery_in amount) (range_with_len mark (horizon - mark))) ≡ o → IsNext (by_period_from amount horizon) mark (option_map call_line o)
+    by : (o : Option Delivery) → find has_pieces (map (delivery_in amount) (range_with_len mark (horizon - mark))) ≡ o → IsNextLine (by_period_from amount horizon) mark (option_map call_line o)
     by None e = none_passes has_pieces (map (delivery_in amount) (range_with_len mark (horizon - mark))) e
     by (Some line) e =
         let within : mark + (horizon - mark) ≡ horizon = some_within (horizon - mark) refl e in
@@ -88,35 +88,35 @@ calls_left amount horizon mark = by (find has_pieces (map (delivery_in amount) (
 
 -- ---- opening figures
 
-figure_shown : (form : LaneForm) (records : List Record) (b : Figures) (item : ℕ) → book.Shows form b records
+figure_shown : (form : LaneForm) (records : List Record) (b : Figures) (item : ℕ) → book.BookShows form b records
     → option_map (λ g. g.figure + g.closed) (find_item b.items item) ≡ option_map (λ i. cum i.opening i.item (contents records)) (item_on form item)
 figure_shown form records b item s = shown (λ (g : ItemFigure). g.figure + g.closed) form records b item (find_item b.items item) refl s
 
-pub figure_read : (o : Option ItemFigure) (n : ℕ) → option_map (λ g. g.figure + g.closed) o ≡ Some n → figure_of o ≡ n
+pub figure_read : (o : Option ItemFigure) (n : ℕ) → option_map (λ g. g.figure + g.closed) o ≡ Some n → booked_figure o ≡ n
 figure_read None n e = absurd (cc e)
 figure_read (Some g) n e = cc e
 
-pub no_figure : (o : Option ItemFigure) → option_map (λ g. g.figure + g.closed) o ≡ None → figure_of o ≡ 0
+pub no_figure : (o : Option ItemFigure) → option_map (λ g. g.figure + g.closed) o ≡ None → booked_figure o ≡ 0
 no_figure None e = refl
 no_figure (Some g) e = absurd (cc e)
 
-pub figure_some : (form : LaneForm) (records : List Record) (b : Figures) (item : ℕ) (o : Option ℕ) (n : ℕ) → book.Shows form b records
+pub figure_some : (form : LaneForm) (records : List Record) (b : Figures) (item : ℕ) (o : Option ℕ) (n : ℕ) → book.BookShows form b records
     → o ≡ option_map (λ i. cum i.opening i.item (contents records)) (item_on form item) → o ≡ Some n → n ≡ figure_in b item
 figure_some form records b item o n s e is = sym (figure_read (find_item b.items item) n (figure_shown form records b item s ∙ sym e ∙ is))
 
-pub figure_none : (form : LaneForm) (records : List Record) (b : Figures) (item : ℕ) (o : Option ℕ) → book.Shows form b records
+pub figure_none : (form : LaneForm) (records : List Record) (b : Figures) (item : ℕ) (o : Option ℕ) → book.BookShows form b records
     → o ≡ option_map (λ i. cum i.opening i.item (contents records)) (item_on form item) → o ≡ None → 0 ≡ figure_in b item
 figure_none form records b item o s e is = sym (no_figure (find_item b.items item) (figure_shown form records b item s ∙ sym e ∙ is))
 
 -- the form's item of a lane before a schedule lane
-abbrev before_item : Load → FormItem
+abbrev before_item : OutgoingLoad → FormItem
 before_item load = record { item = load.item.0; opening = load.figure; reset = load.reset }
 
-items_before : (items : List Load) → map book.form_item (map book_item (map despatched items)) ≡ map before_item items
+items_before : (items : List OutgoingLoad) → map book.book_form_item (map book_item (map despatched_item items)) ≡ map before_item items
 items_before [] = refl
 items_before (i ∷ items) = ap (λ (z : List FormItem). before_item i ∷ z) (items_before items)
 
-item_found : (items : List Load) (j : ℕ) → ((item : ℕ) → count_by (λ i. i.item.0 == item) items ≤ 1) → j < length items
+item_found : (items : List OutgoingLoad) (j : ℕ) → ((item : ℕ) → count_by (λ i. i.item.0 == item) items ≤ 1) → j < length items
     → find (λ i. i.item == (load_at items j).item.0) (map before_item items) ≡ Some (before_item (load_at items j))
 item_found items j once within =
     let item : ℕ = (load_at items j).item.0 in
@@ -159,9 +159,9 @@ module _ (A : AgentState) (taken : ℕ → List Record) (view : IsView A.view) (
   opening_is lane sched out j within =
       let at = place_before lane sched in
       let k : ℕ = incoming_place A.view (lane.number.0 - 1) in
-      let i : Load = load_at lane.items j in
-      let shows : book.Shows (form_of A.view (lane_before lane)) (book_at A k) (taken (lane.number.0 - 1)) =
-      subst (λ (z : IncomingLane). book.Shows (form_of A.view z) (book_at A k) (taken z.number.0)) at.1 (books k at.0) in
+      let i : OutgoingLoad = load_at lane.items j in
+      let shows : book.BookShows (form_of A.view (lane_before lane)) (book_at A k) (taken (lane.number.0 - 1)) =
+      subst (λ (z : IncomingLane). book.BookShows (form_of A.view z) (book_at A k) (taken z.number.0)) at.1 (books k at.0) in
       let found : item_on (form_of A.view (lane_before lane)) i.item.0 ≡ Some (before_item i) =
       ap (λ (z : List FormItem). find (λ (f : FormItem). eqb f.item i.item.0) z) (items_before lane.items) ∙ item_found lane.items j out.once within in
       let read = figure_shown (form_of A.view (lane_before lane)) (taken (lane.number.0 - 1)) (book_at A k) i.item.0 shows in
@@ -179,23 +179,23 @@ module _ (A : AgentState) (taken : ℕ → List Record) (view : IsView A.view) (
   remains Despatch lane mark j sched out within periods =
       record { item = refl; opening = refl; reset = refl; line = shipments_left (load_at lane.items j).shipments mark }
   remains Schedule lane mark j sched out within periods =
-      let i : Load = load_at lane.items j in
+      let i : OutgoingLoad = load_at lane.items j in
       let amount : ℕ → ℕ = called_for (plans_of A) i in
       record {
         item = refl;
         opening = opening_is lane (sched refl) out j within;
         reset = refl;
-        line = subst (λ (n : ℕ). IsNext (by_period_from amount A.view.horizon) mark (option_map call_line (find has_pieces (map (delivery_in amount) (range_with_len mark (n - mark))))))
+        line = subst (λ (n : ℕ). IsNextLine (by_period_from amount A.view.horizon) mark (option_map call_line (find has_pieces (map (delivery_in amount) (range_with_len mark (n - mark))))))
             (sym (periods refl)) (calls_left amount A.view.horizon mark);
       }
 
   pub left_is_left : (k : ℕ) → k < length A.view.outgoing → ((j : ℕ) → slice_get (out_at A k).queue (out_at A k).head ≡ Some j → j < length (outgoing_at A.view k).items)
       → ((j : ℕ) → j < length (outgoing_at A.view k).items → (outgoing_at A.view k).kind ≡ Schedule → length (plans_of A (call_of (load_at (outgoing_at A.view k).items j)).customer.0).release ≡ A.view.horizon)
-      → IsLeft (goods_of A.view taken (plans_of A) (outgoing_at A.view k)) (out_at A k) (left_at A k)
+      → IsWhatIsLeft (goods_of A.view taken (plans_of A) (outgoing_at A.view k)) (out_at A k) (left_at A k)
   left_is_left k within places periods = by (slice_get (out_at A k).queue (out_at A k).head) refl
     where
       by : (o : Option ℕ) → slice_get (out_at A k).queue (out_at A k).head ≡ o
-          → IsLeft (goods_of A.view taken (plans_of A) (outgoing_at A.view k)) (out_at A k) (option_map (remainder A (outgoing_at A.view k) (out_at A k).mark) o)
+          → IsWhatIsLeft (goods_of A.view taken (plans_of A) (outgoing_at A.view k)) (out_at A k) (option_map (remainder A (outgoing_at A.view k) (out_at A k).mark) o)
       by None e = e
       by (Some j) e =
           let lane : OutgoingLane = outgoing_at A.view k in

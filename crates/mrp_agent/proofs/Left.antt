@@ -95,7 +95,7 @@ module _ (N : Table) (is : IsTable N) (planned : ℕ → Bool) (l : ℕ) where
       record {
         within = omega (arith, there.1, length-map items (outgoing_item N lane));
         decided = λ kind.
-            ap (λ (i : view.Load). planned (view.call_of i).customer.0) read ∙ ap (λ (c : Call). planned c.customer.0) (call_seen N lane item kind)
+            ap (λ (i : view.OutgoingLoad). planned (view.call_of i).customer.0) read ∙ ap (λ (c : Call). planned c.customer.0) (call_seen N lane item kind)
             ∙ ap planned has.taker ∙ decided kind;
       }
 
@@ -109,9 +109,9 @@ module _ (N : Table) (is : IsTable N) (planned : ℕ → Bool) (l : ℕ) where
         let inside : there.0 < length (loads N lane) = omega (arith, there.1, length-map items (load_of N lane)) in
         let read : get_or (loads N lane) there.0 (load_of N lane item) ≡ load_of N lane item =
         get_or-map (load_of N lane) items there.0 item (load_of N lane item) there.1 ∙ ap (load_of N lane) there.2 in
-        let some : Some (load_of N lane item) ≡ Some (cursor.load_of (goods there.0)) =
+        let some : Some (load_of N lane item) ≡ Some (cursor.goods_load (goods there.0)) =
         ap (λ (z : Load). Some z) (sym read) ∙ sym (slice_get-get_or (loads N lane) there.0 (load_of N lane item) inside) ∙ has.each there.0 sendable in
-        let same : load_of N lane item ≡ cursor.load_of (goods there.0) = cc some in
+        let same : load_of N lane item ≡ cursor.goods_load (goods there.0) = cc some in
         record { place = there.0; there = queued there.0 sendable; is = sym (ap (λ (z : Load). z.item) same) }
 
     pub decided_may_be_sent : (sent : List Record) (r : Record) → IsDecided N planned (lane_at N l) (content r) → IsBeginning (loads N (lane_at N l)) (sent ++ r ∷ []) → MaySend goods o (content r)

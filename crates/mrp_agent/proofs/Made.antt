@@ -20,7 +20,7 @@ use Rattle.mrp_view.proofs.Seeing.{All-flat_map}
 use Rattle.mrp_cursor.specs.Cursor.{OutFigures}
 use Rattle.mrp_agent.specs.Shows.{book_item}
 use Rattle.mrp_agent.specs.State.{no_out, no_outgoing}
-use Rattle.mrp_agent.specs.Making.{AreIdle, IsIdleLane, place_awaited}
+use Rattle.mrp_agent.specs.Making.{AreIdleOuts, IsIdleLane, place_awaited}
 use Rattle.mrp_agent.proofs.Owning.{own_within, own_of_item}
 
 -- a key that stands once isn't among those before it
@@ -103,10 +103,10 @@ map_more_after {X} {Y} f before xs k d x y so_far next within is value e grown =
 
 -- one more cursor
 pub idle_more : (lanes : List OutgoingLane) (k : ℕ) (lane : OutgoingLane) (outs next : List OutFigures) (o : OutFigures) → k < length lanes → lane ≡ get_or lanes k lane
-    → AreIdle (take k lanes) outs → IsIdleLane lane o → next ≡ outs ++ o ∷ [] → AreIdle (take (k + 1) lanes) next
+    → AreIdleOuts (take k lanes) outs → IsIdleLane lane o → next ≡ outs ++ o ∷ [] → AreIdleOuts (take (k + 1) lanes) next
 idle_more lanes k lane outs next o within is h idle grown =
     let more : take (k + 1) lanes ≡ take k lanes ++ lane ∷ [] = take_more lanes k lane within ∙ ap (λ (z : OutgoingLane). take k lanes ++ z ∷ []) (sym is) in
-    subst (λ (z : List OutgoingLane). AreIdle z next) (sym more) (subst (λ (z : List OutFigures). AreIdle (take k lanes ++ lane ∷ []) z) (sym grown) (grow (take k lanes) outs h))
+    subst (λ (z : List OutgoingLane). AreIdleOuts z next) (sym more) (subst (λ (z : List OutFigures). AreIdleOuts (take k lanes ++ lane ∷ []) z) (sym grown) (grow (take k lanes) outs h))
   where
     last : {X : Type 0} (xs : List X) (x d : X) (j : ℕ) → j ≡ length xs → get_or (xs ++ x ∷ []) j d ≡ x
     last [] x d j e = subst (λ (n : ℕ). get_or (x ∷ []) n d ≡ x) (sym e) refl
@@ -118,7 +118,7 @@ idle_more lanes k lane outs next o within is h idle grown =
     front (y ∷ xs) x d zero low = refl
     front (y ∷ xs) x d (suc j) low = front xs x d j (omega (arith, low))
 
-    grow : (before : List OutgoingLane) (outs : List OutFigures) → AreIdle before outs → AreIdle (before ++ lane ∷ []) (outs ++ o ∷ [])
+    grow : (before : List OutgoingLane) (outs : List OutFigures) → AreIdleOuts before outs → AreIdleOuts (before ++ lane ∷ []) (outs ++ o ∷ [])
     grow before outs h = record {
       size = omega (arith, h.size, length-append before (lane ∷ []), length-append outs (o ∷ []));
       idle = λ j inside.

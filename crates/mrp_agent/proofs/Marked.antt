@@ -17,10 +17,10 @@ use Rattle.mrp_ready.specs.declared.join.Join.{Join}
 use Rattle.mrp_ready.specs.Counts.{components_of, open_blocks}
 use Rattle.mrp_ready.specs.Progress.{IsFree, Progress, times}
 use Rattle.mrp_ready.proofs.Counting.{components_wait}
-use Rattle.mrp_agent.specs.After.{AreSettled, PairSettled, place_of, queued_at, queued_by}
+use Rattle.mrp_agent.specs.After.{AreOutsSettled, PairSettled, place_of, queued_at, queued_by}
 use Rattle.mrp_agent.specs.Kept.{Indexes, IsKept}
 use Rattle.mrp_agent.specs.Shows.{awaited, join_of, joins_of}
-use Rattle.mrp_agent.specs.State.{AgentState, no_pair, out_at, outgoing_at}
+use Rattle.mrp_agent.specs.State.{AgentState, no_plant_pair, out_at, outgoing_at}
 use Rattle.mrp_agent.proofs.Owning.{own_within}
 
 -- a pair that waits for nothing in the same state
@@ -79,7 +79,7 @@ settled_size Schedule items o item = queued_size o (place_of items item)
 -- ---- what is kept
 
 pub kept_marked : (A : AgentState) (I : Indexes) (place : ℕ) (item : ItemNo) (progress : Progress) (outs : List OutFigures) → IsKept A I → PairSettled (joins_of A.view) place A.progress progress
-    → AreSettled A.view.outgoing item A.outs outs → IsKept (record A { progress = progress; outs = outs }) I
+    → AreOutsSettled A.view.outgoing item A.outs outs → IsKept (record A { progress = progress; outs = outs }) I
 kept_marked A I place item progress outs kept settled queued = record {
   view = kept.view;
   indexes = kept.indexes;
@@ -107,7 +107,7 @@ kept_marked A I place item progress outs kept settled queued = record {
 
 -- the item whose pair was settled, and the lanes
 pub same_queued : (A : AgentState) (place : ℕ) (lanes : List OutgoingLane) (pairs : List PlantPair) (d : PlantPair) (old new : List OutFigures) → lanes ≡ A.view.outgoing → pairs ≡ A.view.pairs
-    → place < length A.view.pairs → AreSettled lanes (get_or pairs place d).item old new → AreSettled A.view.outgoing (get_or A.view.pairs place no_pair).item old new
+    → place < length A.view.pairs → AreOutsSettled lanes (get_or pairs place d).item old new → AreOutsSettled A.view.outgoing (get_or A.view.pairs place no_plant_pair).item old new
 same_queued A place lanes pairs d old new lanes_are pairs_are low queued =
-    let same : get_or pairs place d ≡ get_or A.view.pairs place no_pair = ap (λ (z : List PlantPair). get_or z place d) pairs_are ∙ get_or_default A.view.pairs place d no_pair low in
-    subst (λ (q : PlantPair). AreSettled A.view.outgoing q.item old new) same (subst (λ (z : List OutgoingLane). AreSettled z (get_or pairs place d).item old new) lanes_are queued)
+    let same : get_or pairs place d ≡ get_or A.view.pairs place no_plant_pair = ap (λ (z : List PlantPair). get_or z place d) pairs_are ∙ get_or_default A.view.pairs place d no_plant_pair low in
+    subst (λ (q : PlantPair). AreOutsSettled A.view.outgoing q.item old new) same (subst (λ (z : List OutgoingLane). AreOutsSettled z (get_or pairs place d).item old new) lanes_are queued)

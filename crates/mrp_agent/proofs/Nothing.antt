@@ -15,7 +15,7 @@ use Rattle.mrp_view.specs.declared.view.IncomingItem.{IncomingItem}
 use Rattle.mrp_view.specs.declared.view.IncomingLane.{IncomingLane}
 use Rattle.mrp_view.specs.declared.view.PlantEdge.{PlantEdge}
 use Rattle.mrp_view.specs.declared.view.PlantPair.{PlantPair}
-use Rattle.mrp_view.specs.Seen.{IsView, IsOwn, IsIncomingItem}
+use Rattle.mrp_view.specs.Seen.{IsView, IsOwnPair, IsIncomingItem}
 use Rattle.mrp_view.specs.View.{PlantRows}
 use Rattle.mrp_record.specs.declared.record.Record.{Record}
 use Rattle.mrp_record.specs.Entries.{contents, is_ended}
@@ -25,11 +25,11 @@ use Rattle.mrp_ready.specs.Laws.{NothingIsOpen}
 use Rattle.mrp_ready.specs.Progress.{IsListed, is_planned}
 use Rattle.mrp_ready.proofs.Counting.{ready_where_nothing_is_open}
 use Rattle.mrp_events.specs.State.{changed}
-use Rattle.mrp_local.specs.Local.{amount_at, asked_within, booked_on, local_incoming, local_gross, local_plan, local_row, AwaitsNothing, Carries, HasBrought}
+use Rattle.mrp_local.specs.Local.{amount_at, asked_within, booked_on, local_incoming, local_gross, local_plan, local_row, AwaitsNothing, Carries, HasCome}
 use Rattle.mrp_agent.specs.Drafts.{CanDraft, drafted}
 use Rattle.mrp_agent.specs.Kept.{Indexes, IsKept}
-use Rattle.mrp_agent.specs.Shows.{Shows, awaited, awaited_on, block_awaited, join_of, joins_of, up_to_last}
-use Rattle.mrp_agent.specs.State.{AgentState, pair_of, pair_place, plans_of, no_pair}
+use Rattle.mrp_agent.specs.Shows.{ShowsHistory, awaited, awaited_on, block_awaited, join_of, joins_of, up_to_last}
+use Rattle.mrp_agent.specs.State.{AgentState, pair_owned, pair_place, plans_of, no_plant_pair}
 use Rattle.mrp_agent.proofs.DraftLaws.{in_row}
 use Rattle.mrp_agent.proofs.Drafts.{map_same}
 use Rattle.mrp_agent.proofs.Looking.{only_place}
@@ -54,18 +54,18 @@ pub same_item : (V : PlantRows) → IsView V → (p q : PlantPair) → Contains 
 same_item V view p q = same_by (λ (r : PlantPair). r.item.0) V.pairs p q (view.items_once q.item.0)
 
 -- the pair of a number is the one that has it
-pub pair_is : (V : PlantRows) → IsView V → (p : PlantPair) → Contains V.pairs p → pair_of V p.number ≡ p
+pub pair_is : (V : PlantRows) → IsView V → (p : PlantPair) → Contains V.pairs p → pair_owned V p.number ≡ p
 pair_is V view p there =
-    let own : IsOwn V p.number = (p, there, refl) in
+    let own : IsOwnPair V p.number = (p, there, refl) in
     let within = own_within V p.number own in
-    let found : Contains V.pairs (pair_of V p.number) = Contains-get_or V.pairs (pair_place V p.number.0) no_pair within in
-    same_number V view (pair_of V p.number) p found there
-    (eqb-true (pair_of V p.number).number.0 p.number.0 (passes_at_first (λ (r : PlantPair). r.number.0 == p.number.0) V.pairs no_pair within))
+    let found : Contains V.pairs (pair_owned V p.number) = Contains-get_or V.pairs (pair_place V p.number.0) no_plant_pair within in
+    same_number V view (pair_owned V p.number) p found there
+    (eqb-true (pair_owned V p.number).number.0 p.number.0 (passes_at_first (λ (r : PlantPair). r.number.0 == p.number.0) V.pairs no_plant_pair within))
 
 -- ---- what is planned
 
 pub own_planned : (A : AgentState) (planned : ℕ → Bool) → ((p : PlantPair) → Contains A.view.pairs p → planned p.number.0 ≡ is_planned A.progress.planned (pair_place A.view p.number.0))
-    → (y : PairNo) → IsOwn A.view y → planned y.0 ≡ is_planned A.progress.planned (pair_place A.view y.0)
+    → (y : PairNo) → IsOwnPair A.view y → planned y.0 ≡ is_planned A.progress.planned (pair_place A.view y.0)
 own_planned A planned are y (p, there, is) =
     subst (λ (n : PairNo). planned n.0 ≡ is_planned A.progress.planned (pair_place A.view n.0)) is (are p there)
 
@@ -79,7 +79,7 @@ more_planned planned x y is = by (y == x)
 -- ---- nothing is missing
 
 module _ (A : AgentState) (I : Indexes) (kept : IsKept A I) (p : PlantPair) (there : Contains A.view.pairs p) (can : CanDraft A p.number)
-    (listed : IsListed A.progress.waits A.progress.planned A.progress.ready) (sent taken : ℕ → List Record) (planned : ℕ → Bool) (shows : Shows A sent taken planned) where
+    (listed : IsListed A.progress.waits A.progress.planned A.progress.ready) (sent taken : ℕ → List Record) (planned : ℕ → Bool) (shows : ShowsHistory A sent taken planned) where
   open_at : NothingIsOpen (length A.progress.waits) (joins_of A.view) A.progress.planned (awaited A.view taken) (pair_place A.view p.number.0)
   open_at =
       (ready_where_nothing_is_open A.progress.waits A.progress.ready (joins_of A.view) A.progress.planned (awaited A.view taken) shows.waits listed (pair_place A.view p.number.0)).0
@@ -98,7 +98,7 @@ module _ (A : AgentState) (I : Indexes) (kept : IsKept A I) (p : PlantPair) (the
       (ap (pair_place V) mine) in
       own_planned A planned shows.planned_are e.parent (kept.view.edges k d h).parent ∙ planned_parent
 
-  brought : All (HasBrought taken p.item) A.view.incoming
+  brought : All (HasCome taken p.item) A.view.incoming
   brought k d h = λ (carries : Carries (get_or A.view.incoming k d) p.item). by carries
     where
       by : Carries (get_or A.view.incoming k d) p.item → is_ended p.item.0 (contents (taken (get_or A.view.incoming k d).number.0)) ≡ true
@@ -127,7 +127,7 @@ module _ (A : AgentState) (I : Indexes) (kept : IsKept A I) (p : PlantPair) (the
 uncut : (a n : ℕ) → a ≡ up_to_last n → a ≤ MOST → a ≡ n
 uncut a n is small = omega arith
 
-pub draft_is_local : (A : AgentState) (p : PlantPair) (sent taken : ℕ → List Record) (planned : ℕ → Bool) → IsView A.view → Contains A.view.pairs p → CanDraft A p.number → Shows A sent taken planned
+pub draft_is_local : (A : AgentState) (p : PlantPair) (sent taken : ℕ → List Record) (planned : ℕ → Bool) → IsView A.view → Contains A.view.pairs p → CanDraft A p.number → ShowsHistory A sent taken planned
     → drafted A p.number ≡ local_plan A.view taken (plans_of A) p
 draft_is_local A p sent taken planned view there can shows =
     let V : PlantRows = A.view in

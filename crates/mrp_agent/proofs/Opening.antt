@@ -33,9 +33,9 @@ use Rattle.mrp_ready.specs.Progress.{Progress, is_planned, times}
 use Rattle.mrp_local.specs.Goods.{goods_of, IsSendable}
 use Rattle.mrp_local.specs.Local.{amount_at, booked_on, lanes_in}
 use Rattle.mrp_agent.specs.State.{AgentState, incoming_at, outgoing_at, book_at, out_at, no_book, no_incoming, pair_place, plans_of}
-use Rattle.mrp_agent.specs.Shows.{Shows, OutShows, BooksShow, awaited, awaited_on, block_awaited, book_item, form_of, join_of, joins_of, up_to_last}
-use Rattle.mrp_agent.specs.Kept.{parent_edge, HasItemsOnce, HasPeriods, HasRooms, HasSmallItems, HasSmallOpenings, Indexes, AreIndexes, IsKept}
-use Rattle.mrp_agent.specs.Making.{AreFit, AreIdle, IsFirst, IsIdleLane, idle_queue, new_figures, place_awaited}
+use Rattle.mrp_agent.specs.Shows.{ShowsHistory, OutShows, BooksShow, awaited, awaited_on, block_awaited, book_item, form_of, join_of, joins_of, up_to_last}
+use Rattle.mrp_agent.specs.Kept.{parent_edge, HasItemsOnce, HasPlanRows, HasRooms, HasSmallItems, HasSmallOpenings, Indexes, AreIndexes, IsKept}
+use Rattle.mrp_agent.specs.Making.{AreFit, AreIdleOuts, IsFirstProgress, IsIdleLane, idle_queue, new_figures, place_awaited}
 use Rattle.mrp_agent.specs.declared.edges.ParentEdge.{ParentEdge}
 use Rattle.mrp_agent.proofs.Made.{books_once}
 use Rattle.mrp_agent.proofs.Owning.{own_within}
@@ -49,11 +49,11 @@ none_planned x = false
 
 -- ---- books
 
-small_items : (items : List IncomingItem) → All (λ i. i.opening ≤ MOST) items → All (λ i. i.opening ≤ MOST) (map book.form_item (map book_item items))
+small_items : (items : List IncomingItem) → All (λ i. i.opening ≤ MOST) items → All (λ i. i.opening ≤ MOST) (map book.book_form_item (map book_item items))
 small_items items h =
-    All-map (λ (i : FormItem). i.opening ≤ MOST) book.form_item (map book_item items) (All-map (λ (i : BookItem). i.opening ≤ MOST) book_item items h)
+    All-map (λ (i : FormItem). i.opening ≤ MOST) book.book_form_item (map book_item items) (All-map (λ (i : BookItem). i.opening ≤ MOST) book_item items h)
 
-pub book_opens : (V : PlantRows) (lane : IncomingLane) → IsIncomingLane V lane → HasSmallItems lane → book.Shows (form_of V lane) (new_figures V lane) []
+pub book_opens : (V : PlantRows) (lane : IncomingLane) → IsIncomingLane V lane → HasSmallItems lane → book.BookShows (form_of V lane) (new_figures V lane) []
 book_opens V lane is small = record {
   lane = record { once = items_once (map book_item lane.items) (books_once lane.items is.once); openings = small_items lane.items small };
   in_form = empty_in_form (form_of V lane);
@@ -87,7 +87,7 @@ blocks_open V y (lane ∷ lanes) =
     let right = sum_by-append (λ (c : ℕ). cond (eqb c y) 1 0) (map (place_awaited V) lane.items) (flat_map (λ (l : IncomingLane). map (place_awaited V) l.items) lanes) in
     omega (arith, left, right, blocks_on V lane y lane.items, blocks_open V y lanes)
 
-pub first_awaits : (V : PlantRows) (progress : Progress) → IsFirst V progress → AreCounts progress.waits (joins_of V) progress.planned (open_blocks (awaited V nothing))
+pub first_awaits : (V : PlantRows) (progress : Progress) → IsFirstProgress V progress → AreCounts progress.waits (joins_of V) progress.planned (open_blocks (awaited V nothing))
 first_awaits V progress h =
     record { counted = λ y within. omega (arith, h.waits.counted y within, blocks_open V y V.incoming) }
 
@@ -147,14 +147,14 @@ opened V progress outs = record {
   outs = outs;
 }
 
-module _ (V : PlantRows) (progress : Progress) (outs : List OutFigures) (view : IsView V) (small : HasSmallOpenings V) (first : IsFirst V progress) (idle : AreIdle V.outgoing outs) where
+module _ (V : PlantRows) (progress : Progress) (outs : List OutFigures) (view : IsView V) (small : HasSmallOpenings V) (first : IsFirstProgress V progress) (idle : AreIdleOuts V.outgoing outs) where
   pub books_open : BooksShow (opened V progress outs) nothing
   books_open k within =
       let lane : IncomingLane = incoming_at V k in
       let is = All-get_or (IsIncomingLane V) V.incoming k no_incoming within view.incoming in
       let few = All-get_or HasSmallItems V.incoming k no_incoming within small in
       let at : book_at (opened V progress outs) k ≡ new_figures V lane = get_or-map (new_figures V) V.incoming k no_incoming no_book within in
-      subst (λ (b : Figures). book.Shows (form_of V lane) b []) (sym at) (book_opens V lane is few)
+      subst (λ (b : Figures). book.BookShows (form_of V lane) b []) (sym at) (book_opens V lane is few)
 
   cursors_open : (k : ℕ) → k < length V.outgoing → OutShows (opened V progress outs) nothing nothing none_planned k
   cursors_open k within =
@@ -165,7 +165,7 @@ module _ (V : PlantRows) (progress : Progress) (outs : List OutFigures) (view : 
         queued = idle_shows V (plans_of (opened V progress outs)) (outgoing_at V k) (out_at (opened V progress outs) k) is;
       }
 
-  pub opening_shows : AreFit V.receipts → AreFit V.demands → Shows (opened V progress outs) nothing nothing none_planned
+  pub opening_shows : AreFit V.receipts → AreFit V.demands → ShowsHistory (opened V progress outs) nothing nothing none_planned
   opening_shows receipts demands = record {
     books = books_open;
     waits = first_awaits V progress first;
@@ -176,7 +176,7 @@ module _ (V : PlantRows) (progress : Progress) (outs : List OutFigures) (view : 
     outs = cursors_open;
   }
 
-  has_periods : HasPeriods V (nothing_planned V.horizon)
+  has_periods : HasPlanRows V (nothing_planned V.horizon)
   has_periods = record { gross = length-replicate V.horizon 0; release = length-replicate V.horizon 0 }
 
   rooms_open : HasRooms (opened V progress outs)
@@ -186,7 +186,7 @@ module _ (V : PlantRows) (progress : Progress) (outs : List OutFigures) (view : 
     called = view.demands;
     plans = record {
       count = length-replicate (length V.pairs) (nothing_planned V.horizon);
-      periods = All-replicate (HasPeriods V) (length V.pairs) (nothing_planned V.horizon) has_periods;
+      periods = All-replicate (HasPlanRows V) (length V.pairs) (nothing_planned V.horizon) has_periods;
     };
     progress = record {
       numbers = first.numbers;

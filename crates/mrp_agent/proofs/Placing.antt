@@ -3,17 +3,17 @@ use Rattle.std.proofs.Common.{◌≡◌, ℕ, ◌<◌, ◌==◌, Option, Some, l
 use Rattle.std.specs.List.{Contains}
 use Rattle.mrp_lot.specs.One.{IsWithin}
 use Rattle.mrp_rows.specs.declared.numbers.PairNo.{PairNo}
-use Rattle.mrp_view.specs.Seen.{IsOwn}
+use Rattle.mrp_view.specs.Seen.{IsOwnPair}
 use Rattle.mrp_ready.specs.Progress.{IsListed}
 use Rattle.mrp_agent.specs.Drafts.{CanDraft, drafted_gross, drafted_incoming, ready_numbers}
 use Rattle.mrp_agent.specs.Kept.{Indexes, IsKept}
-use Rattle.mrp_agent.specs.State.{AgentState, pair_of, pair_place}
+use Rattle.mrp_agent.specs.State.{AgentState, pair_owned, pair_place}
 use Rattle.mrp_agent.proofs.Owning.{own_found, own_place_is, own_within}
 use Rattle.mrp_agent.proofs.Ready.{ready_place, ready_there}
 
 pub record IsAtPlace (A : AgentState) (I : Indexes) (x : PairNo) (place : ℕ) : Type 0 where
   pub kept : IsKept A I
-  pub own : IsOwn A.view x
+  pub own : IsOwnPair A.view x
   pub at : place ≡ pair_place A.view x.0
 
 pub place_within : {A : AgentState} {I : Indexes} {x : PairNo} {place : ℕ} → IsAtPlace A I x place → place < length A.view.pairs
@@ -24,8 +24,8 @@ place_within {A} {I} {x} {place} h = omega (arith, own_within A.view x h.own, h.
 pub can_before : {A S : AgentState} {x : PairNo} → A ≡ S → CanDraft S x → CanDraft A x
 can_before {A} {S} {x} same can = subst (λ (a : AgentState). CanDraft a x) (sym same) can
 
-pub own_before : {A S : AgentState} (x : PairNo) → A ≡ S → IsOwn S.view x → IsOwn A.view x
-own_before {A} {S} x same own = subst (λ (a : AgentState). IsOwn a.view x) (sym same) own
+pub own_before : {A S : AgentState} (x : PairNo) → A ≡ S → IsOwnPair S.view x → IsOwnPair A.view x
+own_before {A} {S} x same own = subst (λ (a : AgentState). IsOwnPair a.view x) (sym same) own
 
 pub placed_now : {A S : AgentState} {I : Indexes} {x : PairNo} {place : ℕ} → A ≡ S → IsAtPlace A I x place → IsAtPlace S I x place
 placed_now {A} {S} {I} {x} {place} same h = subst (λ (a : AgentState). IsAtPlace a I x place) same h
@@ -35,13 +35,13 @@ listed_now {A} {S} same listed = subst (λ (a : AgentState). IsListed a.progress
 
 -- ---- a pair that is looked up
 
-pub own_is_found : {A S : AgentState} (x : PairNo) → A ≡ S → IsOwn S.view x → position (λ p. p.number.0 == x.0) A.view.pairs ≡ Some (pair_place A.view x.0)
+pub own_is_found : {A S : AgentState} (x : PairNo) → A ≡ S → IsOwnPair S.view x → position (λ p. p.number.0 == x.0) A.view.pairs ≡ Some (pair_place A.view x.0)
 own_is_found {A} {S} x same own = own_found A.view x (own_before x same own)
 
-pub place_is_found : {A S : AgentState} {I : Indexes} {x : PairNo} {o : Option ℕ} {place : ℕ} → A ≡ S → IsKept A I → IsOwn S.view x
+pub place_is_found : {A S : AgentState} {I : Indexes} {x : PairNo} {o : Option ℕ} {place : ℕ} → A ≡ S → IsKept A I → IsOwnPair S.view x
     → o ≡ position (λ p. p.number.0 == x.0) A.view.pairs → o ≡ Some place → IsAtPlace A I x place
 place_is_found {A} {S} {I} {x} {o} {place} same kept own looked_up is =
-    let mine : IsOwn A.view x = own_before x same own in
+    let mine : IsOwnPair A.view x = own_before x same own in
     record { kept = kept; own = mine; at = own_place_is A.view x o place mine looked_up is }
 
 -- ---- a pair that can be planned
@@ -56,8 +56,8 @@ pub ready_from : {A S : AgentState} {I : Indexes} {x : PairNo} {place : ℕ} →
 ready_from {A} {S} {I} {x} {place} same h there =
     subst (λ (a : AgentState). Contains (ready_numbers a) x) same (ready_there A h.kept.view h.kept.rooms x h.own (subst (Contains A.progress.ready) h.at there))
 
-pub can_draft : {A S : AgentState} {I : Indexes} {x : PairNo} {place : ℕ} → A ≡ S → IsAtPlace A I x place → IsOwn S.view x → Contains A.progress.ready place
-    → (Contains (ready_numbers S) x → IsWithin (pair_of S.view x).params (drafted_incoming S x) (drafted_gross S x)) → CanDraft S x
+pub can_draft : {A S : AgentState} {I : Indexes} {x : PairNo} {place : ℕ} → A ≡ S → IsAtPlace A I x place → IsOwnPair S.view x → Contains A.progress.ready place
+    → (Contains (ready_numbers S) x → IsWithin (pair_owned S.view x).params (drafted_incoming S x) (drafted_gross S x)) → CanDraft S x
 can_draft {A} {S} {I} {x} {place} same h own there within =
     let ready : Contains (ready_numbers S) x = ready_from same h there in
     record { own = own; ready = ready; within = within ready }

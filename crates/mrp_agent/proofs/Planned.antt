@@ -8,7 +8,7 @@ use Rattle.mrp_events.specs.State.{changed}
 use Rattle.mrp_agent.specs.Drafts.{CanDraft, drafted, ready_numbers}
 use Rattle.mrp_agent.specs.Kept.{Indexes}
 use Rattle.mrp_agent.specs.Marking.{IsMarked}
-use Rattle.mrp_agent.specs.Shows.{Shows}
+use Rattle.mrp_agent.specs.Shows.{ShowsHistory}
 use Rattle.mrp_agent.specs.State.{AgentState, no_plan, plans_of}
 use Rattle.mrp_agent.proofs.Placing.{IsAtPlace, listed_now, place_within, placed_now}
 use Rattle.mrp_agent.proofs.Shown.{others_stay, planning_shows}
@@ -19,7 +19,7 @@ pub record HasPlanned (old : AgentState) (x : PairNo) (new : AgentState) : Type 
   pub view : new.view ≡ old.view
   pub kept : plans_of new x.0 ≡ drafted old x
   pub left : left_of new.progress.planned + 1 ≡ left_of old.progress.planned
-  pub shows : (sent taken : ℕ → List Record) (planned : ℕ → Bool) → Shows old sent taken planned → Shows new sent taken (changed planned x.0 true)
+  pub shows : (sent taken : ℕ → List Record) (planned : ℕ → Bool) → ShowsHistory old sent taken planned → ShowsHistory new sent taken (changed planned x.0 true)
   pub others : (y : PairNo) → Contains (ready_numbers old) y → (y.0 ≡ x.0 → ⊥) → Contains (ready_numbers new) y
   pub drafts : (y : PairNo) → Contains (ready_numbers old) y → drafted new y ≡ drafted old y
 

@@ -12,8 +12,8 @@ use Rattle.mrp_net.specs.declared.lane.LaneKind.{LaneKind}
 use Rattle.mrp_net.specs.declared.lane.LaneKind.TheVariants.{Despatch, Schedule}
 use Rattle.mrp_view.specs.declared.view.OutgoingLane.{OutgoingLane}
 use Rattle.mrp_view.specs.declared.view.PlantPair.{PlantPair}
-use Rattle.mrp_view.specs.Loads.{Load, call_of, load_at, no_load}
-use Rattle.mrp_view.specs.Seen.{IsView, IsOwn, IsOwnOf, IsOutgoingLane, IsScheduleLane}
+use Rattle.mrp_view.specs.Loads.{OutgoingLoad, call_of, load_at, no_load}
+use Rattle.mrp_view.specs.Seen.{IsView, IsOwnPair, IsOwnOf, IsOutgoingLane, IsScheduleLane}
 use Rattle.mrp_view.specs.View.{PlantRows}
 use Rattle.mrp_record.specs.declared.record.Record.{Record}
 use Rattle.mrp_cursor.specs.Cursor.{OutFigures, Goods}
@@ -32,14 +32,14 @@ only_one x y (zero, within, is) = sym is
 only_one x y (suc k, within, is) = absurd (omega arith)
 
 -- goods look at the customer's plan alone
-goods_same : (kind : LaneKind) (V : PlantRows) (taken : ℕ → List Record) (plans others : ℕ → PlanRows) (l : ℕ) (i : Load) → (kind ≡ Schedule → plans (call_of i).customer.0 ≡ others (call_of i).customer.0)
+goods_same : (kind : LaneKind) (V : PlantRows) (taken : ℕ → List Record) (plans others : ℕ → PlanRows) (l : ℕ) (i : OutgoingLoad) → (kind ≡ Schedule → plans (call_of i).customer.0 ≡ others (call_of i).customer.0)
     → goods_by kind V taken plans l i ≡ goods_by kind V taken others l i
 goods_same Despatch V taken plans others l i same = refl
 goods_same Schedule V taken plans others l i same =
     ap (λ (rows : PlanRows). let g : Goods = record (schedule_goods V (taken (l - 1)) plans i) { from = by_period_from (λ t. share (call_of i) (slice_index rows.release t)) V.horizon } in g) (same refl)
 
 module _ (V : PlantRows) (view : IsView V) (lane : OutgoingLane) (is_lane : IsOutgoingLane V lane) (schedule : lane.kind ≡ Schedule → IsScheduleLane V lane) (p : PlantPair) (there : Contains V.pairs p)
-    (planned : ℕ → Bool) (unplanned : planned p.number.0 ≡ false) (plans others : ℕ → PlanRows) (stay : (y : PairNo) → IsOwn V y → planned y.0 ≡ true → plans y.0 ≡ others y.0)
+    (planned : ℕ → Bool) (unplanned : planned p.number.0 ≡ false) (plans others : ℕ → PlanRows) (stay : (y : PairNo) → IsOwnPair V y → planned y.0 ≡ true → plans y.0 ≡ others y.0)
     (taken : ℕ → List Record) (old : OutFigures) (sent : List Record) (size : old.size ≡ length lane.items) (shows : ShowsSent (goods_of V taken plans lane) old sent)
     (queue : (j : ℕ) → Contains old.queue j ↔ IsSendable planned lane j) where
   -- the customers of a schedule lane
@@ -105,16 +105,16 @@ module _ (V : PlantRows) (view : IsView V) (lane : OutgoingLane) (is_lane : IsOu
       let test : ItemNo → Bool = λ i. eqb i.0 p.item.0 in
       let item : ItemNo = (load_at lane.items j).item in
       let passes : test item ≡ true = eq-eqb item.0 p.item.0 ((is_its_item kind j within).0 same) in
-      let among : Contains items item = (j, omega (arith, within, length-map lane.items (λ (i : Load). i.item)), get_or-map (λ (i : Load). i.item) lane.items j no_load item within) in
+      let among : Contains items item = (j, omega (arith, within, length-map lane.items (λ (i : OutgoingLoad). i.item)), get_or-map (λ (i : OutgoingLoad). i.item) lane.items j no_load item within) in
       let found = place_known test items (place_found test items item among passes) in
       cc (none, found))
   at_place kind (Some place) found =
       let test : ItemNo → Bool = λ i. eqb i.0 p.item.0 in
       let none : ItemNo = record { 0 = 0 } in
       let first = position-Some test items place none found in
-      let within : place < length lane.items = omega (arith, first.0, length-map lane.items (λ (i : Load). i.item)) in
+      let within : place < length lane.items = omega (arith, first.0, length-map lane.items (λ (i : OutgoingLoad). i.item)) in
       let item : (load_at lane.items place).item.0 ≡ p.item.0 =
-      sym (ap (λ (i : ItemNo). i.0) (get_or-map (λ (i : Load). i.item) lane.items place no_load none within)) ∙ eqb-true (get_or items place none).0 p.item.0 first.1 in
+      sym (ap (λ (i : ItemNo). i.0) (get_or-map (λ (i : OutgoingLoad). i.item) lane.items place no_load none within)) ∙ eqb-true (get_or items place none).0 p.item.0 first.1 in
       let mine : (call_of (load_at lane.items place)).customer.0 ≡ p.number.0 = (is_its_item kind place within).1 item in
       let fresh : Contains old.queue place → ⊥ = λ among. both_ways (planned p.number.0) unplanned (sym (ap planned mine) ∙ ((queue place).0 among).decided kind) in
       let more = queues_show (goods_of V taken others lane) old sent place now_shows (omega (arith, within, size)) fresh in
@@ -134,7 +134,7 @@ module _ (V : PlantRows) (view : IsView V) (lane : OutgoingLane) (is_lane : IsOu
               (elim (cases_eq (call_of (load_at lane.items j)).customer.0 p.number.0) [
                 | inl same ↦
                     let here : j ≡ place =
-                    only_place (λ (i : Load). eqb i.item.0 p.item.0) lane.items j place no_load (is_lane.once p.item.0) sendable.within within
+                    only_place (λ (i : OutgoingLoad). eqb i.item.0 p.item.0) lane.items j place no_load (is_lane.once p.item.0) sendable.within within
                     (eq-eqb (load_at lane.items j).item.0 p.item.0 ((is_its_item kind j sendable.within).0 same)) (eq-eqb (load_at lane.items place).item.0 p.item.0 item) in
                     Contains-append_right old.queue (place ∷ []) j (0, omega arith, sym here)
                 | inr other ↦ Contains-append_left old.queue (place ∷ []) j ((queue j).1 (before j sendable (λ _. other)))

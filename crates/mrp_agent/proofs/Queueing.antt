@@ -6,7 +6,7 @@ use Rattle.mrp_rows.specs.declared.numbers.ItemNo.{ItemNo}
 use Rattle.mrp_view.specs.declared.view.OutgoingLane.{OutgoingLane}
 use Rattle.mrp_cursor.specs.Cursor.{OutFigures}
 use Rattle.mrp_agent.specs.State.{no_out, no_outgoing}
-use Rattle.mrp_agent.specs.After.{AreSettled, settled_out}
+use Rattle.mrp_agent.specs.After.{AreOutsSettled, settled_out}
 
 -- those before a place are settled, and the others are as they were
 pub record SettledTo (lanes : List OutgoingLane) (item : ItemNo) (k : ℕ) (old new : List OutFigures) : Type 0 where
@@ -33,5 +33,5 @@ more_settled lanes item k old now new out h inside within is e =
       rest = λ i high. get_or-set_other now k i out no_out (λ e. omega arith) ∙ h.rest i (omega arith);
     })
 
-pub all_settled : (lanes : List OutgoingLane) (item : ItemNo) (k : ℕ) (old new : List OutFigures) → SettledTo lanes item k old new → length lanes ≤ k → AreSettled lanes item old new
+pub all_settled : (lanes : List OutgoingLane) (item : ItemNo) (k : ℕ) (old new : List OutFigures) → SettledTo lanes item k old new → length lanes ≤ k → AreOutsSettled lanes item old new
 all_settled lanes item k old new h past = record { size = h.size; each = λ i within. h.done i (omega arith) within }

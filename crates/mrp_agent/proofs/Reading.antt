@@ -27,20 +27,20 @@ use Rattle.mrp_cursor.specs.Cursor.{OutFigures}
 use Rattle.mrp_cursor.proofs.Texts.{closed_is_shown}
 use Rattle.mrp_ready.specs.Progress.{is_planned, left_of}
 use Rattle.mrp_local.specs.Goods.{goods_of}
-use Rattle.mrp_agent.specs.State.{AgentState, incoming_at, outgoing_at, book_at, out_at, no_book, no_incoming, no_out, no_outgoing, no_pair, pair_place, plans_of, incoming_place}
-use Rattle.mrp_agent.specs.Shows.{Shows, BooksShow, book_item, form_of, is_done}
+use Rattle.mrp_agent.specs.State.{AgentState, incoming_at, outgoing_at, book_at, out_at, no_book, no_incoming, no_out, no_outgoing, no_plant_pair, pair_place, plans_of, incoming_place}
+use Rattle.mrp_agent.specs.Shows.{ShowsHistory, BooksShow, book_item, form_of, is_done}
 use Rattle.mrp_agent.specs.Kept.{Indexes, IsKept}
-use Rattle.mrp_agent.specs.Reading.{HasDone, OwnIsPlanned, ReceivedFiguresAreCumulative, carried_by, incoming_of, received, unplanned_pairs}
+use Rattle.mrp_agent.specs.Reading.{HasDone, OwnIsPlanned, ReceivedFiguresAreCumulative, carried_by, incoming_of, received_over, unplanned_pairs}
 use Rattle.mrp_agent.proofs.Looking.{place_at, place_found, place_is_only, place_known}
 
--- ---- figures received
+-- ---- figures received_over
 
 -- an item that is found in the form is found among the lane's items
-found_item : (n : ℕ) (items : List IncomingItem) → find (λ i. i.item == n) (map book.form_item (map book_item items)) ≡ option_map (λ i. book.form_item (book_item i)) (find (λ i. i.item.0 == n) items)
+found_item : (n : ℕ) (items : List IncomingItem) → find (λ i. i.item == n) (map book.book_form_item (map book_item items)) ≡ option_map (λ i. book.book_form_item (book_item i)) (find (λ i. i.item.0 == n) items)
 found_item n [] = refl
 found_item n (i ∷ items) =
     elim (cases_Bool (eqb i.item.0 n))
-    as (λ _. find (λ (f : FormItem). eqb f.item n) (map book.form_item (map book_item (i ∷ items))) ≡ option_map (λ (i : IncomingItem). book.form_item (book_item i)) (find (λ (z : IncomingItem). eqb z.item.0 n) (i ∷ items))) [
+    as (λ _. find (λ (f : FormItem). eqb f.item n) (map book.book_form_item (map book_item (i ∷ items))) ≡ option_map (λ (i : IncomingItem). book.book_form_item (book_item i)) (find (λ (z : IncomingItem). eqb z.item.0 n) (i ∷ items))) [
       | inl here ↦ rw here refl
       | inr later ↦ rw later (found_item n items)
     ]
@@ -66,7 +66,7 @@ found_once {X} p xs x few (k, within, is) passes =
     ∙ ap (λ (z : X). Some z) is
 
 figure_twice : (records : List Record) (item : ItemNo) (o : Option IncomingItem) → ((i : IncomingItem) → o ≡ Some i → i.item.0 ≡ item.0)
-    → option_map (λ (i : FormItem). cum i.opening i.item (contents records)) (option_map (λ i. book.form_item (book_item i)) o) ≡ option_map (λ i. cum i.opening item.0 (contents records)) o
+    → option_map (λ (i : FormItem). cum i.opening i.item (contents records)) (option_map (λ i. book.book_form_item (book_item i)) o) ≡ option_map (λ i. cum i.opening item.0 (contents records)) o
 figure_twice records item None same = refl
 figure_twice records item (Some i) same = ap (λ (n : ℕ). Some (cum i.opening n (contents records))) (same i refl)
 
@@ -77,21 +77,21 @@ lane_found V l within =
 
 -- what its book says
 pub figure_received : (A : AgentState) (taken : ℕ → List Record) (l : LaneNo) (item : ItemNo) (r : Option ℕ) → BooksShow A taken → incoming_place A.view l.0 < length A.view.incoming
-    → ((F : LaneForm) (records : List Record) → book.Shows F (book_at A (incoming_place A.view l.0)) records → r ≡ option_map (λ i. cum i.opening i.item (contents records)) (item_on F item.0))
-    → r ≡ received A.view taken l item
+    → ((F : LaneForm) (records : List Record) → book.BookShows F (book_at A (incoming_place A.view l.0)) records → r ≡ option_map (λ i. cum i.opening i.item (contents records)) (item_on F item.0))
+    → r ≡ received_over A.view taken l item
 figure_received A taken l item r books within said =
     let lane : IncomingLane = incoming_at A.view (incoming_place A.view l.0) in
     let p : IncomingItem → Bool = λ i. eqb i.item.0 item.0 in
     let number : lane.number.0 ≡ l.0 = eqb-true lane.number.0 l.0 (found_passes (λ (z : IncomingLane). eqb z.number.0 l.0) A.view.incoming lane (lane_found A.view l within)) in
-    let shows : book.Shows (form_of A.view lane) (book_at A (incoming_place A.view l.0)) (taken l.0) =
-    subst (λ (n : ℕ). book.Shows (form_of A.view lane) (book_at A (incoming_place A.view l.0)) (taken n)) number (books (incoming_place A.view l.0) within) in
+    let shows : book.BookShows (form_of A.view lane) (book_at A (incoming_place A.view l.0)) (taken l.0) =
+    subst (λ (n : ℕ). book.BookShows (form_of A.view lane) (book_at A (incoming_place A.view l.0)) (taken n)) number (books (incoming_place A.view l.0) within) in
     said (form_of A.view lane) (taken l.0) shows
     ∙ ap (option_map (λ (i : FormItem). cum i.opening i.item (contents (taken l.0)))) (found_item item.0 lane.items)
     ∙ figure_twice (taken l.0) item (carried_by item lane) (λ i is. eqb-true i.item.0 item.0 (found_passes p lane.items i is))
     ∙ sym (ap (λ (o : Option IncomingLane). option_map (λ (i : IncomingItem). cum i.opening item.0 (contents (taken l.0))) (option_and_then (carried_by item) o)) (lane_found A.view l within))
 
 -- no lane, no figure
-none_received : (V : PlantRows) (taken : ℕ → List Record) (l : LaneNo) (item : ItemNo) → incoming_of V l ≡ None → None ≡ received V taken l item
+none_received : (V : PlantRows) (taken : ℕ → List Record) (l : LaneNo) (item : ItemNo) → incoming_of V l ≡ None → None ≡ received_over V taken l item
 none_received V taken l item none =
     sym (ap (λ (o : Option IncomingLane). option_map (λ (i : IncomingItem). cum i.opening item.0 (contents (taken l.0))) (option_and_then (carried_by item) o)) none)
 
@@ -109,12 +109,12 @@ received_figures_are_cumulative V view taken lane there i carries =
 -- as it is read at a place, and past the lanes
 pub figure_said : (A : AgentState) (taken : ℕ → List Record) (l : LaneNo) (item : ItemNo) (r : Option ℕ) (b : Figures) (k : ℕ) → BooksShow A taken
     → k ≡ incoming_place A.view l.0 → b ≡ book_at A (incoming_place A.view l.0) → k < length A.view.incoming
-    → ((F : LaneForm) (records : List Record) → book.Shows F b records → r ≡ option_map (λ i. cum i.opening i.item (contents records)) (item_on F item.0))
-    → r ≡ received A.view taken l item
+    → ((F : LaneForm) (records : List Record) → book.BookShows F b records → r ≡ option_map (λ i. cum i.opening i.item (contents records)) (item_on F item.0))
+    → r ≡ received_over A.view taken l item
 figure_said A taken l item r b k books at is within said =
-    figure_received A taken l item r books (omega (arith, at, within)) (λ F records shows. said F records (subst (λ (z : Figures). book.Shows F z records) (sym is) shows))
+    figure_received A taken l item r books (omega (arith, at, within)) (λ F records shows. said F records (subst (λ (z : Figures). book.BookShows F z records) (sym is) shows))
 
-pub none_said : (V : PlantRows) (taken : ℕ → List Record) (l : LaneNo) (item : ItemNo) → length V.incoming ≤ incoming_place V l.0 → None ≡ received V taken l item
+pub none_said : (V : PlantRows) (taken : ℕ → List Record) (l : LaneNo) (item : ItemNo) → length V.incoming ≤ incoming_place V l.0 → None ≡ received_over V taken l item
 none_said V taken l item past =
     none_received V taken l item (find_at (λ (z : IncomingLane). eqb z.number.0 l.0) V.incoming ∙ slice_get_past V.incoming (incoming_place V l.0) past)
 
@@ -144,12 +144,12 @@ lanes_closed {Lane} {Kept} lanes no_lane all_kept nothing closes closed size eac
         let inside : k < length lanes = omega (arith, within, size) in
         ap closed (get_or_default all_kept k d nothing within) ∙ each k inside ∙ all (get_or lanes k no_lane) (Contains-get_or lanes k no_lane inside))
 
-module _ (A : AgentState) (I : Indexes) (kept : IsKept A I) (sent taken : ℕ → List Record) (planned : ℕ → Bool) (shows : Shows A sent taken planned) where
+module _ (A : AgentState) (I : Indexes) (kept : IsKept A I) (sent taken : ℕ → List Record) (planned : ℕ → Bool) (shows : ShowsHistory A sent taken planned) where
   -- the place of the pair at a place
-  own_place : (k : ℕ) → k < length A.view.pairs → pair_place A.view (get_or A.view.pairs k no_pair).number.0 ≡ k
+  own_place : (k : ℕ) → k < length A.view.pairs → pair_place A.view (get_or A.view.pairs k no_plant_pair).number.0 ≡ k
   own_place k within =
-      let p : PlantPair = get_or A.view.pairs k no_pair in
-      place_is_only (λ (q : PlantPair). eqb q.number.0 p.number.0) A.view.pairs k no_pair (kept.view.numbers_once p.number.0) within (eq-eqb p.number.0 p.number.0 refl)
+      let p : PlantPair = get_or A.view.pairs k no_plant_pair in
+      place_is_only (λ (q : PlantPair). eqb q.number.0 p.number.0) A.view.pairs k no_plant_pair (kept.view.numbers_once p.number.0) within (eq-eqb p.number.0 p.number.0 refl)
 
   all_planned : left_of A.progress.planned ≡ 0 → (p : PlantPair) → Contains A.view.pairs p → planned p.number.0 ≡ true
   all_planned none p there =
@@ -161,8 +161,8 @@ module _ (A : AgentState) (I : Indexes) (kept : IsKept A I) (sent taken : ℕ �
   none_left : ((p : PlantPair) → Contains A.view.pairs p → planned p.number.0 ≡ true) → left_of A.progress.planned ≡ 0
   none_left all = count_none (λ (b : Bool). not b) A.progress.planned (λ k d within.
       let inside : k < length A.view.pairs = omega (arith, within, kept.rooms.progress.planned) in
-      let p : PlantPair = get_or A.view.pairs k no_pair in
-      let there : Contains A.view.pairs p = Contains-get_or A.view.pairs k no_pair inside in
+      let p : PlantPair = get_or A.view.pairs k no_plant_pair in
+      let there : Contains A.view.pairs p = Contains-get_or A.view.pairs k no_plant_pair inside in
       let here : is_planned A.progress.planned k ≡ true = ap (is_planned A.progress.planned) (sym (own_place k inside)) ∙ sym (shows.planned_are p there) ∙ all p there in
       not_true (get_or A.progress.planned k d) (get_or_default A.progress.planned k d false within ∙ here))
 
@@ -174,10 +174,10 @@ module _ (A : AgentState) (I : Indexes) (kept : IsKept A I) (sent taken : ℕ �
       ap left_of (ext_get_or false A.progress.planned (map of_pair A.view.pairs) size
       (λ k within.
       let inside : k < length A.view.pairs = omega (arith, within, kept.rooms.progress.planned) in
-      let p : PlantPair = get_or A.view.pairs k no_pair in
+      let p : PlantPair = get_or A.view.pairs k no_plant_pair in
       ap (is_planned A.progress.planned) (sym (own_place k inside))
-      ∙ sym (shows.planned_are p (Contains-get_or A.view.pairs k no_pair inside))
-      ∙ sym (get_or-map of_pair A.view.pairs k no_pair false inside)))
+      ∙ sym (shows.planned_are p (Contains-get_or A.view.pairs k no_plant_pair inside))
+      ∙ sym (get_or-map of_pair A.view.pairs k no_plant_pair false inside)))
       ∙ count-map (λ (b : Bool). not b) of_pair A.view.pairs
 
   -- the flag of a pair, wherever it is
@@ -191,9 +191,9 @@ module _ (A : AgentState) (I : Indexes) (kept : IsKept A I) (sent taken : ℕ �
       there flag =
           elim (cases_lt (pair_place A.view x.0) (length A.view.pairs)) [
             | inl within ↦
-                let p : PlantPair = get_or A.view.pairs (pair_place A.view x.0) no_pair in
-                let in_pairs : Contains A.view.pairs p = Contains-get_or A.view.pairs (pair_place A.view x.0) no_pair within in
-                let found : p.number.0 ≡ x.0 = eqb-true p.number.0 x.0 (passes_at_first (λ (q : PlantPair). eqb q.number.0 x.0) A.view.pairs no_pair within) in
+                let p : PlantPair = get_or A.view.pairs (pair_place A.view x.0) no_plant_pair in
+                let in_pairs : Contains A.view.pairs p = Contains-get_or A.view.pairs (pair_place A.view x.0) no_plant_pair within in
+                let found : p.number.0 ≡ x.0 = eqb-true p.number.0 x.0 (passes_at_first (λ (q : PlantPair). eqb q.number.0 x.0) A.view.pairs no_plant_pair within) in
                 let is : p.number ≡ x = ap (λ (n : ℕ). let z : PairNo = record { 0 = n } in z) found in
                 ((p, in_pairs, is), same_flag p in_pairs is ∙ flag)
             | inr past ↦
@@ -241,23 +241,23 @@ module _ (A : AgentState) (I : Indexes) (kept : IsKept A I) (sent taken : ℕ �
 
 -- as it is answered
 pub done_said : (A : AgentState) (I : Indexes) → IsKept A I → (b : Bool) → b ≡ is_done A
-    → (sent taken : ℕ → List Record) (planned : ℕ → Bool) → Shows A sent taken planned → IsTrue b ↔ HasDone A.view sent taken planned
+    → (sent taken : ℕ → List Record) (planned : ℕ → Bool) → ShowsHistory A sent taken planned → IsTrue b ↔ HasDone A.view sent taken planned
 done_said A I kept b e sent taken planned shows =
     (λ t. done_shown A I kept sent taken planned shows (sym e ∙ t), λ h. e ∙ shown_done A I kept sent taken planned shows h)
 
 -- ---- plans
 
 pub left_said : (A : AgentState) (I : Indexes) → IsKept A I → (n : ℕ) → n ≡ left_of A.progress.planned
-    → (sent taken : ℕ → List Record) (planned : ℕ → Bool) → Shows A sent taken planned → n ≡ unplanned_pairs A.view planned
+    → (sent taken : ℕ → List Record) (planned : ℕ → Bool) → ShowsHistory A sent taken planned → n ≡ unplanned_pairs A.view planned
 left_said A I kept n e sent taken planned shows = e ∙ left_unplanned A I kept sent taken planned shows
 
 pub planned_said : {X : Type 0} {A S : AgentState} {I : Indexes} (x : PairNo) (o : Option X) → A ≡ S → IsKept A I
     → IsSome o ↔ IsTrue (is_planned A.progress.planned (pair_place A.view x.0))
-    → (sent taken : ℕ → List Record) (planned : ℕ → Bool) → Shows S sent taken planned → IsSome o ↔ OwnIsPlanned S.view planned x
+    → (sent taken : ℕ → List Record) (planned : ℕ → Bool) → ShowsHistory S sent taken planned → IsSome o ↔ OwnIsPlanned S.view planned x
 planned_said {X} {A} {S} {I} x o same kept is = subst Says same said
   where
     Says : AgentState → Type 0
-    Says a = (sent taken : ℕ → List Record) (planned : ℕ → Bool) → Shows a sent taken planned → IsSome o ↔ OwnIsPlanned a.view planned x
+    Says a = (sent taken : ℕ → List Record) (planned : ℕ → Bool) → ShowsHistory a sent taken planned → IsSome o ↔ OwnIsPlanned a.view planned x
 
     said : Says A
     said sent taken planned shows =

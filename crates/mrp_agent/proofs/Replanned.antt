@@ -10,7 +10,7 @@ use Rattle.mrp_rows.specs.declared.numbers.PairNo.{PairNo}
 use Rattle.mrp_net.specs.declared.lane.LaneKind.TheVariants.{Schedule}
 use Rattle.mrp_view.specs.declared.view.PlantEdge.{PlantEdge}
 use Rattle.mrp_view.specs.declared.view.PlantPair.{PlantPair}
-use Rattle.mrp_view.specs.Seen.{IsOwn}
+use Rattle.mrp_view.specs.Seen.{IsOwnPair}
 use Rattle.mrp_view.specs.View.{PlantRows}
 use Rattle.mrp_record.specs.declared.record.Record.{Record}
 use Rattle.mrp_cursor.specs.Cursor.{OutFigures}
@@ -26,14 +26,14 @@ use Rattle.mrp_agent.proofs.Sent.{changed_there, changed_elsewhere}
 
 -- ---- the plans that are kept
 
-module _ (A : AgentState) (rooms : HasRooms A) (x : PairNo) (own : IsOwn A.view x) (plan : PlanRows) (progress : Progress) (outs : List OutFigures) where
+module _ (A : AgentState) (rooms : HasRooms A) (x : PairNo) (own : IsOwnPair A.view x) (plan : PlanRows) (progress : Progress) (outs : List OutFigures) where
   abbrev New : AgentState
   New = after_settled A (pair_place A.view x.0) plan progress outs
 
   pub plan_there : plans_of (after_settled A (pair_place A.view x.0) plan progress outs) x.0 ≡ plan
   plan_there = get_or-set_same A.plans (pair_place A.view x.0) plan no_plan (omega (arith, own_within A.view x own, rooms.plans.count))
 
-  pub plan_elsewhere : (y : PairNo) → IsOwn A.view y → (y.0 ≡ x.0 → ⊥) → plans_of (after_settled A (pair_place A.view x.0) plan progress outs) y.0 ≡ plans_of A y.0
+  pub plan_elsewhere : (y : PairNo) → IsOwnPair A.view y → (y.0 ≡ x.0 → ⊥) → plans_of (after_settled A (pair_place A.view x.0) plan progress outs) y.0 ≡ plans_of A y.0
   plan_elsewhere y own_y other =
       get_or-set_other A.plans (pair_place A.view x.0) (pair_place A.view y.0) plan no_plan (λ e. other (places_apart A.view y x own_y own e))
 
@@ -73,13 +73,13 @@ local_same V taken plans others p h =
 
 -- ---- which pairs are planned
 
-pub planned_after : (A : AgentState) → HasRooms A → (planned : ℕ → Bool) (x : PairNo) (progress : Progress) → IsOwn A.view x
+pub planned_after : (A : AgentState) → HasRooms A → (planned : ℕ → Bool) (x : PairNo) (progress : Progress) → IsOwnPair A.view x
     → progress.planned ≡ set A.progress.planned (pair_place A.view x.0) true
     → ((p : PlantPair) → Contains A.view.pairs p → planned p.number.0 ≡ is_planned A.progress.planned (pair_place A.view p.number.0))
     → (p : PlantPair) → Contains A.view.pairs p → changed planned x.0 true p.number.0 ≡ is_planned progress.planned (pair_place A.view p.number.0)
 planned_after A rooms planned x progress own is before p there =
     let place : ℕ = pair_place A.view x.0 in
-    let own_p : IsOwn A.view p.number = (p, there, refl) in
+    let own_p : IsOwnPair A.view p.number = (p, there, refl) in
     elim (cases_eq p.number.0 x.0) as (λ _. changed planned x.0 true p.number.0 ≡ is_planned progress.planned (pair_place A.view p.number.0)) [
       | inl same ↦
           let mine : changed planned x.0 true p.number.0 ≡ true = ap (changed planned x.0 true) same ∙ changed_there planned x.0 true in

@@ -9,11 +9,11 @@ use Rattle.mrp_net.specs.declared.lane.LaneKind.TheVariants.{Schedule}
 use Rattle.mrp_view.specs.declared.view.OutgoingLane.{OutgoingLane}
 use Rattle.mrp_view.specs.declared.view.PlantPair.{PlantPair}
 use Rattle.mrp_view.specs.Loads.{call_of, load_at}
-use Rattle.mrp_view.specs.Seen.{IsView, IsOwn, IsOwnOf, IsScheduleLane}
+use Rattle.mrp_view.specs.Seen.{IsView, IsOwnPair, IsOwnOf, IsScheduleLane}
 use Rattle.mrp_record.specs.declared.record.Record.{Record}
 use Rattle.mrp_cursor.specs.declared.remainder.Remainder.{Remainder}
 use Rattle.mrp_cursor.specs.Cursor.{OutFigures}
-use Rattle.mrp_cursor.specs.Next.{IsLeft, stepped}
+use Rattle.mrp_cursor.specs.Next.{IsWhatIsLeft, stepped}
 use Rattle.mrp_cursor.specs.Shows.{ShowsSent}
 use Rattle.mrp_cursor.proofs.Lists.{contains_there}
 use Rattle.mrp_cursor.proofs.Nothing.{none_is_left}
@@ -23,10 +23,10 @@ use Rattle.mrp_events.specs.State.{changed}
 use Rattle.mrp_local.specs.Goods.{IsSendable}
 use Rattle.mrp_agent.specs.State.{AgentState, outgoing_at, out_at, pair_place, plans_of, no_out, no_outgoing, no_plan}
 use Rattle.mrp_agent.specs.After.{after_sent}
-use Rattle.mrp_agent.specs.Kept.{AreCursors, HasPeriods, HasRooms, HasTaken, Indexes, IsKept}
-use Rattle.mrp_agent.specs.Sending.{left_at, next_out, goods_at, IsWithin64, Continues, NothingContinues}
+use Rattle.mrp_agent.specs.Kept.{AreCursors, HasPlanRows, HasRooms, HasTaken, Indexes, IsKept}
+use Rattle.mrp_agent.specs.Sending.{left_at, next_out, goods_at, IsWithin64, ContinuesSent, NothingContinues}
 use Rattle.mrp_agent.specs.Sent.{with_sent}
-use Rattle.mrp_agent.specs.Shows.{OutShows, Shows}
+use Rattle.mrp_agent.specs.Shows.{OutShows, ShowsHistory}
 use Rattle.mrp_agent.proofs.Leaving.{left_is_left}
 use Rattle.mrp_agent.proofs.Looking.{place_found, only_place}
 
@@ -48,18 +48,18 @@ stepped_queue o left = (steps_keep_places o left).1
 
 -- ---- a plan that is kept has the periods
 
-pub own_place : (A : AgentState) (x : PairNo) → IsOwn A.view x → pair_place A.view x.0 < length A.view.pairs
+pub own_place : (A : AgentState) (x : PairNo) → IsOwnPair A.view x → pair_place A.view x.0 < length A.view.pairs
 own_place A x (p, there, is) =
     place_found (λ (q : PlantPair). eqb q.number.0 x.0) A.view.pairs p there (eq-eqb p.number.0 x.0 (ap (λ (n : PairNo). n.0) is))
 
-pub periods_kept : (A : AgentState) → HasRooms A → (x : PairNo) → IsOwn A.view x → HasPeriods A.view (plans_of A x.0)
+pub periods_kept : (A : AgentState) → HasRooms A → (x : PairNo) → IsOwnPair A.view x → HasPlanRows A.view (plans_of A x.0)
 periods_kept A rooms x own =
     rooms.plans.periods (pair_place A.view x.0) no_plan (omega (arith, own_place A x own, rooms.plans.count))
 
-pub own_of : (A : AgentState) (lane : OutgoingLane) (j : ℕ) → IsScheduleLane A.view lane → j < length lane.items → IsOwn A.view (call_of (load_at lane.items j)).customer
+pub own_of : (A : AgentState) (lane : OutgoingLane) (j : ℕ) → IsScheduleLane A.view lane → j < length lane.items → IsOwnPair A.view (call_of (load_at lane.items j)).customer
 own_of A lane j sched within = by (sched.calls j _ within).own
   where
-    by : IsOwnOf A.view (call_of (load_at lane.items j)).customer (load_at lane.items j).item → IsOwn A.view (call_of (load_at lane.items j)).customer
+    by : IsOwnOf A.view (call_of (load_at lane.items j)).customer (load_at lane.items j).item → IsOwnPair A.view (call_of (load_at lane.items j)).customer
     by (p, there, is, item) = (p, there, is)
 
 module _ (A : AgentState) (view : IsView A.view) (rooms : HasRooms A) where
@@ -84,8 +84,8 @@ module _ (A : AgentState) (view : IsView A.view) (rooms : HasRooms A) where
       apart (only_place (λ (z : OutgoingLane). eqb z.number.0 l) A.view.outgoing i k no_outgoing (view.outgoing_once l) ini ink
       (eq-eqb (outgoing_at A.view i).number.0 l same) (eq-eqb l l refl))
 
-  module _ (sent taken : ℕ → List Record) (planned : ℕ → Bool) (shows : Shows A sent taken planned) (k : ℕ) (within : k < length A.view.outgoing) where
-    pub is_left : IsLeft (goods_at A taken k) (out_at A k) (left_at A k)
+  module _ (sent taken : ℕ → List Record) (planned : ℕ → Bool) (shows : ShowsHistory A sent taken planned) (k : ℕ) (within : k < length A.view.outgoing) where
+    pub is_left : IsWhatIsLeft (goods_at A taken k) (out_at A k) (left_at A k)
     is_left =
         let out = shows.outs k within in
         left_is_left A taken view shows.books k within
@@ -93,7 +93,7 @@ module _ (A : AgentState) (view : IsView A.view) (rooms : HasRooms A) where
         omega (arith, low, out.size))
         (λ j inside kind. customer_periods k within j inside kind)
 
-    pub given_is_legal : (r : Record) → IsWithin64 A taken k → next_out A k ≡ Some r → Continues A sent taken k r
+    pub given_is_legal : (r : Record) → IsWithin64 A taken k → next_out A k ≡ Some r → ContinuesSent A sent taken k r
     given_is_legal r bounded given =
         given_continues (goods_at A taken k) (out_at A k) (sent (outgoing_at A.view k).number.0) (left_at A k) r (shows.outs k within).shows bounded is_left given
 
@@ -130,7 +130,7 @@ module _ (A : AgentState) (view : IsView A.view) (rooms : HasRooms A) where
         shown_after r i (get_or-set_other A.outs k i (stepped (out_at A k) (left_at A k)) no_out other)
         (changed_elsewhere sent l (sent l ++ r ∷ []) (outgoing_at A.view i).number.0 (lanes_apart i k ini within other)) out.size out.shows out.queued
 
-    pub sent_shows : (r : Record) → IsWithin64 A taken k → next_out A k ≡ Some r → Shows (after_sent A k) (with_sent A sent k r) taken planned
+    pub sent_shows : (r : Record) → IsWithin64 A taken k → next_out A k ≡ Some r → ShowsHistory (after_sent A k) (with_sent A sent k r) taken planned
     sent_shows r bounded given = record {
       books = shows.books;
       waits = shows.waits;

@@ -6,7 +6,7 @@ use Rattle.std.proofs.lemmas.List.Elements.{Contains-get_or}
 use Rattle.mrp_rows.specs.declared.numbers.PairNo.{PairNo}
 use Rattle.mrp_view.specs.declared.view.OutgoingLane.{OutgoingLane}
 use Rattle.mrp_view.specs.declared.view.PlantPair.{PlantPair}
-use Rattle.mrp_view.specs.Seen.{IsOwn}
+use Rattle.mrp_view.specs.Seen.{IsOwnPair}
 use Rattle.mrp_record.specs.declared.record.Record.{Record}
 use Rattle.mrp_cursor.specs.Cursor.{OutFigures}
 use Rattle.mrp_cursor.specs.Shows.{ShowsSent}
@@ -15,12 +15,12 @@ use Rattle.mrp_ready.specs.Counts.{open_blocks}
 use Rattle.mrp_events.specs.State.{changed}
 use Rattle.mrp_local.specs.Goods.{goods_of, IsSendable}
 use Rattle.mrp_local.specs.Local.{AwaitsNothing, IsPlannedLocally, IsLocal}
-use Rattle.mrp_agent.specs.After.{after_settled, AreSettled, PairSettled, settled_out}
+use Rattle.mrp_agent.specs.After.{after_settled, AreOutsSettled, PairSettled, settled_out}
 use Rattle.mrp_agent.specs.Drafts.{CanDraft, drafted, ready_numbers}
 use Rattle.mrp_agent.specs.Kept.{Indexes, IsKept}
 use Rattle.mrp_agent.specs.Marking.{IsMarked}
-use Rattle.mrp_agent.specs.Shows.{awaited, joins_of, OutShows, Shows}
-use Rattle.mrp_agent.specs.State.{AgentState, outgoing_at, out_at, pair_of, pair_place, plans_of, no_out, no_outgoing}
+use Rattle.mrp_agent.specs.Shows.{awaited, joins_of, OutShows, ShowsHistory}
+use Rattle.mrp_agent.specs.State.{AgentState, outgoing_at, out_at, pair_owned, pair_place, plans_of, no_out, no_outgoing}
 use Rattle.mrp_agent.proofs.Nothing.{awaits_nothing, draft_is_local, is_unplanned, more_planned, pair_is, same_number}
 use Rattle.mrp_agent.proofs.Queued.{shown_now}
 use Rattle.mrp_agent.proofs.Sent.{changed_elsewhere}
@@ -28,19 +28,19 @@ use Rattle.mrp_agent.proofs.Ready.{ready_stays}
 use Rattle.mrp_agent.proofs.Replanned.{local_same, planned_after, plan_there, plan_elsewhere, SameParents}
 
 module _ (A : AgentState) (I : Indexes) (kept : IsKept A I) (p : PlantPair) (there : Contains A.view.pairs p) (can : CanDraft A p.number)
-    (listed : IsListed A.progress.waits A.progress.planned A.progress.ready) (sent taken : ℕ → List Record) (planned : ℕ → Bool) (shows : Shows A sent taken planned)
+    (listed : IsListed A.progress.waits A.progress.planned A.progress.ready) (sent taken : ℕ → List Record) (planned : ℕ → Bool) (shows : ShowsHistory A sent taken planned)
     (progress : Progress) (outs : List OutFigures) where
   abbrev After : AgentState
   After = after_settled A (pair_place A.view p.number.0) (drafted A p.number) progress outs
 
-  own : IsOwn A.view p.number
+  own : IsOwnPair A.view p.number
   own = (p, there, refl)
 
   unplanned : planned p.number.0 ≡ false
   unplanned = is_unplanned A I kept p there can listed sent taken planned shows
 
   -- the plans of the planned pairs are as before
-  plans_stay : (y : PairNo) → IsOwn A.view y → planned y.0 ≡ true → plans_of A y.0 ≡ plans_of After y.0
+  plans_stay : (y : PairNo) → IsOwnPair A.view y → planned y.0 ≡ true → plans_of A y.0 ≡ plans_of After y.0
   plans_stay y own_y is =
       sym (plan_elsewhere A kept.rooms p.number own (drafted A p.number) progress outs y own_y (λ e. both_ways (planned y.0) (ap planned e ∙ unplanned) is))
 
@@ -88,7 +88,7 @@ module _ (A : AgentState) (I : Indexes) (kept : IsKept A I) (p : PlantPair) (the
             local_before q known (shows.local k d h before) before
       ]
 
-  out_after : AreSettled A.view.outgoing p.item A.outs outs → (k : ℕ) → k < length A.view.outgoing → OutShows After sent taken (changed planned p.number.0 true) k
+  out_after : AreOutsSettled A.view.outgoing p.item A.outs outs → (k : ℕ) → k < length A.view.outgoing → OutShows After sent taken (changed planned p.number.0 true) k
   out_after queued k low =
       let lane : OutgoingLane = outgoing_at A.view k in
       let out = shows.outs k low in
@@ -102,8 +102,8 @@ module _ (A : AgentState) (I : Indexes) (kept : IsKept A I) (p : PlantPair) (the
         queued = subst (λ (o : OutFigures). (j : ℕ) → Contains o.queue j ↔ IsSendable (changed planned p.number.0 true) lane j) (sym is) now.now_queued;
       }
 
-  pub shows_after : PairSettled (joins_of A.view) (pair_place A.view p.number.0) A.progress progress → AreSettled A.view.outgoing p.item A.outs outs
-      → Shows After sent taken (changed planned p.number.0 true)
+  pub shows_after : PairSettled (joins_of A.view) (pair_place A.view p.number.0) A.progress progress → AreOutsSettled A.view.outgoing p.item A.outs outs
+      → ShowsHistory After sent taken (changed planned p.number.0 true)
   shows_after settled queued = record {
     books = shows.books;
     waits = settled.counts (open_blocks (awaited A.view taken)) shows.waits;
@@ -118,16 +118,16 @@ module _ (A : AgentState) (I : Indexes) (kept : IsKept A I) (p : PlantPair) (the
 
 pub settling_shows : (A : AgentState) (I : Indexes) (x : PairNo) (progress : Progress) (outs : List OutFigures) → IsKept A I → CanDraft A x
     → IsListed A.progress.waits A.progress.planned A.progress.ready → PairSettled (joins_of A.view) (pair_place A.view x.0) A.progress progress
-    → AreSettled A.view.outgoing (pair_of A.view x).item A.outs outs
-    → (sent taken : ℕ → List Record) (planned : ℕ → Bool) → Shows A sent taken planned
-    → Shows (after_settled A (pair_place A.view x.0) (drafted A x) progress outs) sent taken (changed planned x.0 true)
+    → AreOutsSettled A.view.outgoing (pair_owned A.view x).item A.outs outs
+    → (sent taken : ℕ → List Record) (planned : ℕ → Bool) → ShowsHistory A sent taken planned
+    → ShowsHistory (after_settled A (pair_place A.view x.0) (drafted A x) progress outs) sent taken (changed planned x.0 true)
 settling_shows A I x progress outs kept can listed settled queued sent taken planned shows =
     let p : PlantPair = can.own.0 in
     let there : Contains A.view.pairs p = can.own.1 in
-    let P : PairNo → Type 0 = λ y. CanDraft A y → PairSettled (joins_of A.view) (pair_place A.view y.0) A.progress progress → AreSettled A.view.outgoing (pair_of A.view y).item A.outs outs
-    → Shows (after_settled A (pair_place A.view y.0) (drafted A y) progress outs) sent taken (changed planned y.0 true) in
+    let P : PairNo → Type 0 = λ y. CanDraft A y → PairSettled (joins_of A.view) (pair_place A.view y.0) A.progress progress → AreOutsSettled A.view.outgoing (pair_owned A.view y).item A.outs outs
+    → ShowsHistory (after_settled A (pair_place A.view y.0) (drafted A y) progress outs) sent taken (changed planned y.0 true) in
     let own : P p.number = λ can settled queued.
-    shows_after A I kept p there can listed sent taken planned shows progress outs settled (subst (λ (q : PlantPair). AreSettled A.view.outgoing q.item A.outs outs) (pair_is A.view kept.view p there) queued) in
+    shows_after A I kept p there can listed sent taken planned shows progress outs settled (subst (λ (q : PlantPair). AreOutsSettled A.view.outgoing q.item A.outs outs) (pair_is A.view kept.view p there) queued) in
     subst P can.own.2 own can settled queued
 
 -- the plan was written, and then the pair was counted as planned
@@ -136,16 +136,16 @@ Written A x place = record A { plans = set A.plans place (drafted A x) }
 
 pub planning_shows : (A B new : AgentState) (I : Indexes) (x : PairNo) (place : ℕ) → IsKept A I → CanDraft A x
     → IsListed A.progress.waits A.progress.planned A.progress.ready → place ≡ pair_place A.view x.0 → B ≡ record A { plans = set A.plans place (drafted A x) } → IsMarked B place new
-    → (sent taken : ℕ → List Record) (planned : ℕ → Bool) → Shows A sent taken planned → Shows new sent taken (changed planned x.0 true)
+    → (sent taken : ℕ → List Record) (planned : ℕ → Bool) → ShowsHistory A sent taken planned → ShowsHistory new sent taken (changed planned x.0 true)
 planning_shows A B new I x place kept can listed at written marked sent taken planned shows =
     let here : B ≡ Written A x (pair_place A.view x.0) = written ∙ ap (Written A x) at in
     let now : IsMarked (Written A x (pair_place A.view x.0)) (pair_place A.view x.0) new =
     subst (λ (k : ℕ). IsMarked (Written A x (pair_place A.view x.0)) k new) at (subst (λ (b : AgentState). IsMarked b place new) here marked) in
-    subst (λ (a : AgentState). Shows a sent taken (changed planned x.0 true)) (sym now.same)
+    subst (λ (a : AgentState). ShowsHistory a sent taken (changed planned x.0 true)) (sym now.same)
     (settling_shows A I x new.progress new.outs kept can listed now.settled now.queued sent taken planned shows)
 
 -- the other pairs that can be planned still can
-pub others_stay : (A B new : AgentState) (I : Indexes) (x : PairNo) (place : ℕ) → IsKept A I → IsOwn A.view x → place ≡ pair_place A.view x.0 → B ≡ record A { plans = set A.plans place (drafted A x) }
+pub others_stay : (A B new : AgentState) (I : Indexes) (x : PairNo) (place : ℕ) → IsKept A I → IsOwnPair A.view x → place ≡ pair_place A.view x.0 → B ≡ record A { plans = set A.plans place (drafted A x) }
     → IsMarked B place new
     → (y : PairNo) → Contains (ready_numbers A) y → (y.0 ≡ x.0 → ⊥) → Contains (ready_numbers new) y
 others_stay A B new I x place kept own at written marked =

@@ -11,7 +11,7 @@ use Rattle.mrp_view.specs.declared.view.IncomingItem.{IncomingItem}
 use Rattle.mrp_view.specs.declared.view.IncomingLane.{IncomingLane}
 use Rattle.mrp_view.specs.declared.view.PlantEdge.{PlantEdge}
 use Rattle.mrp_view.specs.declared.view.PlantPair.{PlantPair}
-use Rattle.mrp_view.specs.Seen.{IsView, IsOwn, IsOwnOf, IsPlantEdge, IsIncomingItem}
+use Rattle.mrp_view.specs.Seen.{IsView, IsOwnPair, IsOwnOf, IsPlantEdge, IsIncomingItem}
 use Rattle.mrp_view.specs.View.{PlantRows}
 use Rattle.mrp_view.proofs.Seeing.{All-flat_map}
 use Rattle.mrp_record.specs.declared.record.Record.{Record}
@@ -22,11 +22,11 @@ use Rattle.mrp_ready.specs.Counts.{Awaited}
 use Rattle.mrp_ready.specs.Laws.{NothingIsOpen}
 use Rattle.mrp_ready.specs.Progress.{is_planned, IsListed}
 use Rattle.mrp_ready.proofs.Counting.{ready_where_nothing_is_open}
-use Rattle.mrp_local.specs.Local.{CanBePlanned, Carries, HasBrought}
-use Rattle.mrp_agent.specs.State.{AgentState, pair_of, pair_place, item_place, no_pair}
+use Rattle.mrp_local.specs.Local.{CanBePlanned, Carries, HasCome}
+use Rattle.mrp_agent.specs.State.{AgentState, pair_owned, pair_place, item_place, no_plant_pair}
 use Rattle.mrp_agent.specs.Drafts.{ready_numbers}
 use Rattle.mrp_agent.specs.Kept.{HasRooms}
-use Rattle.mrp_agent.specs.Shows.{Awaits, Shows, awaited, awaited_on, block_awaited, join_of, joins_of}
+use Rattle.mrp_agent.specs.Shows.{Awaits, ShowsHistory, awaited, awaited_on, block_awaited, join_of, joins_of}
 use Rattle.mrp_agent.proofs.Looking.{place_is_only}
 use Rattle.mrp_agent.proofs.Owning.{own_of_item, own_within}
 
@@ -34,81 +34,81 @@ module _ (V : PlantRows) (view : IsView V) where
   -- ---- the plant's pairs
 
   -- a number has one place
-  pub place_is : (k : ℕ) (x : PairNo) → k < length V.pairs → (get_or V.pairs k no_pair).number ≡ x → pair_place V x.0 ≡ k
+  pub place_is : (k : ℕ) (x : PairNo) → k < length V.pairs → (get_or V.pairs k no_plant_pair).number ≡ x → pair_place V x.0 ≡ k
   place_is k x within is =
-      place_is_only (λ (q : PlantPair). eqb q.number.0 x.0) V.pairs k no_pair (view.numbers_once x.0) within
-      (eq-eqb (get_or V.pairs k no_pair).number.0 x.0 (ap (λ (n : PairNo). n.0) is))
+      place_is_only (λ (q : PlantPair). eqb q.number.0 x.0) V.pairs k no_plant_pair (view.numbers_once x.0) within
+      (eq-eqb (get_or V.pairs k no_plant_pair).number.0 x.0 (ap (λ (n : PairNo). n.0) is))
 
-  pub pair_is : (p : PlantPair) → Contains V.pairs p → pair_of V p.number ≡ p
+  pub pair_is : (p : PlantPair) → Contains V.pairs p → pair_owned V p.number ≡ p
   pair_is p (k, within, is) =
-      let here : get_or V.pairs k no_pair ≡ p = get_or_default V.pairs k no_pair p within ∙ is in
-      ap (λ (n : ℕ). get_or V.pairs n no_pair) (place_is k p.number within (ap (λ (q : PlantPair). q.number) here)) ∙ here
+      let here : get_or V.pairs k no_plant_pair ≡ p = get_or_default V.pairs k no_plant_pair p within ∙ is in
+      ap (λ (n : ℕ). get_or V.pairs n no_plant_pair) (place_is k p.number within (ap (λ (q : PlantPair). q.number) here)) ∙ here
 
   -- two of the pairs stand at one place where they have one number
-  number_at_place : (x : PairNo) → IsOwn V x → (get_or V.pairs (pair_place V x.0) no_pair).number.0 ≡ x.0
+  number_at_place : (x : PairNo) → IsOwnPair V x → (get_or V.pairs (pair_place V x.0) no_plant_pair).number.0 ≡ x.0
   number_at_place x (p, there, is) =
-      let N : PairNo → Type 0 = λ n. (get_or V.pairs (pair_place V n.0) no_pair).number.0 ≡ n.0 in
+      let N : PairNo → Type 0 = λ n. (get_or V.pairs (pair_place V n.0) no_plant_pair).number.0 ≡ n.0 in
       subst N is (ap (λ (q : PlantPair). q.number.0) (pair_is p there))
 
-  pub places_apart : (x y : PairNo) → IsOwn V x → IsOwn V y → pair_place V x.0 ≡ pair_place V y.0 → x.0 ≡ y.0
+  pub places_apart : (x y : PairNo) → IsOwnPair V x → IsOwnPair V y → pair_place V x.0 ≡ pair_place V y.0 → x.0 ≡ y.0
   places_apart x y own_x own_y same =
-      sym (number_at_place x own_x) ∙ ap (λ (k : ℕ). (get_or V.pairs k no_pair).number.0) same ∙ number_at_place y own_y
+      sym (number_at_place x own_x) ∙ ap (λ (k : ℕ). (get_or V.pairs k no_plant_pair).number.0) same ∙ number_at_place y own_y
 
   -- no two pairs have one number or one item
   pub same_number : (p q : PlantPair) → Contains V.pairs p → Contains V.pairs q → p.number.0 ≡ q.number.0 → p ≡ q
   same_number p q in_p in_q same =
-      sym (pair_is p in_p) ∙ ap (λ (n : ℕ). get_or V.pairs (pair_place V n) no_pair) same ∙ pair_is q in_q
+      sym (pair_is p in_p) ∙ ap (λ (n : ℕ). get_or V.pairs (pair_place V n) no_plant_pair) same ∙ pair_is q in_q
 
-  item_is : (p : PlantPair) → Contains V.pairs p → get_or V.pairs (item_place V p.item) no_pair ≡ p
+  item_is : (p : PlantPair) → Contains V.pairs p → get_or V.pairs (item_place V p.item) no_plant_pair ≡ p
   item_is p (k, within, is) =
-      let here : get_or V.pairs k no_pair ≡ p = get_or_default V.pairs k no_pair p within ∙ is in
+      let here : get_or V.pairs k no_plant_pair ≡ p = get_or_default V.pairs k no_plant_pair p within ∙ is in
       let place : item_place V p.item ≡ k =
-      place_is_only (λ (q : PlantPair). eqb q.item.0 p.item.0) V.pairs k no_pair (view.items_once p.item.0) within
-      (eq-eqb (get_or V.pairs k no_pair).item.0 p.item.0 (ap (λ (q : PlantPair). q.item.0) here)) in
-      ap (λ (n : ℕ). get_or V.pairs n no_pair) place ∙ here
+      place_is_only (λ (q : PlantPair). eqb q.item.0 p.item.0) V.pairs k no_plant_pair (view.items_once p.item.0) within
+      (eq-eqb (get_or V.pairs k no_plant_pair).item.0 p.item.0 (ap (λ (q : PlantPair). q.item.0) here)) in
+      ap (λ (n : ℕ). get_or V.pairs n no_plant_pair) place ∙ here
 
   pub same_item : (p q : PlantPair) → Contains V.pairs p → Contains V.pairs q → p.item ≡ q.item → p ≡ q
   same_item p q in_p in_q same =
-      sym (item_is p in_p) ∙ ap (λ (i : ItemNo). get_or V.pairs (item_place V i) no_pair) same ∙ item_is q in_q
+      sym (item_is p in_p) ∙ ap (λ (i : ItemNo). get_or V.pairs (item_place V i) no_plant_pair) same ∙ item_is q in_q
 
   -- ---- the numbers of some places
 
-  pub number_is : (numbers : List PairNo) (k : ℕ) → numbers ≡ map (λ p. p.number) V.pairs → k < length V.pairs → number_at numbers k ≡ (get_or V.pairs k no_pair).number
+  pub number_is : (numbers : List PairNo) (k : ℕ) → numbers ≡ map (λ p. p.number) V.pairs → k < length V.pairs → number_at numbers k ≡ (get_or V.pairs k no_plant_pair).number
   number_is numbers k are within =
-      ap (λ (z : List PairNo). number_at z k) are ∙ get_or-map (λ (p : PlantPair). p.number) V.pairs k no_pair (record { 0 = 0 }) within
+      ap (λ (z : List PairNo). number_at z k) are ∙ get_or-map (λ (p : PlantPair). p.number) V.pairs k no_plant_pair (record { 0 = 0 }) within
 
   module _ (numbers : List PairNo) (waits : List ℕ) (marks : List Bool) (ready : List ℕ) (are : numbers ≡ map (λ p. p.number) V.pairs)
       (size : length waits ≡ length V.pairs) (listed : IsListed waits marks ready) where
     known : (k : ℕ) → Contains ready k → k < length V.pairs
     known k there = let free = (listed.exact k).0 there in omega (arith, size, free.known)
 
-    pub ready_place : (x : PairNo) → Contains (map (number_at numbers) ready) x → IsOwn V x × Contains ready (pair_place V x.0)
+    pub ready_place : (x : PairNo) → Contains (map (number_at numbers) ready) x → IsOwnPair V x × Contains ready (pair_place V x.0)
     ready_place x there =
         let of = map_only (number_at numbers) ready x (In-from_contains (map (number_at numbers) ready) x there) in
         let k : ℕ = of.0 in
         let in_k : Contains ready k = Contains-from_in ready k of.1 in
         let within : k < length V.pairs = known k in_k in
-        let is : (get_or V.pairs k no_pair).number ≡ x = sym (number_is numbers k are within) ∙ of.2 in
-        ((get_or V.pairs k no_pair, Contains-get_or V.pairs k no_pair within, is), subst (Contains ready) (sym (place_is k x within is)) in_k)
+        let is : (get_or V.pairs k no_plant_pair).number ≡ x = sym (number_is numbers k are within) ∙ of.2 in
+        ((get_or V.pairs k no_plant_pair, Contains-get_or V.pairs k no_plant_pair within, is), subst (Contains ready) (sym (place_is k x within is)) in_k)
 
-    pub place_ready : (x : PairNo) → IsOwn V x → Contains ready (pair_place V x.0) → Contains (map (number_at numbers) ready) x
+    pub place_ready : (x : PairNo) → IsOwnPair V x → Contains ready (pair_place V x.0) → Contains (map (number_at numbers) ready) x
     place_ready x (p, there, is) at =
         let k : ℕ = pair_place V x.0 in
         let number : number_at numbers k ≡ x =
         number_is numbers k are (known k at)
-        ∙ ap (λ (n : PairNo). (get_or V.pairs (pair_place V n.0) no_pair).number) (sym is)
+        ∙ ap (λ (n : PairNo). (get_or V.pairs (pair_place V n.0) no_plant_pair).number) (sym is)
         ∙ ap (λ (q : PlantPair). q.number) (pair_is p there)
         ∙ is in
         subst (Contains (map (number_at numbers) ready)) number
         (Contains-from_in (map (number_at numbers) ready) (number_at numbers k) (In-map (number_at numbers) ready k (In-from_contains ready k at)))
 
-    pub ready_are_own : All (IsOwn V) (map (number_at numbers) ready)
+    pub ready_are_own : All (IsOwnPair V) (map (number_at numbers) ready)
     ready_are_own =
-        All-map (IsOwn V) (number_at numbers) ready
+        All-map (IsOwnPair V) (number_at numbers) ready
         (λ i d h.
         let k : ℕ = get_or ready i d in
         let within : k < length V.pairs = known k (Contains-get_or ready i d h) in
-        (get_or V.pairs k no_pair, Contains-get_or V.pairs k no_pair within, sym (number_is numbers k are within)))
+        (get_or V.pairs k no_plant_pair, Contains-get_or V.pairs k no_plant_pair within, sym (number_is numbers k are within)))
 
     pub ready_once : AreApart ready → AllPairs (λ x y. x ≢ y) (map (number_at numbers) ready)
     ready_once apart i j d before within same =
@@ -120,14 +120,14 @@ module _ (V : PlantRows) (view : IsView V) where
         let within_a : a < length V.pairs = known a (Contains-get_or ready i 0 in_i) in
         let within_b : b < length V.pairs = known b (Contains-get_or ready j 0 in_j) in
         let numbers_same : f a ≡ f b = sym (get_or-map f ready i 0 d in_i) ∙ same ∙ get_or-map f ready j 0 d in_j in
-        let is : (get_or V.pairs a no_pair).number ≡ (get_or V.pairs b no_pair).number = sym (number_is numbers a are within_a) ∙ numbers_same ∙ number_is numbers b are within_b in
-        apart i j 0 before in_j (sym (place_is a (get_or V.pairs b no_pair).number within_a is) ∙ place_is b (get_or V.pairs b no_pair).number within_b refl)
+        let is : (get_or V.pairs a no_plant_pair).number ≡ (get_or V.pairs b no_plant_pair).number = sym (number_is numbers a are within_a) ∙ numbers_same ∙ number_is numbers b are within_b in
+        apart i j 0 before in_j (sym (place_is a (get_or V.pairs b no_plant_pair).number within_a is) ∙ place_is b (get_or V.pairs b no_plant_pair).number within_b refl)
 
   -- ---- what a pair waits for
 
   module _ (taken : ℕ → List Record) (planned : ℕ → Bool) (marks : List Bool)
       (are : (p : PlantPair) → Contains V.pairs p → planned p.number.0 ≡ is_planned marks (pair_place V p.number.0)) where
-    pub own_planned : (x : PairNo) → IsOwn V x → planned x.0 ≡ is_planned marks (pair_place V x.0)
+    pub own_planned : (x : PairNo) → IsOwnPair V x → planned x.0 ≡ is_planned marks (pair_place V x.0)
     own_planned x (p, there, is) = subst (λ (n : PairNo). planned n.0 ≡ is_planned marks (pair_place V n.0)) is (are p there)
 
     module _ (p : PlantPair) (there : Contains V.pairs p) where
@@ -163,7 +163,7 @@ module _ (V : PlantRows) (view : IsView V) where
       of_item i (q, in_q, is, of) same =
           sym of ∙ ap (λ (z : PlantPair). z.item) (same_number q p in_q there (ap (λ (n : PairNo). n.0) is ∙ same))
 
-      brought_from : All BlockEnded (awaited V taken) → All (HasBrought taken p.item) V.incoming
+      brought_from : All BlockEnded (awaited V taken) → All (HasCome taken p.item) V.incoming
       brought_from all k d h carries =
           let lane : IncomingLane = get_or V.incoming k d in
           let of = map_only (λ (i : IncomingItem). i.item) lane.items p.item (In-from_contains (map (λ (i : IncomingItem). i.item) lane.items) p.item carries) in
@@ -174,7 +174,7 @@ module _ (V : PlantRows) (view : IsView V) where
           let ended = All-in BlockEnded (awaited V taken) (block_awaited V taken lane i) all block (ap (pair_place V) (of_pair i is.pair of.2)) in
           subst (λ (n : ItemNo). is_ended n.0 (contents (taken lane.number.0)) ≡ true) of.2 ended
 
-      blocks_ended : All (HasBrought taken p.item) V.incoming → All BlockEnded (awaited V taken)
+      blocks_ended : All (HasCome taken p.item) V.incoming → All BlockEnded (awaited V taken)
       blocks_ended all =
           All-flat_map BlockEnded (awaited_on V taken) V.incoming
           (λ k d h.
@@ -183,7 +183,7 @@ module _ (V : PlantRows) (view : IsView V) where
           (λ m e g at.
           let i : IncomingItem = get_or lane.items m e in
           let is : IsIncomingItem V i = (view.incoming k d h).items m e g in
-          let own : IsOwn V i.pair = own_of_item V i.pair i.item is.pair in
+          let own : IsOwnPair V i.pair = own_of_item V i.pair i.item is.pair in
           let item : i.item ≡ p.item = of_item i is.pair (places_apart i.pair p.number own (p, there, refl) at) in
           let carries : Carries lane p.item =
           subst (Contains (map (λ (i : IncomingItem). i.item) lane.items)) item
@@ -217,7 +217,7 @@ module _ (A : AgentState) (view : IsView A.view) (rooms : HasRooms A) (listed : 
       (ready_where_nothing_is_open A.progress.waits A.progress.ready (joins_of A.view) A.progress.planned (awaited A.view taken) waits listed (pair_place A.view x.0)).0
       (ready_place A.view view A.progress.numbers A.progress.waits A.progress.planned A.progress.ready rooms.progress.numbers rooms.progress.waits listed x there).1
 
-  pub ready_can_be_planned : (sent taken : ℕ → List Record) (planned : ℕ → Bool) → Shows A sent taken planned → (p : PlantPair) → Contains A.view.pairs p
+  pub ready_can_be_planned : (sent taken : ℕ → List Record) (planned : ℕ → Bool) → ShowsHistory A sent taken planned → (p : PlantPair) → Contains A.view.pairs p
       → Contains (ready_numbers A) p.number ↔ CanBePlanned A.view taken planned p
   ready_can_be_planned sent taken planned shows p there =
       let law = ready_where_nothing_is_open A.progress.waits A.progress.ready (joins_of A.view) A.progress.planned (awaited A.view taken) shows.waits listed (pair_place A.view p.number.0) in
@@ -228,11 +228,11 @@ module _ (A : AgentState) (view : IsView A.view) (rooms : HasRooms A) (listed : 
             (law.1 (nothing.1 can)),
       )
 
-  pub ready_own : All (IsOwn A.view) (ready_numbers A)
+  pub ready_own : All (IsOwnPair A.view) (ready_numbers A)
   ready_own = ready_are_own A.view view A.progress.numbers A.progress.waits A.progress.planned A.progress.ready rooms.progress.numbers rooms.progress.waits listed
 
   pub ready_are_once : AreApart A.progress.ready → AllPairs (λ x y. x ≢ y) (ready_numbers A)
   ready_are_once apart = ready_once A.view view A.progress.numbers A.progress.waits A.progress.planned A.progress.ready rooms.progress.numbers rooms.progress.waits listed apart
 
-  pub ready_at : (x : PairNo) → Contains (ready_numbers A) x → IsOwn A.view x × Contains A.progress.ready (pair_place A.view x.0)
+  pub ready_at : (x : PairNo) → Contains (ready_numbers A) x → IsOwnPair A.view x × Contains A.progress.ready (pair_place A.view x.0)
   ready_at x there = ready_place A.view view A.progress.numbers A.progress.waits A.progress.planned A.progress.ready rooms.progress.numbers rooms.progress.waits listed x there

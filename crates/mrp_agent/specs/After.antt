@@ -56,9 +56,9 @@ abbrev pub came_by : LaneKind → PlantRows → List ℕ → Record → List ℕ
 came_by Despatch V came r = with_line (items_of V) V.horizon came r
 came_by Schedule V came r = came
 
-abbrev pub called_by : LaneKind → PlantRows → List ℕ → Record → List ℕ
-called_by Despatch V called r = called
-called_by Schedule V called r = with_line (items_of V) V.horizon called r
+abbrev pub called_after : LaneKind → PlantRows → List ℕ → Record → List ℕ
+called_after Despatch V called r = called
+called_after Schedule V called r = with_line (items_of V) V.horizon called r
 
 -- the place of the pair whose awaited block ends with the record
 abbrev pub ended_place : List ItemNo → Record → Option ℕ
@@ -90,7 +90,7 @@ abbrev pub after_booked : AgentState → ℕ → Record → Figures → Progress
 after_booked A k r book progress = record A {
   books = slice_set A.books k book;
   came = came_by (incoming_at A.view k).kind A.view A.came r;
-  called = called_by (incoming_at A.view k).kind A.view A.called r;
+  called = called_after (incoming_at A.view k).kind A.view A.called r;
   progress = progress;
 }
 
@@ -109,7 +109,7 @@ abbrev pub settled_out : OutgoingLane → OutFigures → ItemNo → OutFigures
 settled_out lane o item = queued_by lane.kind (map (λ i. i.item) lane.items) o item
 
 -- each cursor by its lane
-pub record AreSettled (lanes : List OutgoingLane) (item : ItemNo) (old new : List OutFigures) : Type 0 where
+pub record AreOutsSettled (lanes : List OutgoingLane) (item : ItemNo) (old new : List OutFigures) : Type 0 where
   pub size : length new ≡ length old
   pub each : (k : ℕ) → k < length lanes → slice_index_or new k no_out ≡ settled_out (slice_index_or lanes k no_outgoing) (slice_index_or old k no_out) item
 

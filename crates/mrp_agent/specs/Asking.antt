@@ -7,20 +7,20 @@ use Rattle.mrp_agent.specs.declared.edges.ParentEdge.{ParentEdge}
 use Rattle.mrp_agent.specs.State.{no_plan}
 
 -- the plan at a place
-abbrev pub plan_at : List PlanRows → ℕ → PlanRows
-plan_at plans place = slice_index_or plans place no_plan
+abbrev pub plan_at_place : List PlanRows → ℕ → PlanRows
+plan_at_place plans place = slice_index_or plans place no_plan
 
 -- what one parent asks in a period, and what all do
 abbrev pub asked_on : List PlanRows → ℕ → ParentEdge → ℕ
-asked_on plans t e = e.per * slice_index (plan_at plans e.parent).release t
+asked_on plans t e = e.per * slice_index (plan_at_place plans e.parent).release t
 
 abbrev pub asked_by : List PlanRows → List ParentEdge → ℕ → ℕ
 asked_by plans edges t = sum_by (asked_on plans t) edges
 
 -- the parent has a plan of so many periods
-pub record CanAsk (plans : List PlanRows) (periods : ℕ) (e : ParentEdge) : Type 0 where
+pub record ParentCanAsk (plans : List PlanRows) (periods : ℕ) (e : ParentEdge) : Type 0 where
   pub known : e.parent < length plans
-  pub periods_are : length (plan_at plans e.parent).gross ≡ periods
+  pub periods_are : length (plan_at_place plans e.parent).gross ≡ periods
 
 -- the gross requirements: what is called for, and what the parents ask
 abbrev pub grossed : List ℕ → List ParentEdge → List PlanRows → List ℕ
@@ -29,4 +29,4 @@ grossed called edges plans = map (λ t. slice_index called t + asked_by plans ed
 -- what a pair's plan is drafted from
 pub record HasDraft (params : PairParams) (came called : List ℕ) (edges : List ParentEdge) (plans : List PlanRows) : Type 0 where
   pub within : IsWithin params came (grossed called edges plans)
-  pub edges_are : All (CanAsk plans (length called)) edges
+  pub edges_are : All (ParentCanAsk plans (length called)) edges

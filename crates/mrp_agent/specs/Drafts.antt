@@ -2,10 +2,10 @@
 use Rattle.std.specs.Prelude.{ℕ, ◌+◌, List, map, Contains}
 use Rattle.mrp_lot.specs.One.{PlanRows, one, IsWithin}
 use Rattle.mrp_rows.specs.declared.numbers.PairNo.{PairNo}
-use Rattle.mrp_view.specs.Seen.{IsOwn}
+use Rattle.mrp_view.specs.Seen.{IsOwnPair}
 use Rattle.mrp_ready.specs.Chosen.{number_at}
 use Rattle.mrp_local.specs.Local.{amount_at, asked_within, local_row}
-use Rattle.mrp_agent.specs.State.{AgentState, plans_of, pair_of}
+use Rattle.mrp_agent.specs.State.{AgentState, plans_of, pair_owned}
 
 -- what comes in of a pair, and what is asked for: beside the parents what has come, and what their plans release
 abbrev pub drafted_incoming : AgentState → PairNo → List ℕ
@@ -16,7 +16,7 @@ drafted_gross A x = local_row A.view (λ t. amount_at A.view A.called x t + aske
 
 -- the plan of a pair of the plant by these rows
 abbrev pub drafted : AgentState → PairNo → PlanRows
-drafted A x = one (pair_of A.view x).params (drafted_incoming A x) (drafted_gross A x)
+drafted A x = one (pair_owned A.view x).params (drafted_incoming A x) (drafted_gross A x)
 
 -- the numbers of the pairs that can be planned
 abbrev pub ready_numbers : AgentState → List PairNo
@@ -24,6 +24,6 @@ ready_numbers A = map (number_at A.progress.numbers) A.progress.ready
 
 -- a pair can be drafted: it can be planned, and its quantities are together within 10^15
 pub record CanDraft (A : AgentState) (x : PairNo) : Type 0 where
-  pub own : IsOwn A.view x
+  pub own : IsOwnPair A.view x
   pub ready : Contains (ready_numbers A) x
-  pub within : IsWithin (pair_of A.view x).params (drafted_incoming A x) (drafted_gross A x)
+  pub within : IsWithin (pair_owned A.view x).params (drafted_incoming A x) (drafted_gross A x)

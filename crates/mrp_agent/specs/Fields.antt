@@ -4,8 +4,8 @@ use Rattle.mrp_agent.specs.declared.agent.Agent.TheInside.{Inside}
 use Rattle.mrp_agent.specs.Kept.{Indexes}
 use Rattle.mrp_agent.specs.State.{AgentState}
 
-abbrev pub state_of : Inside → AgentState
-state_of a = record {
+abbrev pub agent_state : Inside → AgentState
+agent_state a = record {
   view = a.view;
   books = a.lanes.books.items;
   came = a.amounts.came.items;

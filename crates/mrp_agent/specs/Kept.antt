@@ -44,14 +44,14 @@ pub record AreIndexes (V : PlantRows) (I : Indexes) : Type 0 where
   pub desk : I.desk ≡ V.horizon
 
 -- a plan has a row's amount for each period
-pub record HasPeriods (V : PlantRows) (plan : PlanRows) : Type 0 where
+pub record HasPlanRows (V : PlantRows) (plan : PlanRows) : Type 0 where
   pub gross : length plan.gross ≡ V.horizon
   pub release : length plan.release ≡ V.horizon
 
 -- each pair has a plan
 pub record ArePlans (V : PlantRows) (plans : List PlanRows) : Type 0 where
   pub count : length plans ≡ length V.pairs
-  pub periods : All (HasPeriods V) plans
+  pub periods : All (HasPlanRows V) plans
 
 -- of each pair it is counted what it waits for, and whether it is planned
 pub record IsOfPairs (V : PlantRows) (progress : Progress) : Type 0 where
@@ -77,7 +77,7 @@ pub record HasRooms (A : AgentState) : Type 0 where
 pub record IsShowing (b : Figures) : Type 0 where
   pub form : LaneForm
   pub records : List Record
-  pub shows : book.Shows form b records
+  pub shows : book.BookShows form b records
 
 -- its books show some lists, and it waits for what has not come
 pub record HasTaken (A : AgentState) : Type 0 where

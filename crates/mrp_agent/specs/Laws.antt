@@ -16,17 +16,17 @@ use Rattle.mrp_events.specs.Loads.{loads}
 use Rattle.mrp_events.specs.Local.{AreLegal}
 use Rattle.mrp_events.specs.State.{IsDecided}
 use Rattle.mrp_local.specs.Laws.{IsPairAt, IsReadyAt}
-use Rattle.mrp_agent.specs.State.{AgentState, outgoing_at, plans_of, pair_of}
-use Rattle.mrp_agent.specs.Sending.{Continues, NothingContinues, IsWithin64}
+use Rattle.mrp_agent.specs.State.{AgentState, outgoing_at, plans_of, pair_owned}
+use Rattle.mrp_agent.specs.Sending.{ContinuesSent, NothingContinues, IsWithin64}
 use Rattle.mrp_agent.specs.Kept.{HasSmallOpenings}
 use Rattle.mrp_agent.specs.Drafts.{drafted, drafted_gross, drafted_incoming}
-use Rattle.mrp_agent.specs.Shows.{Shows}
+use Rattle.mrp_agent.specs.Shows.{ShowsHistory}
 
 -- an agent of a plant of the network, to which legal beginnings have come
 pub record WorksIn (N : Table) (plant : ℕ) (A : AgentState) (sent taken : ℕ → List Record) (planned : ℕ → Bool) : Type 0 where
   pub view : A.view ≡ plant_rows N plant
   pub legal : AreLegal N plant taken
-  pub shows : Shows A sent taken planned
+  pub shows : ShowsHistory A sent taken planned
 
 -- the plan that it keeps of a planned pair is the network's
 abbrev pub PlannedPairsHaveThePlan : Type 0
@@ -40,16 +40,16 @@ abbrev pub numbered : ℕ → PairNo
 numbered x = record { 0 = x }
 
 -- once nothing is missing for a pair, its rows in a sized network are together within 10^15
-abbrev pub DraftsAreWithin : Type 0
-DraftsAreWithin =
+abbrev pub AgentDraftsAreWithin : Type 0
+AgentDraftsAreWithin =
     (N : Table) → IsSized N
     → (plant : ℕ) (A : AgentState) (sent taken : ℕ → List Record) (planned : ℕ → Bool) → WorksIn N plant A sent taken planned
     → (x : ℕ) → IsPairAt N plant x → IsReadyAt N plant taken planned x
-    → IsWithin (pair_of A.view (numbered x)).params (drafted_incoming A (numbered x)) (drafted_gross A (numbered x))
+    → IsWithin (pair_owned A.view (numbered x)).params (drafted_incoming A (numbered x)) (drafted_gross A (numbered x))
 
 -- and what it drafts by them is the network's plan of the pair
-abbrev pub DraftsAreThePlan : Type 0
-DraftsAreThePlan =
+abbrev pub AgentDraftsAreThePlan : Type 0
+AgentDraftsAreThePlan =
     (N : Table) → IsSized N
     → (plant : ℕ) (A : AgentState) (sent taken : ℕ → List Record) (planned : ℕ → Bool) → WorksIn N plant A sent taken planned
     → (x : ℕ) → IsPairAt N plant x → IsReadyAt N plant taken planned x
@@ -67,7 +67,7 @@ abbrev pub SentIsLegal : Type 0
 SentIsLegal =
     (N : Table) → IsSized N
     → (plant : ℕ) (A : AgentState) (sent taken : ℕ → List Record) (planned : ℕ → Bool) → WorksIn N plant A sent taken planned
-    → (k : ℕ) → k < length A.view.outgoing → (r : Record) → Continues A sent taken k r
+    → (k : ℕ) → k < length A.view.outgoing → (r : Record) → ContinuesSent A sent taken k r
     → IsBeginning (loads N (lane_at N (outgoing_at A.view k).number.0)) (sent (outgoing_at A.view k).number.0 ++ r ∷ [])
 
 -- where no record of its goods continues what it sent, none that the events let be sent does: none that

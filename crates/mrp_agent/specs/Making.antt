@@ -32,20 +32,20 @@ abbrev pub idle_queue : LaneKind → ℕ → List ℕ
 idle_queue Despatch size = range_with_len 0 size
 idle_queue Schedule size = []
 
-pub record IsIdle (kind : LaneKind) (size : ℕ) (o : OutFigures) : Type 0 where
+pub record IsIdleOut (kind : LaneKind) (size : ℕ) (o : OutFigures) : Type 0 where
   pub shows : (goods : ℕ → Goods) → ShowsSent goods o []
   pub size_is : o.size ≡ size
   pub queue : o.queue ≡ idle_queue kind size
 
 abbrev pub IsIdleLane : OutgoingLane → OutFigures → Type 0
-IsIdleLane lane o = IsIdle lane.kind (length lane.items) o
+IsIdleLane lane o = IsIdleOut lane.kind (length lane.items) o
 
-pub record AreIdle (lanes : List OutgoingLane) (outs : List OutFigures) : Type 0 where
+pub record AreIdleOuts (lanes : List OutgoingLane) (outs : List OutFigures) : Type 0 where
   pub size : length outs ≡ length lanes
   pub idle : (k : ℕ) → k < length outs → IsIdleLane (slice_index_or lanes k no_outgoing) (slice_index_or outs k no_out)
 
 -- the first progress of a plant
-pub record IsFirst (V : PlantRows) (progress : Progress) : Type 0 where
+pub record IsFirstProgress (V : PlantRows) (progress : Progress) : Type 0 where
   pub numbers : progress.numbers ≡ map (λ p. p.number) V.pairs
   pub size : length progress.waits ≡ length V.pairs
   pub planned : progress.planned ≡ replicate (length V.pairs) false

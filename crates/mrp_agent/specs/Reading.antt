@@ -7,7 +7,7 @@ use Rattle.mrp_view.specs.declared.view.IncomingItem.{IncomingItem}
 use Rattle.mrp_view.specs.declared.view.IncomingLane.{IncomingLane}
 use Rattle.mrp_view.specs.declared.view.OutgoingLane.{OutgoingLane}
 use Rattle.mrp_view.specs.declared.view.PlantPair.{PlantPair}
-use Rattle.mrp_view.specs.Seen.{IsOwn, IsView}
+use Rattle.mrp_view.specs.Seen.{IsOwnPair, IsView}
 use Rattle.mrp_view.specs.View.{PlantRows}
 use Rattle.mrp_record.specs.declared.record.Record.{Record}
 use Rattle.mrp_record.specs.Entries.{contents, cum, is_closed}
@@ -25,13 +25,13 @@ NoneCanBePlanned V taken planned = (p : PlantPair) → Contains V.pairs p → Ca
 
 -- the pair with a number is one of the plant's, and it is planned
 abbrev pub OwnIsPlanned : PlantRows → (ℕ → Bool) → PairNo → Type 0
-OwnIsPlanned V planned x = IsOwn V x × (planned x.0 ≡ true)
+OwnIsPlanned V planned x = IsOwnPair V x × (planned x.0 ≡ true)
 
 -- how many of the plant's pairs aren't planned
 abbrev pub unplanned_pairs : PlantRows → (ℕ → Bool) → ℕ
 unplanned_pairs V planned = count_by (λ p. not (planned p.number.0)) V.pairs
 
--- ---- figures received
+-- ---- figures received_over
 
 -- the lane of a number that comes in, and the item that a lane carries
 abbrev pub incoming_of : PlantRows → LaneNo → Option IncomingLane
@@ -40,10 +40,10 @@ incoming_of V lane = find (λ z. z.number.0 == lane.0) V.incoming
 abbrev pub carried_by : ItemNo → IncomingLane → Option IncomingItem
 carried_by item lane = find (λ i. i.item.0 == item.0) lane.items
 
--- the cumulative figure received of an item over a lane, closed years added, where the lane comes in and
+-- the cumulative figure received_over of an item over a lane, closed years added, where the lane comes in and
 -- carries the item
-abbrev pub received : PlantRows → (ℕ → List Record) → LaneNo → ItemNo → Option ℕ
-received V taken lane item =
+abbrev pub received_over : PlantRows → (ℕ → List Record) → LaneNo → ItemNo → Option ℕ
+received_over V taken lane item =
     option_map (λ i. cum i.opening item.0 (contents (taken lane.0))) (option_and_then (carried_by item) (incoming_of V lane))
 
 -- of an item of a lane that comes in it is the lane's figure from the opening one on
@@ -51,7 +51,7 @@ abbrev pub ReceivedFiguresAreCumulative : Type 0
 ReceivedFiguresAreCumulative =
     (V : PlantRows) → IsView V → (taken : ℕ → List Record) (lane : IncomingLane) → Contains V.incoming lane
     → (i : IncomingItem) → Contains lane.items i
-    → received V taken lane.number i.item ≡ Some (cum i.opening i.item.0 (contents (taken lane.number.0)))
+    → received_over V taken lane.number i.item ≡ Some (cum i.opening i.item.0 (contents (taken lane.number.0)))
 
 -- ---- the end
 

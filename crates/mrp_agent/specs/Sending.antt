@@ -7,7 +7,7 @@ use Rattle.mrp_net.specs.declared.lane.Shipment.{Shipment}
 use Rattle.mrp_view.specs.declared.view.Call.{Call}
 use Rattle.mrp_view.specs.declared.view.OutgoingLane.{OutgoingLane}
 use Rattle.mrp_view.specs.declared.view.OutgoingItem.{OutgoingItem}
-use Rattle.mrp_view.specs.Loads.{Load, bare, call_of, load_at}
+use Rattle.mrp_view.specs.Loads.{OutgoingLoad, bare, call_of, load_at}
 use Rattle.mrp_record.specs.declared.record.Record.{Record}
 use Rattle.mrp_record.specs.Entries.{Delivery, content}
 use Rattle.mrp_record.specs.Laws.{AreLoads}
@@ -26,12 +26,12 @@ use Rattle.mrp_local.specs.Goods.{goods_of, share}
 use Rattle.mrp_agent.specs.State.{AgentState, book_at, out_at, incoming_place, outgoing_at, plans_of}
 
 -- the cumulative figure of an item in a book
-abbrev pub figure_of : Option ItemFigure → ℕ
-figure_of None = 0
-figure_of (Some g) = g.figure + g.closed
+abbrev pub booked_figure : Option ItemFigure → ℕ
+booked_figure None = 0
+booked_figure (Some g) = g.figure + g.closed
 
 abbrev pub figure_in : Figures → ℕ → ℕ
-figure_in book item = figure_of (find_item book.items item)
+figure_in book item = booked_figure (find_item book.items item)
 
 -- the first shipment from a mark on
 abbrev pub shipment_line : ℕ → Shipment → NextLine
@@ -53,11 +53,11 @@ next_called release call mark =
     option_map call_line (find has_pieces (map (delivery_in (called_by release call)) (range_with_len mark (length release - mark))))
 
 -- a share of thousandths
-pub record AreShares (call : Call) : Type 0 where
+pub record IsCallShare (call : Call) : Type 0 where
   pub rises : call.low ≤ call.high
   pub ends : call.high ≤ 1000
 
-abbrev pub left_to_ship : Load → ℕ → Remainder
+abbrev pub left_to_ship : OutgoingLoad → ℕ → Remainder
 left_to_ship load mark = record { item = load.item; opening = load.figure; reset = load.reset; line = next_shipment load.shipments mark }
 
 abbrev pub left_to_call : Figures → List ℕ → OutgoingItem → Call → ℕ → Remainder
@@ -65,7 +65,7 @@ left_to_call before release item call mark =
     record { item = item.item; opening = figure_in before item.item.0; reset = item.reset; line = next_called release call mark }
 
 -- what is left of the item at a place from a mark on
-abbrev pub remainder_by : LaneKind → AgentState → OutgoingLane → Load → ℕ → Remainder
+abbrev pub remainder_by : LaneKind → AgentState → OutgoingLane → OutgoingLoad → ℕ → Remainder
 remainder_by Despatch A lane load mark = left_to_ship load mark
 remainder_by Schedule A lane load mark =
     left_to_call (book_at A (incoming_place A.view (lane.number.0 - 1))) (plans_of A (call_of load).customer.0).release (bare load) (call_of load) mark
@@ -92,8 +92,8 @@ abbrev pub IsWithin64 : AgentState → (ℕ → List Record) → ℕ → Type 0
 IsWithin64 A taken k = IsBounded (goods_at A taken k) (out_at A k)
 
 -- the record may be sent, and it continues what was sent to a legal beginning, whatever lane has these goods
-abbrev pub Continues : AgentState → (ℕ → List Record) → (ℕ → List Record) → ℕ → Record → Type 0
-Continues A sent taken k r =
+abbrev pub ContinuesSent : AgentState → (ℕ → List Record) → (ℕ → List Record) → ℕ → Record → Type 0
+ContinuesSent A sent taken k r =
     (loads : List lane.Load) → Agrees (goods_at A taken k) (out_at A k) loads
     → IsBeginning loads (sent (outgoing_at A.view k).number.0 ++ r ∷ []) × MaySend (goods_at A taken k) (out_at A k) (content r)
 

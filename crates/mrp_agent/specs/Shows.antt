@@ -28,13 +28,13 @@ abbrev pub book_item : IncomingItem → BookItem
 book_item i = record { item = i.item; opening = i.opening; reset = i.reset }
 
 abbrev pub form_of : PlantRows → IncomingLane → LaneForm
-form_of V lane = book.form_of lane.kind V.horizon (map book_item lane.items)
+form_of V lane = book.book_form lane.kind V.horizon (map book_item lane.items)
 
 -- the book of each lane shows what was taken
 abbrev pub BooksShow : AgentState → (ℕ → List Record) → Type 0
 BooksShow A taken =
     (k : ℕ) → k < length A.view.incoming
-    → book.Shows (form_of A.view (incoming_at A.view k)) (book_at A k) (taken (incoming_at A.view k).number.0)
+    → book.BookShows (form_of A.view (incoming_at A.view k)) (book_at A k) (taken (incoming_at A.view k).number.0)
 
 -- ---- what pairs wait for
 
@@ -84,7 +84,7 @@ pub record OutShows (A : AgentState) (sent taken : ℕ → List Record) (planned
 
 -- ---- all of it
 
-pub record Shows (A : AgentState) (sent taken : ℕ → List Record) (planned : ℕ → Bool) : Type 0 where
+pub record ShowsHistory (A : AgentState) (sent taken : ℕ → List Record) (planned : ℕ → Bool) : Type 0 where
   pub books : BooksShow A taken
   pub waits : Awaits A taken
   pub came : (p : PlantPair) → Contains A.view.pairs p → Comes A taken p

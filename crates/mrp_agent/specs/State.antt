@@ -71,19 +71,19 @@ pair_place V x = position_or_len (λ p. p.number.0 == x) V.pairs
 abbrev pub item_place : PlantRows → ItemNo → ℕ
 item_place V item = position_or_len (λ p. p.item.0 == item.0) V.pairs
 
-abbrev pub no_pair : PlantPair
-no_pair = record {
+abbrev pub no_plant_pair : PlantPair
+no_plant_pair = record {
   number = record { 0 = 0 };
   item = record { 0 = 0 };
   params = record { rule = LotForLot; lead = 0; on_hand = 0; safety = 0 };
 }
 
 -- the pair at a place, and the pair with a number
-abbrev pub pair_at : PlantRows → ℕ → PlantPair
-pair_at V place = slice_index_or V.pairs place no_pair
+abbrev pub plant_pair_at : PlantRows → ℕ → PlantPair
+plant_pair_at V place = slice_index_or V.pairs place no_plant_pair
 
-abbrev pub pair_of : PlantRows → PairNo → PlantPair
-pair_of V x = pair_at V (pair_place V x.0)
+abbrev pub pair_owned : PlantRows → PairNo → PlantPair
+pair_owned V x = plant_pair_at V (pair_place V x.0)
 
 -- the plan that is kept of the pair with a number
 abbrev pub plans_of : AgentState → ℕ → PlanRows

@@ -32,12 +32,12 @@ impl Model for Agent {
 
     ghost Value = { AgentState };
 
-    ghost use Rattle.mrp_agent.specs.Fields.{indexes_of, state_of};
+    ghost use Rattle.mrp_agent.specs.Fields.{indexes_of, agent_state};
     ghost use Rattle.mrp_agent.specs.Kept.{IsKept};
 
-    ghost view = { state_of };
+    ghost view = { agent_state };
 
-    ghost invariant = { λ a. IsKept (state_of a) (indexes_of a) };
+    ghost invariant = { λ a. IsKept (agent_state a) (indexes_of a) };
 }
 
 impl Agent {
@@ -46,12 +46,12 @@ impl Agent {
     ghost use Rattle.mrp_ready.specs.Progress.{is_planned, left_of};
     ghost use Rattle.mrp_record.specs.declared.record.Record.{Record};
     ghost use Rattle.mrp_view.specs.declared.view.PlantPair.{PlantPair};
-    ghost use Rattle.mrp_view.specs.Seen.{IsOwn, IsView};
+    ghost use Rattle.mrp_view.specs.Seen.{IsOwnPair, IsView};
     ghost use Rattle.mrp_local.specs.Local.{CanBePlanned};
     ghost use Rattle.mrp_agent.specs.Drafts.{ready_numbers};
     ghost use Rattle.mrp_agent.specs.Kept.{HasSmallOpenings};
-    ghost use Rattle.mrp_agent.specs.Reading.{HasDone, NoneCanBePlanned, OwnCanBePlanned, OwnIsPlanned, received, unplanned_pairs};
-    ghost use Rattle.mrp_agent.specs.Shows.{Shows, is_done};
+    ghost use Rattle.mrp_agent.specs.Reading.{HasDone, NoneCanBePlanned, OwnCanBePlanned, OwnIsPlanned, received_over, unplanned_pairs};
+    ghost use Rattle.mrp_agent.specs.Shows.{ShowsHistory, is_done};
     ghost use Rattle.mrp_agent.specs.State.{pair_place, plans_of};
 
     /// The agent of a plant that sees this: nothing has come, nothing was sent, and no pair is planned.
@@ -64,7 +64,7 @@ impl Agent {
         requires openings { HasSmallOpenings view }
         ensures view { IfOk result (λ agent. agent.view ≡ view) }
         ensures opens { IfOk result
-            (λ agent. Shows agent opening_state.sent opening_state.taken opening_state.planned) }
+            (λ agent. ShowsHistory agent opening_state.sent opening_state.taken opening_state.planned) }
     {
         let structure = Structure::new(alloc, &view)?;
         let lanes = Lanes::new(alloc, &view)?;
@@ -87,9 +87,9 @@ impl Agent {
     /// The pairs that can be planned, each once.
     pub fn ready_pairs(&self) -> &[PairNo]
         ensures numbers { result.now ≡ ready_numbers self.now }
-        ensures own { All (IsOwn self.now.view) result.now }
+        ensures own { All (IsOwnPair self.now.view) result.now }
         ensures once { AllPairs (λ x y. x ≢ y) result.now }
-        ensures exact { (sent taken : ℕ → List Record) (planned : ℕ → Bool) → Shows self.now sent taken planned
+        ensures exact { (sent taken : ℕ → List Record) (planned : ℕ → Bool) → ShowsHistory self.now sent taken planned
             → (p : PlantPair) → Contains self.now.view.pairs p → Contains result.now p.number ↔ CanBePlanned self.now.view taken planned p }
     {
         self.structure.progress.ready_pairs()
@@ -98,9 +98,9 @@ impl Agent {
     /// A pair that can be planned, where there is one.
     pub fn ready(&self) -> Option<PairNo>
         ensures first { result ≡ slice_get (ready_numbers self.now) 0 }
-        ensures given { (sent taken : ℕ → List Record) (planned : ℕ → Bool) → Shows self.now sent taken planned
+        ensures given { (sent taken : ℕ → List Record) (planned : ℕ → Bool) → ShowsHistory self.now sent taken planned
             → IfSome result (OwnCanBePlanned self.now.view taken planned) }
-        ensures none { (sent taken : ℕ → List Record) (planned : ℕ → Bool) → Shows self.now sent taken planned
+        ensures none { (sent taken : ℕ → List Record) (planned : ℕ → Bool) → ShowsHistory self.now sent taken planned
             → IfNone result (NoneCanBePlanned self.now.view taken planned) }
     {
         self.ready_pairs().first().copied()
@@ -109,7 +109,7 @@ impl Agent {
     /// How many pairs aren't planned.
     pub fn left(&self) -> usize
         ensures count { result ≡ left_of self.now.progress.planned }
-        ensures unplanned { (sent taken : ℕ → List Record) (planned : ℕ → Bool) → Shows self.now sent taken planned
+        ensures unplanned { (sent taken : ℕ → List Record) (planned : ℕ → Bool) → ShowsHistory self.now sent taken planned
             → result ≡ unplanned_pairs self.now.view planned }
     {
         self.structure.progress.left()
@@ -119,7 +119,7 @@ impl Agent {
     pub fn planned(&self, x: PairNo) -> Option<&PairPlan>
         ensures plan { IfSome result (λ plan. plan.now ≡ plans_of self.now x.0) }
         ensures there { IsSome result ↔ IsTrue (is_planned self.now.progress.planned (pair_place self.now.view x.0)) }
-        ensures exact { (sent taken : ℕ → List Record) (planned : ℕ → Bool) → Shows self.now sent taken planned
+        ensures exact { (sent taken : ℕ → List Record) (planned : ℕ → Bool) → ShowsHistory self.now sent taken planned
             → IsSome result ↔ OwnIsPlanned self.now.view planned x }
     {
         let place = self.view.place(x)?;
@@ -150,8 +150,8 @@ impl Agent {
     /// The cumulative figure received of an item over a lane, closed years added, in pieces; `None` where
     /// the lane doesn't come in, or doesn't have the item.
     pub fn cumulative(&self, lane: LaneNo, item: ItemNo) -> Option<Qty>
-        ensures { (sent taken : ℕ → List Record) (planned : ℕ → Bool) → Shows self.now sent taken planned
-            → result ≡ received self.now.view taken lane item }
+        ensures { (sent taken : ℕ → List Record) (planned : ℕ → Bool) → ShowsHistory self.now sent taken planned
+            → result ≡ received_over self.now.view taken lane item }
     {
         let place = incoming_place(self.view.incoming(), lane);
         if place < self.lanes.books.len() {
@@ -165,7 +165,7 @@ impl Agent {
     /// end, and all that go out are sent to the end.
     pub fn done(&self) -> bool
         ensures exact { result ≡ is_done self.now }
-        ensures finished { (sent taken : ℕ → List Record) (planned : ℕ → Bool) → Shows self.now sent taken planned
+        ensures finished { (sent taken : ℕ → List Record) (planned : ℕ → Bool) → ShowsHistory self.now sent taken planned
             → (IsTrue result ↔ HasDone self.now.view sent taken planned) }
     {
         let _ = &self.view;

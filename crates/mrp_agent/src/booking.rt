@@ -2,7 +2,7 @@
 
 ghost use Rattle.std.specs.Prelude.{◌≡◌, ◌==◌, ◌*◌, ◌<◌, ◌≤◌, length, position, IfSome};
 ghost use Rattle.std.specs.List.{position_or_len};
-ghost use Rattle.mrp_agent.specs.After.{came_by, called_by, items_of, with_line, added_at, ended_place, BlockEnded, IsAwaited};
+ghost use Rattle.mrp_agent.specs.After.{came_by, called_after, items_of, with_line, added_at, ended_place, BlockEnded, IsAwaited};
 
 use crate::Agent;
 use crate::places::ItemPlaces;
@@ -20,7 +20,7 @@ impl Agent {
     ghost use Rattle.mrp_book.specs.Figures.{figures};
     ghost use Rattle.mrp_events.specs.State.{changed};
     ghost use Rattle.mrp_agent.specs.State.{incoming_place, incoming_at};
-    ghost use Rattle.mrp_agent.specs.Shows.{Shows, BooksShow, form_of};
+    ghost use Rattle.mrp_agent.specs.Shows.{ShowsHistory, BooksShow, form_of};
 
     /// Books the next record of a lane that comes in.
     ///
@@ -30,8 +30,8 @@ impl Agent {
     pub fn book(&mut self, lane: LaneNo, entry: &Record) -> Result<(), BookFault>
         requires incoming { incoming_place self.old.view lane.0 < length self.old.view.incoming }
         ensures view { self.new.view ≡ self.old.view }
-        ensures booked { OnOk result ((sent taken : ℕ → List Record) (planned : ℕ → Bool) → Shows self.old sent taken planned
-            → Shows self.new sent (changed taken lane.0 (taken lane.0 ++ entry.now ∷ [])) planned) }
+        ensures booked { OnOk result ((sent taken : ℕ → List Record) (planned : ℕ → Bool) → ShowsHistory self.old sent taken planned
+            → ShowsHistory self.new sent (changed taken lane.0 (taken lane.0 ++ entry.now ∷ [])) planned) }
         ensures refused { IfErr result (λ fault. (taken : ℕ → List Record) → BooksShow self.old taken
             → (first_fault (figures (form_of self.old.view (incoming_at self.old.view (incoming_place self.old.view lane.0)))
             (taken lane.0)) entry.now ≡ Some fault)
@@ -82,7 +82,7 @@ fn add_entry(
     requires came { length came.old.items ≡ length view.now.pairs * view.now.horizon }
     requires called { length called.old.items ≡ length view.now.pairs * view.now.horizon }
     ensures came { came.new.items ≡ came_by kind view.now came.old.items entry.now }
-    ensures called { called.new.items ≡ called_by kind view.now called.old.items entry.now }
+    ensures called { called.new.items ≡ called_after kind view.now called.old.items entry.now }
 {
     let periods = view.horizon().get() as usize;
     match kind {

@@ -4,10 +4,10 @@ ghost use Rattle.std.specs.Prelude.{◌≡◌, ◌<◌, ◌≤◌, ◌+◌, ◌*
 ghost use Rattle.mrp_qty.specs.declared.quantity.TheConstants.{MOST};
 ghost use Rattle.mrp_lot.specs.One.{one};
 ghost use Rattle.mrp_group.specs.Groups.{IsGrouped};
-ghost use Rattle.mrp_agent.specs.Asking.{CanAsk, HasDraft, asked_by, asked_on, grossed};
+ghost use Rattle.mrp_agent.specs.Asking.{ParentCanAsk, HasDraft, asked_by, asked_on, grossed};
 ghost use Rattle.mrp_agent.specs.Kept.{parent_edge};
 ghost use Rattle.mrp_agent.specs.Rows.{edges_at, part_at};
-ghost use Rattle.mrp_agent.specs.State.{pair_at};
+ghost use Rattle.mrp_agent.specs.State.{plant_pair_at};
 
 use crate::Agent;
 use crate::edges::ParentEdge;
@@ -72,7 +72,7 @@ pub(crate) fn pair_rows<'a>(
         edges.now.rows.items edges.now.starts.items }
     requires came { length came.now ≡ length view.now.pairs * view.now.horizon }
     requires called { length called.now ≡ length view.now.pairs * view.now.horizon }
-    ensures params { result.params ≡ (pair_at view.now place).params }
+    ensures params { result.params ≡ (plant_pair_at view.now place).params }
     ensures came { result.came.now ≡ part_at view.now.horizon place came.now }
     ensures called { result.called.now ≡ part_at view.now.horizon place called.now }
     ensures edges { result.edges.now ≡ edges_at view.now place }
@@ -119,7 +119,7 @@ pub(crate) fn draft_from(
 
 /// Adds to `gross` what the releases of a pair's parents ask of it.
 fn add_asked(edges: &[ParentEdge], plans: &[PairPlan], gross: &mut Row)
-    requires edges { All (CanAsk plans.now (length gross.old)) edges.now }
+    requires edges { All (ParentCanAsk plans.now (length gross.old)) edges.now }
     requires within { (t : ℕ) → t < length gross.old → slice_index gross.old t + asked_by plans.now edges.now t ≤ MOST }
     ensures each { (t : ℕ) → t < length gross.old → slice_index gross.new t ≡ slice_index gross.old t + asked_by plans.now edges.now t }
     ensures size { length gross.new ≡ length gross.old }
@@ -131,7 +131,7 @@ fn add_asked(edges: &[ParentEdge], plans: &[PairPlan], gross: &mut Row)
 
 /// Adds to `gross` what the releases of one parent ask.
 fn add_edge(edge: &ParentEdge, plans: &[PairPlan], gross: &mut Row)
-    requires edge { CanAsk plans.now (length gross.old) edge.now }
+    requires edge { ParentCanAsk plans.now (length gross.old) edge.now }
     requires within { (t : ℕ) → t < length gross.old → slice_index gross.old t + asked_on plans.now t edge.now ≤ MOST }
     ensures each { (t : ℕ) → t < length gross.old → slice_index gross.new t ≡ slice_index gross.old t + asked_on plans.now t edge.now }
     ensures size { length gross.new ≡ length gross.old }

@@ -1,7 +1,7 @@
 //! Laws of agents in a network. Each is the contract of a function that does nothing.
 
 ghost use Rattle.mrp_agent.specs.Laws.{NothingLegalIsLeft, PlannedPairsHaveThePlan, SentIsLegal, SentIsWithin64};
-ghost use Rattle.mrp_agent.specs.Laws.{ViewsCanBePlanned, DraftsAreThePlan, DraftsAreWithin};
+ghost use Rattle.mrp_agent.specs.Laws.{ViewsCanBePlanned, AgentDraftsAreThePlan, AgentDraftsAreWithin};
 ghost use Rattle.mrp_agent.specs.Reading.{ReceivedFiguresAreCumulative};
 
 /// In a network without loops an agent that has taken legal beginnings keeps the network's plan of each
@@ -14,8 +14,8 @@ pub fn planned_pairs_have_the_plan()
 /// missing for the pair; and what the pair has on hand, what comes in, what is asked for, safety stock and
 /// the quantities of its lot rule are together at most 10^15 pieces.
 pub fn drafts_are_the_plan()
-    ensures within { DraftsAreWithin }
-    ensures plan { DraftsAreThePlan }
+    ensures within { AgentDraftsAreWithin }
+    ensures plan { AgentDraftsAreThePlan }
 {}
 
 /// In a sized network such an agent's numbers and figures stay below 2^64, and each record that it is

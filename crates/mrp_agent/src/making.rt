@@ -3,13 +3,13 @@
 ghost use Rattle.std.specs.Prelude.{◌≡◌, ℕ, ◌++◌, ◌<◌, ◌≤◌, ◌^◌, [], false, All, IfOk, length, map, replicate, slice_index};
 ghost use Rattle.std.specs.List.{flat_map};
 ghost use Rattle.mrp_qty.specs.declared.quantity.TheConstants.{MOST};
-ghost use Rattle.mrp_book.specs.Figures.{Shows};
+ghost use Rattle.mrp_book.specs.Figures.{BookShows};
 ghost use Rattle.mrp_netting.specs.Plan.{nothing_planned};
 ghost use Rattle.mrp_ready.specs.Counts.{AreCounts};
 ghost use Rattle.mrp_ready.specs.Progress.{times};
 ghost use Rattle.mrp_view.specs.Seen.{IsIncomingItem, IsIncomingLane};
 ghost use Rattle.mrp_agent.specs.Kept.{HasSmallItems};
-ghost use Rattle.mrp_agent.specs.Making.{AreIdle, new_figures, IsIdle, awaited_places, place_awaited};
+ghost use Rattle.mrp_agent.specs.Making.{AreIdleOuts, new_figures, IsIdleOut, awaited_places, place_awaited};
 ghost use Rattle.mrp_agent.specs.Shows.{book_item, form_of};
 
 use mrp_book::{Book, BookItem};
@@ -42,7 +42,7 @@ pub(crate) fn new_books(
 fn new_book(alloc: Global, view: &PlantView, lane: &IncomingLane) -> Result<Book, AllocError>
     requires lane { IsIncomingLane view.now lane.now }
     requires openings { HasSmallItems lane.now }
-    ensures shows { IfOk result (λ b. Shows (form_of view.now lane.now) b []) }
+    ensures shows { IfOk result (λ b. BookShows (form_of view.now lane.now) b []) }
     ensures value { IfOk result (λ b. b ≡ new_figures view.now lane.now) }
 {
     let items = book_items(alloc, lane.items.as_slice())?;
@@ -148,7 +148,7 @@ fn add_awaited(
 
 /// The cursor of each lane, before the first record. What is shipped may be sent at once.
 pub(crate) fn idle_outs(alloc: Global, lanes: &[OutgoingLane]) -> Result<Vec<OutCursor>, AllocError>
-    ensures { IfOk result (λ v. AreIdle lanes.now v.items) }
+    ensures { IfOk result (λ v. AreIdleOuts lanes.now v.items) }
 {
     let mut outs = Vec::new(alloc);
     for lane in lanes {
@@ -159,7 +159,7 @@ pub(crate) fn idle_outs(alloc: Global, lanes: &[OutgoingLane]) -> Result<Vec<Out
 
 /// The cursor of a lane with so many items.
 fn idle_out(alloc: Global, kind: LaneKind, size: usize) -> Result<OutCursor, AllocError>
-    ensures { IfOk result (λ o. IsIdle kind size o) }
+    ensures { IfOk result (λ o. IsIdleOut kind size o) }
 {
     match kind {
         LaneKind::Despatch => OutCursor::with_all(alloc, size),

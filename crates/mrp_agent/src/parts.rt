@@ -5,7 +5,7 @@ ghost use Rattle.std.specs.List.{range_with_len};
 ghost use Rattle.mrp_ready.specs.Counts.{components_of};
 ghost use Rattle.mrp_view.specs.Seen.{IsView};
 ghost use Rattle.mrp_agent.specs.Kept.{parent_edge};
-ghost use Rattle.mrp_agent.specs.Making.{IsFirst};
+ghost use Rattle.mrp_agent.specs.Making.{IsFirstProgress};
 ghost use Rattle.mrp_agent.specs.Shows.{joins_of};
 
 use crate::desk::Desk;
@@ -41,7 +41,7 @@ impl Structure {
             s.edges.rows.items s.edges.starts.items) }
         ensures components { IfOk result
             (λ s. s.components ≡ map (components_of (joins_of view.now)) (range_with_len 0 (length view.now.pairs))) }
-        ensures first { IfOk result (λ s. IsFirst view.now s.progress) }
+        ensures first { IfOk result (λ s. IsFirstProgress view.now s.progress) }
     {
         let parents = parent_edges(alloc, view, view.edges())?;
         Structure::of_edges(alloc, view, &parents)
@@ -60,7 +60,7 @@ impl Structure {
             s.edges.rows.items s.edges.starts.items) }
         ensures components { IfOk result
             (λ s. s.components ≡ map (components_of (joins_of view.now)) (range_with_len 0 (length view.now.pairs))) }
-        ensures first { IfOk result (λ s. IsFirst view.now s.progress) }
+        ensures first { IfOk result (λ s. IsFirstProgress view.now s.progress) }
     {
         let items = ItemPlaces::of_pairs(alloc, view.pairs())?;
         let edges = group(alloc, &ByComponent, parents, view.pairs().len())?;
@@ -84,7 +84,7 @@ fn first_waiting(
     requires parents { parents.now ≡ map (parent_edge view.now) view.now.edges }
     ensures components { IfOk result
         (λ w. w.0 ≡ map (components_of (joins_of view.now)) (range_with_len 0 (length view.now.pairs))) }
-    ensures first { IfOk result (λ w. IsFirst view.now w.1) }
+    ensures first { IfOk result (λ w. IsFirstProgress view.now w.1) }
 {
     let joins = joins(alloc, parents)?;
     waiting_by(alloc, view, &joins)
@@ -100,7 +100,7 @@ fn waiting_by(
     requires joins { joins.now ≡ joins_of view.now }
     ensures components { IfOk result
         (λ w. w.0 ≡ map (components_of (joins_of view.now)) (range_with_len 0 (length view.now.pairs))) }
-    ensures first { IfOk result (λ w. IsFirst view.now w.1) }
+    ensures first { IfOk result (λ w. IsFirstProgress view.now w.1) }
 {
     let components = Components::new(alloc, joins, view.pairs().len())?;
     let progress = first_progress(alloc, view, joins)?;
@@ -118,7 +118,7 @@ pub(crate) struct Lanes {
 
 impl Lanes {
     ghost use Rattle.mrp_agent.specs.Kept.{HasSmallOpenings};
-    ghost use Rattle.mrp_agent.specs.Making.{AreIdle, new_figures};
+    ghost use Rattle.mrp_agent.specs.Making.{AreIdleOuts, new_figures};
 
     /// The lanes of a plant before the first record.
     pub(crate) fn new(alloc: Global, view: &PlantView) -> Result<Lanes, Memory>
@@ -126,7 +126,7 @@ impl Lanes {
         requires openings { HasSmallOpenings view.now }
         ensures books { IfOk result (λ l. l.books.items ≡ map (new_figures view.now) view.now.incoming) }
         ensures items { IfOk result (λ l. l.out_items.items ≡ map (λ lane. map (λ i. i.item) lane.items) view.now.outgoing) }
-        ensures outs { IfOk result (λ l. AreIdle view.now.outgoing l.outs.items) }
+        ensures outs { IfOk result (λ l. AreIdleOuts view.now.outgoing l.outs.items) }
     {
         let books = new_books(alloc, view, view.incoming())?;
         let out_items = out_items(alloc, view.outgoing())?;

@@ -12,26 +12,26 @@ impl Agent {
     ghost use Rattle.mrp_rows.specs.declared.numbers.PairNo.{PairNo};
     ghost use Rattle.mrp_record.specs.declared.record.Record.{Record};
     ghost use Rattle.mrp_ready.specs.Progress.{IsFree, left_of};
-    ghost use Rattle.mrp_view.specs.Seen.{IsOwn};
+    ghost use Rattle.mrp_view.specs.Seen.{IsOwnPair};
     ghost use Rattle.mrp_events.specs.State.{changed};
-    ghost use Rattle.mrp_agent.specs.State.{pair_of, pair_place, plans_of};
+    ghost use Rattle.mrp_agent.specs.State.{pair_owned, pair_place, plans_of};
     ghost use Rattle.mrp_agent.specs.Drafts.{CanDraft, drafted, drafted_gross, drafted_incoming, ready_numbers};
     ghost use Rattle.mrp_agent.specs.Marking.{IsMarked};
     ghost use Rattle.mrp_agent.specs.Reading.{OwnCanBePlanned};
-    ghost use Rattle.mrp_agent.specs.Shows.{Shows};
+    ghost use Rattle.mrp_agent.specs.Shows.{ShowsHistory};
 
     /// Plans a pair of the plant if it can be planned: drafts its plan and keeps it. The answer is whether
     /// it could; if not, the agent stays as it is.
     pub fn plan(&mut self, x: PairNo) -> bool
-        requires own { IsOwn self.old.view x }
+        requires own { IsOwnPair self.old.view x }
         requires within { Contains (ready_numbers self.old) x
-            → IsWithin (pair_of self.old.view x).params (drafted_incoming self.old x) (drafted_gross self.old x) }
+            → IsWithin (pair_owned self.old.view x).params (drafted_incoming self.old x) (drafted_gross self.old x) }
         ensures view { self.new.view ≡ self.old.view }
         ensures can { IsTrue result ↔ Contains (ready_numbers self.old) x }
-        ensures exact { (sent taken : ℕ → List Record) (planned : ℕ → Bool) → Shows self.old sent taken planned
+        ensures exact { (sent taken : ℕ → List Record) (planned : ℕ → Bool) → ShowsHistory self.old sent taken planned
             → IsTrue result ↔ OwnCanBePlanned self.old.view taken planned x }
-        ensures planned { OnTrue result ((sent taken : ℕ → List Record) (planned : ℕ → Bool) → Shows self.old sent taken planned
-            → Shows self.new sent taken (changed planned x.0 true)) }
+        ensures planned { OnTrue result ((sent taken : ℕ → List Record) (planned : ℕ → Bool) → ShowsHistory self.old sent taken planned
+            → ShowsHistory self.new sent taken (changed planned x.0 true)) }
         ensures kept { OnTrue result (plans_of self.new x.0 ≡ drafted self.old x) }
         ensures left { OnTrue result (left_of self.new.progress.planned + 1 ≡ left_of self.old.progress.planned) }
         ensures others { OnTrue result ((y : PairNo) → Contains (ready_numbers self.old) y → (y.0 ≡ x.0 → ⊥) → Contains (ready_numbers self.new) y) }

@@ -4,7 +4,7 @@ ghost use Rattle.std.specs.Prelude.{◌≡◌, ◌==◌, ◌<◌, length, positi
 ghost use Rattle.std.specs.List.{position_or_len};
 ghost use Rattle.mrp_view.specs.Loads.{load_at};
 ghost use Rattle.mrp_local.specs.Goods.{share};
-ghost use Rattle.mrp_agent.specs.Sending.{next_shipment, next_called, left_to_ship, left_to_call, figure_in, AreShares};
+ghost use Rattle.mrp_agent.specs.Sending.{next_shipment, next_called, left_to_ship, left_to_call, figure_in, IsCallShare};
 ghost use Rattle.mrp_agent.specs.Kept.{IsShowing};
 
 use crate::Agent;
@@ -112,7 +112,7 @@ fn left_to_call(
     mark: usize,
 ) -> Remainder
     requires book { IsShowing book.now }
-    requires shares { AreShares call.now }
+    requires shares { IsCallShare call.now }
     ensures { result ≡ left_to_call book.now plan.now.release item.now call.now mark }
 {
     Remainder {
@@ -180,7 +180,7 @@ fn next_shipment(shipments: &[Shipment], mark: usize) -> Option<NextLine>
 
 /// The first period from a mark on in which a lane's share of a release is something.
 fn next_call(release: &Row, call: &Call, mark: usize) -> Option<NextLine>
-    requires { AreShares call.now }
+    requires { IsCallShare call.now }
     ensures { result ≡ next_called release.now call.now mark }
 {
     for period in mark..release.len() {
@@ -198,7 +198,7 @@ fn next_call(release: &Row, call: &Call, mark: usize) -> Option<NextLine>
 
 /// The share of a release that a lane's supplier is called for.
 fn share(call: &Call, release: Qty) -> u64
-    requires { AreShares call.now }
+    requires { IsCallShare call.now }
     ensures { result ≡ share call.now release }
 {
     let pieces = release.get();

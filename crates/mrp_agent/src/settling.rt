@@ -1,7 +1,7 @@
 //! How an agent keeps a plan that was drafted elsewhere.
 
 ghost use Rattle.std.specs.Prelude.{◌≡◌, length, map};
-ghost use Rattle.mrp_agent.specs.After.{AreSettled, queued_by};
+ghost use Rattle.mrp_agent.specs.After.{AreOutsSettled, queued_by};
 
 use crate::Agent;
 use crate::places::ItemPlaces;
@@ -19,15 +19,15 @@ impl Agent {
     ghost use Rattle.mrp_record.specs.declared.record.Record.{Record};
     ghost use Rattle.mrp_events.specs.State.{changed};
     ghost use Rattle.mrp_agent.specs.Drafts.{CanDraft, drafted, ready_numbers};
-    ghost use Rattle.mrp_agent.specs.Shows.{Shows};
+    ghost use Rattle.mrp_agent.specs.Shows.{ShowsHistory};
 
     /// Keeps the plan of a pair that can be planned, as [`Agent::draft`] wrote it.
     pub fn settle(&mut self, x: PairNo, plan: &PairPlan)
         requires can { CanDraft self.old x }
         requires draft { plan.now ≡ drafted self.old x }
         ensures view { self.new.view ≡ self.old.view }
-        ensures planned { (sent taken : ℕ → List Record) (planned : ℕ → Bool) → Shows self.old sent taken planned
-            → Shows self.new sent taken (changed planned x.0 true) }
+        ensures planned { (sent taken : ℕ → List Record) (planned : ℕ → Bool) → ShowsHistory self.old sent taken planned
+            → ShowsHistory self.new sent taken (changed planned x.0 true) }
         ensures kept { plans_of self.new x.0 ≡ plan.now }
         ensures left { left_of self.new.progress.planned + 1 ≡ left_of self.old.progress.planned }
         ensures others { (y : PairNo) → Contains (ready_numbers self.old) y → (y.0 ≡ x.0 → ⊥) → Contains (ready_numbers self.new) y }
@@ -51,7 +51,7 @@ pub(crate) fn queue_item(
 )
     requires outs { length outs.old.items ≡ length lanes.now }
     requires items { items.now ≡ map (λ lane. map (λ i. i.item) lane.items) lanes.now }
-    ensures { AreSettled lanes.now item outs.old.items outs.new.items }
+    ensures { AreOutsSettled lanes.now item outs.old.items outs.new.items }
 {
     for k in 0..lanes.len() {
         queue_on(&mut outs[k], lanes[k].kind, &items[k], item);

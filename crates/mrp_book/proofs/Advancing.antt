@@ -11,8 +11,8 @@ use Rattle.mrp_record.specs.Entries.{Entry, LineOf, EndOf, ResetOf, Closing, con
 use Rattle.mrp_record.specs.Form.{FormItem, LaneForm, item_on, GoesOn, ResetFits, EntryFits}
 use Rattle.mrp_record.proofs.Growing.{own_pushed, other_pushed}
 use Rattle.mrp_book.specs.declared.item.ItemFigure.{ItemFigure}
-use Rattle.mrp_book.specs.After.{after, at_item, with_line, with_end, with_reset}
-use Rattle.mrp_book.specs.Figures.{Figures, figures, figure_of, is_same_item, begun, begun_by}
+use Rattle.mrp_book.specs.After.{after, at_item, figure_after_line, with_end, figure_after_reset}
+use Rattle.mrp_book.specs.Figures.{Figures, figures, figure_of, is_same_in_form, begun, begun_by}
 
 -- the figures of an item by its own records
 abbrev figure_from : FormItem → List Entry → ItemFigure
@@ -58,7 +58,7 @@ any_now p (x ∷ es) e h = or_right (p x) (list_any p (es ++ e ∷ [])) (any_now
 
 -- ---- one item
 
-after_line : (i : FormItem) (own : List Entry) (item p q c : ℕ) → figure_from i (own ++ LineOf item p q c ∷ []) ≡ with_line p q (figure_from i own)
+after_line : (i : FormItem) (own : List Entry) (item p q c : ℕ) → figure_from i (own ++ LineOf item p q c ∷ []) ≡ figure_after_line p q (figure_from i own)
 after_line i own item p q c =
     let e = LineOf item p q c in
     same_figure i _ _ _ _ _ _ _ _ _ _ _ _
@@ -80,7 +80,7 @@ after_end i own item n c =
     (any_pushed is_reset own e refl)
     (any_now is_end own e refl)
 
-after_reset : (i : FormItem) (own : List Entry) (item c : ℕ) → c ≡ fold figure_after i.opening own → figure_from i (own ++ ResetOf item c ∷ []) ≡ with_reset (figure_from i own)
+after_reset : (i : FormItem) (own : List Entry) (item c : ℕ) → c ≡ fold figure_after i.opening own → figure_from i (own ++ ResetOf item c ∷ []) ≡ figure_after_reset (figure_from i own)
 after_reset i own item c is =
     let e = ResetOf item c in
     same_figure i _ _ _ _ _ _ _ _ _ _ _ _
@@ -99,14 +99,14 @@ unchanged es e item is i apart =
     ap (figure_from i) (other_pushed i.item es e (is i.item ∙ back))
 
 rest_unchanged : (es : List Entry) (e : Entry) (item : ℕ) → ((other : ℕ) → is_of other e ≡ (item == other)) → (i : FormItem) → i.item ≡ item → (items : List FormItem)
-    → AllByRecursion (λ o. is_same_item i o ≡ false) items → map (figure_of (es ++ e ∷ [])) items ≡ map (figure_of es) items
+    → AllByRecursion (λ o. is_same_in_form i o ≡ false) items → map (figure_of (es ++ e ∷ [])) items ≡ map (figure_of es) items
 rest_unchanged es e item is i own [] h = refl
 rest_unchanged es e item is i own (o ∷ items) h =
     let apart : (o.item == item) ≡ false = ne_eqb o.item item (λ z. eqb-false i.item o.item h.0 (own ∙ sym z)) in
     ap (λ (g : ItemFigure). g ∷ map (figure_of (es ++ e ∷ [])) items) (unchanged es e item is o apart)
     ∙ ap (λ (z : List ItemFigure). figure_of es o ∷ z) (rest_unchanged es e item is i own items h.1)
 
-changed : (es : List Entry) (e : Entry) (item : ℕ) (change : ItemFigure → ItemFigure) → ((other : ℕ) → is_of other e ≡ (item == other)) → (items : List FormItem) → IsDistinct is_same_item items
+changed : (es : List Entry) (e : Entry) (item : ℕ) (change : ItemFigure → ItemFigure) → ((other : ℕ) → is_of other e ≡ (item == other)) → (items : List FormItem) → IsDistinct is_same_in_form items
     → ((i : FormItem) → find (λ j. j.item == item) items ≡ Some i → figure_from i (entries_of i.item es ++ e ∷ []) ≡ change (figure_of es i))
     → map (figure_of (es ++ e ∷ [])) items ≡ at_item item change (map (figure_of es) items)
 unfolding IsDistinct
@@ -154,7 +154,7 @@ nobody es (i ∷ items) =
     ap (λ (g : ItemFigure). g ∷ map (figure_of (es ++ Closing ∷ [])) items) (ap (figure_from i) (other_pushed i.item es Closing refl))
     ∙ ap (λ (z : List ItemFigure). figure_of es i ∷ z) (nobody es items)
 
-pub figures_after : (form : LaneForm) (records : List Record) (r : Record) → IsDistinct is_same_item form.items → EntryFits form (contents records) (content r)
+pub figures_after : (form : LaneForm) (records : List Record) (r : Record) → IsDistinct is_same_in_form form.items → EntryFits form (contents records) (content r)
     → figures form (records ++ r ∷ []) ≡ after (figures form records) r
 figures_after form records (Line number item p q c) once fits =
     let r = Line number item p q c in
@@ -165,7 +165,7 @@ figures_after form records (Line number item p q c) once fits =
     (ap is_closed parts ∙ any_pushed is_closing es e refl)
     (ap begun parts ∙ begun_pushed es e)
     (ap (λ (z : List Entry). map (figure_of z) form.items) parts
-    ∙ changed es e item.0 (with_line p q) (λ other. refl) form.items once (λ i found. after_line i (entries_of i.item es) item.0 p q c))
+    ∙ changed es e item.0 (figure_after_line p q) (λ other. refl) form.items once (λ i found. after_line i (entries_of i.item es) item.0 p q c))
 figures_after form records (ItemEnd number item n c) once fits =
     let r = ItemEnd number item n c in
     let es = contents records in
@@ -185,7 +185,7 @@ figures_after form records (Reset number item c) once fits =
     (ap is_closed parts ∙ any_pushed is_closing es e refl)
     (ap begun parts ∙ begun_pushed es e)
     (ap (λ (z : List Entry). map (figure_of z) form.items) parts
-    ∙ changed es e item.0 with_reset (λ other. refl) form.items once
+    ∙ changed es e item.0 figure_after_reset (λ other. refl) form.items once
     (λ i found. after_reset i (entries_of i.item es) item.0 c (closes i found fits)))
   where
     closes : (i : FormItem) → item_on form item.0 ≡ Some i → EntryFits form (contents records) (ResetOf item.0 c) → c ≡ in_force i.opening i.item (contents records)

@@ -11,7 +11,7 @@ use Rattle.mrp_record.specs.Entries.{Entry, number_of, content, contents, is_end
 use Rattle.mrp_record.specs.Form.{FormItem, LaneForm, item_on, is_other_open, is_anew, GoesOn, LineFits, EndFits, ResetFits, EntryFits, Continues, IsInForm}
 use Rattle.mrp_record.proofs.FormItems.{item_is}
 use Rattle.mrp_book.specs.declared.item.ItemFigure.{ItemFigure}
-use Rattle.mrp_book.specs.Faults.{Test, first_of, number_tests, with_item, find_item, is_other_begun, line_tests, end_tests, reset_tests, own_tests, first_fault}
+use Rattle.mrp_book.specs.Faults.{Test, first_of, number_tests, tests_of_item, find_item, is_other_begun, line_tests, end_tests, reset_tests, own_tests, first_fault}
 use Rattle.mrp_book.specs.Figures.{figures, figure_of, begun}
 use Rattle.mrp_book.specs.Laws.{NoFaultIsInForm}
 use Rattle.mrp_book.proofs.Following.{begun_agrees, in_form_push, in_form_last}
@@ -48,12 +48,12 @@ record IsFree (form : LaneForm) (es : List Entry) (item : ℕ) (tests : ItemFigu
   own : NoneHolds (tests (figure_of es i))
 
 free_item : (form : LaneForm) (records : List Record) → IsInForm form records → (item : ℕ) (tests : ItemFigure → List Test)
-    → NoneHolds (with_item (find_item (map (figure_of (contents records)) form.items) item) (begun (contents records)) item tests) → IsFree form (contents records) item tests
+    → NoneHolds (tests_of_item (find_item (map (figure_of (contents records)) form.items) item) (begun (contents records)) item tests) → IsFree form (contents records) item tests
 free_item form records h item tests none =
     let es = contents records in
-    by (item_on form item) refl (subst (λ (o : Option ItemFigure). NoneHolds (with_item o (begun es) item tests)) (find_figure es form.items item) none)
+    by (item_on form item) refl (subst (λ (o : Option ItemFigure). NoneHolds (tests_of_item o (begun es) item tests)) (find_figure es form.items item) none)
   where
-    by : (o : Option FormItem) → item_on form item ≡ o → NoneHolds (with_item (option_map (figure_of (contents records)) o) (begun (contents records)) item tests) → IsFree form (contents records) item tests
+    by : (o : Option FormItem) → item_on form item ≡ o → NoneHolds (tests_of_item (option_map (figure_of (contents records)) o) (begun (contents records)) item tests) → IsFree form (contents records) item tests
     by None e n = absurd (true≢false n.0)
     by (Some i) e n =
         let es = contents records in
@@ -64,14 +64,14 @@ free_item form records h item tests none =
 
 item_free : (form : LaneForm) (records : List Record) → IsInForm form records → (item : ℕ) (tests : ItemFigure → List Test)
     → (i : FormItem) → item_on form item ≡ Some i → GoesOn form i (contents records) → NoneHolds (tests (figure_of (contents records) i))
-    → NoneHolds (with_item (find_item (map (figure_of (contents records)) form.items) item) (begun (contents records)) item tests)
+    → NoneHolds (tests_of_item (find_item (map (figure_of (contents records)) form.items) item) (begun (contents records)) item tests)
 item_free form records h item tests i e goes own =
     let es = contents records in
     let same : i.item ≡ item = item_is form.items item i e in
     let figure : find_item (map (figure_of es) form.items) item ≡ Some (figure_of es i) = find_figure es form.items item ∙ ap (option_map (figure_of es)) e in
     let alone : is_other_begun (begun es) item ≡ false = begun_agrees form records h item ∙ ap (λ (k : ℕ). is_other_open form k es) (sym same) ∙ goes.alone in
     let turn : (is_ended i.item es || is_other_begun (begun es) item) ≡ false = or_from (is_ended i.item es) (is_other_begun (begun es) item) goes.unended alone in
-    subst (λ (o : Option ItemFigure). NoneHolds (with_item o (begun es) item tests)) (sym figure) (turn, own)
+    subst (λ (o : Option ItemFigure). NoneHolds (tests_of_item o (begun es) item tests)) (sym figure) (turn, own)
 
 -- ---- lines
 

@@ -14,8 +14,8 @@ use Rattle.mrp_book.specs.declared.fault.BookFault.{BookFault}
 use Rattle.mrp_book.specs.declared.fault.BookFault.TheVariants as fault
 use Rattle.mrp_book.specs.declared.item.ItemFigure.{ItemFigure}
 use Rattle.mrp_book.specs.After.{Books}
-use Rattle.mrp_book.specs.Faults.{Test, first_of, number_tests, with_item, find_item, is_other_begun, line_tests, end_tests, reset_tests, first_fault}
-use Rattle.mrp_book.specs.Figures.{Figures, figures, figure_of, begun, Shows}
+use Rattle.mrp_book.specs.Faults.{Test, first_of, number_tests, tests_of_item, find_item, is_other_begun, line_tests, end_tests, reset_tests, first_fault}
+use Rattle.mrp_book.specs.Figures.{Figures, figures, figure_of, begun, BookShows}
 use Rattle.mrp_book.specs.Laws.{FaultsAreFirst}
 use Rattle.mrp_book.specs.Meanings.{opening_of, reset_of, first_had}
 use Rattle.mrp_book.proofs.Deciding.{find_figure}
@@ -115,7 +115,7 @@ item_asked form records number n i k x y same =
 -- ---- records of each kind
 
 line_first : (form : LaneForm) (records : List Record) (number : ℕ) (item : ItemNo) (p q c : ℕ) (i : FormItem) → IsKnown form (contents records) item.0 i
-    → first_of (number_tests (figures form records) number ++ with_item (Some (figure_of (contents records) i)) (begun (contents records)) item.0 (line_tests form.rising form.horizon number p q c))
+    → first_of (number_tests (figures form records) number ++ tests_of_item (Some (figure_of (contents records) i)) (begun (contents records)) item.0 (line_tests form.rising form.horizon number p q c))
     ≡ first_had form records (Line number item p q c)
 line_first form records number item p q c i k =
     let es = contents records in
@@ -140,7 +140,7 @@ line_first form records number item p q c i k =
     (asked _ _ fault.ResetWrong _ _ side refl)))))
 
 end_first : (form : LaneForm) (records : List Record) (number : ℕ) (item : ItemNo) (m c : ℕ) (i : FormItem) → IsKnown form (contents records) item.0 i
-    → first_of (number_tests (figures form records) number ++ with_item (Some (figure_of (contents records) i)) (begun (contents records)) item.0 (end_tests number m c))
+    → first_of (number_tests (figures form records) number ++ tests_of_item (Some (figure_of (contents records) i)) (begun (contents records)) item.0 (end_tests number m c))
     ≡ first_had form records (ItemEnd number item m c)
 end_first form records number item m c i k =
     let es = contents records in
@@ -156,7 +156,7 @@ end_first form records number item m c i k =
     (asked _ _ fault.ResetWrong _ _ missing refl)))
 
 reset_first : (form : LaneForm) (records : List Record) (number : ℕ) (item : ItemNo) (c : ℕ) (i : FormItem) → IsKnown form (contents records) item.0 i
-    → first_of (number_tests (figures form records) number ++ with_item (Some (figure_of (contents records) i)) (begun (contents records)) item.0 (reset_tests number c))
+    → first_of (number_tests (figures form records) number ++ tests_of_item (Some (figure_of (contents records) i)) (begun (contents records)) item.0 (reset_tests number c))
     ≡ first_had form records (Reset number item c)
 reset_first form records number item c i k =
     let es = contents records in
@@ -193,11 +193,11 @@ off_lane number n closed o rest none =
 
 -- the tests of a record of an item, by what the lane knows of the item
 with_known : (form : LaneForm) (records : List Record) (number item : ℕ) (tests : ItemFigure → List Test) (o : Option FormItem) → item_on form item ≡ o
-    → first_of (number_tests (figures form records) number ++ with_item (find_item (map (figure_of (contents records)) form.items) item) (begun (contents records)) item tests)
-    ≡ first_of (number_tests (figures form records) number ++ with_item (option_map (figure_of (contents records)) o) (begun (contents records)) item tests)
+    → first_of (number_tests (figures form records) number ++ tests_of_item (find_item (map (figure_of (contents records)) form.items) item) (begun (contents records)) item tests)
+    ≡ first_of (number_tests (figures form records) number ++ tests_of_item (option_map (figure_of (contents records)) o) (begun (contents records)) item tests)
 with_known form records number item tests o e =
     let es = contents records in
-    ap (λ (g : Option ItemFigure). first_of (number_tests (figures form records) number ++ with_item g (begun es) item tests))
+    ap (λ (g : Option ItemFigure). first_of (number_tests (figures form records) number ++ tests_of_item g (begun es) item tests))
     (find_figure es form.items item ∙ ap (option_map (figure_of es)) e)
 
 pub faults_are_first : FaultsAreFirst
@@ -232,7 +232,7 @@ faults_are_first form records h (Close number) = close_first form records number
 
 -- the fault that a book answers is the first that the record has, over each list that the book shows
 pub books_first : (old new : Figures) (r : Record) (result : Result (Unit {0}) BookFault) → Books old new r result
-    → IfErr result (λ f. (form : LaneForm) (records : List Record) → Shows form old records → first_had form records r ≡ Some f)
+    → IfErr result (λ f. (form : LaneForm) (records : List Record) → BookShows form old records → first_had form records r ≡ Some f)
 books_first old new r (Ok u) h = tt
 books_first old new r (Err f) h =
     λ form records s. sym (faults_are_first form records s.in_form r) ∙ ap (λ (g : Figures). first_fault g r) (sym s.is) ∙ h.0

@@ -14,9 +14,9 @@ use Rattle.mrp_record.specs.Form.{FormItem, LaneForm, IsInForm}
 use Rattle.mrp_record.proofs.Fronts.{nothing_after}
 use Rattle.mrp_book.specs.declared.item.BookItem.{BookItem}
 use Rattle.mrp_book.specs.declared.item.ItemFigure.{ItemFigure}
-use Rattle.mrp_book.specs.After.{opened, IsBook, IsWithin}
+use Rattle.mrp_book.specs.After.{opened, IsBook, IsFigureWithin}
 use Rattle.mrp_net.specs.declared.lane.LaneKind.{LaneKind}
-use Rattle.mrp_book.specs.Figures.{Figures, figure_of, figures, form_of, rises_on, form_item, is_same_item, is_same_book_item, Shows}
+use Rattle.mrp_book.specs.Figures.{Figures, figure_of, figures, book_form, rises_on, book_form_item, is_same_in_form, is_same_book_item, BookShows}
 
 -- no item stands among those before it
 pub is_new : (xs : List BookItem) (k : ℕ) (d : BookItem) → IsDistinct is_same_book_item xs → k < length xs → list_any (λ j. j.item.0 == (get_or xs k d).item.0) (take k xs) ≡ false
@@ -28,16 +28,16 @@ is_new (x ∷ xs) (suc k) d once l =
     let apart : (x.item.0 == x'.item.0) ≡ false = All-get_or (λ (y : BookItem). is_same_book_item x y ≡ false) xs k d (omega arith) (All-from_recursion (λ (y : BookItem). is_same_book_item x y ≡ false) xs once.0) in
     or_from (x.item.0 == x'.item.0) (list_any (λ j. j.item.0 == x'.item.0) (take k xs)) apart (is_new xs k d once.1 (omega arith))
 
-pub items_once : (items : List BookItem) → IsDistinct is_same_book_item items → IsDistinct is_same_item (map form_item items)
+pub items_once : (items : List BookItem) → IsDistinct is_same_book_item items → IsDistinct is_same_in_form (map book_form_item items)
 unfolding IsDistinct
 items_once [] h = h
 items_once (i ∷ items) h = (by items h.0, items_once items h.1)
   where
-    by : (rest : List BookItem) → AllByRecursion (λ y. is_same_book_item i y ≡ false) rest → AllByRecursion (λ y. is_same_item (form_item i) y ≡ false) (map form_item rest)
+    by : (rest : List BookItem) → AllByRecursion (λ y. is_same_book_item i y ≡ false) rest → AllByRecursion (λ y. is_same_in_form (book_form_item i) y ≡ false) (map book_form_item rest)
     by [] h = h
     by (x ∷ rest) h = (h.0, by rest h.1)
 
-pub figures_opened : (items : List BookItem) → map (figure_of []) (map form_item items) ≡ map opened items
+pub figures_opened : (items : List BookItem) → map (figure_of []) (map book_form_item items) ≡ map opened items
 figures_opened [] = refl
 figures_opened (i ∷ items) = ap (λ (z : List ItemFigure). opened i ∷ z) (figures_opened items)
 
@@ -45,10 +45,10 @@ pub names_opened : (items : List BookItem) → map (λ g. g.item) (map opened it
 names_opened [] = refl
 names_opened (i ∷ items) = ap (λ (z : List ItemNo). i.item ∷ z) (names_opened items)
 
-pub within_opened : (items : List BookItem) → All (λ i. i.opening ≤ MOST) items → All (IsWithin 1) (map opened items)
-within_opened [] h = All-nil (IsWithin 1)
+pub within_opened : (items : List BookItem) → All (λ i. i.opening ≤ MOST) items → All (IsFigureWithin 1) (map opened items)
+within_opened [] h = All-nil (IsFigureWithin 1)
 within_opened (i ∷ items) h =
-    All-cons (IsWithin 1) (opened i) (map opened items) (record { figure = omega (arith, h 0 i (omega arith)); lines = omega arith })
+    All-cons (IsFigureWithin 1) (opened i) (map opened items) (record { figure = omega (arith, h 0 i (omega arith)); lines = omega arith })
     (within_opened items (λ k d l. h (suc k) d (omega arith)))
 
 pub empty_in_form : (form : LaneForm) → IsInForm form []
@@ -100,29 +100,29 @@ opened_book k items names figures h l =
     record {
       small = omega arith;
       names_are = all.0 ∙ sym (names_opened items) ∙ sym (ap (map (λ (g : ItemFigure). g.item)) all.1);
-      within = subst (All (IsWithin 1)) (sym all.1) (within_opened items all.2);
+      within = subst (All (IsFigureWithin 1)) (sym all.1) (within_opened items all.2);
     }
 
-openings_small : (items : List BookItem) → All (λ i. i.opening ≤ MOST) items → All (λ i. i.opening ≤ MOST) (map form_item items)
+openings_small : (items : List BookItem) → All (λ i. i.opening ≤ MOST) items → All (λ i. i.opening ≤ MOST) (map book_form_item items)
 openings_small [] h = All-nil (λ (i : FormItem). i.opening ≤ MOST)
 openings_small (i ∷ items) h =
-    All-cons (λ (i : FormItem). i.opening ≤ MOST) (form_item i) (map form_item items) (h 0 i (omega arith)) (openings_small items (λ k d l. h (suc k) d (omega arith)))
+    All-cons (λ (i : FormItem). i.opening ≤ MOST) (book_form_item i) (map book_form_item items) (h 0 i (omega arith)) (openings_small items (λ k d l. h (suc k) d (omega arith)))
 
 pub opened_shows : (k : ℕ) (items : List BookItem) (names : List ItemNo) (gs : List ItemFigure) (kind : LaneKind) (horizon : ℕ) (rising : Bool) → AreOpened k items names gs → length items ≤ k
     → IsDistinct is_same_book_item items → rising ≡ rises_on kind
-    → Shows (form_of kind horizon items) (record { rising = rising; horizon = horizon; next = 1; closed = false; begun = None; items = gs }) []
+    → BookShows (book_form kind horizon items) (record { rising = rising; horizon = horizon; next = 1; closed = false; begun = None; items = gs }) []
 opened_shows k items names gs kind horizon rising h l once is =
     let all = whole k items names gs h l in
-    let form = form_of kind horizon items in
-    let known : gs ≡ map (figure_of []) (map form_item items) = all.1 ∙ sym (figures_opened items) in
+    let form = book_form kind horizon items in
+    let known : gs ≡ map (figure_of []) (map book_form_item items) = all.1 ∙ sym (figures_opened items) in
     record {
       lane = record { once = items_once items once; openings = openings_small items all.2 };
       in_form = empty_in_form form;
       is = by gs known rising is;
     }
   where
-    by : (hs : List ItemFigure) → hs ≡ map (figure_of []) (map form_item items) → (b : Bool) → b ≡ rises_on kind
-        → (record { rising = b; horizon = horizon; next = 1; closed = false; begun = None; items = hs }) ≡ figures (form_of kind horizon items) []
+    by : (hs : List ItemFigure) → hs ≡ map (figure_of []) (map book_form_item items) → (b : Bool) → b ≡ rises_on kind
+        → (record { rising = b; horizon = horizon; next = 1; closed = false; begun = None; items = hs }) ≡ figures (book_form kind horizon items) []
     by hs e b f =
         let W : Bool → List ItemFigure → Figures = λ c gs. record { rising = c; horizon = horizon; next = 1; closed = false; begun = None; items = gs } in
         ap (λ (c : Bool). W c hs) f ∙ ap (λ (gs : List ItemFigure). W (rises_on kind) gs) e

@@ -12,7 +12,7 @@ use Rattle.mrp_book.specs.declared.fault.BookFault.{BookFault}
 use Rattle.mrp_book.specs.declared.fault.BookFault.TheVariants as fault
 use Rattle.mrp_book.specs.declared.item.ItemFigure.{ItemFigure}
 use Rattle.mrp_book.specs.After.{at_item}
-use Rattle.mrp_book.specs.Faults.{Test, first_of, with_item, find_item, is_other_begun}
+use Rattle.mrp_book.specs.Faults.{Test, first_of, tests_of_item, find_item, is_other_begun}
 use Rattle.mrp_book.specs.Figures.{Figures}
 
 -- a place that is looked for is inside the list or past its end
@@ -76,27 +76,27 @@ first_of-ok (x ∷ xs) ys e =
     rw other (first_of-ok xs ys passed.1)
 
 pub not_on_lane : (items : List ItemFigure) (begun : Option ℕ) (item : ℕ) → position (λ g. g.item.0 == item) items ≡ None
-    → (tests : ItemFigure → List Test) → first_of (with_item (find_item items item) begun item tests) ≡ Some fault.NotOnLane
+    → (tests : ItemFigure → List Test) → first_of (tests_of_item (find_item items item) begun item tests) ≡ Some fault.NotOnLane
 not_on_lane items begun item e tests =
-    ap (λ (o : Option ItemFigure). first_of (with_item o begun item tests)) (found_nowhere (λ (g : ItemFigure). g.item.0 == item) items e)
+    ap (λ (o : Option ItemFigure). first_of (tests_of_item o begun item tests)) (found_nowhere (λ (g : ItemFigure). g.item.0 == item) items e)
 
 pub found_figure : (items : List ItemFigure) (item k : ℕ) (g : ItemFigure) → position (λ g. g.item.0 == item) items ≡ Some k → slice_get items k ≡ Some g → find_item items item ≡ Some g
 found_figure items item k g e at = (found_at (λ (g : ItemFigure). g.item.0 == item) items k e).1 ∙ at
 
 pub out_of_turn : (items : List ItemFigure) (begun : Option ℕ) (item k : ℕ) (g : ItemFigure) → position (λ g. g.item.0 == item) items ≡ Some k → slice_get items k ≡ Some g
     → (g.ended || is_other_begun begun item) ≡ true
-    → (tests : ItemFigure → List Test) → first_of (with_item (find_item items item) begun item tests) ≡ Some fault.AfterItemEnd
+    → (tests : ItemFigure → List Test) → first_of (tests_of_item (find_item items item) begun item tests) ≡ Some fault.AfterItemEnd
 out_of_turn items begun item k g e at wrong tests =
-    let parts : first_of (with_item (Some g) begun item tests) ≡ Some fault.AfterItemEnd = rw wrong refl in
-    ap (λ (o : Option ItemFigure). first_of (with_item o begun item tests)) (found_figure items item k g e at) ∙ parts
+    let parts : first_of (tests_of_item (Some g) begun item tests) ≡ Some fault.AfterItemEnd = rw wrong refl in
+    ap (λ (o : Option ItemFigure). first_of (tests_of_item o begun item tests)) (found_figure items item k g e at) ∙ parts
 
 pub in_turn : (items : List ItemFigure) (begun : Option ℕ) (item k : ℕ) (g : ItemFigure) → position (λ g. g.item.0 == item) items ≡ Some k → slice_get items k ≡ Some g
     → (g.ended || is_other_begun begun item) ≡ false
-    → (tests : ItemFigure → List Test) (h : ItemFigure) → slice_get items k ≡ Some h → first_of (with_item (find_item items item) begun item tests) ≡ first_of (tests h)
+    → (tests : ItemFigure → List Test) (h : ItemFigure) → slice_get items k ≡ Some h → first_of (tests_of_item (find_item items item) begun item tests) ≡ first_of (tests h)
 in_turn items begun item k g e at right tests h here =
     let same : g ≡ h = cc in
-    let parts : first_of (with_item (Some g) begun item tests) ≡ first_of (tests g) = rw right refl in
-    ap (λ (o : Option ItemFigure). first_of (with_item o begun item tests)) (found_figure items item k g e at) ∙ parts ∙ ap (λ (i : ItemFigure). first_of (tests i)) same
+    let parts : first_of (tests_of_item (Some g) begun item tests) ≡ first_of (tests g) = rw right refl in
+    ap (λ (o : Option ItemFigure). first_of (tests_of_item o begun item tests)) (found_figure items item k g e at) ∙ parts ∙ ap (λ (i : ItemFigure). first_of (tests i)) same
 
 -- ---- a figure changed at its place
 

@@ -9,8 +9,8 @@ use Rattle.mrp_qty.specs.declared.quantity.TheConstants.{MOST}
 use Rattle.mrp_rows.specs.declared.numbers.ItemNo.{ItemNo}
 use Rattle.mrp_book.specs.declared.fault.BookFault.{BookFault}
 use Rattle.mrp_book.specs.declared.item.ItemFigure.{ItemFigure}
-use Rattle.mrp_book.specs.After.{at_item, with_line, with_end, with_reset, IsBook, IsWithin}
-use Rattle.mrp_book.specs.Faults.{Test, first_of, number_tests, with_item, find_item, line_tests, end_tests, reset_tests, IsInTurn}
+use Rattle.mrp_book.specs.After.{at_item, figure_after_line, with_end, figure_after_reset, IsBook, IsFigureWithin}
+use Rattle.mrp_book.specs.Faults.{Test, first_of, number_tests, tests_of_item, find_item, line_tests, end_tests, reset_tests, IsInTurn}
 use Rattle.mrp_book.specs.Figures.{Figures}
 use Rattle.mrp_book.proofs.Places.{first_passed, first_of-ok, changed_at, shown_at}
 
@@ -35,18 +35,18 @@ names_kept (x ∷ items) zero g h at same =
 names_kept (x ∷ items) (suc k) g h at same = ap (λ (z : List ItemNo). x.item ∷ z) (names_kept items k g h at same)
 
 book_kept : (next : ℕ) (names : List ItemNo) (items : List ItemFigure) (k : ℕ) (g h : ItemFigure) → IsBook next names items → slice_get items k ≡ Some g → h.item ≡ g.item → next ≤ MOST
-    → IsWithin (next + 1) h → IsBook (next + 1) names (set items k h)
+    → IsFigureWithin (next + 1) h → IsBook (next + 1) names (set items k h)
 book_kept next names items k g h kept at same small within =
-    let wider : (i : ItemFigure) → IsWithin next i → IsWithin (next + 1) i = λ i w. record { figure = w.figure; lines = omega (arith, w.lines) } in
+    let wider : (i : ItemFigure) → IsFigureWithin next i → IsFigureWithin (next + 1) i = λ i w. record { figure = w.figure; lines = omega (arith, w.lines) } in
     record {
       small = omega (arith, small);
       names_are = kept.names_are ∙ sym (names_kept items k g h at same);
-      within = All-set (IsWithin (next + 1)) items k h within (All-weaker (IsWithin next) (IsWithin (next + 1)) wider items kept.within);
+      within = All-set (IsFigureWithin (next + 1)) items k h within (All-weaker (IsFigureWithin next) (IsFigureWithin (next + 1)) wider items kept.within);
     }
 
-within_at : (next : ℕ) (items : List ItemFigure) (k : ℕ) (g : ItemFigure) → k < length items → All (IsWithin next) items → slice_get items k ≡ Some g → IsWithin next g
+within_at : (next : ℕ) (items : List ItemFigure) (k : ℕ) (g : ItemFigure) → k < length items → All (IsFigureWithin next) items → slice_get items k ≡ Some g → IsFigureWithin next g
 within_at next items k g l all at =
-    subst (IsWithin next) (get_or_from_slice_get items k g g at) (All-get_or (IsWithin next) items k g l all)
+    subst (IsFigureWithin next) (get_or_from_slice_get items k g g at) (All-get_or (IsFigureWithin next) items k g l all)
 
 -- ---- a record of an item whose turn it is
 
@@ -72,9 +72,9 @@ advanced f begun items = record f { next = f.next + 1; begun = begun; items = it
 
 module _ {mine book : Figures} {number item k : ℕ} {g : ItemFigure} (t : InTurn mine book number item k g) where
   -- the first fault is that of the record's own tests
-  pub own_fault : (tests : ItemFigure → List Test) (o : Option BookFault) → first_of (tests g) ≡ o → first_of (number_tests book number ++ with_item (find_item book.items item) book.begun item tests) ≡ o
+  pub own_fault : (tests : ItemFigure → List Test) (o : Option BookFault) → first_of (tests g) ≡ o → first_of (number_tests book number ++ tests_of_item (find_item book.items item) book.begun item tests) ≡ o
   own_fault tests o own =
-      first_of-ok (number_tests book number) (with_item (find_item book.items item) book.begun item tests) t.fresh ∙ t.turn.2 tests g t.at ∙ own
+      first_of-ok (number_tests book number) (tests_of_item (find_item book.items item) book.begun item tests) t.fresh ∙ t.turn.2 tests g t.at ∙ own
 
   -- the tests of a line by the kind and the horizon that the book shows
   pub shown_line_tests : (horizon period quantity cumulative : ℕ) (o : Option BookFault) → horizon ≡ mine.horizon
@@ -105,13 +105,13 @@ module _ {mine book : Figures} {number item k : ℕ} {g : ItemFigure} (t : InTur
       ap (λ (f : Figures). advanced f begun (set mine.items k h)) t.same ∙ ap (λ (z : List ItemFigure). advanced book begun z) items
 
   kept : (names : List ItemNo) (again h : ItemFigure) (change : ItemFigure → ItemFigure) → IsBook mine.next names mine.items → again ≡ get_or mine.items k again → h ≡ change again
-      → (change g).item ≡ g.item → number ≤ MOST → (IsWithin mine.next g → IsWithin (mine.next + 1) (change g)) → IsBook (mine.next + 1) names (set mine.items k h)
+      → (change g).item ≡ g.item → number ≤ MOST → (IsFigureWithin mine.next g → IsFigureWithin (mine.next + 1) (change g)) → IsBook (mine.next + 1) names (set mine.items k h)
   kept names again h change was read is same small within =
       let changed : h ≡ change g = changed_is again h change read is in
-      let w : IsWithin (mine.next + 1) (change g) = within (within_at mine.next mine.items k g t.inside was.within t.here) in
-      book_kept mine.next names mine.items k g h was t.here (ap (λ (i : ItemFigure). i.item) changed ∙ same) (omega (arith, small, number_is_next)) (subst (IsWithin (mine.next + 1)) (sym changed) w)
+      let w : IsFigureWithin (mine.next + 1) (change g) = within (within_at mine.next mine.items k g t.inside was.within t.here) in
+      book_kept mine.next names mine.items k g h was t.here (ap (λ (i : ItemFigure). i.item) changed ∙ same) (omega (arith, small, number_is_next)) (subst (IsFigureWithin (mine.next + 1)) (sym changed) w)
 
-  pub line_kept : (names : List ItemNo) (again h : ItemFigure) (period quantity cumulative : ℕ) → IsBook mine.next names mine.items → again ≡ get_or mine.items k again → h ≡ with_line period quantity again
+  pub line_kept : (names : List ItemNo) (again h : ItemFigure) (period quantity cumulative : ℕ) → IsBook mine.next names mine.items → again ≡ get_or mine.items k again → h ≡ figure_after_line period quantity again
       → first_of (line_tests book.rising book.horizon number period quantity cumulative g) ≡ None → IsBook (mine.next + 1) names (set mine.items k h)
   line_kept names again h period quantity cumulative was read is free =
       let tests = line_tests book.rising book.horizon number period quantity cumulative g in
@@ -119,7 +119,7 @@ module _ {mine book : Figures} {number item k : ℕ} {g : ItemFigure} (t : InTur
       let figure : cumulative ≡ g.figure + quantity = eqb-true cumulative (g.figure + quantity) (not-false (cumulative == g.figure + quantity) none.1.1.0) in
       let sizes = or_parts (nat_lt MOST number) (nat_lt MOST (cumulative + g.closed)) none.1.1.1.0 in
       let all : cumulative + g.closed ≤ MOST = ltb-false MOST (cumulative + g.closed) sizes.1 in
-      kept names again h (with_line period quantity) was read is refl (ltb-false MOST number sizes.0) (λ w. record { figure = omega (arith, all, figure); lines = omega (arith, w.lines) })
+      kept names again h (figure_after_line period quantity) was read is refl (ltb-false MOST number sizes.0) (λ w. record { figure = omega (arith, all, figure); lines = omega (arith, w.lines) })
 
   pub end_kept : (names : List ItemNo) (again h : ItemFigure) (lines cumulative : ℕ) → IsBook mine.next names mine.items → again ≡ get_or mine.items k again → h ≡ with_end again
       → first_of (end_tests number lines cumulative g) ≡ None → IsBook (mine.next + 1) names (set mine.items k h)
@@ -127,8 +127,8 @@ module _ {mine book : Figures} {number item k : ℕ} {g : ItemFigure} (t : InTur
       let none : NoneHolds (end_tests number lines cumulative g) = none_holds (end_tests number lines cumulative g) free in
       kept names again h with_end was read is refl (ltb-false MOST number none.0) (λ w. record { figure = w.figure; lines = omega (arith, w.lines) })
 
-  pub reset_kept : (names : List ItemNo) (again h : ItemFigure) (closed : ℕ) → IsBook mine.next names mine.items → again ≡ get_or mine.items k again → h ≡ with_reset again
+  pub reset_kept : (names : List ItemNo) (again h : ItemFigure) (closed : ℕ) → IsBook mine.next names mine.items → again ≡ get_or mine.items k again → h ≡ figure_after_reset again
       → first_of (reset_tests number closed g) ≡ None → IsBook (mine.next + 1) names (set mine.items k h)
   reset_kept names again h closed was read is free =
       let none : NoneHolds (reset_tests number closed g) = none_holds (reset_tests number closed g) free in
-      kept names again h with_reset was read is refl (ltb-false MOST number none.0) (λ w. record { figure = omega (arith, w.figure); lines = omega (arith, w.lines) })
+      kept names again h figure_after_reset was read is refl (ltb-false MOST number none.0) (λ w. record { figure = omega (arith, w.figure); lines = omega (arith, w.lines) })

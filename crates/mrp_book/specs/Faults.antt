@@ -45,18 +45,18 @@ is_other_begun None item = false
 is_other_begun (Some begun) item = not (begun == item)
 
 -- the tests of a record of an item: it is on the lane, its block goes on, and what the record itself asks
-abbrev pub with_item : Option ItemFigure → Option ℕ → ℕ → (ItemFigure → List Test) → List Test
-with_item None begun item tests = test true fault.NotOnLane ∷ []
-with_item (Some g) begun item tests = test (g.ended || is_other_begun begun item) fault.AfterItemEnd ∷ tests g
+abbrev pub tests_of_item : Option ItemFigure → Option ℕ → ℕ → (ItemFigure → List Test) → List Test
+tests_of_item None begun item tests = test true fault.NotOnLane ∷ []
+tests_of_item (Some g) begun item tests = test (g.ended || is_other_begun begun item) fault.AfterItemEnd ∷ tests g
 
 -- ---- lines
 
 -- the period isn't below the horizon or, on a schedule lane, not after the last line's
-abbrev pub is_period_wrong : Bool → ℕ → ItemFigure → ℕ → Bool
-is_period_wrong rising horizon g period = nat_le horizon period || (rising && nat_lt period g.next_period)
+abbrev pub period_is_wrong : Bool → ℕ → ItemFigure → ℕ → Bool
+period_is_wrong rising horizon g period = nat_le horizon period || (rising && nat_lt period g.next_period)
 
-abbrev pub is_cum_wrong : ItemFigure → ℕ → ℕ → Bool
-is_cum_wrong g quantity cumulative = not (cumulative == g.figure + quantity)
+abbrev pub cum_is_wrong : ItemFigure → ℕ → ℕ → Bool
+cum_is_wrong g quantity cumulative = not (cumulative == g.figure + quantity)
 
 abbrev pub is_too_large : ItemFigure → ℕ → ℕ → Bool
 is_too_large g number cumulative = nat_lt MOST number || nat_lt MOST (cumulative + g.closed)
@@ -67,16 +67,16 @@ is_side_wrong g period = if g.was_reset then not (is_anew g.reset period) else i
 
 abbrev pub line_tests : Bool → ℕ → ℕ → ℕ → ℕ → ℕ → ItemFigure → List Test
 line_tests rising horizon number period quantity cumulative g =
-    test (is_period_wrong rising horizon g period) fault.PeriodWrong ∷
+    test (period_is_wrong rising horizon g period) fault.PeriodWrong ∷
     test (quantity == 0) fault.QuantityZero ∷
-    test (is_cum_wrong g quantity cumulative) fault.CumWrong ∷
+    test (cum_is_wrong g quantity cumulative) fault.CumWrong ∷
     test (is_too_large g number cumulative) fault.TooLarge ∷
     test (is_side_wrong g period) fault.ResetWrong ∷ []
 
 -- ---- item ends and resets
 
-abbrev pub is_end_wrong : ItemFigure → ℕ → ℕ → Bool
-is_end_wrong g lines cumulative = not (lines == g.lines) || not (cumulative == g.figure)
+abbrev pub end_is_wrong : ItemFigure → ℕ → ℕ → Bool
+end_is_wrong g lines cumulative = not (lines == g.lines) || not (cumulative == g.figure)
 
 abbrev pub is_reset_missing : ItemFigure → Bool
 is_reset_missing g = is_some g.reset && not g.was_reset
@@ -84,17 +84,17 @@ is_reset_missing g = is_some g.reset && not g.was_reset
 abbrev pub end_tests : ℕ → ℕ → ℕ → ItemFigure → List Test
 end_tests number lines cumulative g =
     test (nat_lt MOST number) fault.TooLarge ∷
-    test (is_end_wrong g lines cumulative) fault.EndWrong ∷
+    test (end_is_wrong g lines cumulative) fault.EndWrong ∷
     test (is_reset_missing g) fault.ResetWrong ∷ []
 
 -- none is awaited, it is booked already, or it closes another figure than the one in force
-abbrev pub is_reset_wrong : ItemFigure → ℕ → Bool
-is_reset_wrong g closed = not (is_some g.reset) || (g.was_reset || not (closed == g.figure))
+abbrev pub reset_is_wrong : ItemFigure → ℕ → Bool
+reset_is_wrong g closed = not (is_some g.reset) || (g.was_reset || not (closed == g.figure))
 
 abbrev pub reset_tests : ℕ → ℕ → ItemFigure → List Test
 reset_tests number closed g =
     test (nat_lt MOST number) fault.TooLarge ∷
-    test (is_reset_wrong g closed) fault.ResetWrong ∷ []
+    test (reset_is_wrong g closed) fault.ResetWrong ∷ []
 
 -- ---- the closing record
 
@@ -107,10 +107,10 @@ close_tests book number =
 
 abbrev pub own_tests : Figures → Record → List Test
 own_tests book (Line number item period quantity cumulative) =
-    with_item (find_item book.items item.0) book.begun item.0 (line_tests book.rising book.horizon number period quantity cumulative)
+    tests_of_item (find_item book.items item.0) book.begun item.0 (line_tests book.rising book.horizon number period quantity cumulative)
 own_tests book (ItemEnd number item lines cumulative) =
-    with_item (find_item book.items item.0) book.begun item.0 (end_tests number lines cumulative)
-own_tests book (Reset number item closed) = with_item (find_item book.items item.0) book.begun item.0 (reset_tests number closed)
+    tests_of_item (find_item book.items item.0) book.begun item.0 (end_tests number lines cumulative)
+own_tests book (Reset number item closed) = tests_of_item (find_item book.items item.0) book.begun item.0 (reset_tests number closed)
 own_tests book (Close number) = close_tests book number
 
 abbrev pub first_fault : Figures → Record → Option BookFault
@@ -128,5 +128,5 @@ IsInTurn result book item =
     (position (λ g. g.item.0 == item) book.items ≡ Some place)
     × (place < length book.items)
     × ((tests : ItemFigure → List Test) (g : ItemFigure) → slice_get book.items place ≡ Some g
-    → first_of (with_item (find_item book.items item) book.begun item tests) ≡ first_of (tests g)))
-    (λ f. (tests : ItemFigure → List Test) → first_of (with_item (find_item book.items item) book.begun item tests) ≡ Some f)
+    → first_of (tests_of_item (find_item book.items item) book.begun item tests) ≡ first_of (tests g)))
+    (λ f. (tests : ItemFigure → List Test) → first_of (tests_of_item (find_item book.items item) book.begun item tests) ≡ Some f)

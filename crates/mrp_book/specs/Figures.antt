@@ -55,15 +55,15 @@ figures form records = record {
 }
 
 -- a lane has each item once, and no opening figure is above 10^15
-abbrev pub is_same_item : FormItem → FormItem → Bool
-is_same_item a b = a.item == b.item
+abbrev pub is_same_in_form : FormItem → FormItem → Bool
+is_same_in_form a b = a.item == b.item
 
 pub record IsForm (form : LaneForm) : Type 0 where
-  pub once : IsDistinct is_same_item form.items
+  pub once : IsDistinct is_same_in_form form.items
   pub openings : All (λ i. i.opening ≤ MOST) form.items
 
 -- a book shows a list in form where its figures are those that the list gives
-pub record Shows (form : LaneForm) (book : Figures) (records : List Record) : Type 0 where
+pub record BookShows (form : LaneForm) (book : Figures) (records : List Record) : Type 0 where
   pub lane : IsForm form
   pub in_form : IsInForm form records
   pub is : book ≡ figures form records
@@ -73,11 +73,11 @@ abbrev pub rises_on : LaneKind → Bool
 rises_on Despatch = false
 rises_on Schedule = true
 
-abbrev pub form_item : BookItem → FormItem
-form_item i = record { item = i.item.0; opening = i.opening; reset = i.reset }
+abbrev pub book_form_item : BookItem → FormItem
+book_form_item i = record { item = i.item.0; opening = i.opening; reset = i.reset }
 
-abbrev pub form_of : LaneKind → ℕ → List BookItem → LaneForm
-form_of kind horizon items = record { rising = rises_on kind; horizon = horizon; items = map form_item items }
+abbrev pub book_form : LaneKind → ℕ → List BookItem → LaneForm
+book_form kind horizon items = record { rising = rises_on kind; horizon = horizon; items = map book_form_item items }
 
 abbrev pub is_same_book_item : BookItem → BookItem → Bool
 is_same_book_item a b = a.item.0 == b.item.0

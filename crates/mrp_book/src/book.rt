@@ -57,7 +57,7 @@ impl Book {
     ghost use Rattle.mrp_record.specs.Entries.{contents, cum, in_force, is_closed, is_ended};
     ghost use Rattle.mrp_record.specs.Form.{item_on, IsInForm, LaneForm};
     ghost use Rattle.mrp_record.specs.declared.record.Record.{Record};
-    ghost use Rattle.mrp_book.specs.Figures.{figures, form_of, is_same_book_item, Shows};
+    ghost use Rattle.mrp_book.specs.Figures.{figures, book_form, is_same_book_item, BookShows};
     ghost use Rattle.mrp_book.specs.Meanings.{first_had};
 
     /// The book of a lane's receiver before the first record.
@@ -75,7 +75,7 @@ impl Book {
         items: &[BookItem],
     ) -> Result<Book, AllocError>
         requires once { IsDistinct is_same_book_item items.now }
-        ensures shows { IfOk result (λ book. Shows (form_of kind horizon items.now) book []) }
+        ensures shows { IfOk result (λ book. BookShows (book_form kind horizon items.now) book []) }
     {
         let mut places = Places::new(alloc);
         let mut figures = Vec::new(alloc);
@@ -100,10 +100,10 @@ impl Book {
     ///
     /// The first fault that holds; then nothing has changed.
     pub fn book(&mut self, entry: &Record) -> Result<(), BookFault>
-        ensures booked { OnOk result ((F : LaneForm) (records : List Record) → Shows F self.old records → Shows F self.new (records ++ entry.now ∷ [])) }
-        ensures refused { IfErr result (λ fault. (F : LaneForm) (records : List Record) → Shows F self.old records
+        ensures booked { OnOk result ((F : LaneForm) (records : List Record) → BookShows F self.old records → BookShows F self.new (records ++ entry.now ∷ [])) }
+        ensures refused { IfErr result (λ fault. (F : LaneForm) (records : List Record) → BookShows F self.old records
             → (first_fault (figures F records) entry.now ≡ Some fault) × (IsInForm F (records ++ entry.now ∷ []) → ⊥)) }
-        ensures first { IfErr result (λ fault. (F : LaneForm) (records : List Record) → Shows F self.old records → first_had F records entry.now ≡ Some fault) }
+        ensures first { IfErr result (λ fault. (F : LaneForm) (records : List Record) → BookShows F self.old records → first_had F records entry.now ≡ Some fault) }
         ensures unchanged { OnErr result (self.new ≡ self.old) }
     {
         self.book_exactly(*entry)
@@ -111,7 +111,7 @@ impl Book {
 
     /// The cumulative figure of an item, closed years added, or `None` where it isn't on the lane.
     pub fn cumulative(&self, item: ItemNo) -> Option<Qty>
-        ensures { (F : LaneForm) (records : List Record) → Shows F self.now records
+        ensures { (F : LaneForm) (records : List Record) → BookShows F self.now records
             → result ≡ option_map (λ i. cum i.opening i.item (contents records)) (item_on F item.0) }
     {
         match self.find(item) {
@@ -126,7 +126,7 @@ impl Book {
     /// The figure in force of an item, counted since its reset if that is booked, or `None` where it isn't
     /// on the lane.
     pub fn in_force(&self, item: ItemNo) -> Option<Qty>
-        ensures { (F : LaneForm) (records : List Record) → Shows F self.now records
+        ensures { (F : LaneForm) (records : List Record) → BookShows F self.now records
             → result ≡ option_map (λ i. in_force i.opening i.item (contents records)) (item_on F item.0) }
     {
         match self.find(item) {
@@ -140,7 +140,7 @@ impl Book {
 
     /// Whether the end of an item is booked; false where it isn't on the lane.
     pub fn ended(&self, item: ItemNo) -> bool
-        ensures { (F : LaneForm) (records : List Record) → Shows F self.now records
+        ensures { (F : LaneForm) (records : List Record) → BookShows F self.now records
             → result ≡ unwrap_or (option_map (λ i. is_ended i.item (contents records)) (item_on F item.0)) false }
     {
         match self.find(item) {
@@ -154,14 +154,14 @@ impl Book {
 
     /// Whether the closing record is booked.
     pub fn closed(&self) -> bool
-        ensures { (F : LaneForm) (records : List Record) → Shows F self.now records → result ≡ is_closed (contents records) }
+        ensures { (F : LaneForm) (records : List Record) → BookShows F self.now records → result ≡ is_closed (contents records) }
     {
         self.closed
     }
 
     /// The number of the next record, from 1.
     pub fn next_number(&self) -> u64
-        ensures { (F : LaneForm) (records : List Record) → Shows F self.now records → result ≡ length records + 1 }
+        ensures { (F : LaneForm) (records : List Record) → BookShows F self.now records → result ≡ length records + 1 }
     {
         self.next
     }

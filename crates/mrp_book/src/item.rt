@@ -41,8 +41,8 @@ pub struct ItemFigure {
 
 impl ItemFigure {
     ghost use Rattle.mrp_record.specs.Form.{is_anew};
-    ghost use Rattle.mrp_book.specs.After.{opened, with_line, with_end, with_reset};
-    ghost use Rattle.mrp_book.specs.Faults.{is_period_wrong, is_cum_wrong, is_too_large, is_side_wrong, is_end_wrong, is_reset_missing, is_reset_wrong};
+    ghost use Rattle.mrp_book.specs.After.{opened, figure_after_line, with_end, figure_after_reset};
+    ghost use Rattle.mrp_book.specs.Faults.{period_is_wrong, cum_is_wrong, is_too_large, is_side_wrong, end_is_wrong, is_reset_missing, reset_is_wrong};
     ghost use Rattle.mrp_book.specs.Faults.{Answers, line_tests, end_tests, reset_tests};
 
     /// The figures of an item before its first record.
@@ -74,14 +74,14 @@ impl ItemFigure {
 
     /// Whether a line's period is past the horizon or, where periods rise, not after the last line's.
     fn is_period_wrong(&self, rising: bool, horizon: u64, period: u64) -> bool
-        ensures { result ≡ is_period_wrong rising horizon self.now period }
+        ensures { result ≡ period_is_wrong rising horizon self.now period }
     {
         horizon <= period || (rising && period < self.next_period)
     }
 
     /// Whether a line's figure isn't the one in force plus its quantity.
     fn is_cum_wrong(&self, quantity: u64, cumulative: u64) -> bool
-        ensures { result ≡ is_cum_wrong self.now quantity cumulative }
+        ensures { result ≡ cum_is_wrong self.now quantity cumulative }
     {
         cumulative < self.figure || cumulative - self.figure != quantity
     }
@@ -106,7 +106,7 @@ impl ItemFigure {
 
     /// Whether an item end differs from what is booked.
     fn is_end_wrong(&self, lines: u64, cumulative: u64) -> bool
-        ensures { result ≡ is_end_wrong self.now lines cumulative }
+        ensures { result ≡ end_is_wrong self.now lines cumulative }
     {
         lines != self.lines || cumulative != self.figure
     }
@@ -120,7 +120,7 @@ impl ItemFigure {
 
     /// Whether no reset is awaited, or one is booked, or it closes another figure than the one in force.
     fn is_reset_wrong(&self, closed: u64) -> bool
-        ensures { result ≡ is_reset_wrong self.now closed }
+        ensures { result ≡ reset_is_wrong self.now closed }
     {
         self.reset.is_none() || self.was_reset || closed != self.figure
     }
@@ -194,7 +194,7 @@ impl ItemFigure {
         requires figure { self.old.figure + quantity ≤ MOST }
         requires lines { self.old.lines ≤ MOST }
         requires period { period + 1 < 2 ^ 64 }
-        ensures { self.new ≡ with_line period quantity self.old }
+        ensures { self.new ≡ figure_after_line period quantity self.old }
     {
         self.figure += quantity;
         self.lines += 1;
@@ -211,7 +211,7 @@ impl ItemFigure {
     /// Books a reset: the figure in force is closed.
     pub(crate) fn add_reset(&mut self)
         requires { self.old.figure + self.old.closed ≤ MOST }
-        ensures { self.new ≡ with_reset self.old }
+        ensures { self.new ≡ figure_after_reset self.old }
     {
         self.closed += self.figure;
         self.figure = 0;

@@ -8,7 +8,7 @@ use Rattle.mrp_lot.proofs.OneLaws.{one-gross}
 use Rattle.mrp_rows.specs.declared.numbers.PairNo.{PairNo}
 use Rattle.mrp_local.specs.Local.{amount_at, asked_within}
 use Rattle.mrp_agent.specs.Drafts.{CanDraft, drafted, drafted_gross, drafted_incoming}
-use Rattle.mrp_agent.specs.State.{AgentState, pair_of, plans_of}
+use Rattle.mrp_agent.specs.State.{AgentState, pair_owned, plans_of}
 use Rattle.mrp_agent.specs.Drafts.{ready_numbers}
 use Rattle.mrp_crew.specs.declared.work.Drafts.{Drafts}
 use Rattle.mrp_crew.specs.declared.work.Work.{Work}
@@ -19,7 +19,7 @@ use Rattle.mrp_crew.proofs.Fronts.{All-front, All-from_map, All-reverse, AllPair
 -- a draft is of the agent's periods
 pub drafted_periods : (A : AgentState) (x : PairNo) → length (drafted A x).gross ≡ A.view.horizon
 drafted_periods A x =
-    ap length (one-gross (pair_of A.view x).params (drafted_incoming A x) (drafted_gross A x))
+    ap length (one-gross (pair_owned A.view x).params (drafted_incoming A x) (drafted_gross A x))
     ∙ length-map-range_with_len (λ t. amount_at A.view A.called x t + asked_within A.view (plans_of A) x t) 0 A.view.horizon
 
 -- what the workers bring back, in the order of the pairs

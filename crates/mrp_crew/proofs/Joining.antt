@@ -9,7 +9,7 @@ use Rattle.mrp_agent.specs.State.{AgentState}
 use Rattle.mrp_crew.specs.declared.work.Drafts.{Drafts}
 use Rattle.mrp_crew.specs.declared.work.Order.{Order}
 use Rattle.mrp_crew.specs.declared.work.Work.{Work}
-use Rattle.mrp_crew.specs.Rooms.{AreDrafts, IsRoom, WorkedFor, pairs_of}
+use Rattle.mrp_crew.specs.Rooms.{AreDrafts, IsRoom, WorkedFor, pairs_worked}
 use Rattle.mrp_crew.specs.Started.{ordered}
 use Rattle.mrp_crew.proofs.Fronts.{reverse-push}
 
@@ -32,22 +32,22 @@ started_all pairs i workers none so_far = sym (take_all i pairs none) ∙ so_far
 
 -- one is joined
 pub joined_pairs : {G : Type 0} (workers rest : List (Worker G)) (h : Worker G) (works more : List Work) (w : Work) (pairs : List PairNo) → workers ≡ rest ++ h ∷ [] → more ≡ works ++ w ∷ []
-    → w.pair ≡ h.promise.pair → ordered workers ++ pairs_of (reverse works) ≡ pairs → ordered rest ++ pairs_of (reverse more) ≡ pairs
+    → w.pair ≡ h.promise.pair → ordered workers ++ pairs_worked (reverse works) ≡ pairs → ordered rest ++ pairs_worked (reverse more) ≡ pairs
 joined_pairs workers rest h works more w pairs popped pushed its so_far =
-    ap (λ (z : List Work). ordered rest ++ pairs_of z) (ap (λ (z : List Work). reverse z) pushed ∙ reverse-push works w)
-    ∙ ap (λ (x : PairNo). ordered rest ++ x ∷ pairs_of (reverse works)) its
-    ∙ sym (append_assoc (ordered rest) (h.promise.pair ∷ []) (pairs_of (reverse works)))
-    ∙ ap (λ (z : List PairNo). z ++ pairs_of (reverse works)) (sym (ordered-push rest workers h popped))
+    ap (λ (z : List Work). ordered rest ++ pairs_worked z) (ap (λ (z : List Work). reverse z) pushed ∙ reverse-push works w)
+    ∙ ap (λ (x : PairNo). ordered rest ++ x ∷ pairs_worked (reverse works)) its
+    ∙ sym (append_assoc (ordered rest) (h.promise.pair ∷ []) (pairs_worked (reverse works)))
+    ∙ ap (λ (z : List PairNo). z ++ pairs_worked (reverse works)) (sym (ordered-push rest workers h popped))
     ∙ so_far
 
 -- the only result so far
-pub only_pair : (before works : List Work) (w : Work) (own : PairNo) → before ≡ [] → works ≡ before ++ w ∷ [] → w.pair ≡ own → pairs_of (reverse works) ≡ own ∷ []
+pub only_pair : (before works : List Work) (w : Work) (own : PairNo) → before ≡ [] → works ≡ before ++ w ∷ [] → w.pair ≡ own → pairs_worked (reverse works) ≡ own ∷ []
 only_pair before works w own none pushed its =
-    ap (λ (z : List Work). pairs_of (reverse z)) (pushed ∙ ap (λ (z : List Work). z ++ w ∷ []) none) ∙ ap (λ (x : PairNo). x ∷ []) its
+    ap (λ (z : List Work). pairs_worked (reverse z)) (pushed ∙ ap (λ (z : List Work). z ++ w ∷ []) none) ∙ ap (λ (x : PairNo). x ∷ []) its
 
 -- a thread was refused
 pub refused_drafts : {G : Type 0} (A : AgentState) (others : List PairNo) (own : PairNo) (workers : List (Worker G)) (rest : List PairNo) (drafts : Drafts) → drafts.all ≡ false
-    → others ≡ ordered workers ++ rest → pairs_of (reverse drafts.works.items) ≡ ordered workers ++ [] → All (WorkedFor A) drafts.works.items
+    → others ≡ ordered workers ++ rest → pairs_worked (reverse drafts.works.items) ≡ ordered workers ++ [] → All (WorkedFor A) drafts.works.items
     → All (IsRoom A.view.horizon) drafts.rooms.items → AreDrafts A (others ++ own ∷ []) drafts
 refused_drafts A others own workers rest drafts refused started pairs worked rooms = record {
   left_out = rest ++ own ∷ [];
@@ -60,14 +60,14 @@ refused_drafts A others own workers rest drafts refused started pairs worked roo
 
 -- all threads were started
 pub whole_drafts : {G : Type 0} (A : AgentState) (others : List PairNo) (own : PairNo) (workers : List (Worker G)) (rest : List PairNo) (drafts : Drafts) → rest ≡ []
-    → others ≡ ordered workers ++ rest → pairs_of (reverse drafts.works.items) ≡ ordered workers ++ own ∷ [] → All (WorkedFor A) drafts.works.items
+    → others ≡ ordered workers ++ rest → pairs_worked (reverse drafts.works.items) ≡ ordered workers ++ own ∷ [] → All (WorkedFor A) drafts.works.items
     → All (IsRoom A.view.horizon) drafts.rooms.items → AreDrafts A (others ++ own ∷ []) drafts
 whole_drafts A others own workers rest drafts none started pairs worked rooms =
-    let whole : others ++ own ∷ [] ≡ pairs_of (reverse drafts.works.items) =
+    let whole : others ++ own ∷ [] ≡ pairs_worked (reverse drafts.works.items) =
     ap (λ (z : List PairNo). z ++ own ∷ []) (started ∙ ap (λ (z : List PairNo). ordered workers ++ z) none ∙ append-nil (ordered workers)) ∙ sym pairs in
     record {
       left_out = [];
-      front = whole ∙ sym (append-nil (pairs_of (reverse drafts.works.items)));
+      front = whole ∙ sym (append-nil (pairs_worked (reverse drafts.works.items)));
       all = λ t. sym (length-reverse drafts.works.items) ∙ sym (length-map (reverse drafts.works.items) (λ (w : Work). w.pair)) ∙ ap length (sym whole);
       worked = worked;
       rooms = rooms;

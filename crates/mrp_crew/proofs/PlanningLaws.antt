@@ -6,7 +6,7 @@ use Rattle.mrp_rows.specs.declared.numbers.PairNo.{PairNo}
 use Rattle.mrp_record.specs.declared.record.Record.{Record}
 use Rattle.mrp_events.specs.State.{changed}
 use Rattle.mrp_ready.specs.Progress.{left_of}
-use Rattle.mrp_agent.specs.Shows.{Shows}
+use Rattle.mrp_agent.specs.Shows.{ShowsHistory}
 use Rattle.mrp_agent.specs.State.{AgentState}
 use Rattle.mrp_crew.specs.Laws.{PlanningKeepsAtWork}
 use Rattle.mrp_crew.specs.Planning.{IsPlannable, PlansAll, all_planned}
@@ -42,8 +42,8 @@ plans_none A = record {
 -- ---- one
 
 pub plans_one : (A B : AgentState) (x : PairNo) → B.view ≡ A.view → left_of B.progress.planned + 1 ≡ left_of A.progress.planned
-    → ((sent taken : ℕ → List Record) (planned : ℕ → Bool) → Shows A sent taken planned → planned x.0 ≡ false)
-    → ((sent taken : ℕ → List Record) (planned : ℕ → Bool) → Shows A sent taken planned → Shows B sent taken (changed planned x.0 true))
+    → ((sent taken : ℕ → List Record) (planned : ℕ → Bool) → ShowsHistory A sent taken planned → planned x.0 ≡ false)
+    → ((sent taken : ℕ → List Record) (planned : ℕ → Bool) → ShowsHistory A sent taken planned → ShowsHistory B sent taken (changed planned x.0 true))
     → PlansAll A B (x ∷ [])
 plans_one A B x view left unplanned shows = record {
   view = view;
@@ -79,5 +79,5 @@ plans_append A B C xs ys first then_ = record {
       (All-weaker (λ (y : PairNo). all_planned planned xs y.0 ≡ false) (λ (y : PairNo). planned y.0 ≡ false) (λ y is. unplanned_before planned xs y.0 is) ys
       (then_.unplanned sent taken (all_planned planned xs) (first.shows sent taken planned shown)));
   shows = λ sent taken planned shown.
-      subst (Shows C sent taken) (sym (all_planned-append planned xs ys)) (then_.shows sent taken (all_planned planned xs) (first.shows sent taken planned shown));
+      subst (ShowsHistory C sent taken) (sym (all_planned-append planned xs ys)) (then_.shows sent taken (all_planned planned xs) (first.shows sent taken planned shown));
 }

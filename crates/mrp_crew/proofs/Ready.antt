@@ -3,14 +3,14 @@ use Rattle.std.proofs.Common.{◌≡◌, ◌↔◌, ℕ, Bool, false, List, sym,
 use Rattle.std.proofs.lemmas.List.Elements.{All-contains, All-contains_itself, All-weaker}
 use Rattle.mrp_rows.specs.declared.numbers.PairNo.{PairNo}
 use Rattle.mrp_view.specs.declared.view.PlantPair.{PlantPair}
-use Rattle.mrp_view.specs.Seen.{IsOwn}
+use Rattle.mrp_view.specs.Seen.{IsOwnPair}
 use Rattle.mrp_view.specs.View.{PlantRows, plant_pair, plant_rows}
 use Rattle.mrp_record.specs.declared.record.Record.{Record}
 use Rattle.mrp_local.specs.Laws.{IsPairAt}
 use Rattle.mrp_local.specs.Local.{CanBePlanned}
 use Rattle.mrp_local.proofs.Seeing.{own_at, seen_there}
 use Rattle.mrp_agent.specs.Drafts.{CanDraft, ready_numbers}
-use Rattle.mrp_agent.specs.Shows.{Shows}
+use Rattle.mrp_agent.specs.Shows.{ShowsHistory}
 use Rattle.mrp_agent.specs.State.{AgentState}
 use Rattle.mrp_agent.proofs.DraftLaws.{drafts_are_within}
 use Rattle.mrp_crew.specs.Planning.{IsPlannable}
@@ -18,17 +18,17 @@ use Rattle.mrp_crew.specs.Planning.{IsPlannable}
 -- the numbers are those of the pairs that can be planned
 abbrev pub AreReady : AgentState → List PairNo → Type 0
 AreReady A numbers =
-    (sent taken : ℕ → List Record) (planned : ℕ → Bool) → Shows A sent taken planned
+    (sent taken : ℕ → List Record) (planned : ℕ → Bool) → ShowsHistory A sent taken planned
     → (p : PlantPair) → Contains A.view.pairs p → Contains numbers p.number ↔ CanBePlanned A.view taken planned p
 
 -- ---- ready pairs
 
-module _ (A : AgentState) (can : IsPlannable A) (numbers : List PairNo) (same : numbers ≡ ready_numbers A) (own : All (IsOwn A.view) numbers) (exact : AreReady A numbers) where
+module _ (A : AgentState) (can : IsPlannable A) (numbers : List PairNo) (same : numbers ≡ ready_numbers A) (own : All (IsOwnPair A.view) numbers) (exact : AreReady A numbers) where
   exact_ready : AreReady A (ready_numbers A)
   exact_ready = subst (AreReady A) same exact
 
-  pub own_ready : (x : PairNo) → Contains (ready_numbers A) x → IsOwn A.view x
-  own_ready x listed = All-contains (IsOwn A.view) (ready_numbers A) x (subst (All (IsOwn A.view)) same own) listed
+  pub own_ready : (x : PairNo) → Contains (ready_numbers A) x → IsOwnPair A.view x
+  own_ready x listed = All-contains (IsOwnPair A.view) (ready_numbers A) x (subst (All (IsOwnPair A.view)) same own) listed
 
   at_plant : (x : PairNo) → Contains (ready_numbers A) x → IsPairAt can.network can.plant x.0
   at_plant x listed = own_at A.view can.network can.plant x can.works.view (own_ready x listed)
@@ -47,7 +47,7 @@ module _ (A : AgentState) (can : IsPlannable A) (numbers : List PairNo) (same : 
   }
 
   pub unplanned : (x : PairNo) → Contains (ready_numbers A) x
-      → (sent taken : ℕ → List Record) (planned : ℕ → Bool) → Shows A sent taken planned → planned x.0 ≡ false
+      → (sent taken : ℕ → List Record) (planned : ℕ → Bool) → ShowsHistory A sent taken planned → planned x.0 ≡ false
   unplanned x listed sent taken planned shown =
       let (q, there, is) = own_ready x listed in
       subst (λ (n : PairNo). planned n.0 ≡ false) is

@@ -7,8 +7,8 @@ use Rattle.mrp_crew.specs.declared.fault.CrewFault.{CrewFault}
 use Rattle.mrp_crew.specs.declared.fault.CrewFault.TheVariants.{Memory, ThreadRefused, GateShut}
 use Rattle.mrp_crew.specs.declared.work.Order.{Order}
 use Rattle.mrp_crew.specs.declared.work.Work.{Work}
-use Rattle.mrp_crew.specs.Shut.{AreLetIn, IsLetIn, WasShut}
-use Rattle.mrp_crew.specs.Started.{IsAt}
+use Rattle.mrp_crew.specs.Shut.{AreLetIn, IsLetIn, WasShutToWorker}
+use Rattle.mrp_crew.specs.Started.{IsWorkerOf}
 
 abbrev IsOpen : Work → Type 0
 IsOpen work = work.open ≡ true
@@ -36,15 +36,15 @@ memory_is_no_thread fault is refused = subst is_refused (sym refused ∙ is) tt
 -- ---- the worker to whom it was shut
 
 -- is that of the order
-pub let_in_at : {G : Type 0} (Shut : ℕ → ℕ → Type 0) (plant workers : ℕ) (worker : PromisedHandle Work (Order G)) (work : Work) → IsAt plant workers worker
-    → IsLetIn (Shut worker.promise.plant worker.promise.number) work → IsLetIn (WasShut Shut workers plant) work
+pub let_in_at : {G : Type 0} (Shut : ℕ → ℕ → Type 0) (plant workers : ℕ) (worker : PromisedHandle Work (Order G)) (work : Work) → IsWorkerOf plant workers worker
+    → IsLetIn (Shut worker.promise.plant worker.promise.number) work → IsLetIn (WasShutToWorker Shut workers plant) work
 let_in_at Shut plant workers worker work at shut = λ closed. (worker.promise.number, at.first, at.last, subst (λ (p : ℕ). Shut p worker.promise.number) at.plant_is (shut closed))
 
 -- and one of so many is one of more
-one_of_more : (Shut : ℕ → ℕ → Type 0) (few many plant : ℕ) → few ≤ many → WasShut Shut few plant → WasShut Shut many plant
+one_of_more : (Shut : ℕ → ℕ → Type 0) (few many plant : ℕ) → few ≤ many → WasShutToWorker Shut few plant → WasShutToWorker Shut many plant
 one_of_more Shut few many plant more shut = (shut.0, shut.1, omega (arith, shut.2, more), shut.3)
 
-pub let_in_of_more : (Shut : ℕ → ℕ → Type 0) (few many plant : ℕ) (works : List Work) → few ≤ many → AreLetIn (WasShut Shut few plant) works → AreLetIn (WasShut Shut many plant) works
+pub let_in_of_more : (Shut : ℕ → ℕ → Type 0) (few many plant : ℕ) (works : List Work) → few ≤ many → AreLetIn (WasShutToWorker Shut few plant) works → AreLetIn (WasShutToWorker Shut many plant) works
 let_in_of_more Shut few many plant works more shut = λ k d within closed. one_of_more Shut few many plant more (shut k d within closed)
 
 -- ---- all were let in, or it was shut to one

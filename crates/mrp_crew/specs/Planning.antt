@@ -7,7 +7,7 @@ use Rattle.mrp_record.specs.declared.record.Record.{Record}
 use Rattle.mrp_events.specs.State.{changed}
 use Rattle.mrp_ready.specs.Progress.{left_of}
 use Rattle.mrp_agent.specs.Laws.{WorksIn}
-use Rattle.mrp_agent.specs.Shows.{Shows}
+use Rattle.mrp_agent.specs.Shows.{ShowsHistory}
 use Rattle.mrp_agent.specs.State.{AgentState}
 
 -- the agent of a plant of some sized network, to which legal beginnings have come
@@ -34,5 +34,5 @@ AreUnplanned planned xs = All (λ x. planned x.0 ≡ false) xs
 pub record PlansAll (old new : AgentState) (xs : List PairNo) : Type 0 where
   pub view : new.view ≡ old.view
   pub left : length xs + left_of new.progress.planned ≡ left_of old.progress.planned
-  pub unplanned : (sent taken : ℕ → List Record) (planned : ℕ → Bool) → Shows old sent taken planned → AreUnplanned planned xs
-  pub shows : (sent taken : ℕ → List Record) (planned : ℕ → Bool) → Shows old sent taken planned → Shows new sent taken (all_planned planned xs)
+  pub unplanned : (sent taken : ℕ → List Record) (planned : ℕ → Bool) → ShowsHistory old sent taken planned → AreUnplanned planned xs
+  pub shows : (sent taken : ℕ → List Record) (planned : ℕ → Bool) → ShowsHistory old sent taken planned → ShowsHistory new sent taken (all_planned planned xs)

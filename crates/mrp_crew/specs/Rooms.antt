@@ -36,20 +36,20 @@ pub record WorkedFor (A : AgentState) (work : Work) : Type 0 where
 
 -- what the thread of an order brings back is of the order's pair, for the order's agent; where the gate
 -- was shut to it, this holds of the order's plant and worker
-pub record Fulfils {G : Type 0} (Shut : ℕ → ℕ → Type 0) (order : Order G) (work : Work) : Type 0 where
+pub record FulfilsOrder {G : Type 0} (Shut : ℕ → ℕ → Type 0) (order : Order G) (work : Work) : Type 0 where
   pub pair : work.pair ≡ order.pair
   pub worked : WorkedFor order.agent.value work
   pub shut : IsLetIn (Shut order.plant order.number) work
 
 -- the pairs of some results
-abbrev pub pairs_of : List Work → List PairNo
-pairs_of works = map (λ work. work.pair) works
+abbrev pub pairs_worked : List Work → List PairNo
+pairs_worked works = map (λ work. work.pair) works
 
 -- What the workers of a wave bring back: the results of the first of its pairs, the last of these first,
 -- and of all where each could be started. Rooms that none took are still rooms.
 pub record AreDrafts (A : AgentState) (pairs : List PairNo) (drafts : Drafts) : Type 0 where
   pub left_out : List PairNo
-  pub front : pairs ≡ pairs_of (reverse drafts.works.items) ++ left_out
+  pub front : pairs ≡ pairs_worked (reverse drafts.works.items) ++ left_out
   pub all : drafts.all ≡ true → length drafts.works.items ≡ length pairs
   pub worked : All (WorkedFor A) drafts.works.items
   pub rooms : All (IsRoom A.view.horizon) drafts.rooms.items

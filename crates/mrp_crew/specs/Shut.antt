@@ -3,8 +3,8 @@ use Rattle.std.specs.Prelude.{◌≡◌, ◌≤◌, ℕ, false, List, All}
 use Rattle.mrp_crew.specs.declared.work.Work.{Work}
 
 -- the gate was shut to one of so many workers of the plant, by its number
-abbrev pub WasShut : (ℕ → ℕ → Type 0) → ℕ → ℕ → Type 0
-WasShut shut workers plant = (worker : ℕ) × (1 ≤ worker) × (worker ≤ workers) × shut plant worker
+abbrev pub WasShutToWorker : (ℕ → ℕ → Type 0) → ℕ → ℕ → Type 0
+WasShutToWorker shut workers plant = (worker : ℕ) × (1 ≤ worker) × (worker ≤ workers) × shut plant worker
 
 -- the worker was let in, or this holds
 abbrev pub IsLetIn : Type 0 → Work → Type 0

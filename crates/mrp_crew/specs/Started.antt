@@ -15,7 +15,7 @@ abbrev pub IsFor : {G : Type 0} → AgentState → PromisedHandle Work (Order G)
 IsFor A worker = worker.promise.agent.value ≡ A
 
 -- for one of so many workers of the plant
-pub record IsAt {G : Type 0} (plant workers : ℕ) (worker : PromisedHandle Work (Order G)) : Type 0 where
+pub record IsWorkerOf {G : Type 0} (plant workers : ℕ) (worker : PromisedHandle Work (Order G)) : Type 0 where
   pub plant_is : worker.promise.plant ≡ plant
   pub first : 1 ≤ worker.promise.number
   pub last : worker.promise.number ≤ workers

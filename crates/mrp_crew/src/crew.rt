@@ -5,7 +5,7 @@ ghost use Rattle.mrp_agent.specs.Drafts.{ready_numbers};
 ghost use Rattle.mrp_crew.specs.Planning.{IsPlannable};
 ghost use Rattle.mrp_crew.specs.Rooms.{IsRoom};
 ghost use Rattle.mrp_crew.specs.Settled.{AreToSettle};
-ghost use Rattle.mrp_crew.specs.Shut.{AreLetIn, WasShut};
+ghost use Rattle.mrp_crew.specs.Shut.{AreLetIn, WasShutToWorker};
 ghost use Rattle.mrp_qty.specs.declared.limits.TheConstants.{MOST_WORKERS};
 ghost use Rattle.mrp_crew.specs.declared.fault.CrewFault.{CrewFault};
 
@@ -51,7 +51,7 @@ impl Crew {
     ghost use Rattle.mrp_rows.specs.declared.numbers.PairNo.{PairNo};
     ghost use Rattle.mrp_agent.specs.Drafts.{ready_numbers};
     ghost use Rattle.mrp_crew.specs.Planning.{IsPlannable, PlansAll};
-    ghost use Rattle.mrp_crew.specs.Shut.{WasShut};
+    ghost use Rattle.mrp_crew.specs.Shut.{WasShutToWorker};
 
     /// A crew of 1 to [`MOST_WORKERS`] workers that plan for so many periods.
     ///
@@ -104,7 +104,7 @@ impl Crew {
         ensures crew { self.new ≡ self.old }
         ensures planned { (xs : List PairNo) × PlansAll agent.old agent.new xs
             × IfOk result (λ count. (count ≡ length xs) × (ready_numbers agent.new ≡ [])) }
-        ensures shut { IfErr result (λ fault. fault ≡ CrewFault.GateShut → WasShut G.worker_shut self.old.workers plant) }
+        ensures shut { IfErr result (λ fault. fault ≡ CrewFault.GateShut → WasShutToWorker G.worker_shut self.old.workers plant) }
         ensures refused { IfErr result (λ fault. fault ≡ CrewFault.ThreadRefused → 2 ≤ self.old.workers) }
     {
         let before = agent.left();
@@ -128,7 +128,7 @@ impl Crew {
         requires ready { 0 < length (ready_numbers agent.old) }
         ensures crew { self.new ≡ self.old }
         ensures planned { (xs : List PairNo) × PlansAll agent.old agent.new xs × OnOk result (0 < length xs) }
-        ensures shut { IfErr result (λ fault. fault ≡ CrewFault.GateShut → WasShut G.worker_shut self.old.workers plant) }
+        ensures shut { IfErr result (λ fault. fault ≡ CrewFault.GateShut → WasShutToWorker G.worker_shut self.old.workers plant) }
         ensures refused { IfErr result (λ fault. fault ≡ CrewFault.ThreadRefused → 2 ≤ self.old.workers) }
     {
         refill(alloc, &mut self.rooms, self.horizon, self.workers)?;
@@ -159,7 +159,7 @@ fn draft_ready<R: Threads + Wait + Sync, G: Gate>(
     ensures drafts { IfOk result (λ drafts. AreToSettle agent.now (reverse drafts.works.items)) }
     ensures some { IfOk result (λ drafts. drafts.all ≡ true → 0 < length drafts.works.items) }
     ensures free { IfOk result (λ drafts. All (IsRoom agent.now.view.horizon) drafts.rooms.items) }
-    ensures shut { IfOk result (λ drafts. AreLetIn (WasShut G.worker_shut workers plant) drafts.works.items) }
+    ensures shut { IfOk result (λ drafts. AreLetIn (WasShutToWorker G.worker_shut workers plant) drafts.works.items) }
     ensures refused { IfOk result (λ drafts. drafts.all ≡ false → 2 ≤ workers) }
 {
     let pairs = agent.ready_pairs();

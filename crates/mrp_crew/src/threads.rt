@@ -4,10 +4,10 @@ ghost use Rattle.std.specs.Bool.{OnTrue};
 ghost use Rattle.mrp_rows.specs.declared.numbers.PairNo.{PairNo};
 ghost use Rattle.mrp_agent.specs.Drafts.{CanDraft};
 ghost use Rattle.mrp_agent.specs.State.{AgentState};
-ghost use Rattle.mrp_crew.specs.Rooms.{AreDrafts, IsRoom, IsWave, WorkedFor, pairs_of};
-ghost use Rattle.mrp_crew.specs.Shut.{AreLetIn, IsLetIn, WasShut};
+ghost use Rattle.mrp_crew.specs.Rooms.{AreDrafts, IsRoom, IsWave, WorkedFor, pairs_worked};
+ghost use Rattle.mrp_crew.specs.Shut.{AreLetIn, IsLetIn, WasShutToWorker};
 ghost use Rattle.mrp_qty.specs.declared.limits.TheConstants.{MOST_WORKERS};
-ghost use Rattle.mrp_crew.specs.Started.{IsAt, IsFor, IsStarted, ordered};
+ghost use Rattle.mrp_crew.specs.Started.{IsWorkerOf, IsFor, IsStarted, ordered};
 
 use crate::room::{Room, put_back};
 use crate::work::{Drafts, Order, Work, draft_pair};
@@ -37,7 +37,7 @@ pub(crate) fn draft_wave<R: Threads + Wait + Sync, G: Gate>(
 ) -> Drafts
     requires wave { IsWave agent.now others.now own rooms.items workers works }
     ensures drafts { AreDrafts agent.now (others.now ++ own ∷ []) result }
-    ensures shut { AreLetIn (WasShut G.worker_shut (length others.now + 1) plant) result.works.items }
+    ensures shut { AreLetIn (WasShutToWorker G.worker_shut (length others.now + 1) plant) result.works.items }
     ensures refused { result.all ≡ false → 0 < length others.now }
 {
     thread::scope(
@@ -46,7 +46,7 @@ pub(crate) fn draft_wave<R: Threads + Wait + Sync, G: Gate>(
         move |scope| -> Drafts
             requires wave { IsWave agent.now others.now own rooms.items workers works }
             ensures drafts { AreDrafts agent.entry.now (others.entry.now ++ own ∷ []) result }
-            ensures shut { AreLetIn (WasShut G.worker_shut (length others.entry.now + 1) plant) result.works.items }
+            ensures shut { AreLetIn (WasShutToWorker G.worker_shut (length others.entry.now + 1) plant) result.works.items }
             ensures refused { result.all ≡ false → 0 < length others.entry.now }
         {
             draft_beside(
@@ -71,7 +71,7 @@ fn draft_beside<'s, E, R: Threads, G: Gate>(
 ) -> Drafts
     requires wave { IsWave agent.now others.now own rooms.items workers works }
     ensures drafts { AreDrafts agent.now (others.now ++ own ∷ []) result }
-    ensures shut { AreLetIn (WasShut G.worker_shut (length others.now + 1) plant) result.works.items }
+    ensures shut { AreLetIn (WasShutToWorker G.worker_shut (length others.now + 1) plant) result.works.items }
     ensures refused { result.all ≡ false → 0 < length others.now }
 {
     let room = rooms.take_last();
@@ -107,7 +107,7 @@ fn start_all<'s, E, G: Gate>(
     ensures started { (rest : List PairNo) × (pairs.now ≡ ordered workers.new.items ++ rest) × OnTrue result (rest ≡ []) }
     ensures few { length workers.new.items ≤ length pairs.now }
     ensures agent { All (IsFor agent.now) workers.new.items }
-    ensures plant { All (IsAt plant (length pairs.now + 1)) workers.new.items }
+    ensures plant { All (IsWorkerOf plant (length pairs.now + 1)) workers.new.items }
     ensures refused { result ≡ false → 0 < length pairs.now }
 {
     for pair in pairs {
@@ -160,10 +160,10 @@ fn start<'s, E, G: Gate>(
 /// Joins the threads, the last first, and puts their results behind those before them.
 fn join_all<R: Threads, G: Gate>(rt: &R, mut workers: Vec<Worker<G>>, works: &mut Vec<Work>)
     requires room { length workers.items + length works.old.items ≤ vec_capacity works.old }
-    ensures pairs { pairs_of (reverse works.new.items) ≡ ordered workers.items ++ pairs_of (reverse works.old.items) }
+    ensures pairs { pairs_worked (reverse works.new.items) ≡ ordered workers.items ++ pairs_worked (reverse works.old.items) }
     ensures worked { (A : AgentState) → All (IsFor A) workers.items → All (WorkedFor A) works.old.items → All (WorkedFor A) works.new.items }
-    ensures shut { (plant most : ℕ) → All (IsAt plant most) workers.items → AreLetIn (WasShut G.worker_shut most plant) works.old.items
-        → AreLetIn (WasShut G.worker_shut most plant) works.new.items }
+    ensures shut { (plant most : ℕ) → All (IsWorkerOf plant most) workers.items → AreLetIn (WasShutToWorker G.worker_shut most plant) works.old.items
+        → AreLetIn (WasShutToWorker G.worker_shut most plant) works.new.items }
 {
     while let Some(worker) = workers.pop() {
         works.push_reserved(worker.join(rt));

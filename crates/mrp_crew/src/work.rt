@@ -44,9 +44,9 @@ impl<G> Drop for Order<G> {
 }
 
 impl<G: Gate> Promise<Work> for Order<G> {
-    ghost use Rattle.mrp_crew.specs.Rooms.{Fulfils};
+    ghost use Rattle.mrp_crew.specs.Rooms.{FulfilsOrder};
 
-    ghost kept_by = { λ order work. Fulfils G.worker_shut order work };
+    ghost kept_by = { λ order work. FulfilsOrder G.worker_shut order work };
 }
 
 /// What the workers of a wave bring back, whether all of them could be started, and the rooms that none

@@ -7,7 +7,7 @@ use Rattle.mrp_record.specs.Form.{is_anew}
 use Rattle.mrp_cursor.specs.declared.remainder.Due.{Due}
 use Rattle.mrp_cursor.specs.declared.remainder.Due.TheVariants.{Moving, Restarting, Ending}
 use Rattle.mrp_cursor.specs.declared.remainder.NextLine.{NextLine}
-use Rattle.mrp_cursor.specs.Next.{IsNext, is_reset_due, line_due}
+use Rattle.mrp_cursor.specs.Next.{IsNextLine, is_reset_due, line_due}
 use Rattle.mrp_cursor.specs.Shows.{reset_at}
 use Rattle.mrp_cursor.proofs.Parts.{IsResetNext}
 
@@ -51,7 +51,7 @@ end_is_due false None (Some m) e = absurd (cc)
 end_is_due false (Some from) None e = absurd (cc)
 end_is_due false (Some from) (Some m) e = absurd (never_ending (is_anew (Some from) m.period) m e)
 
-pub reset_is_next : (from : ℕ → List Delivery) (mark : ℕ) (reset : Option ℕ) (line : Option NextLine) → IsNext from mark line → is_reset_due reset line ≡ true
+pub reset_is_next : (from : ℕ → List Delivery) (mark : ℕ) (reset : Option ℕ) (line : Option NextLine) → IsNextLine from mark line → is_reset_due reset line ≡ true
     → (period : ℕ) × (reset ≡ Some period) × IsResetNext period (from mark)
 reset_is_next from mark None None n d = absurd (cc)
 reset_is_next from mark None (Some m) n d = absurd (cc)

@@ -15,7 +15,7 @@ use Rattle.mrp_record.proofs.Beginnings.{closed_is_whole, texts_have_one_length,
 use Rattle.mrp_record.proofs.Own.{AllOf-block, own_kept}
 use Rattle.mrp_record.proofs.Running.{length-block}
 use Rattle.mrp_rows.proofs.Lists.{any_left, any_right}
-use Rattle.mrp_cursor.specs.Cursor.{OutFigures, Goods, load_of, blocks}
+use Rattle.mrp_cursor.specs.Cursor.{OutFigures, Goods, goods_load, blocks}
 use Rattle.mrp_cursor.specs.Laws.{Agrees, IsQueued, MaySend, NoneIsLeft}
 use Rattle.mrp_cursor.specs.Shows.{ShowsSent}
 use Rattle.mrp_cursor.proofs.Lists.{none_there, contains_there}
@@ -47,7 +47,7 @@ ended_within item before own after h =
 
 ended_there : (goods : ℕ → Goods) (queue : List ℕ) (place : ℕ) → Contains queue place → is_ended (goods place).item (blocks goods queue) ≡ true
 ended_there goods queue place there =
-    let load = load_of (goods place) in
+    let load = goods_load (goods place) in
     let at = slice_get_read queue (length queue) there.0 place refl there.1 (sym there.2) in
     ap (is_ended load.item) (sym (blocks_there goods queue there.0 place at))
     ∙ ended_within load.item (blocks goods (take there.0 queue)) (block load) (blocks goods (drop (suc there.0) queue)) (block_ends load)
@@ -68,7 +68,7 @@ none_kept item e own none =
 no_record_of : (goods : ℕ → Goods) (o : OutFigures) (sent : List Record) (r : Record) (item : ℕ) → contents sent ≡ blocks goods o.queue → IsQueued goods o item → is_of item (content r) ≡ true
     → (loads : List Load) → AreLoads loads → Agrees goods o loads → IsBeginning loads (sent ++ r ∷ []) → ⊥
 no_record_of goods o sent r item all q own loads once agrees begins =
-    let load = load_of (goods q.place) in
+    let load = goods_load (goods q.place) in
     let there : Contains loads load = contains_there loads q.place load (agrees.queued q.place q.there) in
     let ended : is_ended load.item (contents sent) ≡ true = ap (is_ended load.item) all ∙ ended_there goods o.queue q.place q.there in
     let none = ended_items_are_done loads once sent (r ∷ []) begins load there ended in
@@ -85,7 +85,7 @@ some_block d loads (place ∷ later) h =
 no_closing_record : (goods : ℕ → Goods) (o : OutFigures) (sent : List Record) (r : Record) → (h : ShowsSent goods o sent) → contents sent ≡ blocks goods o.queue → 1 ≤ length h.later → content r ≡ Closing
     → (loads : List Load) → Agrees goods o loads → IsBeginning loads (sent ++ r ∷ []) → ⊥
 no_closing_record goods o sent r h all some closing loads agrees begins =
-    let d = load_of (goods 0) in
+    let d = goods_load (goods 0) in
     let blocks_left = later_blocks d loads h.later in
     let whole = closed_is_whole loads sent r closing begins in
     let one = texts_have_one_length loads (contents (sent ++ r ∷ [])) whole.text in

@@ -6,7 +6,7 @@ use Rattle.std.proofs.lemmas.List.Sums.{sum_by-cons}
 use Rattle.mrp_record.specs.Entries.{Entry, LineOf, EndOf, ResetOf, Delivery}
 use Rattle.mrp_record.specs.Form.{is_anew}
 use Rattle.mrp_record.specs.Text.{block, body, running, early, late, last_figure, total}
-use Rattle.mrp_cursor.specs.Cursor.{Goods, load_of}
+use Rattle.mrp_cursor.specs.Cursor.{Goods, goods_load}
 use Rattle.mrp_cursor.specs.Shows.{left_from, figure_at, reset_at, IsPart}
 
 -- ---- what is left after each record of a block
@@ -117,7 +117,7 @@ part_line g mark after lines moved anew part line h e side =
     let entry = LineOf g.item line.period line.quantity (figure + line.quantity) in
     record {
       whole =
-          further part entry (left_from g.item (lines + 1) (figure_at anew (moved + line.quantity) g.opening) reset rest) (block (load_of g)) (left_from g.item lines figure reset (g.from mark)) h.whole
+          further part entry (left_from g.item (lines + 1) (figure_at anew (moved + line.quantity) g.opening) reset rest) (block (goods_load g)) (left_from g.item lines figure reset (g.from mark)) h.whole
           (first ∙ left_line g.item lines figure reset line rest side ∙ ap (λ (z : List Entry). entry ∷ z) moved_on);
       lines = omega (arith, h.lines, ap length e);
       pieces = omega (arith, h.pieces, ap total e, total-cons line rest);
@@ -131,14 +131,14 @@ part_reset g mark lines moved from part h is next =
     ap (λ (r : Option ℕ). left_from g.item lines figure r (g.from mark)) is in
     record {
       whole =
-          further part (ResetOf g.item figure) (left_from g.item lines 0 None (g.from mark)) (block (load_of g)) (left_from g.item lines figure g.reset (g.from mark)) h.whole
+          further part (ResetOf g.item figure) (left_from g.item lines 0 None (g.from mark)) (block (goods_load g)) (left_from g.item lines figure g.reset (g.from mark)) h.whole
           (first ∙ left_reset g.item lines figure from (g.from mark) next);
       lines = h.lines;
       pieces = omega (arith, h.pieces);
     }
 
 pub part_end : (g : Goods) (mark lines moved : ℕ) (anew : Bool) (part : List Entry) → IsPart g mark lines moved anew part → g.from mark ≡ [] → reset_at anew g.reset ≡ None
-    → block (load_of g) ≡ part ++ EndOf g.item lines (figure_at anew moved g.opening) ∷ []
+    → block (goods_load g) ≡ part ++ EndOf g.item lines (figure_at anew moved g.opening) ∷ []
 part_end g mark lines moved anew part h none is =
     let figure = figure_at anew moved g.opening in
     h.whole

@@ -13,7 +13,7 @@ use Rattle.mrp_record.specs.declared.record.Record.{Record}
 use Rattle.mrp_record.specs.Entries.{Entry}
 use Rattle.mrp_record.specs.Text.{block}
 use Rattle.mrp_rows.proofs.Lists.{slice_get-append}
-use Rattle.mrp_cursor.specs.Cursor.{OutFigures, IsQueue, Goods, load_of, blocks, unsent}
+use Rattle.mrp_cursor.specs.Cursor.{OutFigures, IsQueue, Goods, goods_load, blocks, unsent}
 use Rattle.mrp_cursor.specs.Laws.{QueuesShow, LooksAtQueued}
 use Rattle.mrp_cursor.specs.Next.{queued}
 use Rattle.mrp_cursor.specs.Shows.{ShowsSent, IsPart}
@@ -72,8 +72,8 @@ queues_show goods o sent place h inside absent =
 same_blocks : (goods others : ℕ → Goods) (places : List ℕ) → ((place : ℕ) → Contains places place → goods place ≡ others place) → blocks goods places ≡ blocks others places
 same_blocks goods others [] h = refl
 same_blocks goods others (place ∷ places) h =
-    ap (λ (g : Goods). block (load_of g) ++ blocks goods places) (h place (Contains-first place places))
-    ∙ ap (λ (z : List Entry). block (load_of (others place)) ++ z) (same_blocks goods others places (λ k there. h k (Contains-rest place places k there)))
+    ap (λ (g : Goods). block (goods_load g) ++ blocks goods places) (h place (Contains-first place places))
+    ∙ ap (λ (z : List Entry). block (goods_load (others place)) ++ z) (same_blocks goods others places (λ k there. h k (Contains-rest place places k there)))
 
 in_front : (n : ℕ) (places : List ℕ) (place : ℕ) → Contains (take n places) place → Contains places place
 in_front n places place h =

@@ -15,9 +15,9 @@ use Rattle.mrp_cursor.specs.declared.remainder.Due.{Due}
 use Rattle.mrp_cursor.specs.declared.remainder.Due.TheVariants.{Moving, Restarting, Ending}
 use Rattle.mrp_cursor.specs.declared.remainder.NextLine.{NextLine}
 use Rattle.mrp_cursor.specs.declared.remainder.Remainder.{Remainder}
-use Rattle.mrp_cursor.specs.Cursor.{OutFigures, Goods, load_of, blocks}
-use Rattle.mrp_cursor.specs.Laws.{IsSmall, Agrees, IsBounded, IsQueued, MaySend, GivenContinues, StepsKeepPlaces, StepsShow}
-use Rattle.mrp_cursor.specs.Next.{IsNext, IsRemainder, IsLeft, due, added, figure_said, record_due, next_record, stepped_by, stepped}
+use Rattle.mrp_cursor.specs.Cursor.{OutFigures, Goods, goods_load, blocks}
+use Rattle.mrp_cursor.specs.Laws.{IsSmallGoods, Agrees, IsBounded, IsQueued, MaySend, GivenContinues, StepsKeepPlaces, StepsShow}
+use Rattle.mrp_cursor.specs.Next.{IsNextLine, IsRemainder, IsWhatIsLeft, due, added, figure_said, record_due, next_record, stepped_by, stepped}
 use Rattle.mrp_cursor.specs.Shows.{ShowsSent, IsPart, figure_at, reset_at}
 use Rattle.mrp_cursor.proofs.Dues.{line_is_due, reset_is_due, end_is_due, reset_is_next}
 use Rattle.mrp_cursor.proofs.Lists.{take_there, none_there, contains_there, same_there}
@@ -107,10 +107,10 @@ further_in_block goods o sent place r entry mark lines moved anew h small at num
     }
 
 -- a whole block is one more
-block_more : (goods : ℕ → Goods) (queue : List ℕ) (head place : ℕ) (part : List Entry) (e : Entry) → slice_get queue head ≡ Some place → block (load_of (goods place)) ≡ part ++ e ∷ []
+block_more : (goods : ℕ → Goods) (queue : List ℕ) (head place : ℕ) (part : List Entry) (e : Entry) → slice_get queue head ≡ Some place → block (goods_load (goods place)) ≡ part ++ e ∷ []
     → blocks goods (take head queue) ++ (part ++ e ∷ []) ≡ blocks goods (take (suc head) queue) ++ []
 block_more goods queue head place part e at is =
-    let f : ℕ → List Entry = λ k. block (load_of (goods k)) in
+    let f : ℕ → List Entry = λ k. block (goods_load (goods k)) in
     ap (λ (z : List Entry). blocks goods (take head queue) ++ z) (sym is ∙ sym (append-nil (f place)))
     ∙ sym (flat_map-append f (take head queue) (place ∷ []))
     ∙ ap (flat_map f) (sym (take_there queue head place at))
@@ -128,14 +128,14 @@ module _ (goods : ℕ → Goods) (o : OutFigures) (sent : List Record) (place : 
   part : IsPart g o.mark o.lines o.moved o.anew h.part
   part = h.within is_open place at
 
-  bounds : IsSmall g
+  bounds : IsSmallGoods g
   bounds = small.head place at
 
   after_line : (line : NextLine) → due o.anew left ≡ Moving line → ShowsSent goods (stepped_by o (Moving line)) (sent ++ record_due o left (Moving line) ∷ [])
   after_line line what =
       let facts = line_is_due o.anew left.reset left.line line what in
       let delivery : Delivery = record { period = line.period; quantity = line.quantity } in
-      let next : g.from o.mark ≡ delivery ∷ g.from line.after = subst (IsNext g.from o.mark) facts.0 rest.line in
+      let next : g.from o.mark ≡ delivery ∷ g.from line.after = subst (IsNextLine g.from o.mark) facts.0 rest.line in
       let side : is_anew (reset_at o.anew g.reset) line.period ≡ false = subst (λ (z : Option ℕ). is_anew (reset_at o.anew z) line.period ≡ false) rest.reset facts.1 in
       let pieces : o.moved + (line.quantity + total (g.from line.after)) ≤ total (g.from 0) = omega (arith, part.pieces, ap total next, total-cons delivery (g.from line.after)) in
       let count : suc (length (g.from line.after)) ≡ length (g.from o.mark) = sym (ap length next) in
@@ -166,7 +166,7 @@ module _ (goods : ℕ → Goods) (o : OutFigures) (sent : List Record) (place : 
   after_end : due o.anew left ≡ Ending → ShowsSent goods (stepped_by o Ending) (sent ++ record_due o left Ending ∷ [])
   after_end what =
       let facts = end_is_due o.anew left.reset left.line what in
-      let none : g.from o.mark ≡ [] = subst (IsNext g.from o.mark) facts.0 rest.line in
+      let none : g.from o.mark ≡ [] = subst (IsNextLine g.from o.mark) facts.0 rest.line in
       let entry = EndOf g.item o.lines (figure_at o.anew o.moved g.opening) in
       let r = record_due o left Ending in
       let said : content r ≡ entry = end_said o.anew o.moved left.opening g.opening g.item left.item.0 o.lines rest.item rest.opening (omega (arith, bounds.figures, part.pieces)) in
@@ -246,7 +246,7 @@ due_may_be_sent goods o left (Moving line) h = h
 due_may_be_sent goods o left Restarting h = h
 due_may_be_sent goods o left Ending h = h
 
-may_be_sent : (goods : ℕ → Goods) (o : OutFigures) (left : Option Remainder) (r : Record) → IsLeft goods o left → next_record o left ≡ Some r → MaySend goods o (content r)
+may_be_sent : (goods : ℕ → Goods) (o : OutFigures) (left : Option Remainder) (r : Record) → IsWhatIsLeft goods o left → next_record o left ≡ Some r → MaySend goods o (content r)
 may_be_sent goods o None r left is =
     let given = close_is_given o.closed o.head o.size (Close o.next) r is in
     subst (λ (z : Record). MaySend goods o (content z)) (sym given.2) tt

@@ -17,7 +17,7 @@ use Rattle.mrp_record.specs.Text.{Load, block, block_length, IsText}
 use Rattle.mrp_record.proofs.Own.{AllOf-block, none_closing, list_any-append, list_any-front}
 use Rattle.mrp_record.proofs.Running.{length-block}
 use Rattle.mrp_rows.proofs.Lists.{any_right}
-use Rattle.mrp_cursor.specs.Cursor.{OutFigures, Goods, load_of, blocks}
+use Rattle.mrp_cursor.specs.Cursor.{OutFigures, Goods, goods_load, blocks}
 use Rattle.mrp_cursor.specs.Laws.{Agrees, ShownBegin, ClosedIsShown, ClosedShowsWhole, ShownAreShort, SmallAreBounded, QueuedArePlaces}
 use Rattle.mrp_cursor.specs.Shows.{ShowsSent, left_from, figure_at, reset_at}
 use Rattle.mrp_cursor.proofs.Lists.{contains_there, drop_there, none_there, Contains-first, Contains-rest, elements_are, range_below}
@@ -45,9 +45,9 @@ regrouped front part left more all e =
     ∙ ap (λ (z : List Entry). front ++ z) (sym (append_assoc part left more) ∙ ap (λ (z : List Entry). z ++ more) (sym e))
 
 pub blocks_there : (goods : ℕ → Goods) (queue : List ℕ) (head place : ℕ) → slice_get queue head ≡ Some place
-    → blocks goods (take head queue) ++ (block (load_of (goods place)) ++ blocks goods (drop (suc head) queue)) ≡ blocks goods queue
+    → blocks goods (take head queue) ++ (block (goods_load (goods place)) ++ blocks goods (drop (suc head) queue)) ≡ blocks goods queue
 blocks_there goods queue head place at =
-    let f : ℕ → List Entry = λ k. block (load_of (goods k)) in
+    let f : ℕ → List Entry = λ k. block (goods_load (goods k)) in
     sym (flat_map-append f (take head queue) (place ∷ drop (suc head) queue))
     ∙ ap (λ (z : List ℕ). flat_map f (take head queue ++ z)) (sym (drop_there queue head place at))
     ∙ ap (flat_map f) (take-append-drop head queue)
@@ -63,7 +63,7 @@ queue_is_left goods o sent h is_open = elim (cases_there (slice_get o.queue o.he
       let left = left_from g.item o.lines (figure_at o.anew o.moved g.opening) (reset_at o.anew g.reset) (g.from o.mark) in
       let more = blocks goods (drop (suc o.head) o.queue) in (
         left ++ more,
-        ap (λ (z : List Entry). z ++ (left ++ more)) h.text ∙ regrouped (blocks goods (take o.head o.queue)) h.part left more (block (load_of g)) part.whole
+        ap (λ (z : List Entry). z ++ (left ++ more)) h.text ∙ regrouped (blocks goods (take o.head o.queue)) h.part left more (block (goods_load g)) part.whole
             ∙ blocks_there goods o.queue o.head place there.1,
       )
   | inr none ↦
@@ -90,11 +90,11 @@ order_permutes d loads size queue later e h =
     subst (λ (z : List Load). IsPermutation z (map f queue ++ map f later)) (elements_are d loads size e)
     (subst (λ (z : List Load). IsPermutation (map f (range_with_len 0 size)) z) (map-append f queue later) p)
 
-blocks_agree : (goods : ℕ → Goods) (f : ℕ → Load) (places : List ℕ) → ((place : ℕ) → Contains places place → f place ≡ load_of (goods place)) → flat_map block (map f places) ≡ blocks goods places
+blocks_agree : (goods : ℕ → Goods) (f : ℕ → Load) (places : List ℕ) → ((place : ℕ) → Contains places place → f place ≡ goods_load (goods place)) → flat_map block (map f places) ≡ blocks goods places
 blocks_agree goods f [] h = refl
 blocks_agree goods f (place ∷ places) h =
     ap (λ (z : Load). block z ++ flat_map block (map f places)) (h place (Contains-first place places))
-    ∙ ap (λ (z : List Entry). block (load_of (goods place)) ++ z) (blocks_agree goods f places (λ k there. h k (Contains-rest place places k there)))
+    ∙ ap (λ (z : List Entry). block (goods_load (goods place)) ++ z) (blocks_agree goods f places (λ k there. h k (Contains-rest place places k there)))
 
 -- the blocks of the places that aren't queued
 abbrev pub later_blocks : Load → List Load → List ℕ → List Entry
@@ -102,14 +102,14 @@ later_blocks d loads later = flat_map block (map (load_at d loads) later)
 
 -- what makes the queued blocks is the front of a text
 pub text_goes_on : (goods : ℕ → Goods) (o : OutFigures) (loads : List Load) (later : List ℕ) (entries : List Entry) → Agrees goods o loads → IsPermutation (range_with_len 0 o.size) (o.queue ++ later)
-    → entries ≡ blocks goods o.queue → IsText loads (entries ++ (later_blocks (load_of (goods 0)) loads later ++ Closing ∷ []))
+    → entries ≡ blocks goods o.queue → IsText loads (entries ++ (later_blocks (goods_load (goods 0)) loads later ++ Closing ∷ []))
 text_goes_on goods o loads later entries agrees places e =
-    let d = load_of (goods 0) in
+    let d = goods_load (goods 0) in
     let f = load_at d loads in
     let rest = later_blocks d loads later in
     let last = Closing ∷ [] in
     let same : flat_map block (map f o.queue) ≡ blocks goods o.queue =
-    blocks_agree goods f o.queue (λ place there. get_or_from_slice_get loads place (load_of (goods place)) d (agrees.queued place there)) in
+    blocks_agree goods f o.queue (λ place there. get_or_from_slice_get loads place (goods_load (goods place)) d (agrees.queued place there)) in
     let front : entries ≡ flat_map block (map f o.queue) = e ∙ sym same in
     record {
       order = map f o.queue ++ map f later;
@@ -135,7 +135,7 @@ whole_text goods o sent h closed loads agrees =
     let after = h.after closed in
     let none : h.later ≡ [] = nil_from_length h.later (omega (arith, sizes_are o.size o.queue h.later h.places, after.1)) in
     let text = text_goes_on goods o loads h.later (blocks goods o.queue) agrees h.places refl in
-    let d = load_of (goods 0) in
+    let d = goods_load (goods 0) in
     let short : blocks goods o.queue ++ (later_blocks d loads h.later ++ Closing ∷ []) ≡ contents sent =
     ap (λ (z : List ℕ). blocks goods o.queue ++ (later_blocks d loads z ++ Closing ∷ [])) none ∙ sym (closed_text goods o sent h closed) in
     subst (IsText loads) short text
@@ -147,9 +147,9 @@ closed_shows_whole goods o sent h closed loads agrees = record { numbered = h.nu
 
 -- what an open lane's text goes on with
 pub open_text : (goods : ℕ → Goods) (o : OutFigures) (sent : List Record) → (h : ShowsSent goods o sent) → (rest : List Entry) → contents sent ++ rest ≡ blocks goods o.queue
-    → (loads : List Load) → Agrees goods o loads → IsText loads (contents sent ++ (rest ++ (later_blocks (load_of (goods 0)) loads h.later ++ Closing ∷ [])))
+    → (loads : List Load) → Agrees goods o loads → IsText loads (contents sent ++ (rest ++ (later_blocks (goods_load (goods 0)) loads h.later ++ Closing ∷ [])))
 open_text goods o sent h rest e loads agrees =
-    let d = load_of (goods 0) in
+    let d = goods_load (goods 0) in
     subst (IsText loads) (append_assoc (contents sent) rest (later_blocks d loads h.later ++ Closing ∷ []))
     (text_goes_on goods o loads h.later (contents sent ++ rest) agrees h.places e)
 
@@ -165,7 +165,7 @@ shown_begin goods o sent h loads agrees = elim (cases_Bool o.closed) [
       let left = queue_is_left goods o sent h is_open in
       record {
         numbered = h.numbers;
-        rest = left.0 ++ (later_blocks (load_of (goods 0)) loads h.later ++ Closing ∷ []);
+        rest = left.0 ++ (later_blocks (goods_load (goods 0)) loads h.later ++ Closing ∷ []);
         text = open_text goods o sent h left.0 left.1 loads agrees;
       }
 ]
@@ -175,7 +175,7 @@ shown_begin goods o sent h loads agrees = elim (cases_Bool o.closed) [
 no_closing : (goods : ℕ → Goods) (places : List ℕ) → list_any is_closing (blocks goods places) ≡ false
 no_closing goods [] = refl
 no_closing goods (place ∷ places) =
-    let load = load_of (goods place) in
+    let load = goods_load (goods place) in
     list_any-append is_closing (block load) (blocks goods places) (none_closing load.item (block load) (AllOf-block load)) (no_closing goods places)
 
 pub closed_is_shown : ClosedIsShown
@@ -191,11 +191,11 @@ closed_is_shown goods o sent h = elim (cases_Bool o.closed) [
 
 -- ---- lengths
 
-blocks_are_short : (goods : ℕ → Goods) (most : ℕ) (places : List ℕ) → ((place : ℕ) → Contains places place → block_length (load_of (goods place)) ≤ most)
+blocks_are_short : (goods : ℕ → Goods) (most : ℕ) (places : List ℕ) → ((place : ℕ) → Contains places place → block_length (goods_load (goods place)) ≤ most)
     → length (blocks goods places) ≤ most * length places
 blocks_are_short goods most [] h = omega arith
 blocks_are_short goods most (place ∷ places) h =
-    let load = load_of (goods place) in
+    let load = goods_load (goods place) in
     let one : most * suc (length places) ≡ most * length places + most = mul-suc most (length places) in
     omega (
       arith,

@@ -48,9 +48,9 @@ pub record Goods : Type 0 where
   pub reset : Option ℕ
   pub from : ℕ → List Delivery
 
-abbrev pub load_of : Goods → Load
-load_of g = record { item = g.item; opening = g.opening; reset = g.reset; lines = g.from 0 }
+abbrev pub goods_load : Goods → Load
+goods_load g = record { item = g.item; opening = g.opening; reset = g.reset; lines = g.from 0 }
 
 -- the blocks of the items at some places, in that order
 abbrev pub blocks : (ℕ → Goods) → List ℕ → List Entry
-blocks goods places = flat_map (λ place. block (load_of (goods place))) places
+blocks goods places = flat_map (λ place. block (goods_load (goods place))) places

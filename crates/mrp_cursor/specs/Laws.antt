@@ -5,14 +5,14 @@ use Rattle.mrp_record.specs.Entries.{Entry, LineOf, EndOf, ResetOf, Closing, con
 use Rattle.mrp_record.specs.Laws.{AreLoads}
 use Rattle.mrp_record.specs.Text.{Load, total, block_length, IsBeginning, IsWhole}
 use Rattle.mrp_cursor.specs.declared.remainder.Remainder.{Remainder}
-use Rattle.mrp_cursor.specs.Cursor.{OutFigures, Goods, load_of}
-use Rattle.mrp_cursor.specs.Next.{IsLeft, next_record, stepped, queued}
+use Rattle.mrp_cursor.specs.Cursor.{OutFigures, Goods, goods_load}
+use Rattle.mrp_cursor.specs.Next.{IsWhatIsLeft, next_record, stepped, queued}
 use Rattle.mrp_cursor.specs.Shows.{ShowsSent}
 
 -- the loads of a lane agree with a cursor's goods: one for each place, at the queued places those of the goods
 pub record Agrees (goods : ℕ → Goods) (o : OutFigures) (loads : List Load) : Type 0 where
   pub size : length loads ≡ o.size
-  pub queued : (place : ℕ) → Contains o.queue place → slice_get loads place ≡ Some (load_of (goods place))
+  pub queued : (place : ℕ) → Contains o.queue place → slice_get loads place ≡ Some (goods_load (goods place))
 
 -- ---- what may be sent
 
@@ -30,13 +30,13 @@ MaySend goods o (ResetOf item closed) = IsQueued goods o item
 MaySend goods o Closing = Unit {0}
 
 -- the next number and all figures of the block at the head stay below 2^64
-pub record IsSmall (g : Goods) : Type 0 where
+pub record IsSmallGoods (g : Goods) : Type 0 where
   pub lines : length (g.from 0) < 2 ^ 64
   pub figures : g.opening + total (g.from 0) < 2 ^ 64
 
 pub record IsBounded (goods : ℕ → Goods) (o : OutFigures) : Type 0 where
   pub number : o.next + 1 < 2 ^ 64
-  pub head : (place : ℕ) → slice_get o.queue o.head ≡ Some place → IsSmall (goods place)
+  pub head : (place : ℕ) → slice_get o.queue o.head ≡ Some place → IsSmallGoods (goods place)
 
 -- ---- sending
 
@@ -45,14 +45,14 @@ pub record IsBounded (goods : ℕ → Goods) (o : OutFigures) : Type 0 where
 abbrev pub GivenContinues : Type 0
 GivenContinues =
     (goods : ℕ → Goods) (o : OutFigures) (sent : List Record) (left : Option Remainder) (r : Record)
-    → ShowsSent goods o sent → IsBounded goods o → IsLeft goods o left → next_record o left ≡ Some r
+    → ShowsSent goods o sent → IsBounded goods o → IsWhatIsLeft goods o left → next_record o left ≡ Some r
     → (loads : List Load) → Agrees goods o loads → IsBeginning loads (sent ++ r ∷ []) × MaySend goods o (content r)
 
 -- after the step the cursor shows the list with that record
 abbrev pub StepsShow : Type 0
 StepsShow =
     (goods : ℕ → Goods) (o : OutFigures) (sent : List Record) (left : Option Remainder) (r : Record)
-    → ShowsSent goods o sent → IsBounded goods o → IsLeft goods o left → next_record o left ≡ Some r
+    → ShowsSent goods o sent → IsBounded goods o → IsWhatIsLeft goods o left → next_record o left ≡ Some r
     → ShowsSent goods (stepped o left) (sent ++ r ∷ [])
 
 -- a step changes neither the lane's size nor the queue
@@ -66,7 +66,7 @@ StepsKeepPlaces =
 abbrev pub NoneIsLeft : Type 0
 NoneIsLeft =
     (goods : ℕ → Goods) (o : OutFigures) (sent : List Record) (left : Option Remainder)
-    → ShowsSent goods o sent → IsLeft goods o left → next_record o left ≡ None
+    → ShowsSent goods o sent → IsWhatIsLeft goods o left → next_record o left ≡ None
     → (loads : List Load) → AreLoads loads → Agrees goods o loads
     → (r : Record) → MaySend goods o (content r) → IsBeginning loads (sent ++ r ∷ []) → ⊥
 
@@ -116,7 +116,7 @@ ClosedShowsWhole =
 abbrev pub ShownAreShort : Type 0
 ShownAreShort =
     (goods : ℕ → Goods) (o : OutFigures) (sent : List Record) (most : ℕ)
-    → ShowsSent goods o sent → ((place : ℕ) → Contains o.queue place → block_length (load_of (goods place)) ≤ most)
+    → ShowsSent goods o sent → ((place : ℕ) → Contains o.queue place → block_length (goods_load (goods place)) ≤ most)
     → length sent ≤ most * o.size + 1
 
 -- so small goods at all queued places, in blocks of so many records at most, keep a cursor within bounds
@@ -124,5 +124,5 @@ abbrev pub SmallAreBounded : Type 0
 SmallAreBounded =
     (goods : ℕ → Goods) (o : OutFigures) (sent : List Record) (most : ℕ)
     → ShowsSent goods o sent
-    → ((place : ℕ) → Contains o.queue place → IsSmall (goods place) × (block_length (load_of (goods place)) ≤ most))
+    → ((place : ℕ) → Contains o.queue place → IsSmallGoods (goods place) × (block_length (goods_load (goods place)) ≤ most))
     → most * o.size + 3 < 2 ^ 64 → IsBounded goods o

@@ -14,21 +14,21 @@ use Rattle.mrp_cursor.specs.Cursor.{OutFigures, Goods}
 -- ---- what is left
 
 -- the next delivery is the first from the mark on, and the others are left from the mark after it
-abbrev pub IsNext : (ℕ → List Delivery) → ℕ → Option NextLine → Type 0
-IsNext from mark None = from mark ≡ []
-IsNext from mark (Some line) = from mark ≡ record { period = line.period; quantity = line.quantity } ∷ from line.after
+abbrev pub IsNextLine : (ℕ → List Delivery) → ℕ → Option NextLine → Type 0
+IsNextLine from mark None = from mark ≡ []
+IsNextLine from mark (Some line) = from mark ≡ record { period = line.period; quantity = line.quantity } ∷ from line.after
 
 -- what is left of the goods of a place from a mark on
 pub record IsRemainder (g : Goods) (mark : ℕ) (left : Remainder) : Type 0 where
   pub item : left.item.0 ≡ g.item
   pub opening : left.opening ≡ g.opening
   pub reset : left.reset ≡ g.reset
-  pub line : IsNext g.from mark left.line
+  pub line : IsNextLine g.from mark left.line
 
 -- what is left of the goods at the head, or nothing where all queued blocks are sent
-abbrev pub IsLeft : (ℕ → Goods) → OutFigures → Option Remainder → Type 0
-IsLeft goods o None = slice_get o.queue o.head ≡ None
-IsLeft goods o (Some left) =
+abbrev pub IsWhatIsLeft : (ℕ → Goods) → OutFigures → Option Remainder → Type 0
+IsWhatIsLeft goods o None = slice_get o.queue o.head ≡ None
+IsWhatIsLeft goods o (Some left) =
     (place : ℕ) × (slice_get o.queue o.head ≡ Some place) × IsRemainder (goods place) o.mark left
 
 -- ---- the next record

@@ -5,7 +5,7 @@ use Rattle.std.specs.List.{range_with_len}
 use Rattle.mrp_record.specs.declared.record.Record.{Record}
 use Rattle.mrp_record.specs.Entries.{Entry, EndOf, Closing, Delivery, contents}
 use Rattle.mrp_record.specs.Text.{block, body, last_figure, total, NumberedFrom}
-use Rattle.mrp_cursor.specs.Cursor.{OutFigures, Goods, load_of, blocks}
+use Rattle.mrp_cursor.specs.Cursor.{OutFigures, Goods, goods_load, blocks}
 
 -- what is left of a block after so many lines, at a figure: a block again
 abbrev pub left_from : ℕ → ℕ → ℕ → Option ℕ → List Delivery → List Entry
@@ -23,7 +23,7 @@ reset_at anew reset = if anew then None else reset
 -- pieces so far are those of the deliveries that aren't left; after a reset the pieces are fewer.
 pub record IsPart (g : Goods) (mark count moved : ℕ) (anew : Bool) (part : List Entry) : Type 0 where
   pub whole :
-      block (load_of g)
+      block (goods_load g)
       ≡ part ++ left_from g.item count (figure_at anew moved g.opening) (reset_at anew g.reset) (g.from mark)
   pub lines : count + length (g.from mark) ≡ length (g.from 0)
   pub pieces : moved + total (g.from mark) ≤ total (g.from 0)

@@ -11,7 +11,7 @@ use Rattle.mrp_rows.specs.Table.{Table, IsTable, IsPair, horizon, source_pair}
 use Rattle.mrp_net.specs.declared.lane.Lane.{Lane}
 use Rattle.mrp_net.specs.declared.lane.LaneKind.{LaneKind}
 use Rattle.mrp_net.specs.declared.lane.LaneKind.TheVariants.{Despatch, Schedule}
-use Rattle.mrp_net.specs.Lanes.{lanes, lane_at, lane_items, lanes_of, lanes_between, taken_over, item_of, shipments, customer_of, supplier_of}
+use Rattle.mrp_net.specs.Lanes.{lanes, lane_at, lane_items, lanes_of, lanes_between, taken_over, item_of_source, shipments, customer_of, supplier_of}
 use Rattle.mrp_net.specs.LaneLaws.{is_despatch, is_same_item, arriving}
 use Rattle.mrp_net.specs.PlanLaws.{asked_by_source}
 use Rattle.mrp_net.specs.RouteLaws.{over_route, over_plants}
@@ -27,7 +27,7 @@ use Rattle.mrp_net.proofs.Routing.{no_lanes, some_lanes}
 use Rattle.mrp_net.proofs.Sharing.{sum_map}
 use Rattle.mrp_group.proofs.Kept.{sum_filter}
 use Rattle.mrp_record.specs.declared.record.Record.{Record}
-use Rattle.mrp_record.specs.Entries.{Entry, Closing, Delivery, contents, delivery_of as delivery_of_entry, deliveries, entries_of, is_ended, is_of}
+use Rattle.mrp_record.specs.Entries.{Entry, Closing, Delivery, contents, entry_delivery as delivery_of_entry, deliveries, entries_of, is_ended, is_of}
 use Rattle.mrp_record.specs.Laws.{quantity_in}
 use Rattle.mrp_record.specs.Text.{Load, block, IsBeginning}
 use Rattle.mrp_record.proofs.Beginnings.{ended_blocks_bring_periods}
@@ -245,7 +245,7 @@ module _ (N : Table) (table : IsTable N) (planned : ℕ → Bool) (taken : ℕ �
   asks_of s = source_pair N s == x
 
   -- a source that asks of the pair takes its item
-  takes_item : (s : SourceRow) → In N.sources s → asks_of s ≡ true → item_of N s ≡ item
+  takes_item : (s : SourceRow) → In N.sources s → asks_of s ≡ true → item_of_source N s ≡ item
   takes_item s there t =
       let behind = pair_behind N table s there in
       sym behind.2 ∙ ap (λ (z : ℕ). (pair_at N z).item) (eqb-true (source_pair N s) x t)
@@ -265,17 +265,17 @@ module _ (N : Table) (table : IsTable N) (planned : ℕ → Bool) (taken : ℕ �
             let s : SourceRow = source_on N lane item in
             let among = In-from_contains over s (source_over N lane item (items_have_sources N table lane item there)) in
             let asked : asks_of s ≡ true = eq-eqb (source_pair N s) x (called_pair N table lane x pair kind here there) in
-            let own : ((r : SourceRow) → In over r → asks_of r ≡ true → (item_of N r).0 ≡ item.0) =
+            let own : ((r : SourceRow) → In over r → asks_of r ≡ true → (item_of_source N r).0 ≡ item.0) =
             λ r h t. ap (λ (i : ItemNo). i.0) (takes_item r (over_in_sources (customer_of lane) (supplier_of lane) r h) t) in
             lane_brought l within here there
             ∙ ap (λ (k : LaneKind). quantity_in period (lines_by N k lane item)) kind
             ∙ in_period (called_in N s) (horizon N) period inside
-            ∙ sym (one_asks (item_of N) asks_of (λ r. called_in N r period) item.0 over (one_source_brings_an_item N table (customer_of lane) (supplier_of lane)) own s among asked)
+            ∙ sym (one_asks (item_of_source N) asks_of (λ r. called_in N r period) item.0 over (one_source_brings_an_item N table (customer_of lane) (supplier_of lane)) own s among asked)
         | inr none ↦
             lane_without l within here none
             ∙ sym (none_asks asks_of (λ r. called_in N r period) over (λ r h t.
             let is = takes_item r (over_in_sources (customer_of lane) (supplier_of lane) r h) t in
-            not_there N lane item none (Contains-from_in (lane_items N lane) item (subst (In (lane_items N lane)) is (In-map (item_of N) over r h)))))
+            not_there N lane item none (Contains-from_in (lane_items N lane) item (subst (In (lane_items N lane)) is (In-map (item_of_source N) over r h)))))
       ]
 
   abbrev called_over : Lane → ℕ

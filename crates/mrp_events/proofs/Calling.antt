@@ -9,7 +9,7 @@ use Rattle.mrp_net.specs.declared.lane.Lane.{Lane}
 use Rattle.mrp_net.specs.declared.lane.LaneKind.{LaneKind}
 use Rattle.mrp_net.specs.declared.lane.LaneKind.TheVariants.{Despatch, Schedule}
 use Rattle.mrp_net.specs.Edges.{bill_edge, source_edge}
-use Rattle.mrp_net.specs.Lanes.{lane_items, taken_over, item_of, pair_on, customer_of, supplier_of}
+use Rattle.mrp_net.specs.Lanes.{lane_items, taken_over, item_of_source, pair_on, customer_of, supplier_of}
 use Rattle.mrp_net.specs.LaneLaws.{HasSource}
 use Rattle.mrp_net.specs.Sources.{source_on}
 use Rattle.mrp_net.specs.Sums.{pair_at}
@@ -25,9 +25,9 @@ supplier_by_kind lane e = ap (λ (k : LaneKind). elim k as (λ _. ℕ) [ Despatc
 
 -- the pair behind a source
 pub pair_behind : (N : Table) → IsTable N → (s : SourceRow) → In N.sources s
-    → IsPair N (source_pair N s) × ((pair_at N (source_pair N s)).plant ≡ s.plant) × ((pair_at N (source_pair N s)).item ≡ item_of N s)
+    → IsPair N (source_pair N s) × ((pair_at N (source_pair N s)).plant ≡ s.plant) × ((pair_at N (source_pair N s)).item ≡ item_of_source N s)
 pair_behind N table s there =
-    All-in (λ (r : SourceRow). IsPair N (source_pair N r) × ((pair_at N (source_pair N r)).plant ≡ r.plant) × ((pair_at N (source_pair N r)).item ≡ item_of N r)) N.sources s
+    All-in (λ (r : SourceRow). IsPair N (source_pair N r) × ((pair_at N (source_pair N r)).plant ≡ r.plant) × ((pair_at N (source_pair N r)).item ≡ item_of_source N r)) N.sources s
     (source_pairs_are_there N table) there
 
 -- the source of an item of a lane is one of its route, and of the item
@@ -39,7 +39,7 @@ source_over N lane item has =
     let passes = and_from ((pair_at N s.pair.0).plant.0 == customer_of lane) (s.plant.0 == supplier_of lane) (eq-eqb _ _ there) (eq-eqb _ _ has.plant) in
     Contains-from_in (taken_over N (customer_of lane) (supplier_of lane)) s (In-filter test N.sources s (In-from_contains N.sources s has.source) passes)
 
-pub source_item : (N : Table) (lane : Lane) (item : ItemNo) → HasSource N lane item → item_of N (source_on N lane item) ≡ item
+pub source_item : (N : Table) (lane : Lane) (item : ItemNo) → HasSource N lane item → item_of_source N (source_on N lane item) ≡ item
 source_item N lane item has = ap (λ (z : ℕ). (pair_at N z).item) has.taker ∙ has.customer.of_item
 
 -- the source of a schedule lane's item takes from the pair at the other end

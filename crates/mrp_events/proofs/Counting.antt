@@ -16,7 +16,7 @@ use Rattle.mrp_rows.proofs.Lists.{any_right}
 use Rattle.mrp_events.specs.declared.event.Event.{Event}
 use Rattle.mrp_events.specs.declared.event.Event.TheVariants.{Send, Receive, Plan}
 use Rattle.mrp_events.specs.Loads.{loads}
-use Rattle.mrp_events.specs.Progress.{unplanned, text_length, left_on, steps_left, RunsBeginWithSteps, EventsAreSteps, NoneIsLeftAtTheEnd}
+use Rattle.mrp_events.specs.Progress.{pairs_unplanned, text_length, left_on, steps_left, RunsBeginWithSteps, EventsAreSteps, NoneIsLeftAtTheEnd}
 use Rattle.mrp_events.specs.State.{State, CanSend, CanTake, CanPlan, changed, after_send, after_take, after_plan, Step, IsFinished, IsReached}
 use Rattle.mrp_events.proofs.Keeping.{LaneKeeps, Keeps, keeps, changed_by}
 use Rattle.mrp_events.proofs.Summing.{sum_same, sum_falls, by_number}
@@ -32,7 +32,7 @@ changed_other values at value k other = changed_by (λ v. v ≡ values k) values
 
 -- ---- the beginning of a run
 
-all_unplanned : (N : Table) → unplanned N (λ _. false) ≡ length N.pairs
+all_unplanned : (N : Table) → pairs_unplanned N (λ _. false) ≡ length N.pairs
 all_unplanned N = ones 0 (length N.pairs)
   where
     ones : (a n : ℕ) → sum_by (λ (x : ℕ). 1) (range_with_len a n) ≡ n
@@ -56,7 +56,7 @@ runs_begin_with_steps N =
 lane_falls : (N : Table) (s t : State) (l : ℕ) → l < length (lanes N) → t.planned ≡ s.planned → left_on N t l + 1 ≡ left_on N s l → ((k : ℕ) → (k ≡ l → ⊥) → left_on N t k ≡ left_on N s k)
     → steps_left N t + 1 ≡ steps_left N s
 lane_falls N s t l within pairs falls same =
-    omega (arith, ap (unplanned N) pairs, sum_falls (left_on N t) (left_on N s) 0 (length (lanes N)) l (omega arith) (omega arith) falls same)
+    omega (arith, ap (pairs_unplanned N) pairs, sum_falls (left_on N t) (left_on N s) 0 (length (lanes N)) l (omega arith) (omega arith) falls same)
 
 legal_length : (N : Table) (l : ℕ) (records : List Record) → IsBeginning (loads N (lane_at N l)) records → length records ≤ text_length N l
 legal_length N l records h = beginnings_are_no_longer (loads N (lane_at N l)) records h
@@ -85,7 +85,7 @@ plan_is_a_step N s x can =
     let counts : Bool → ℕ = λ b. cond (not b) 1 0 in
     let one : counts (changed s.planned x true x) + 1 ≡ counts (s.planned x) =
     ap (λ (b : Bool). counts b + 1) (changed_at s.planned x true) ∙ sym (ap counts can.unplanned) in
-    let fewer : unplanned N (changed s.planned x true) + 1 ≡ unplanned N s.planned =
+    let fewer : pairs_unplanned N (changed s.planned x true) + 1 ≡ pairs_unplanned N s.planned =
     sum_falls (λ k. counts (changed s.planned x true k)) (λ k. counts (s.planned k)) 0 (length N.pairs) x (omega arith) (omega (arith, can.pair)) one
     (λ k other. ap counts (changed_other s.planned x true k other)) in
     omega (arith, fewer)
@@ -127,7 +127,7 @@ finished_by_count N capacity s kept none = record {
       let one : left_on N s l ≤ sum_by (left_on N s) (range_with_len 0 (length (lanes N))) = period-le (left_on N s) (length (lanes N)) l within in
       closed_by_length (loads N (lane_at N l)) (s.taken l) (front_is_legal N capacity l s (kept l)) (omega arith);
   planned = λ x pair.
-      let one : cond (not (s.planned x)) 1 0 ≤ unplanned N s.planned = period-le (λ k. cond (not (s.planned k)) 1 0) (length N.pairs) x pair in
+      let one : cond (not (s.planned x)) 1 0 ≤ pairs_unplanned N s.planned = period-le (λ k. cond (not (s.planned k)) 1 0) (length N.pairs) x pair in
       planned_by_count (s.planned x) (omega arith);
 }
 

@@ -11,7 +11,7 @@ use Rattle.mrp_record.specs.Entries.{contents, is_closed, is_ended}
 use Rattle.mrp_record.specs.declared.record.Record.{Record}
 use Rattle.mrp_events.specs.declared.event.Event.{Event}
 use Rattle.mrp_events.specs.declared.event.Event.TheVariants.{Plan}
-use Rattle.mrp_events.specs.Progress.{steps_left, Goes, NoScheduleSticks, EventsAndStepsLeft, LongestRunsFinish}
+use Rattle.mrp_events.specs.Progress.{steps_left, GoesBy, NoScheduleSticks, EventsAndStepsLeft, LongestRunsFinish}
 use Rattle.mrp_events.specs.State.{State, opening_state, CanPlan, Run, IsReached, IsFinished, after_plan}
 use Rattle.mrp_events.proofs.Calling.{calls_pair}
 use Rattle.mrp_events.proofs.Counting.{runs_begin_with_steps, events_are_steps, none_is_left_at_the_end}
@@ -97,11 +97,11 @@ no_schedule_sticks N table free capacity holds s reached =
 -- ---- longest runs
 
 -- a list of events that are each enabled in their turn is a run
-runs : (N : Table) (capacity : ℕ) (s t : State) (events : List Event) → Goes N capacity s events t → Run N capacity s events t
+runs : (N : Table) (capacity : ℕ) (s t : State) (events : List Event) → GoesBy N capacity s events t → Run N capacity s events t
 runs N capacity s t [] goes = goes
 runs N capacity s t (event ∷ events) goes = (goes.0, (inl goes.1), runs N capacity goes.0 t events goes.2)
 
-steps_taken : (N : Table) (capacity : ℕ) (s t : State) (events : List Event) → IsReached N capacity s → Goes N capacity s events t → length events + steps_left N t ≡ steps_left N s
+steps_taken : (N : Table) (capacity : ℕ) (s t : State) (events : List Event) → IsReached N capacity s → GoesBy N capacity s events t → length events + steps_left N t ≡ steps_left N s
 steps_taken N capacity s t [] reached goes = omega (arith, ap (steps_left N) goes)
 steps_taken N capacity s t (event ∷ events) reached goes =
     let next = reached_goes_on N capacity s goes.0 event reached (inl goes.1) in

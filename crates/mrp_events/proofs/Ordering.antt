@@ -13,7 +13,7 @@ use Rattle.mrp_record.specs.Entries.{Entry, LineOf, EndOf, ResetOf, Closing, con
 use Rattle.mrp_record.specs.Text.{Load, IsBeginning, IsWhole}
 use Rattle.mrp_record.proofs.Beginnings.{fronts_are_beginnings, nothing_follows_closing, closed_is_whole}
 use Rattle.mrp_record.proofs.Figures.{cum_is_opening_and_moved}
-use Rattle.mrp_events.specs.Laws.{LanesKeepOrder, SentIsDecided, NothingIsLost, ClosedLanesAreWhole}
+use Rattle.mrp_events.specs.Laws.{LanesKeepOrder, SentIsDecided, NothingSentIsLost, ClosedTextsAreWhole}
 use Rattle.mrp_events.specs.Loads.{loads, load_of}
 use Rattle.mrp_events.specs.State.{State}
 use Rattle.mrp_events.proofs.Keeping.{LaneKeeps, keeps}
@@ -49,7 +49,7 @@ moved_parts item xs ys =
     ∙ ap (sum_by quantity_of) (filter-append (is_of item) (contents xs) (contents ys))
     ∙ sum_by-append quantity_of (entries_of item (contents xs)) (entries_of item (contents ys))
 
-pub nothing_is_lost : NothingIsLost
+pub nothing_is_lost : NothingSentIsLost
 nothing_is_lost N is capacity s reached l within item there mailbox parts =
     let lane : Lane = lane_at N l in
     let load : Load = load_of N lane item in
@@ -94,7 +94,7 @@ has_closing (r ∷ records) h = elim (cases_Bool (is_closing (content r))) [
       record { before = r ∷ rest.before; closing = rest.closing; after = rest.after; is = ap (λ (z : List Record). r ∷ z) rest.is; closes = rest.closes }
 ]
 
-pub closed_lanes_are_whole : ClosedLanesAreWhole
+pub closed_lanes_are_whole : ClosedTextsAreWhole
 closed_lanes_are_whole N capacity s reached l within closed =
     let all = loads N (lane_at N l) in
     let h = keeps N capacity s reached l in

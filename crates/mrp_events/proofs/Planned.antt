@@ -9,7 +9,7 @@ use Rattle.mrp_rows.specs.declared.numbers.ItemNo.{ItemNo}
 use Rattle.mrp_rows.specs.declared.rows.BillRow.{BillRow}
 use Rattle.mrp_rows.specs.Table.{Table, IsTable, IsPair, IsBillRow, horizon, plant_at}
 use Rattle.mrp_net.specs.Edges.{bill_edge, source_edge}
-use Rattle.mrp_net.specs.PlanLaws.{asked_by_bill, released}
+use Rattle.mrp_net.specs.PlanLaws.{asked_by_bill, release_at}
 use Rattle.mrp_net.specs.Plan.{rows_at, plan_of, gross}
 use Rattle.mrp_net.specs.Sums.{pair_at, params_at, row_of, incoming}
 use Rattle.mrp_net.proofs.Covering.{sum_by-same}
@@ -25,7 +25,7 @@ use Rattle.mrp_record.specs.Entries.{Entry, content, contents, entries_of, is_en
 use Rattle.mrp_rows.proofs.Lists.{any_left}
 use Rattle.mrp_events.specs.declared.event.Event.{Event}
 use Rattle.mrp_events.specs.declared.event.Event.TheVariants.{Send, Receive, Plan}
-use Rattle.mrp_events.specs.Local.{local_incoming, local_gross, AreLegal, PlannedAreReady, AreLocal, LocalPlansAreThePlan, ReachedPlansAreThePlan}
+use Rattle.mrp_events.specs.Local.{incoming_brought, gross_brought, AreLegal, PlannedStayReady, AreLocal, LocalPlansAreThePlan, ReachedPlansAreThePlan}
 use Rattle.mrp_events.specs.State.{State, opening_state, IsReady, changed, Step, Run}
 use Rattle.mrp_events.proofs.Bringing.{despatches_bring_incoming, schedules_bring_gross, same_where}
 use Rattle.mrp_events.proofs.Keeping.{changed_by}
@@ -83,7 +83,7 @@ ready_run N capacity s t (event ∷ events) ready run =
     ] in
     ready_run N capacity run.0 t events next run.2
 
-pub planned_are_ready : PlannedAreReady
+pub planned_are_ready : PlannedStayReady
 planned_are_ready N capacity s reached =
     ready_run N capacity opening_state s reached.0 (λ x pair planned. absurd (false≢true planned)) reached.1
 
@@ -122,7 +122,7 @@ module _ (N : Table) (table : IsTable N) (free : IsLoopFree N) (plant : ℕ) (pl
   bill_asks : (x period : ℕ) → (pair_at N x).plant.0 ≡ plant → IsReady N planned taken x → ((y : ℕ) → HasEdge N y x → IsRight y) → (b : BillRow) → In N.bills b → asked_by_bill plans x period b ≡ asked_by_bill (plan_of N) x period b
   bill_asks x period here ready right b there =
       let row = All-in (IsBillRow N) N.bills b table.read.bills there in
-      same_where (b.component.0 == x) (b.per * released plans b.parent.0 period) (b.per * released (plan_of N) b.parent.0 period) (λ t.
+      same_where (b.component.0 == x) (b.per * release_at plans b.parent.0 period) (b.per * release_at (plan_of N) b.parent.0 period) (λ t.
       let component : b.component.0 ≡ x = eqb-true b.component.0 x t in
       let edge : HasEdge N b.parent.0 x = HasEdge-from_in N (bill_edge b) b.parent.0 x (In-append_left (map bill_edge N.bills) (map (source_edge N) N.sources) (bill_edge b) (In-map bill_edge N.bills b there)) refl component in
       let plants = All-in (λ (z : BillRow). plant_at N z.parent.0 ≡ plant_at N z.component.0) N.bills b table.sourced.plants there in
@@ -131,7 +131,7 @@ module _ (N : Table) (table : IsTable N) (free : IsLoopFree N) (plant : ℕ) (pl
       ap (λ (rows : PlanRows). b.per * slice_index rows.release period) (right b.parent.0 edge row.parent (local ∙ here) (ready.demanders b.parent.0 edge local)))
 
   local_gross_is : (x : ℕ) → IsPair N x → (pair_at N x).plant.0 ≡ plant → IsReady N planned taken x → ((y : ℕ) → HasEdge N y x → IsRight y) → (period : ℕ) → period < horizon N
-      → local_gross N taken plans x period ≡ gross N (plan_of N) x period
+      → gross_brought N taken plans x period ≡ gross N (plan_of N) x period
   local_gross_is x pair here ready right period inside =
       let bills = sum_by-same (asked_by_bill plans x period) (asked_by_bill (plan_of N) x period) N.bills
       (λ k d h. bill_asks x period here ready right (get_or N.bills k d) (In-from_contains N.bills (get_or N.bills k d) (Contains-get_or N.bills k d h))) in
@@ -144,12 +144,12 @@ module _ (N : Table) (table : IsTable N) (free : IsLoopFree N) (plant : ℕ) (pl
   right_beside x pair right same here is_planned =
       let local = are x pair here is_planned in
       let legal_here = subst (λ (p : ℕ). AreLegal N p taken) (sym here) legal in
-      let ins : row_of N (local_incoming N taken x) ≡ row_of N (incoming N x) =
-      same_row N (local_incoming N taken x) (incoming N x) (λ t inside. despatches_bring_incoming N table planned taken x pair legal_here local.0 t) in
-      let asked : row_of N (local_gross N taken plans x) ≡ row_of N (gross N (plan_of N) x) =
-      same_row N (local_gross N taken plans x) (gross N (plan_of N) x) (local_gross_is x pair here local.0 right) in
+      let ins : row_of N (incoming_brought N taken x) ≡ row_of N (incoming N x) =
+      same_row N (incoming_brought N taken x) (incoming N x) (λ t inside. despatches_bring_incoming N table planned taken x pair legal_here local.0 t) in
+      let asked : row_of N (gross_brought N taken plans x) ≡ row_of N (gross N (plan_of N) x) =
+      same_row N (gross_brought N taken plans x) (gross N (plan_of N) x) (local_gross_is x pair here local.0 right) in
       local.1
-      ∙ ap (λ (row : List ℕ). one (params_at N x) row (row_of N (local_gross N taken plans x))) ins
+      ∙ ap (λ (row : List ℕ). one (params_at N x) row (row_of N (gross_brought N taken plans x))) ins
       ∙ ap (λ (row : List ℕ). one (params_at N x) (row_of N (incoming N x)) row) asked
       ∙ sym ((one_plan N table free).fits.rows x pair)
 

@@ -6,9 +6,9 @@ use Rattle.mrp_rows.specs.declared.numbers.PlantNo.{PlantNo}
 use Rattle.mrp_rows.specs.Table.{Table, IsTable, horizon, pair_no}
 use Rattle.mrp_net.specs.declared.lane.Lane.{Lane}
 use Rattle.mrp_net.specs.declared.lane.LaneKind.TheVariants.{Despatch, Schedule}
-use Rattle.mrp_net.specs.Lanes.{lanes, lane_at, lane_items, taken_over, item_of, opening, pair_on, customer_of, supplier_of, figure}
+use Rattle.mrp_net.specs.Lanes.{lanes, lane_at, lane_items, taken_over, item_of_source, opening, pair_on, customer_of, supplier_of, figure}
 use Rattle.mrp_net.specs.LaneLaws.{AreBothLanes}
-use Rattle.mrp_net.specs.PlanLaws.{released}
+use Rattle.mrp_net.specs.PlanLaws.{release_at}
 use Rattle.mrp_net.specs.Plan.{rows_at, plan_of}
 use Rattle.mrp_net.specs.Sources.{source_on}
 use Rattle.mrp_net.specs.Sums.{pair_at}
@@ -32,7 +32,7 @@ module _ (N : Table) (table : IsTable N) (free : IsLoopFree N) (plant : ℕ) (pl
   -- by a despatch lane and the schedule lane of the same two plants
   by_lanes : (before : ℕ) → before < length (lanes N) → (schedule : Lane) → AreBothLanes (lane_at N before) schedule → schedule.sender.0 ≡ plant
       → Contains (lane_items N schedule) item → planned (pair_on N schedule item) ≡ true
-      → load_of N schedule item ≡ schedule_load (horizon N) (cum (figure N (pair_on N schedule item) (supplier_of schedule)) item.0 (contents (taken before))) (released plans (source_on N schedule item).pair.0) (outgoing_item N schedule item)
+      → load_of N schedule item ≡ schedule_load (horizon N) (cum (figure N (pair_on N schedule item) (supplier_of schedule)) item.0 (contents (taken before))) (release_at plans (source_on N schedule item).pair.0) (outgoing_item N schedule item)
   by_lanes before within schedule both here there is_planned =
       let despatch : Lane = lane_at N before in
       let x : ℕ = pair_on N schedule item in
@@ -42,7 +42,7 @@ module _ (N : Table) (table : IsTable N) (free : IsLoopFree N) (plant : ℕ) (pl
       let at_plant : (pair_at N x).plant.0 ≡ plant = has.customer.at_plant ∙ customer_by_schedule schedule both.second ∙ here in
       let arrives : despatch.receiver.0 ≡ plant = sym (ap (λ (p : PlantNo). p.0) both.customer) ∙ here in
       let items : lane_items N schedule ≡ lane_items N despatch =
-      ap (λ (c : ℕ). map (item_of N) (taken_over N c (supplier_of schedule))) customer ∙ ap (λ (p : ℕ). map (item_of N) (taken_over N (customer_of despatch) p)) supplier in
+      ap (λ (c : ℕ). map (item_of_source N) (taken_over N c (supplier_of schedule))) customer ∙ ap (λ (p : ℕ). map (item_of_source N) (taken_over N (customer_of despatch) p)) supplier in
       let there_too : Contains (lane_items N despatch) item = subst (λ (z : List ItemNo). Contains z item) items there in
       let local = are x has.customer.pair at_plant is_planned in
       let its : Contains (lane_items N despatch) (pair_at N x).item = subst (Contains (lane_items N despatch)) (sym has.customer.of_item) there_too in
@@ -59,7 +59,7 @@ module _ (N : Table) (table : IsTable N) (free : IsLoopFree N) (plant : ℕ) (pl
       ap (rows_at (plan_of N)) source ∙ sym rows ∙ sym (ap (rows_at plans) source) in
       schedules_are_seen N schedule item both.second
       ∙ ap (λ (z : PlanRows). schedule_load (horizon N) (opening N schedule item) (λ t. slice_index z.release t) (outgoing_item N schedule item)) plan_there
-      ∙ sym (ap (λ (z : ℕ). schedule_load (horizon N) z (released plans (source_on N schedule item).pair.0) (outgoing_item N schedule item)) reached)
+      ∙ sym (ap (λ (z : ℕ). schedule_load (horizon N) z (release_at plans (source_on N schedule item).pair.0) (outgoing_item N schedule item)) reached)
 
 by_halves : (l : ℕ) → (l ≡ 2 * (l / 2)) ⊎ (l ≡ 2 * (l / 2) + 1)
 by_halves l = grind arith
@@ -79,7 +79,7 @@ local_loads_are_the_loads N table free plant planned taken plans legal are l wit
           let both : AreBothLanes (lane_at N (l - 1)) (lane_at N l) =
           subst (λ (z : ℕ). AreBothLanes (lane_at N z) (lane_at N l)) (sym before)
           (subst (λ (z : ℕ). AreBothLanes (lane_at N (2 * k)) (lane_at N z)) (sym odd) (lanes_come_in_twos N k (omega arith)).1) in
-          let i : seen.Load = outgoing_item N (lane_at N l) item in
+          let i : seen.OutgoingLoad = outgoing_item N (lane_at N l) item in
           by_lanes N table free plant planned taken plans legal are item (l - 1) (omega arith) (lane_at N l) both here there is_planned
-          ∙ sym (ap (λ (c : Call). schedule_load (horizon N) (cum i.figure i.item.0 (contents (taken (l - 1)))) (released plans c.customer.0) i) (call_seen N (lane_at N l) item kind))
+          ∙ sym (ap (λ (c : Call). schedule_load (horizon N) (cum i.figure i.item.0 (contents (taken (l - 1)))) (release_at plans c.customer.0) i) (call_seen N (lane_at N l) item kind))
     ]

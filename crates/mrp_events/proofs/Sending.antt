@@ -12,7 +12,7 @@ use Rattle.mrp_view.specs.declared.view.Call.{Call}
 use Rattle.mrp_view.specs.declared.view.IncomingLane.{IncomingLane}
 use Rattle.mrp_net.specs.Lanes.{lane_at, lane_items, shipments, opening, reset, pair_on, customer_of, supplier_of, figure, shipped_from}
 use Rattle.mrp_net.specs.LaneLaws.{AreBothLanes}
-use Rattle.mrp_net.specs.PlanLaws.{released}
+use Rattle.mrp_net.specs.PlanLaws.{release_at}
 use Rattle.mrp_net.specs.Plan.{plan_of}
 use Rattle.mrp_net.specs.Sources.{source_on}
 use Rattle.mrp_net.specs.Sums.{pair_at}
@@ -49,7 +49,7 @@ despatches_are_seen N lane item kind =
 
 pub schedules_are_seen : SchedulesAreSeen
 schedules_are_seen N lane item kind =
-    let release : ℕ → ℕ = released (plan_of N) (source_on N lane item).pair.0 in
+    let release : ℕ → ℕ = release_at (plan_of N) (source_on N lane item).pair.0 in
     ap (λ (k : LaneKind). load_with N lane item (opening N lane item) (lines_by N k lane item)) kind
     ∙ sym (ap (λ (c : Call). load_with N lane item (opening N lane item) (by_period (λ period. share_of c.low c.high (release period)) (horizon N))) (call_seen N lane item kind))
 

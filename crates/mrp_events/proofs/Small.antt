@@ -42,18 +42,18 @@ use Rattle.mrp_record.specs.Text.{Load, total, block_length, length_of_text}
 use Rattle.mrp_record.proofs.Beginnings as beginnings
 use Rattle.mrp_record.proofs.Forming as forming
 use Rattle.mrp_events.specs.Loads.{delivery_of, despatched, called_in, called, lines_by, load_of, loads, is_rising}
-use Rattle.mrp_events.specs.LoadLaws.{LoadsStandOnce, LoadsAreSmall, OpeningsAreSmall, LegalIsInForm, LegalFiguresAreSmall, LegalCumsAreSmall, TextsAreNoLonger, BeginningsAreNoLonger, StepsAreFew}
+use Rattle.mrp_events.specs.LoadLaws.{LoadsStandOnce, LoadsAreSmall, OpeningsAreSmall, LegalIsInForm, LegalFiguresAreSmall, LegalCumsAreSmall, TextsAreNoLonger, LaneBeginningsAreNoLonger, StepsAreFew}
 use Rattle.mrp_events.proofs.Calling.{source_over, source_item}
 use Rattle.mrp_events.proofs.Delivered.{by_period_total, by_period_some, by_period_inside, by_period_rises, by_period_length, in_order, rises_in_order}
 
 -- ---- each item has one load
 
 none_alike : (N : Table) (lane : Lane) (item : ItemNo) (items : List ItemNo) → AllByRecursion (λ i. (item.0 == i.0) ≡ false) items
-    → AllByRecursion (λ load. record_laws.is_same_item (load_of N lane item) load ≡ false) (map (load_of N lane) items)
+    → AllByRecursion (λ load. record_laws.is_same_load (load_of N lane item) load ≡ false) (map (load_of N lane) items)
 none_alike N lane item [] h = tt
 none_alike N lane item (i ∷ items) h = (h.0, none_alike N lane item items h.1)
 
-loads_distinct : (N : Table) (lane : Lane) (items : List ItemNo) → IsDistinct (λ i j. i.0 == j.0) items → IsDistinct record_laws.is_same_item (map (load_of N lane) items)
+loads_distinct : (N : Table) (lane : Lane) (items : List ItemNo) → IsDistinct (λ i j. i.0 == j.0) items → IsDistinct record_laws.is_same_load (map (load_of N lane) items)
 unfolding IsDistinct
 loads_distinct N lane [] h = tt
 loads_distinct N lane (item ∷ items) h = (none_alike N lane item items h.0, loads_distinct N lane items h.1)
@@ -77,7 +77,7 @@ pub texts_are_no_longer : TextsAreNoLonger
 texts_are_no_longer N lane =
     omega (arith, sum_map block_length (load_of N lane) (lane_items N lane), sum_by-le-sum_by (λ item. block_length (load_of N lane item)) (longest_block N lane) (lane_items N lane) (block_is_no_longer N lane))
 
-pub beginnings_are_no_longer : BeginningsAreNoLonger
+pub beginnings_are_no_longer : LaneBeginningsAreNoLonger
 beginnings_are_no_longer N lane records h =
     omega (arith, beginnings.beginnings_are_no_longer (loads N lane) records h, texts_are_no_longer N lane)
 

@@ -40,8 +40,8 @@ abbrev pub cum_on : Table → ℕ → ItemNo → List Record → ℕ
 cum_on N l item records = cum (opening N (lane_at N l) item) item.0 (contents records)
 
 -- what has been shipped is what has been received and what lies in the mailbox
-abbrev pub NothingIsLost : Type 0
-NothingIsLost =
+abbrev pub NothingSentIsLost : Type 0
+NothingSentIsLost =
     (N : Table) → IsTable N → (capacity : ℕ) (s : State) → IsReached N capacity s
     → (l : ℕ) → l < length (lanes N) → (item : ItemNo) → Contains (lane_items N (lane_at N l)) item
     → (mailbox : List Record) → s.sent l ≡ s.taken l ++ mailbox
@@ -50,7 +50,7 @@ NothingIsLost =
 -- ---- the end of a lane
 
 -- once the closing record is taken, the whole text is, and nothing else has been sent
-abbrev pub ClosedLanesAreWhole : Type 0
-ClosedLanesAreWhole =
+abbrev pub ClosedTextsAreWhole : Type 0
+ClosedTextsAreWhole =
     (N : Table) (capacity : ℕ) (s : State) → IsReached N capacity s → (l : ℕ) → l < length (lanes N)
     → is_closed (contents (s.taken l)) ≡ true → IsWhole (loads N (lane_at N l)) (s.taken l) × (s.sent l ≡ s.taken l)

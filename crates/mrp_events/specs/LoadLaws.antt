@@ -10,7 +10,7 @@ use Rattle.mrp_loops.specs.Sized.{IsSized}
 use Rattle.mrp_record.specs.declared.record.Record.{Record}
 use Rattle.mrp_record.specs.Entries.{number_of, content, contents, cum}
 use Rattle.mrp_record.specs.Form.{LaneForm, IsInForm}
-use Rattle.mrp_record.specs.Laws.{AreLoads, AreSmall, HasSmallFigures, form_of}
+use Rattle.mrp_record.specs.Laws.{AreLoads, AreSmall, HasSmallFigures, loads_form}
 use Rattle.mrp_record.specs.Text.{IsBeginning, length_of_text}
 use Rattle.mrp_events.specs.Loads.{loads, is_rising, steps}
 
@@ -31,7 +31,7 @@ OpeningsAreSmall =
 
 -- what a receiver knows of a lane
 abbrev pub lane_form : Table → Lane → LaneForm
-lane_form N lane = form_of (is_rising lane.kind) (horizon N) (loads N lane)
+lane_form N lane = loads_form (is_rising lane.kind) (horizon N) (loads N lane)
 
 -- each legal beginning is in form, and its numbers and figures are at most 10^15
 abbrev pub LegalIsInForm : Type 0
@@ -55,8 +55,8 @@ abbrev pub TextsAreNoLonger : Type 0
 TextsAreNoLonger = (N : Table) (lane : Lane) → length_of_text (loads N lane) ≤ longest_text N lane
 
 -- and so is each legal beginning
-abbrev pub BeginningsAreNoLonger : Type 0
-BeginningsAreNoLonger =
+abbrev pub LaneBeginningsAreNoLonger : Type 0
+LaneBeginningsAreNoLonger =
     (N : Table) (lane : Lane) (records : List Record) → IsBeginning (loads N lane) records → length records ≤ longest_text N lane
 
 -- a run has at most 2 * 10^15 events

@@ -10,7 +10,7 @@ use Rattle.mrp_net.specs.declared.lane.LaneKind.TheVariants.{Despatch, Schedule}
 use Rattle.mrp_net.specs.declared.lane.Shipment.{Shipment}
 use Rattle.mrp_net.specs.Edges.{part, source_edge}
 use Rattle.mrp_net.specs.Lanes.{lanes, lane_items, opening, shipments, reset}
-use Rattle.mrp_net.specs.PlanLaws.{released}
+use Rattle.mrp_net.specs.PlanLaws.{release_at}
 use Rattle.mrp_net.specs.Plan.{plan_of}
 use Rattle.mrp_net.specs.Sources.{source_on}
 use Rattle.mrp_record.specs.Entries.{Delivery}
@@ -35,7 +35,7 @@ by_period amount periods = filter has_pieces (map (delivery_in amount) (range_wi
 
 -- a schedule lane calls for the source's part of what the plan releases for its pair in each period
 abbrev pub called_in : Table → SourceRow → ℕ → ℕ
-called_in N s period = part (source_edge N s) (released (plan_of N) s.pair.0 period)
+called_in N s period = part (source_edge N s) (release_at (plan_of N) s.pair.0 period)
 
 abbrev pub called : Table → Lane → ItemNo → List Delivery
 called N lane item = by_period (called_in N (source_on N lane item)) (horizon N)

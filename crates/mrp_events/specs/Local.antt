@@ -32,18 +32,18 @@ brought N taken is_kind x period =
     (range_with_len 0 (length (lanes N)))
 
 -- what comes in for a pair: its receipt rows, and what despatch lanes have brought
-abbrev pub local_incoming : Table → (ℕ → List Record) → ℕ → ℕ → ℕ
-local_incoming N taken x period = received N x period + brought N taken is_despatch x period
+abbrev pub incoming_brought : Table → (ℕ → List Record) → ℕ → ℕ → ℕ
+incoming_brought N taken x period = received N x period + brought N taken is_despatch x period
 
 -- its gross requirements: its demand rows, what its parents at the plant ask, and what schedule lanes have called for
-abbrev pub local_gross : Table → (ℕ → List Record) → List PlanRows → ℕ → ℕ → ℕ
-local_gross N taken plans x period =
+abbrev pub gross_brought : Table → (ℕ → List Record) → List PlanRows → ℕ → ℕ → ℕ
+gross_brought N taken plans x period =
     demand N x period + sum_by (asked_by_bill plans x period) N.bills + brought N taken is_rising x period
 
 -- its local plan, beside the plans of its parents
-abbrev pub local_plan : Table → (ℕ → List Record) → List PlanRows → ℕ → PlanRows
-local_plan N taken plans x =
-    one (params_at N x) (row_of N (local_incoming N taken x)) (row_of N (local_gross N taken plans x))
+abbrev pub plan_brought : Table → (ℕ → List Record) → List PlanRows → ℕ → PlanRows
+plan_brought N taken plans x =
+    one (params_at N x) (row_of N (incoming_brought N taken x)) (row_of N (gross_brought N taken plans x))
 
 -- what has been taken is a legal beginning on each lane to the plant
 abbrev pub AreLegal : Table → ℕ → (ℕ → List Record) → Type 0
@@ -53,8 +53,8 @@ AreLegal N plant taken =
 -- ---- laws
 
 -- a pair that is planned was ready, and stays so
-abbrev pub PlannedAreReady : Type 0
-PlannedAreReady =
+abbrev pub PlannedStayReady : Type 0
+PlannedStayReady =
     (N : Table) (capacity : ℕ) (s : State) → IsReached N capacity s → (x : ℕ) → IsPair N x → s.planned x ≡ true
     → IsReady N s.planned s.taken x
 
@@ -63,20 +63,20 @@ abbrev pub DespatchesBringIncoming : Type 0
 DespatchesBringIncoming =
     (N : Table) → IsTable N → (planned : ℕ → Bool) (taken : ℕ → List Record) (x : ℕ) → IsPair N x
     → AreLegal N (pair_at N x).plant.0 taken → IsReady N planned taken x
-    → (period : ℕ) → local_incoming N taken x period ≡ incoming N x period
+    → (period : ℕ) → incoming_brought N taken x period ≡ incoming N x period
 
 -- and what its customers call for by that plan
 abbrev pub SchedulesBringGross : Type 0
 SchedulesBringGross =
     (N : Table) → IsTable N → (planned : ℕ → Bool) (taken : ℕ → List Record) (x : ℕ) → IsPair N x
     → AreLegal N (pair_at N x).plant.0 taken → IsReady N planned taken x
-    → (period : ℕ) → period < horizon N → local_gross N taken (plan_of N) x period ≡ gross N (plan_of N) x period
+    → (period : ℕ) → period < horizon N → gross_brought N taken (plan_of N) x period ≡ gross N (plan_of N) x period
 
 -- plans of a plant's ready pairs, each made from its own rows, its parents' plans and what has been taken
 abbrev pub AreLocal : Table → ℕ → (ℕ → Bool) → (ℕ → List Record) → List PlanRows → Type 0
 AreLocal N plant planned taken plans =
     (x : ℕ) → IsPair N x → (pair_at N x).plant.0 ≡ plant → planned x ≡ true
-    → IsReady N planned taken x × (rows_at plans x ≡ local_plan N taken plans x)
+    → IsReady N planned taken x × (rows_at plans x ≡ plan_brought N taken plans x)
 
 -- local plans are the plan: each is that of the one plan of the whole network
 abbrev pub LocalPlansAreThePlan : Type 0
@@ -90,5 +90,5 @@ LocalPlansAreThePlan =
 abbrev pub ReachedPlansAreThePlan : Type 0
 ReachedPlansAreThePlan =
     (N : Table) → IsTable N → IsLoopFree N → (capacity : ℕ) (s : State) → IsReached N capacity s → (plans : List PlanRows)
-    → ((x : ℕ) → IsPair N x → s.planned x ≡ true → rows_at plans x ≡ local_plan N s.taken plans x)
+    → ((x : ℕ) → IsPair N x → s.planned x ≡ true → rows_at plans x ≡ plan_brought N s.taken plans x)
     → (x : ℕ) → IsPair N x → s.planned x ≡ true → rows_at plans x ≡ rows_at (plan_of N) x

@@ -10,8 +10,8 @@ use Rattle.mrp_events.specs.Loads.{loads, steps}
 use Rattle.mrp_events.specs.State.{State, opening_state, Step, IsEnabled, IsReached, IsFinished}
 
 -- the pairs still to be planned, and the records of a lane still to be sent and still to be taken
-abbrev pub unplanned : Table → (ℕ → Bool) → ℕ
-unplanned N planned = count_by (λ x. not (planned x)) (range_with_len 0 (length N.pairs))
+abbrev pub pairs_unplanned : Table → (ℕ → Bool) → ℕ
+pairs_unplanned N planned = count_by (λ x. not (planned x)) (range_with_len 0 (length N.pairs))
 
 abbrev pub text_length : Table → ℕ → ℕ
 text_length N l = length_of_text (loads N (lane_at N l))
@@ -20,7 +20,7 @@ abbrev pub left_on : Table → State → ℕ → ℕ
 left_on N s l = (text_length N l - length (s.sent l)) + (text_length N l - length (s.taken l))
 
 abbrev pub steps_left : Table → State → ℕ
-steps_left N s = unplanned N s.planned + sum_by (left_on N s) (range_with_len 0 (length (lanes N)))
+steps_left N s = pairs_unplanned N s.planned + sum_by (left_on N s) (range_with_len 0 (length (lanes N)))
 
 -- a run begins with as many steps to go as the network has
 abbrev pub RunsBeginWithSteps : Type 0
@@ -45,19 +45,19 @@ NoScheduleSticks =
     → IsFinished N s ⊎ ((event : Event) × IsEnabled N capacity s event)
 
 -- each event of the list is enabled in its turn
-abbrev pub Goes : Table → ℕ → State → List Event → State → Type 0
-Goes N capacity s [] t = t ≡ s
-Goes N capacity s (event ∷ events) t = (next : State) × Step N capacity s event next × Goes N capacity next events t
+abbrev pub GoesBy : Table → ℕ → State → List Event → State → Type 0
+GoesBy N capacity s [] t = t ≡ s
+GoesBy N capacity s (event ∷ events) t = (next : State) × Step N capacity s event next × GoesBy N capacity next events t
 
 -- such a list and what is left after it are all steps of the network
 abbrev pub EventsAndStepsLeft : Type 0
 EventsAndStepsLeft =
-    (N : Table) (capacity : ℕ) (events : List Event) (s : State) → Goes N capacity opening_state events s
+    (N : Table) (capacity : ℕ) (events : List Event) (s : State) → GoesBy N capacity opening_state events s
     → length events + steps_left N s ≡ steps N
 
 -- and where it can't be made longer it has taken all of them, and the run is finished
 abbrev pub LongestRunsFinish : Type 0
 LongestRunsFinish =
     (N : Table) → IsTable N → IsLoopFree N → (capacity : ℕ) → 1 ≤ capacity → (events : List Event) (s : State)
-    → Goes N capacity opening_state events s → ((event : Event) → ¬ IsEnabled N capacity s event)
+    → GoesBy N capacity opening_state events s → ((event : Event) → ¬ IsEnabled N capacity s event)
     → (length events ≡ steps N) × IsFinished N s

@@ -10,7 +10,7 @@ use Rattle.mrp_view.specs.declared.view.IncomingItem.{IncomingItem}
 use Rattle.mrp_view.specs.declared.view.IncomingLane.{IncomingLane}
 use Rattle.mrp_net.specs.Lanes.{lanes, lane_at, lane_items, opening, pair_on}
 use Rattle.mrp_net.specs.LaneLaws.{AreBothLanes}
-use Rattle.mrp_net.specs.PlanLaws.{released}
+use Rattle.mrp_net.specs.PlanLaws.{release_at}
 use Rattle.mrp_view.specs.Loads as seen
 use Rattle.mrp_net.specs.Plan.{plan_of}
 use Rattle.mrp_net.specs.Sources.{source_on}
@@ -29,14 +29,14 @@ use Rattle.mrp_events.specs.Local.{AreLegal, AreLocal, brought}
 -- ---- lanes that it sends
 
 -- a despatch lane's load of an item: the shipments on their way
-abbrev pub despatch_load : seen.Load → Load
+abbrev pub despatch_load : seen.OutgoingLoad → Load
 despatch_load i = record { item = i.item.0; opening = i.figure; reset = i.reset; lines = map delivery_of i.shipments }
 
--- a schedule lane's load, from an opening figure on: the share that is called for of what is released for the pair
+-- a schedule lane's load, from an opening figure on: the share that is called for of what is release_at for the pair
 abbrev pub share_of : ℕ → ℕ → ℕ → ℕ
 share_of low high release = (release * high) / 1000 - (release * low) / 1000
 
-abbrev pub schedule_load : ℕ → ℕ → (ℕ → ℕ) → seen.Load → Load
+abbrev pub schedule_load : ℕ → ℕ → (ℕ → ℕ) → seen.OutgoingLoad → Load
 schedule_load periods opening release i = record {
   item = i.item.0;
   opening = opening;
@@ -54,7 +54,7 @@ abbrev pub SchedulesAreSeen : Type 0
 SchedulesAreSeen =
     (N : Table) (lane : Lane) (item : ItemNo) → lane.kind ≡ Schedule
     → load_of N lane item
-    ≡ schedule_load (horizon N) (opening N lane item) (released (plan_of N) (source_on N lane item).pair.0)
+    ≡ schedule_load (horizon N) (opening N lane item) (release_at (plan_of N) (source_on N lane item).pair.0)
     (outgoing_item N lane item)
 
 -- a schedule lane's figures begin where those of the despatch lane of the same two plants stand once
@@ -67,9 +67,9 @@ SchedulesOpenAfterShipments =
     → cum (opening N despatch item) item.0 (contents records) ≡ opening N schedule item
 
 -- a schedule lane's load by the plans and the taken lists of its sender
-abbrev pub local_load : Table → (ℕ → List Record) → List PlanRows → ℕ → seen.Load → Load
+abbrev pub local_load : Table → (ℕ → List Record) → List PlanRows → ℕ → seen.OutgoingLoad → Load
 local_load N taken plans l i =
-    schedule_load (horizon N) (cum i.figure i.item.0 (contents (taken (l - 1)))) (released plans (seen.call_of i).customer.0) i
+    schedule_load (horizon N) (cum i.figure i.item.0 (contents (taken (l - 1)))) (release_at plans (seen.call_of i).customer.0) i
 
 -- so what a plant sends by its own plans is what its lanes carry: of a planned pair each schedule lane has
 -- the load by the pair's local plan, from the figure that the despatch lane before it has reached

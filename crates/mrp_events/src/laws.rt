@@ -1,10 +1,10 @@
 //! Laws of what lanes carry, and of every run. Each is the contract of a function that does nothing.
 
 ghost use Rattle.mrp_events.specs.LoadLaws.{LoadsStandOnce, LoadsAreSmall, OpeningsAreSmall, TextsAreNoLonger};
-ghost use Rattle.mrp_events.specs.LoadLaws.{BeginningsAreNoLonger, StepsAreFew};
+ghost use Rattle.mrp_events.specs.LoadLaws.{LaneBeginningsAreNoLonger, StepsAreFew};
 ghost use Rattle.mrp_events.specs.LoadLaws.{LegalIsInForm, LegalFiguresAreSmall, LegalCumsAreSmall};
-ghost use Rattle.mrp_events.specs.Laws.{LanesKeepOrder, SentIsDecided, NothingIsLost, ClosedLanesAreWhole};
-ghost use Rattle.mrp_events.specs.Local.{PlannedAreReady, DespatchesBringIncoming, SchedulesBringGross};
+ghost use Rattle.mrp_events.specs.Laws.{LanesKeepOrder, SentIsDecided, NothingSentIsLost, ClosedTextsAreWhole};
+ghost use Rattle.mrp_events.specs.Local.{PlannedStayReady, DespatchesBringIncoming, SchedulesBringGross};
 ghost use Rattle.mrp_events.specs.Local.{LocalPlansAreThePlan, ReachedPlansAreThePlan};
 ghost use Rattle.mrp_events.specs.Seen.{DespatchesAreSeen, SchedulesAreSeen, SchedulesOpenAfterShipments};
 ghost use Rattle.mrp_events.specs.Seen.{LocalLoadsAreTheLoads, FormsAreSeen, BroughtIsSeen};
@@ -37,7 +37,7 @@ pub fn openings_are_small()
 /// A run has at most 2 * 10^15 events, so its steps can be counted in 64 bits.
 pub fn texts_have_the_lanes_length()
     ensures texts { TextsAreNoLonger }
-    ensures beginnings { BeginningsAreNoLonger }
+    ensures beginnings { LaneBeginningsAreNoLonger }
     ensures steps { StepsAreFew }
 {}
 
@@ -56,12 +56,12 @@ pub fn sent_is_decided()
 /// In every state that events lead to, an item's cumulative figure shipped over a lane is the one
 /// received and the pieces in the mailbox, closed years added.
 pub fn nothing_is_lost()
-    ensures { NothingIsLost }
+    ensures { NothingSentIsLost }
 {}
 
 /// Once a lane's closing record is taken, its whole text is, and nothing else has been sent.
 pub fn closed_lanes_are_whole()
-    ensures { ClosedLanesAreWhole }
+    ensures { ClosedTextsAreWhole }
 {}
 
 /// A run begins with all steps of the network to go, each event that is enabled takes one of them, and
@@ -84,7 +84,7 @@ pub fn no_schedule_sticks()
 /// A pair that is planned was ready and stays so: its demanders at its own plant are planned, and each
 /// lane to the plant has brought its whole block of the item.
 pub fn planned_are_ready()
-    ensures { PlannedAreReady }
+    ensures { PlannedStayReady }
 {}
 
 /// What taken lanes have brought to a ready pair is what the network's plan says: with the receipt rows

@@ -7,12 +7,12 @@ use Rattle.mrp_loops.specs.Sized.{IsSized}
 use Rattle.mrp_record.proofs.Beginnings.{empty_is_a_beginning}
 use Rattle.mrp_events.specs.Loads.{loads}
 use Rattle.mrp_events.specs.State.{opening_state}
-use Rattle.mrp_agent.specs.Shows.{Shows}
+use Rattle.mrp_agent.specs.Shows.{ShowsHistory}
 use Rattle.mrp_agent.specs.State.{AgentState}
 use Rattle.mrp_crew.specs.Planning.{IsPlannable}
 
 pub opening_is_plannable : (N : Table) → IsSized N → (plant : ℕ) (A : AgentState) → A.view ≡ plant_rows N plant
-    → Shows A opening_state.sent opening_state.taken opening_state.planned → IsPlannable A
+    → ShowsHistory A opening_state.sent opening_state.taken opening_state.planned → IsPlannable A
 opening_is_plannable N sized plant A view shows = record {
   network = N;
   sized = sized;

@@ -10,7 +10,7 @@ use Rattle.std.proofs.lemmas.Map.Keys.{apart_from_distinct}
 use Rattle.std.proofs.lemmas.Option.{slice_get-get_or}
 use Rattle.std.proofs.lemmas.Slice.Eq.{bytes_eq-Decides}
 use Rattle.mrp_rows.specs.declared.rows.PairRow.{PairRow}
-use Rattle.mrp_rows.specs.Names.{pair_at, pair_named, pair_of, plant_no}
+use Rattle.mrp_rows.specs.Names.{found_pair, pair_named, pair_of_item, plant_no}
 use Rattle.mrp_rows.specs.Table.{IsPair, IsPairRow, IsTable, is_same_pair, item_at, plant_at, Table}
 use Rattle.mrp_rows.proofs.Keys.{position_is}
 use Rattle.mrp_grammar.specs.Written.{pair_item, pair_plant, plant_name}
@@ -59,7 +59,7 @@ module _ (N : Table) (table : IsTable N) where
   pub record Stands (x : ℕ) : Type 0 where
     pub plant : plant_at N x < length N.plants
     pub item : item_at N x < length N.items
-    pub at : pair_at N (plant_at N x) (item_at N x) ≡ Some x
+    pub at : found_pair N (plant_at N x) (item_at N x) ≡ Some x
 
   pub stands : (x : ℕ) → IsPair N x → Stands x
   stands x lt = by N.pairs refl lt
@@ -75,7 +75,7 @@ module _ (N : Table) (table : IsTable N) where
           record {
             plant = omega (arith, plant, row.plant);
             item = omega (arith, item, row.item);
-            at = ap (λ i. pair_at N (plant_at N x) i) item ∙ ap (λ f. pair_at N f p.item.0) plant ∙ pair_is N.pairs x d table.once.pairs lt;
+            at = ap (λ i. found_pair N (plant_at N x) i) item ∙ ap (λ f. found_pair N f p.item.0) plant ∙ pair_is N.pairs x d table.once.pairs lt;
           }
 
   pub plant_of_pair : (x : ℕ) → IsPair N x → plant_no N (pair_plant N x) ≡ Some (plant_at N x)
@@ -85,4 +85,4 @@ module _ (N : Table) (table : IsTable N) where
   pub pair_by_names : (x : ℕ) → IsPair N x → pair_named N (Some (plant_at N x)) (pair_item N x) ≡ Some x
   pair_by_names x is =
       let s = stands x is in
-      ap (pair_of N (plant_at N x)) (name_at N.items (item_at N x) table.once.items s.item) ∙ s.at
+      ap (pair_of_item N (plant_at N x)) (name_at N.items (item_at N x) table.once.items s.item) ∙ s.at

@@ -25,11 +25,11 @@ use Rattle.mrp_rows.specs.declared.rows.Supply.{Supply}
 use Rattle.mrp_rows.specs.declared.rows.Supply.TheVariants as supply
 use Rattle.mrp_qty.specs.declared.limits.TheConstants.{MOST_IN_ROW, MOST_PAIRS}
 use Rattle.mrp_rows.specs.Growing.{add_item}
-use Rattle.mrp_rows.specs.Names.{has_plant, pair_named, pair_of, plant_no}
+use Rattle.mrp_rows.specs.Names.{has_plant, pair_named, pair_of_item, plant_no}
 use Rattle.mrp_rows.specs.Table.{AreShares, HasSupply, is_same_pair, is_same_source, IsName, IsPair, IsPairRow, IsSourceRow, IsTable, plant_at, sources_of_pair, Table}
 use Rattle.mrp_grammar.specs.declared.kind.Kind.{Kind}
 use Rattle.mrp_grammar.specs.declared.kind.Kind.TheVariants as kind
-use Rattle.mrp_grammar.specs.Grammar.{knows_sources, pair_fits, pair_row, pair_terms, PairTerms, pair_with, place_of, source_row, supply_kind, with_pair_terms}
+use Rattle.mrp_grammar.specs.Grammar.{knows_sources, pair_fits, pair_row, pair_terms, PairTerms, pair_with, kind_place, source_row, supply_kind, with_pair_terms}
 use Rattle.mrp_grammar.specs.Reading.{row_after, row_of_kind}
 use Rattle.mrp_grammar.specs.Written.{AreNumbered, item_name, pair_fields, pair_rows, plant_name, source_said, supply_said}
 use Rattle.mrp_grammar.proofs.BackNames.{at_place, name_at, none_before, plant_at_place}
@@ -330,7 +330,7 @@ module _ (N : Table) (table : IsTable N) where
   -- ---- the next pair
 
   module _ (before : List PairRow) (p : PairRow) (after : List PairRow) (had later : List (List ℕ)) (last : Kind) (e : before ++ p ∷ after ≡ N.pairs) (items : had ++ later ≡ N.items)
-      (near : p.item.0 ≤ length had) (low : place_of last ≤ place_of kind.Pair) where
+      (near : p.item.0 ≤ length had) (low : kind_place last ≤ kind_place kind.Pair) where
     abbrev x : ℕ
     x = length before
 
@@ -350,7 +350,7 @@ module _ (N : Table) (table : IsTable N) where
     old = with_pairs before had x
 
     new_pair : pair_named old (Some p.plant.0) (item_name N p.item.0) ≡ None
-    new_pair = ⊎_elim (λ is. ap (pair_of old p.plant.0) is ∙ no_place (λ q. is_same_pair q p) before (none_before is_same_pair before p after N.pairs e table.once.pairs)) (λ is. ap (pair_of old p.plant.0) is) next.was
+    new_pair = ⊎_elim (λ is. ap (pair_of_item old p.plant.0) is ∙ no_place (λ q. is_same_pair q p) before (none_before is_same_pair before p after N.pairs e table.once.pairs)) (λ is. ap (pair_of_item old p.plant.0) is) next.was
 
     has_supply : HasSupply p.supply (sources_of_pair N x)
     has_supply = subst (λ (s : Supply). HasSupply s (sources_of_pair N x)) (ap (λ o. unwrap_or (option_map (λ p. p.supply) o) supply.Buy) stands_here) (table.sourced.supplies x is_pair)
@@ -404,8 +404,8 @@ module _ (N : Table) (table : IsTable N) where
   nothing_after had [] items e n = sym (append-nil had) ∙ e
   nothing_after had (y ∷ later) items e n = absurd (omega (arith, length-append had (y ∷ later), ap length e, n))
 
-  pub pairs_end : (rest : List Row) → ((last : Kind) → place_of last ≤ place_of kind.Pair → Ends (with_bills N table [], last) rest N)
-      → (before ps : List PairRow) (had later : List (List ℕ)) (last : Kind) → before ++ ps ≡ N.pairs → had ++ later ≡ N.items → AreNumbered (length had) ps (length N.items) → place_of last ≤ place_of kind.Pair
+  pub pairs_end : (rest : List Row) → ((last : Kind) → kind_place last ≤ kind_place kind.Pair → Ends (with_bills N table [], last) rest N)
+      → (before ps : List PairRow) (had later : List (List ℕ)) (last : Kind) → before ++ ps ≡ N.pairs → had ++ later ≡ N.items → AreNumbered (length had) ps (length N.items) → kind_place last ≤ kind_place kind.Pair
       → Ends (with_pairs before had (length before), last) (pair_rows N (length before) ps ++ rest) N
   pairs_end rest more before [] had later last e items numbered low =
       let all : before ≡ N.pairs = sym (append-nil before) ∙ e in

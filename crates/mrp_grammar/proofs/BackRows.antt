@@ -26,7 +26,7 @@ use Rattle.mrp_rows.specs.Names.{pair_named, plant_no}
 use Rattle.mrp_rows.specs.Table.{arrivals, horizon, is_same_bill, is_same_cum, is_same_reset, is_taken_from, IsBillRow, IsCumRow, IsDemandRow, IsName, IsPair, IsReceiptRow, IsResetRow, IsShipRow, IsTable, plant_at, rises_from, supply_at, Table}
 use Rattle.mrp_grammar.specs.declared.kind.Kind.{Kind}
 use Rattle.mrp_grammar.specs.declared.kind.Kind.TheVariants as kind
-use Rattle.mrp_grammar.specs.Grammar.{◌>>=◌, amount_of, amount_terms, bill_fits, bill_row, bill_terms, cum_between, cum_of, cum_row, cum_terms, demand_made, demand_of, field, has_bill, is_empty_from, is_made, is_make, kind_of, known_lane, known_pair, lane_terms, may_follow, place_of, receipt_made, receipt_of, reset_between, reset_of, reset_row, reset_terms, row_kind, ship_of, ship_row, ship_terms, used}
+use Rattle.mrp_grammar.specs.Grammar.{◌>>=◌, amount_row, amount_terms, bill_fits, bill_row, bill_terms, cum_between, cum_of, cum_row, cum_terms, demand_made, demand_of, field, has_bill, is_empty_from, is_made, is_make, kind_of, known_lane, known_pair, lane_terms, may_follow, kind_place, receipt_made, receipt_of, reset_between, reset_in_row, reset_row, reset_terms, row_kind, ship_of, ship_row, ship_terms, used}
 use Rattle.mrp_grammar.specs.Reading.{at_row, go_on, kind_of_row, row_after, row_of_kind, rows_after}
 use Rattle.mrp_grammar.specs.Written.{bill_fields, cum_fields, demand_fields, pair_item, pair_plant, plant_name, receipt_fields, reset_fields, ship_fields}
 use Rattle.mrp_grammar.proofs.BackNames.{at_place, none_before, pair_by_names, plant_at_place, plant_of_pair, stands}
@@ -45,8 +45,8 @@ pub kind_read : (row : Row) (k : Kind) → list_all is_utf8 row ≡ true → (le
 unfolding kind_of_row row_kind
 kind_read row k text eight named free = rw (text, eight, named, free) refl
 
-pub may_stand : (k last : Kind) → 1 ≤ place_of k → place_of last ≤ place_of k → may_follow k last ≡ true
-may_stand k last some low = and_from (ltb 0 (place_of k)) (leb (place_of last) (place_of k)) (grind (arith, nat_tests)) (grind (arith, nat_tests))
+pub may_stand : (k last : Kind) → 1 ≤ kind_place k → kind_place last ≤ kind_place k → may_follow k last ≡ true
+may_stand k last some low = and_from (ltb 0 (kind_place k)) (leb (kind_place last) (kind_place k)) (grind (arith, nat_tests)) (grind (arith, nat_tests))
 
 -- rows that end, read after others, in that table
 abbrev pub Ends : Table × Kind → List Row → Table → Type 0
@@ -62,9 +62,9 @@ ends_here N last number = refl
 
 -- each row of a kind makes the table with it, and in the end they are all there
 module _ {X : Type 0} (k : Kind) (made : List X → Table) (f : X → Row) (all : List X) (rest : List Row) (M : Table) where
-  pub one_by_one : ((before : List X) (x : X) (after : List X) (last : Kind) → before ++ x ∷ after ≡ all → place_of last ≤ place_of k → row_after (made before, last) (f x) ≡ Ok (made (before ++ x ∷ []), k))
-      → ((last : Kind) → place_of last ≤ place_of k → Ends (made all, last) rest M)
-      → (before xs : List X) (last : Kind) → before ++ xs ≡ all → place_of last ≤ place_of k → Ends (made before, last) (map f xs ++ rest) M
+  pub one_by_one : ((before : List X) (x : X) (after : List X) (last : Kind) → before ++ x ∷ after ≡ all → kind_place last ≤ kind_place k → row_after (made before, last) (f x) ≡ Ok (made (before ++ x ∷ []), k))
+      → ((last : Kind) → kind_place last ≤ kind_place k → Ends (made all, last) rest M)
+      → (before xs : List X) (last : Kind) → before ++ xs ≡ all → kind_place last ≤ kind_place k → Ends (made before, last) (map f xs ++ rest) M
   one_by_one step more before [] last e low = subst (λ (l : List X). Ends (made l, last) rest M) (sym e ∙ append-nil before) (more last low)
   one_by_one step more before (x ∷ xs) last e low =
       ends_after (made before, last) (made (before ++ x ∷ []), k) (f x) (map f xs ++ rest) M (step before x xs last e low)
@@ -88,7 +88,7 @@ bill_read N a b c d f x y n na nb nc number plant parent component new made room
 
 amount_read : {A : Type 0} (N : Table) (w a b c d : List ℕ) (f x p q : ℕ) (room_for_one : Bool) (made : PairNo → ℕ → ℕ → A) → is_name a ≡ true → is_name b ≡ true → number_within c 0 (horizon N - 1) ≡ Some p
     → number_within d 1 MOST_IN_ROW ≡ Some q → plant_no N a ≡ Some f → pair_named N (Some f) b ≡ Some x → room_for_one ≡ true
-    → amount_of N (w ∷ a ∷ b ∷ c ∷ d ∷ [] ∷ [] ∷ [] ∷ []) room_for_one made ≡ Ok (made (record { 0 = x }) p q)
+    → amount_row N (w ∷ a ∷ b ∷ c ∷ d ∷ [] ∷ [] ∷ [] ∷ []) room_for_one made ≡ Ok (made (record { 0 = x }) p q)
 unfolding field_at amount_terms known_pair
 amount_read N w a b c d f x p q room_for_one made na nb period quantity plant pair room = rw (na, nb, period, quantity, plant, pair, room) refl
 
@@ -114,7 +114,7 @@ cum_read N a b c d f g x n l figure new room = rw (l.from_is, l.to_is, l.item_is
 
 reset_read : (N : Table) (a b c d : List ℕ) (f g x p : ℕ) → NamesLane N a b c f g x → number_within d 0 (horizon N - 1) ≡ Some p → reset_between N (Some f) (Some x) ≡ false → rises_from 0 (arrivals N f x) ≡ true
     → reset_row N (codes "reset" ∷ a ∷ b ∷ c ∷ d ∷ [] ∷ [] ∷ [] ∷ []) ≡ Ok (with_reset N (record { from = record { 0 = f }; pair = record { 0 = x }; period = p }))
-unfolding field_at reset_of reset_terms lane_terms known_lane
+unfolding field_at reset_in_row reset_terms lane_terms known_lane
 reset_read N a b c d f g x p l period new rises = rw (l.from_is, l.to_is, l.item_is, period, l.from, l.to, l.pair, l.taken, new, rises) refl
 
 -- ---- a made pair, room for one more, and numbers in their ranges
@@ -174,7 +174,7 @@ module _ (N : Table) (table : IsTable N) where
   abbrev pub with_bills : List BillRow → Table
   with_bills bills = record N { bills = bills; demands = []; receipts = []; ships = []; cums = []; resets = [] }
 
-  bill_step : (before : List BillRow) (b : BillRow) (after : List BillRow) (last : Kind) → before ++ b ∷ after ≡ N.bills → place_of last ≤ place_of kind.Bill
+  bill_step : (before : List BillRow) (b : BillRow) (after : List BillRow) (last : Kind) → before ++ b ∷ after ≡ N.bills → kind_place last ≤ kind_place kind.Bill
       → row_after (with_bills before, last) (bill_fields N b) ≡ Ok (with_bills (before ++ b ∷ []), kind.Bill)
   unfolding field_at row_of_kind
   bill_step before b after last e low =
@@ -204,8 +204,8 @@ module _ (N : Table) (table : IsTable N) where
   amount_fields word x period quantity = word ∷ pair_plant N x ∷ pair_item N x ∷ number_text period ∷ number_text quantity ∷ [] ∷ [] ∷ [] ∷ []
 
   amount_step : {A : Type 0} (k last : Kind) (word : List ℕ) (demands : List DemandRow) (receipts : List ReceiptRow) (x period quantity : ℕ) (room_for_one : Bool) (made : PairNo → ℕ → ℕ → A) (more : A → Table)
-      → is_utf8 word ≡ true → kind_of word ≡ Some k → is_empty_from (amount_fields word x period quantity) (used k) ≡ true → 1 ≤ place_of k → place_of last ≤ place_of k
-      → row_of_kind k (with_amounts demands receipts) (amount_fields word x period quantity) ≡ (amount_of (with_amounts demands receipts) (amount_fields word x period quantity) room_for_one made >>= λ y. Ok (more y))
+      → is_utf8 word ≡ true → kind_of word ≡ Some k → is_empty_from (amount_fields word x period quantity) (used k) ≡ true → 1 ≤ kind_place k → kind_place last ≤ kind_place k
+      → row_of_kind k (with_amounts demands receipts) (amount_fields word x period quantity) ≡ (amount_row (with_amounts demands receipts) (amount_fields word x period quantity) room_for_one made >>= λ y. Ok (more y))
       → IsAmountOf N x period quantity → room_for_one ≡ true
       → row_after (with_amounts demands receipts, last) (amount_fields word x period quantity) ≡ Ok (more (made (record { 0 = x }) period quantity), k)
   unfolding field_at
@@ -223,7 +223,7 @@ module _ (N : Table) (table : IsTable N) where
       (period_written period (horizon N) is.falls table.read.limits.periods) (number_written 1 MOST_IN_ROW quantity is.some is.few few)
       (plant_of_pair N table x is.pair) (pair_by_names N table x is.pair) room))
 
-  demand_step : (before : List DemandRow) (d : DemandRow) (after : List DemandRow) (last : Kind) → before ++ d ∷ after ≡ N.demands → place_of last ≤ place_of kind.Demand
+  demand_step : (before : List DemandRow) (d : DemandRow) (after : List DemandRow) (last : Kind) → before ++ d ∷ after ≡ N.demands → kind_place last ≤ kind_place kind.Demand
       → row_after (with_demands before, last) (demand_fields N d) ≡ Ok (with_demands (before ++ d ∷ []), kind.Demand)
   unfolding field_at row_of_kind demand_of
   demand_step before d after last e low =
@@ -231,7 +231,7 @@ module _ (N : Table) (table : IsTable N) where
       amount_step kind.Demand last (codes "demand") before [] d.pair.0 d.period d.quantity _ demand_made (with_demand (with_demands before)) (word_is_text (codes "demand") refl) refl refl (omega arith) low refl
       (record { pair = is.pair; falls = is.period; some = is.some; few = is.quantity }) (has_room before d after N.demands MOST_OF_A_KIND e table.read.limits.demands)
 
-  receipt_step : (before : List ReceiptRow) (r : ReceiptRow) (after : List ReceiptRow) (last : Kind) → before ++ r ∷ after ≡ N.receipts → place_of last ≤ place_of kind.Receipt
+  receipt_step : (before : List ReceiptRow) (r : ReceiptRow) (after : List ReceiptRow) (last : Kind) → before ++ r ∷ after ≡ N.receipts → kind_place last ≤ kind_place kind.Receipt
       → row_after (with_receipts before, last) (receipt_fields N r) ≡ Ok (with_receipts (before ++ r ∷ []), kind.Receipt)
   unfolding field_at row_of_kind receipt_of
   receipt_step before r after last e low =
@@ -255,7 +255,7 @@ module _ (N : Table) (table : IsTable N) where
     taken = taken;
   }
 
-  ship_step : (before : List ShipRow) (s : ShipRow) (after : List ShipRow) (last : Kind) → before ++ s ∷ after ≡ N.ships → place_of last ≤ place_of kind.Ship
+  ship_step : (before : List ShipRow) (s : ShipRow) (after : List ShipRow) (last : Kind) → before ++ s ∷ after ≡ N.ships → kind_place last ≤ kind_place kind.Ship
       → row_after (with_ships before, last) (ship_fields N s) ≡ Ok (with_ships (before ++ s ∷ []), kind.Ship)
   unfolding field_at row_of_kind
   ship_step before s after last e low =
@@ -275,7 +275,7 @@ module _ (N : Table) (table : IsTable N) where
   number_fields word f x n = word ∷ plant_name N f ∷ pair_plant N x ∷ pair_item N x ∷ number_text n ∷ [] ∷ [] ∷ [] ∷ []
 
   number_step : (k last : Kind) (word : List ℕ) (cums : List CumRow) (resets : List ResetRow) (M : Table) (f x n : ℕ) → is_utf8 word ≡ true → kind_of word ≡ Some k → is_empty_from (number_fields word f x n) (used k) ≡ true
-      → 1 ≤ place_of k → place_of last ≤ place_of k → NamesLane (with_lanes N.ships cums resets) (plant_name N f) (pair_plant N x) (pair_item N x) f (plant_at N x) x → n < 10 ^ 16
+      → 1 ≤ kind_place k → kind_place last ≤ kind_place k → NamesLane (with_lanes N.ships cums resets) (plant_name N f) (pair_plant N x) (pair_item N x) f (plant_at N x) x → n < 10 ^ 16
       → row_of_kind k (with_lanes N.ships cums resets) (number_fields word f x n) ≡ Ok M → row_after (with_lanes N.ships cums resets, last) (number_fields word f x n) ≡ Ok (M, k)
   unfolding field_at
   number_step k last word cums resets M f x n text named free some low lane few is =
@@ -283,7 +283,7 @@ module _ (N : Table) (table : IsTable N) where
       (kind_read (number_fields word f x n) k (five_texts word _ _ _ (number_text n) text (name_is_text _ lane.from_is) (name_is_text _ lane.to_is) (name_is_text _ lane.item_is) (number_is_text n few)) refl named free)
       (may_stand k last some low) is
 
-  cum_step : (before : List CumRow) (c : CumRow) (after : List CumRow) (last : Kind) → before ++ c ∷ after ≡ N.cums → place_of last ≤ place_of kind.Cum
+  cum_step : (before : List CumRow) (c : CumRow) (after : List CumRow) (last : Kind) → before ++ c ∷ after ≡ N.cums → kind_place last ≤ kind_place kind.Cum
       → row_after (with_cums before, last) (cum_fields N c) ≡ Ok (with_cums (before ++ c ∷ []), kind.Cum)
   unfolding field_at row_of_kind
   cum_step before c after last e low =
@@ -294,7 +294,7 @@ module _ (N : Table) (table : IsTable N) where
       (cum_read (with_cums before) _ _ _ (number_text c.figure) c.from.0 (plant_at N c.pair.0) c.pair.0 c.figure lane (number_written 0 MOST c.figure (omega arith) is.figure few)
       (none_before is_same_cum before c after N.cums e table.once.cums) (has_room before c after N.cums MOST_OF_A_KIND e table.read.limits.cums))
 
-  reset_step : (before : List ResetRow) (r : ResetRow) (after : List ResetRow) (last : Kind) → before ++ r ∷ after ≡ N.resets → place_of last ≤ place_of kind.Reset
+  reset_step : (before : List ResetRow) (r : ResetRow) (after : List ResetRow) (last : Kind) → before ++ r ∷ after ≡ N.resets → kind_place last ≤ kind_place kind.Reset
       → row_after (with_resets before, last) (reset_fields N r) ≡ Ok (with_resets (before ++ r ∷ []), kind.Reset)
   unfolding field_at row_of_kind
   reset_step before r after last e low =
@@ -307,31 +307,31 @@ module _ (N : Table) (table : IsTable N) where
 
   -- ---- the rows from the bills on
 
-  resets_end : (last : Kind) → place_of last ≤ place_of kind.Reset → Ends (with_resets [], last) (map (reset_fields N) N.resets) N
+  resets_end : (last : Kind) → kind_place last ≤ kind_place kind.Reset → Ends (with_resets [], last) (map (reset_fields N) N.resets) N
   resets_end last low =
       subst (λ (rows : List Row). Ends (with_resets [], last) rows N) (append-nil (map (reset_fields N) N.resets))
       (one_by_one kind.Reset with_resets (reset_fields N) N.resets [] N reset_step (λ l h. ends_here N l) [] N.resets last refl low)
 
-  cums_end : (last : Kind) → place_of last ≤ place_of kind.Cum → Ends (with_cums [], last) (map (cum_fields N) N.cums ++ map (reset_fields N) N.resets) N
+  cums_end : (last : Kind) → kind_place last ≤ kind_place kind.Cum → Ends (with_cums [], last) (map (cum_fields N) N.cums ++ map (reset_fields N) N.resets) N
   cums_end last low = one_by_one kind.Cum with_cums (cum_fields N) N.cums _ N cum_step (λ l h. resets_end l (omega (arith, h))) [] N.cums last refl low
 
   abbrev from_ships : List Row
   from_ships = map (ship_fields N) N.ships ++ (map (cum_fields N) N.cums ++ map (reset_fields N) N.resets)
 
-  ships_end : (last : Kind) → place_of last ≤ place_of kind.Ship → Ends (with_ships [], last) from_ships N
+  ships_end : (last : Kind) → kind_place last ≤ kind_place kind.Ship → Ends (with_ships [], last) from_ships N
   ships_end last low = one_by_one kind.Ship with_ships (ship_fields N) N.ships _ N ship_step (λ l h. cums_end l (omega (arith, h))) [] N.ships last refl low
 
-  receipts_end : (last : Kind) → place_of last ≤ place_of kind.Receipt → Ends (with_receipts [], last) (map (receipt_fields N) N.receipts ++ from_ships) N
+  receipts_end : (last : Kind) → kind_place last ≤ kind_place kind.Receipt → Ends (with_receipts [], last) (map (receipt_fields N) N.receipts ++ from_ships) N
   receipts_end last low = one_by_one kind.Receipt with_receipts (receipt_fields N) N.receipts from_ships N receipt_step (λ l h. ships_end l (omega (arith, h))) [] N.receipts last refl low
 
   abbrev from_demands : List Row
   from_demands = map (demand_fields N) N.demands ++ (map (receipt_fields N) N.receipts ++ from_ships)
 
-  demands_end : (last : Kind) → place_of last ≤ place_of kind.Demand → Ends (with_demands [], last) from_demands N
+  demands_end : (last : Kind) → kind_place last ≤ kind_place kind.Demand → Ends (with_demands [], last) from_demands N
   demands_end last low = one_by_one kind.Demand with_demands (demand_fields N) N.demands _ N demand_step (λ l h. receipts_end l (omega (arith, h))) [] N.demands last refl low
 
   abbrev pub from_bills : List Row
   from_bills = map (bill_fields N) N.bills ++ from_demands
 
-  pub bills_end : (last : Kind) → place_of last ≤ place_of kind.Bill → Ends (with_bills [], last) from_bills N
+  pub bills_end : (last : Kind) → kind_place last ≤ kind_place kind.Bill → Ends (with_bills [], last) from_bills N
   bills_end last low = one_by_one kind.Bill with_bills (bill_fields N) N.bills from_demands N bill_step (λ l h. demands_end l (omega (arith, h))) [] N.bills last refl low

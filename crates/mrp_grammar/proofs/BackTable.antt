@@ -11,12 +11,12 @@ use Rattle.mrp_qty.specs.declared.horizon.TheConstants.{LONGEST}
 use Rattle.mrp_qty.specs.declared.limits.TheConstants.{MOST_PLANTS}
 use Rattle.mrp_rows.specs.Growing.{with_plant}
 use Rattle.mrp_rows.specs.Table.{IsName, IsTable, Table, empty_table}
-use Rattle.mrp_spell.specs.Spelling.{is_name, number_of, number_text, number_within}
+use Rattle.mrp_spell.specs.Spelling.{is_name, spelled_number, number_text, number_within}
 use Rattle.mrp_spell.proofs.Decimals.{number-written}
 use Rattle.mrp_spell.proofs.Ranges.{number_written}
 use Rattle.mrp_grammar.specs.declared.kind.Kind.{Kind}
 use Rattle.mrp_grammar.specs.declared.kind.Kind.TheVariants as kind
-use Rattle.mrp_grammar.specs.Grammar.{place_of, plant_of, plant_row, run_terms, RunTerms}
+use Rattle.mrp_grammar.specs.Grammar.{kind_place, plant_in_row, plant_row, run_terms, RunTerms}
 use Rattle.mrp_grammar.specs.Reading.{first_terms, go_on, kind_of_row, Reads, row_after, row_of_kind, StartsWith, waiting}
 use Rattle.mrp_grammar.specs.Written.{AreNumbered, later_rows, pair_rows, plant_fields, rows_of, run_fields}
 use Rattle.mrp_grammar.proofs.Accept.{what_is_read}
@@ -34,7 +34,7 @@ use Rattle.mrp_grammar.proofs.WrittenTable.{items_numbered, written_out}
 four_texts : (w a b c : List ℕ) → is_utf8 w ≡ true → is_utf8 a ≡ true → is_utf8 b ≡ true → is_utf8 c ≡ true → list_all is_utf8 (w ∷ a ∷ b ∷ c ∷ [] ∷ [] ∷ [] ∷ [] ∷ []) ≡ true
 four_texts w a b c uw ua ub uc = rw (uw, ua, ub, uc, word_is_text [] refl) refl
 
-run_fields_read : (a b c : List ℕ) (days periods : ℕ) → kind_of_row (codes "run" ∷ a ∷ b ∷ c ∷ [] ∷ [] ∷ [] ∷ [] ∷ []) ≡ Ok kind.Run → number_of b ≡ Some days → number_within c 1 LONGEST ≡ Some periods
+run_fields_read : (a b c : List ℕ) (days periods : ℕ) → kind_of_row (codes "run" ∷ a ∷ b ∷ c ∷ [] ∷ [] ∷ [] ∷ [] ∷ []) ≡ Ok kind.Run → spelled_number b ≡ Some days → number_within c 1 LONGEST ≡ Some periods
     → first_terms (codes "run" ∷ a ∷ b ∷ c ∷ [] ∷ [] ∷ [] ∷ [] ∷ []) ≡ Ok (record { first = a; days = days; periods = periods })
 unfolding first_terms run_terms field_at
 run_fields_read a b c days periods named days_are periods_are = rw (named, days_are, periods_are) refl
@@ -59,7 +59,7 @@ two_texts : (w a : List ℕ) → is_utf8 w ≡ true → is_utf8 a ≡ true → l
 two_texts w a uw ua = rw (uw, ua, word_is_text [] refl) refl
 
 plant_read : (N : Table) (name : List ℕ) → is_name name ≡ true → list_any (bytes_eq name) N.plants ≡ false → ltb (length N.plants) MOST_PLANTS ≡ true → plant_row N (plant_fields name) ≡ Ok (with_plant N name)
-unfolding field_at plant_of
+unfolding field_at plant_in_row
 plant_read N name named new room = rw (named, new, room) refl
 
 module _ (N : Table) (table : IsTable N) where
@@ -67,7 +67,7 @@ module _ (N : Table) (table : IsTable N) where
   abbrev with_plants : List (List ℕ) → Table
   with_plants plants = record (empty_table N.calendar) { plants = plants }
 
-  plant_step : (before : List (List ℕ)) (name : List ℕ) (after : List (List ℕ)) (last : Kind) → before ++ name ∷ after ≡ N.plants → place_of last ≤ place_of kind.Plant
+  plant_step : (before : List (List ℕ)) (name : List ℕ) (after : List (List ℕ)) (last : Kind) → before ++ name ∷ after ≡ N.plants → kind_place last ≤ kind_place kind.Plant
       → row_after (with_plants before, last) (plant_fields name) ≡ Ok (with_plants (before ++ name ∷ []), kind.Plant)
   unfolding field_at row_of_kind
   plant_step before name after last e low =
@@ -85,7 +85,7 @@ module _ (N : Table) (table : IsTable N) where
     abbrev later : List Row
     later = from_bills N table
 
-    pairs_read : (last : Kind) → place_of last ≤ place_of kind.Plant → Ends (with_plants N.plants, last) (pair_rows N 0 N.pairs ++ later) N
+    pairs_read : (last : Kind) → kind_place last ≤ kind_place kind.Plant → Ends (with_plants N.plants, last) (pair_rows N 0 N.pairs ++ later) N
     pairs_read last low =
         let start : with_pairs N table [] [] 0 ≡ with_plants N.plants = ap (λ ss. let m : Table = record (with_plants N.plants) { sources = ss } in m) (no_sources N.sources) in
         subst (λ (m : Table). Ends (m, last) (pair_rows N 0 N.pairs ++ later) N) start

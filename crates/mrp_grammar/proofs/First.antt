@@ -12,15 +12,15 @@ use Rattle.mrp_rows.specs.declared.rows.BillRow.{BillRow}
 use Rattle.mrp_qty.specs.declared.limits.TheConstants.{MOST_BILLS, MOST_IN_ROW, MOST_OF_A_KIND, MOST_PAIRS, MOST_PER, MOST_PLANTS}
 use Rattle.mrp_rows.specs.Names.{has_plant, pair_named, plant_no}
 use Rattle.mrp_rows.specs.Table.{arrivals, horizon, is_taken_from, rises_from, Table}
-use Rattle.mrp_spell.specs.Spelling.{is_name, number_of, number_within, rule_of}
+use Rattle.mrp_spell.specs.Spelling.{is_name, spelled_number, number_within, rule_of}
 use Rattle.mrp_spell.specs.Supplies.{named_sources, names_plant, SourceTerms, supply_of, SupplyTerms}
 use Rattle.mrp_grammar.specs.declared.fault.TableFaultKind.{TableFaultKind}
 use Rattle.mrp_grammar.specs.declared.fault.TableFaultKind.TheVariants as fault
 use Rattle.mrp_grammar.specs.declared.kind.Kind.{Kind}
 use Rattle.mrp_grammar.specs.declared.kind.Kind.TheVariants as kind
 use Rattle.mrp_grammar.specs.Faults.{faults_of, faults_of_any, faults_of_kind}
-use Rattle.mrp_grammar.specs.Grammar.{◌>>=◌, amount_of, amount_terms, AmountTerms, bill_fits, bill_terms, BillTerms, check, cum_between, cum_of, cum_terms, demand_made, demand_of, field, has_bill, has_cum, has_reset, is_empty_from, is_made, kind_of, known_lane, known_pair}
-use Rattle.mrp_grammar.specs.Grammar.{knows_sources, lane_terms, LaneTerms, may_follow, name_of, pair_fits, pair_terms, PairTerms, plant_of, receipt_made, receipt_of, reset_between, reset_of, reset_terms, row_kind, run_terms, RunTerms, ship_of, ship_terms, used}
+use Rattle.mrp_grammar.specs.Grammar.{◌>>=◌, amount_row, amount_terms, AmountTerms, bill_fits, bill_terms, BillTerms, check, cum_between, cum_of, cum_terms, demand_made, demand_of, field, has_bill, has_cum, has_reset, is_empty_from, is_made, kind_of, known_lane, known_pair}
+use Rattle.mrp_grammar.specs.Grammar.{knows_sources, lane_terms, LaneTerms, may_follow, name_field, pair_fits, pair_terms, PairTerms, plant_in_row, receipt_made, receipt_of, reset_between, reset_in_row, reset_terms, row_kind, run_terms, RunTerms, ship_of, ship_terms, used}
 use Rattle.mrp_grammar.specs.Reading.{first_terms, is_run, kind_of_row, row_after, row_of_kind}
 use Rattle.mrp_grammar.specs.Tests.{amount_passes, bill_passes, cum_passes, first_failed, fits_kind, has_number, HasFirstFault, is_in_order, is_lane, pair_in, pair_passes, passes, passes_of, plant_in, plant_passes}
 use Rattle.mrp_grammar.specs.Tests.{refusal, reset_passes, row_passes, run_passes, ship_passes, sources_in, stands_well, three_names, two_names}
@@ -260,8 +260,8 @@ name_same text x e = by (is_name text) e
 pair_is : (row : List (List ℕ)) (t : PairTerms) → pair_terms row ≡ Ok t → PairIs row t
 unfolding pair_terms
 pair_is row t e =
-    let a = after (name_of (field row 1)) _ t e in
-    let b = after (name_of (field row 2)) _ t a.2 in
+    let a = after (name_field (field row 1)) _ t e in
+    let b = after (name_field (field row 2)) _ t a.2 in
     let c = after_some (number_within (field row 5) 0 LONGEST_LEAD) _ _ t b.2 in
     let d = after_some (number_within (field row 6) 0 MOST_IN_ROW) _ _ t c.2 in
     let f = after_some (number_within (field row 7) 0 MOST_IN_ROW) _ _ t d.2 in
@@ -387,8 +387,8 @@ pair_fit N row t is =
 
 -- ---- each kind of row
 
-plant-first : (N : Table) (row : List (List ℕ)) → refusal (plant_of N row) ≡ first_failed (plant_passes N row) (faults_of_kind kind.Plant)
-unfolding plant_of
+plant-first : (N : Table) (row : List (List ℕ)) → refusal (plant_in_row N row) ≡ first_failed (plant_passes N row) (faults_of_kind kind.Plant)
+unfolding plant_in_row
 plant-first N row = by (is_name (field row 1)) (field row 1)
   where
     tested : (new room : Bool) (x : List ℕ) → refusal {A = List ℕ} (check new fault.Repeated >>= λ u. check room fault.TooMany >>= λ u. Ok x) ≡ cond (not new) (Some fault.Repeated) (cond (not room) (Some fault.TooMany) None)
@@ -412,7 +412,7 @@ bill-first N row =
     (bill_refusal row) (λ t is. bill_fit N row t (bill_names row t is))
 
 amount-first : {A : Type 0} (N : Table) (row : List (List ℕ)) (has_room : Bool) (made : PairNo → ℕ → ℕ → A)
-    → refusal (amount_of N row has_room made) ≡ first_failed (amount_passes has_room N row) (fault.BadName ∷ fault.BadNumber ∷ fault.UnknownPlant ∷ fault.UnknownPair ∷ fault.TooMany ∷ [])
+    → refusal (amount_row N row has_room made) ≡ first_failed (amount_passes has_room N row) (fault.BadName ∷ fault.BadNumber ∷ fault.UnknownPlant ∷ fault.UnknownPair ∷ fault.TooMany ∷ [])
 amount-first N row has_room made =
     let p = amount_passes has_room N row in
     more p (fault.BadName ∷ fault.BadNumber ∷ []) (fault.UnknownPlant ∷ fault.UnknownPair ∷ fault.TooMany ∷ []) (amount_terms row (horizon N)) _ (amount_refusal row (horizon N))
@@ -441,8 +441,8 @@ cum-first N row =
     (λ t is. more p (fault.Repeated ∷ []) (fault.UnknownPlant ∷ fault.UnknownPair ∷ fault.NotSourced ∷ fault.TooMany ∷ []) (check (not (has_cum N t.0)) fault.Repeated) _ (cum_new N row t.0 (cum_names row t is))
     (λ u new. more p (fault.UnknownPlant ∷ fault.UnknownPair ∷ fault.NotSourced ∷ []) (fault.TooMany ∷ []) (known_lane N t.0) _ (lane_refusal N row t.0 (cum_names row t is)) (λ lane known. last (nat_lt (length N.cums) MOST_OF_A_KIND) fault.TooMany _)))
 
-reset-first : (N : Table) (row : List (List ℕ)) → refusal (reset_of N row) ≡ first_failed (reset_passes N row) (faults_of_kind kind.Reset)
-unfolding reset_of
+reset-first : (N : Table) (row : List (List ℕ)) → refusal (reset_in_row N row) ≡ first_failed (reset_passes N row) (faults_of_kind kind.Reset)
+unfolding reset_in_row
 reset-first N row =
     let p = reset_passes N row in
     more p (fault.BadName ∷ fault.BadNumber ∷ []) (fault.Repeated ∷ fault.UnknownPlant ∷ fault.UnknownPair ∷ fault.NotSourced ∷ fault.ResetOrder ∷ []) (reset_terms row (horizon N)) _ (reset_refusal row (horizon N))
@@ -488,14 +488,14 @@ of-kind : (k : Kind) (last : Kind) (N : Table) (row : List (List ℕ)) (u : Unit
     → refusal (row_of_kind k N row) ≡ first_failed (row_passes (Some k) (λ l. may_follow l last) (passes_of (Some k) N row) row) (faults_of_kind k)
 unfolding row_of_kind
 of-kind kind.Run last N row u follows = absurd (cc)
-of-kind kind.Plant last N row u follows = kept (plant_of N row) _ ∙ plant-first N row
+of-kind kind.Plant last N row u follows = kept (plant_in_row N row) _ ∙ plant-first N row
 of-kind kind.Pair last N row u follows = kept-in (pair_terms row) (pair_fits N) _ ∙ pair-first N row
 of-kind kind.Bill last N row u follows = kept (bill_terms row >>= bill_fits N) _ ∙ bill-first N row
 of-kind kind.Demand last N row u follows = kept (demand_of N row) _ ∙ demand-first N row
 of-kind kind.Receipt last N row u follows = kept (receipt_of N row) _ ∙ receipt-first N row
 of-kind kind.Ship last N row u follows = kept (ship_of N row) _ ∙ ship-first N row
 of-kind kind.Cum last N row u follows = kept (cum_of N row) _ ∙ cum-first N row
-of-kind kind.Reset last N row u follows = kept (reset_of N row) _ ∙ reset-first N row
+of-kind kind.Reset last N row u follows = kept (reset_in_row N row) _ ∙ reset-first N row
 
 of-named : (k : Kind) (o : Option Kind) (last : Kind) (N : Table) (row : List (List ℕ)) (u : Unit {0}) → o ≡ Some k → check (may_follow k last) fault.KindOrder ≡ Ok u
     → refusal (row_of_kind k N row) ≡ first_failed (row_passes o (λ l. may_follow l last) (passes_of o N row) row) (faults_of_kind k)
@@ -515,9 +515,9 @@ later s row = by (kind_of_row row) refl
 
 -- ---- the first row
 
-run_refusal : (row : List (List ℕ)) → refusal (run_terms row) ≡ cond (not (is_some (number_of (field row 2)) && has_number row 3 1 LONGEST)) (Some fault.BadNumber) None
+run_refusal : (row : List (List ℕ)) → refusal (run_terms row) ≡ cond (not (is_some (spelled_number (field row 2)) && has_number row 3 1 LONGEST)) (Some fault.BadNumber) None
 unfolding run_terms
-run_refusal row = by (number_of (field row 2)) (number_within (field row 3) 1 LONGEST)
+run_refusal row = by (spelled_number (field row 2)) (number_within (field row 3) 1 LONGEST)
   where
     by : (m n : Option ℕ) → refusal {A = RunTerms} (ok_or m fault.BadNumber >>= λ days. ok_or n fault.BadNumber >>= λ periods. Ok (record { first = field row 1; days = days; periods = periods }))
         ≡ cond (not (is_some m && is_some n)) (Some fault.BadNumber) None

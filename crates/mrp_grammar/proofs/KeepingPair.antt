@@ -16,9 +16,9 @@ use Rattle.mrp_rows.specs.declared.rows.Supply.{Supply}
 use Rattle.mrp_rows.specs.declared.rows.Supply.TheVariants as supply
 use Rattle.mrp_spell.specs.Supplies.{names_plant, SourceTerms, SupplyTerms, MakeTerms, BuyTerms, FromTerms}
 use Rattle.mrp_rows.specs.Growing.{add_item}
-use Rattle.mrp_rows.specs.Names.{has_plant, pair_named, pair_of, plant_no}
+use Rattle.mrp_rows.specs.Names.{has_plant, pair_named, pair_of_item, plant_no}
 use Rattle.mrp_rows.proofs.Lists.{any_left, slice_get-append, slice_get-push}
-use Rattle.mrp_grammar.specs.Grammar.{knows_sources, PairTerms, pair_fits, pair_row, pair_terms, pair_with, place_of, source_row, supply_kind, with_pair_terms}
+use Rattle.mrp_grammar.specs.Grammar.{knows_sources, PairTerms, pair_fits, pair_row, pair_terms, pair_with, kind_place, source_row, supply_kind, with_pair_terms}
 use Rattle.mrp_spell.specs.Supplies.{is_same_plant, IsShare, IsWholeSupply, named_sources}
 use Rattle.mrp_qty.specs.declared.limits.TheConstants.{MOST_SOURCES_OF_PAIR}
 use Rattle.mrp_rows.specs.Table.{Table, HasSupply, is_item_of_pair, IsName, IsRead, IsOnce, IsPair, IsPairRow, IsSourced, IsSourceRow, is_same_pair, is_same_source, plant_at, sources_of_pair, supply_at}
@@ -141,7 +141,7 @@ new_pair : (N : Table) (plant : ℕ) (name : List ℕ) → All (λ q. q.item.0 <
     → list_any (λ q. (q.plant.0 == plant) && (q.item.0 == unwrap_or (position (bytes_eq name) (add_item N.items name)) 0)) N.pairs ≡ false
 new_pair N plant name within none = by (position (bytes_eq name) N.items) refl none
   where
-    by : (o : Option ℕ) → position (bytes_eq name) N.items ≡ o → pair_of N plant o ≡ None
+    by : (o : Option ℕ) → position (bytes_eq name) N.items ≡ o → pair_of_item N plant o ≡ None
         → list_any (λ q. (q.plant.0 == plant) && (q.item.0 == unwrap_or (position (bytes_eq name) (add_item N.items name)) 0)) N.pairs ≡ false
     by (Some i) e none =
         ap (λ z. list_any (λ q. (q.plant.0 == plant) && (q.item.0 == z)) N.pairs) (known_item N.items name i e)
@@ -359,7 +359,7 @@ module _ (N : Table) (plant : PlantNo) (t : PairTerms) (read : IsRead N) (once :
       read_grows N M read grows same_rows item (one_more new_row row_in fit.room) sources same_rows same_rows same_rows same_rows same_rows same_rows
 
 -- a pair row more stands after the run, the plants and other pairs
-pub pair_keeps : (N M : Table) (last : Kind) (row : List (List ℕ)) → IsReadSoFar N last → place_of last ≤ place_of kind.Pair → pair_row N row ≡ Ok M → IsReadSoFar M kind.Pair
+pub pair_keeps : (N M : Table) (last : Kind) (row : List (List ℕ)) → IsReadSoFar N last → kind_place last ≤ kind_place kind.Pair → pair_row N row ≡ Ok M → IsReadSoFar M kind.Pair
 pair_keeps N M last row so_far before is =
     let a = after (pair_terms row) _ M is in
     let b = after (pair_fits N a.0) _ M a.2 in

@@ -12,7 +12,7 @@ use Rattle.mrp_rows.specs.Names.{pair_named, plant_no}
 use Rattle.mrp_rows.specs.Table.{Table, arrivals, horizon, rises_from}
 use Rattle.mrp_rows.specs.declared.numbers.PlantNo.{PlantNo}
 use Rattle.mrp_rows.specs.declared.numbers.PairNo.{PairNo}
-use Rattle.mrp_grammar.specs.Grammar.{AmountTerms, BillTerms, LaneTerms, amount_of, amount_terms, bill_fits, cum_of, cum_terms, demand_made, demand_of, has_bill, has_cum, has_reset, is_made, known_lane, known_pair, receipt_made, receipt_of, reset_of, reset_terms, ship_of, ship_terms}
+use Rattle.mrp_grammar.specs.Grammar.{AmountTerms, BillTerms, LaneTerms, amount_row, amount_terms, bill_fits, cum_of, cum_terms, demand_made, demand_of, has_bill, has_cum, has_reset, is_made, known_lane, known_pair, receipt_made, receipt_of, reset_in_row, reset_terms, ship_of, ship_terms}
 use Rattle.mrp_grammar.proofs.KeepingSteps.{after, after_check, after_some, same_Ok}
 
 pub record BillParts (N : Table) (t : BillTerms) (b : BillRow) : Type 0 where
@@ -50,7 +50,7 @@ pub record AmountParts {A : Type 0} (N : Table) (row : List (List ℕ)) (has_roo
   pub room : has_room ≡ true
   pub same : made found.1 terms.period terms.quantity ≡ x
 
-amount_parts : {A : Type 0} (N : Table) (row : List (List ℕ)) (has_room : Bool) (made : PairNo → ℕ → ℕ → A) (x : A) → amount_of N row has_room made ≡ Ok x → AmountParts N row has_room made x
+amount_parts : {A : Type 0} (N : Table) (row : List (List ℕ)) (has_room : Bool) (made : PairNo → ℕ → ℕ → A) (x : A) → amount_row N row has_room made ≡ Ok x → AmountParts N row has_room made x
 amount_parts N row has_room made x is =
     let a = after (amount_terms row (horizon N)) _ x is in
     let b = after (known_pair N a.0.plant a.0.item) _ x a.2 in
@@ -110,8 +110,8 @@ pub record ResetParts (N : Table) (row : List (List ℕ)) (x : ResetRow) : Type 
   pub rises : rises_from 0 (arrivals N lane.0.0 lane.1.0) ≡ true
   pub same : record { from = lane.0; pair = lane.1; period = terms.1 } ≡ x
 
-pub reset_parts : (N : Table) (row : List (List ℕ)) (x : ResetRow) → reset_of N row ≡ Ok x → ResetParts N row x
-unfolding reset_of
+pub reset_parts : (N : Table) (row : List (List ℕ)) (x : ResetRow) → reset_in_row N row ≡ Ok x → ResetParts N row x
+unfolding reset_in_row
 reset_parts N row x is =
     let a = after (reset_terms row (horizon N)) _ x is in
     let z = after_check (not (has_reset N a.0.0)) _ _ x a.2 in

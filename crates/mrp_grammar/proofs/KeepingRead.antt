@@ -20,7 +20,7 @@ use Rattle.mrp_rows.specs.declared.rows.ResetRow.{ResetRow}
 use Rattle.mrp_rows.specs.declared.rows.ShipRow.{ShipRow}
 use Rattle.mrp_rows.specs.declared.rows.SourceRow.{SourceRow}
 use Rattle.mrp_rows.specs.Growing.{with_bill, with_cum, with_demand, with_plant, with_receipt, with_reset, with_ship}
-use Rattle.mrp_rows.specs.Names.{has_plant, pair_named, pair_of, plant_no}
+use Rattle.mrp_rows.specs.Names.{has_plant, pair_named, pair_of_item, plant_no}
 use Rattle.mrp_rows.specs.Table.{horizon, IsBillRow, IsCumRow, IsDemandRow, IsName, IsOnce, IsRead, IsReceiptRow, IsResetRow, IsShipRow, is_same_reset, IsSourced, Table}
 use Rattle.mrp_rows.proofs.Keys.{same_test}
 use Rattle.mrp_rows.proofs.Grow.{read-with_bill, read-with_cum, read-with_demand, read-with_plant, read-with_receipt, read-with_reset, read-with_ship}
@@ -29,7 +29,7 @@ use Rattle.mrp_spell.proofs.Mapped.{list_any_keys}
 use Rattle.mrp_spell.proofs.Ranges.{within_range}
 use Rattle.mrp_grammar.specs.declared.fault.TableFaultKind.{TableFaultKind}
 use Rattle.mrp_grammar.specs.declared.fault.TableFaultKind.TheVariants as fault
-use Rattle.mrp_grammar.specs.Grammar.{◌>>=◌, amount_terms, AmountTerms, bill_fits, bill_of, bill_terms, BillTerms, cum_of, cum_terms, demand_made, demand_of, field, known_lane, known_pair, lane_number, lane_terms, LaneTerms, name_of, plant_of, plant_terms, ranged, receipt_made, receipt_of, reset_of, reset_terms, ship_of, ship_terms}
+use Rattle.mrp_grammar.specs.Grammar.{◌>>=◌, amount_terms, AmountTerms, bill_fits, bill_of, bill_terms, BillTerms, cum_of, cum_terms, demand_made, demand_of, field, known_lane, known_pair, lane_number, lane_terms, LaneTerms, name_field, plant_in_row, plant_terms, ranged, receipt_made, receipt_of, reset_in_row, reset_terms, ship_of, ship_terms}
 use Rattle.mrp_grammar.proofs.KeepingLists.{position_there}
 use Rattle.mrp_grammar.proofs.KeepingParts.{AmountParts, bill_parts, cum_parts, demand_parts, receipt_parts, reset_parts, ship_parts}
 use Rattle.mrp_grammar.proofs.KeepingRows.{on_lane}
@@ -44,7 +44,7 @@ ranged_is text low high n e = by (number_within text low high) refl e
     by (Some m) is e = within_range text low high n (is ∙ ap (λ x. Some x) (same_Ok m n e))
     by None is e = absurd (cc)
 
-pub named_is : (text name : List ℕ) → name_of text ≡ Ok name → IsName name
+pub named_is : (text name : List ℕ) → name_field text ≡ Ok name → IsName name
 named_is text name e = by (is_name text) refl e
   where
     by : (b : Bool) → is_name text ≡ b → ◌≡◌ {A = Result (List ℕ) TableFaultKind} (if b then Ok text else Err fault.BadName) (Ok name) → IsName name
@@ -58,15 +58,15 @@ lt_test m n e = grind (arith, nat_tests)
 pub record TwoNamesRead {A : Type 0} (row : List (List ℕ)) (made : List ℕ → List ℕ → Result A TableFaultKind) (t : A) : Type 0 where
   pub first : List ℕ
   pub second : List ℕ
-  pub first_is : name_of (field row 1) ≡ Ok first
-  pub second_is : name_of (field row 2) ≡ Ok second
+  pub first_is : name_field (field row 1) ≡ Ok first
+  pub second_is : name_field (field row 2) ≡ Ok second
   pub rest : made first second ≡ Ok t
 
 pub two_names_read : {A : Type 0} (row : List (List ℕ)) (made : List ℕ → List ℕ → Result A TableFaultKind) (t : A)
-    → (name_of (field row 1) >>= λ a. name_of (field row 2) >>= λ b. made a b) ≡ Ok t → TwoNamesRead row made t
+    → (name_field (field row 1) >>= λ a. name_field (field row 2) >>= λ b. made a b) ≡ Ok t → TwoNamesRead row made t
 two_names_read row made t is =
-    let a = after (name_of (field row 1)) _ t is in
-    let b = after (name_of (field row 2)) _ t a.2 in
+    let a = after (name_field (field row 1)) _ t is in
+    let b = after (name_field (field row 2)) _ t a.2 in
     record { first = a.0; second = b.0; first_is = a.1; second_is = b.1; rest = b.2 }
 
 -- ---- places
@@ -78,7 +78,7 @@ pair_within : (N : Table) (plant : Option ℕ) (item : List ℕ) (x : ℕ) → p
 pair_within N None item x is = absurd (cc)
 pair_within N (Some p) item x is = by (position (bytes_eq item) N.items) is
   where
-    by : (o : Option ℕ) → pair_of N p o ≡ Some x → x < length N.pairs
+    by : (o : Option ℕ) → pair_of_item N p o ≡ Some x → x < length N.pairs
     by None e = absurd (cc)
     by (Some i) e = (position_there (λ q. (q.plant.0 == p) && (q.item.0 == i)) N.pairs x e).1
 
@@ -97,8 +97,8 @@ lane_within N t lane is =
 
 -- ---- plants
 
-pub plant_read : (N : Table) (row : List (List ℕ)) (name : List ℕ) → IsRead N → plant_of N row ≡ Ok name → IsRead (with_plant N name)
-unfolding plant_of
+pub plant_read : (N : Table) (row : List (List ℕ)) (name : List ℕ) → IsRead N → plant_in_row N row ≡ Ok name → IsRead (with_plant N name)
+unfolding plant_in_row
 plant_read N row name read is =
     let a = after (plant_terms row) _ name is in
     let b = after_check (not (has_plant N a.0)) _ _ name a.2 in
@@ -109,16 +109,16 @@ plant_read N row name read is =
 
 -- each field of a bill row is read as it stands in the terms
 pub record BillRead (row : List (List ℕ)) (t : BillTerms) : Type 0 where
-  pub plant : name_of (field row 1) ≡ Ok t.plant
-  pub parent : name_of (field row 2) ≡ Ok t.parent
-  pub component : name_of (field row 3) ≡ Ok t.component
+  pub plant : name_field (field row 1) ≡ Ok t.plant
+  pub parent : name_field (field row 2) ≡ Ok t.parent
+  pub component : name_field (field row 3) ≡ Ok t.component
   pub per : ranged (field row 4) 1 MOST_PER ≡ Ok t.per
 
 pub bill_terms_read : (row : List (List ℕ)) (t : BillTerms) → bill_terms row ≡ Ok t → BillRead row t
 unfolding bill_terms
 bill_terms_read row t is =
     let n = two_names_read row _ t is in
-    let c = after (name_of (field row 3)) _ t n.rest in
+    let c = after (name_field (field row 3)) _ t n.rest in
     let d = after (ranged (field row 4) 1 MOST_PER) _ t c.2 in
     let same : record { plant = n.first; parent = n.second; component = c.0; per = d.0 } ≡ t = same_Ok _ t d.2 in
     subst (BillRead row) same (record { plant = n.first_is; parent = n.second_is; component = c.1; per = d.1 })
@@ -160,8 +160,8 @@ amount_is N period quantity t n read falls is = let few = ranged_is quantity 1 M
 
 -- each field of a demand or a receipt row is read as it stands in the terms
 pub record AmountRead (row : List (List ℕ)) (periods : ℕ) (t : AmountTerms) : Type 0 where
-  pub plant : name_of (field row 1) ≡ Ok t.plant
-  pub item : name_of (field row 2) ≡ Ok t.item
+  pub plant : name_field (field row 1) ≡ Ok t.plant
+  pub item : name_field (field row 2) ≡ Ok t.item
   pub period : ranged (field row 3) 0 (periods - 1) ≡ Ok t.period
   pub quantity : ranged (field row 4) 1 MOST_IN_ROW ≡ Ok t.quantity
 
@@ -292,7 +292,7 @@ start_is : (N : Table) (row : List (List ℕ)) (t : LaneTerms × ℕ) → IsRead
 unfolding reset_terms
 start_is N row t read is = period_is N (field row 4) t.1 read (lane_number_read row (horizon N - 1) t is).number
 
-pub reset_read : (N : Table) (row : List (List ℕ)) (x : ResetRow) → IsRead N → IsOnce (with_reset N x) → IsSourced (with_reset N x) → reset_of N row ≡ Ok x → IsRead (with_reset N x)
+pub reset_read : (N : Table) (row : List (List ℕ)) (x : ResetRow) → IsRead N → IsOnce (with_reset N x) → IsSourced (with_reset N x) → reset_in_row N row ≡ Ok x → IsRead (with_reset N x)
 reset_read N row x read once sourced is =
     let p = reset_parts N row x is in
     let lane = lane_within N p.terms.0 p.lane p.known in

@@ -13,7 +13,7 @@ use Rattle.mrp_rows.specs.declared.rows.ResetRow.{ResetRow}
 use Rattle.mrp_rows.specs.declared.rows.ShipRow.{ShipRow}
 use Rattle.mrp_rows.specs.Table.{Table, IsOnce, IsSourced, is_taken_from, is_same_cum, is_same_reset}
 use Rattle.mrp_rows.specs.Growing.{with_plant, with_demand, with_receipt, with_ship, with_cum, with_reset}
-use Rattle.mrp_grammar.specs.Grammar.{LaneTerms, cum_between, cum_of, known_lane, plant_of, plant_terms, reset_between, reset_of, ship_of}
+use Rattle.mrp_grammar.specs.Grammar.{LaneTerms, cum_between, cum_of, known_lane, plant_in_row, plant_terms, reset_between, reset_in_row, ship_of}
 use Rattle.mrp_rows.specs.Names.{has_plant, pair_named, plant_no}
 use Rattle.mrp_rows.specs.Table.{rises_from, arrivals}
 use Rattle.mrp_spell.proofs.Lists.{distinct_push}
@@ -24,8 +24,8 @@ use Rattle.mrp_grammar.proofs.KeepingSteps.{after, after_check, after_some, same
 
 -- ---- plants
 
-new_plant : (N : Table) (row : List (List ℕ)) (name : List ℕ) → plant_of N row ≡ Ok name → has_plant N name ≡ false
-unfolding plant_of
+new_plant : (N : Table) (row : List (List ℕ)) (name : List ℕ) → plant_in_row N row ≡ Ok name → has_plant N name ≡ false
+unfolding plant_in_row
 new_plant N row name is =
     let a = after (plant_terms row) _ name is in
     let b = after_check (not (has_plant N a.0)) _ _ name a.2 in
@@ -33,7 +33,7 @@ new_plant N row name is =
     let same : a.0 ≡ name = same_Ok a.0 name c.1 in
     not-true (has_plant N name) (ap (λ n. not (has_plant N n)) (sym same) ∙ b.0)
 
-pub plant_keeps : (N : Table) (row : List (List ℕ)) (name : List ℕ) → IsOnce N → IsSourced N → plant_of N row ≡ Ok name → IsOnce (with_plant N name) × IsSourced (with_plant N name)
+pub plant_keeps : (N : Table) (row : List (List ℕ)) (name : List ℕ) → IsOnce N → IsSourced N → plant_in_row N row ≡ Ok name → IsOnce (with_plant N name) × IsSourced (with_plant N name)
 plant_keeps N row name once sourced is = (
   stays_once N (with_plant N name) refl once (distinct_name N.plants name once.plants (new_plant N row name is)) once.bills once.cums once.resets,
   stays_sourced N (with_plant N name) refl sourced sourced.parents sourced.plants sourced.ships sourced.cums sourced.resets sourced.arrive,
@@ -115,7 +115,7 @@ new_reset : (N : Table) (from pair : Option ℕ) (c : ResetRow) → reset_betwee
     → list_any (λ x. is_same_reset x c) N.resets ≡ false
 new_reset N from pair c fresh ef ep = sym (ap (λ (o : Option ℕ). reset_between N o pair) ef ∙ ap (λ (o : Option ℕ). reset_between N (Some c.from.0) o) ep) ∙ fresh
 
-reset_lane : (N : Table) (row : List (List ℕ)) (x : ResetRow) → reset_of N row ≡ Ok x → (is_taken_from N x.pair.0 x.from.0 ≡ true) × (list_any (λ c. is_same_reset c x) N.resets ≡ false)
+reset_lane : (N : Table) (row : List (List ℕ)) (x : ResetRow) → reset_in_row N row ≡ Ok x → (is_taken_from N x.pair.0 x.from.0 ≡ true) × (list_any (λ c. is_same_reset c x) N.resets ≡ false)
     × (rises_from 0 (arrivals N x.from.0 x.pair.0) ≡ true)
 reset_lane N row x is =
     let p = reset_parts N row x is in
@@ -125,7 +125,7 @@ reset_lane N row x is =
       subst (λ (y : ResetRow). rises_from 0 (arrivals N y.from.0 y.pair.0) ≡ true) p.same p.rises,
     )
 
-pub reset_keeps : (N : Table) (row : List (List ℕ)) (x : ResetRow) → IsOnce N → IsSourced N → reset_of N row ≡ Ok x → IsOnce (with_reset N x) × IsSourced (with_reset N x)
+pub reset_keeps : (N : Table) (row : List (List ℕ)) (x : ResetRow) → IsOnce N → IsSourced N → reset_in_row N row ≡ Ok x → IsOnce (with_reset N x) × IsSourced (with_reset N x)
 reset_keeps N row x once sourced is =
     let says = reset_lane N row x is in (
       stays_once N (with_reset N x) refl once once.plants once.bills once.cums (distinct_push is_same_reset N.resets x once.resets says.1),

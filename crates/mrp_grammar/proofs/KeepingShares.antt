@@ -12,14 +12,14 @@ use Rattle.mrp_spell.proofs.Ranges.{rule_is}
 use Rattle.mrp_spell.proofs.Wholes.{supply_is}
 use Rattle.mrp_qty.specs.declared.limits.TheConstants.{MOST_IN_ROW}
 use Rattle.mrp_rows.specs.Table.{Table, AreShares, IsAmount, IsName}
-use Rattle.mrp_grammar.specs.Grammar.{field, name_of, PairTerms, pair_terms, ranged, source_row}
+use Rattle.mrp_grammar.specs.Grammar.{field, name_field, PairTerms, pair_terms, ranged, source_row}
 use Rattle.mrp_grammar.proofs.KeepingRead.{named_is, ranged_is, two_names_read}
 use Rattle.mrp_grammar.proofs.KeepingSteps.{after, after_some, same_Ok}
 
 -- each field of a pair row is read as it stands in the terms
 pub record PairRead (row : List (List ℕ)) (t : PairTerms) : Type 0 where
-  pub plant : name_of (field row 1) ≡ Ok t.plant
-  pub item : name_of (field row 2) ≡ Ok t.item
+  pub plant : name_field (field row 1) ≡ Ok t.plant
+  pub item : name_field (field row 2) ≡ Ok t.item
   pub supply : supply_of (field row 3) ≡ Some t.supply
   pub rule : rule_of (field row 4) ≡ Some t.rule
   pub lead : ranged (field row 5) 0 LONGEST_LEAD ≡ Ok t.lead

@@ -14,15 +14,15 @@ use Rattle.mrp_rows.specs.declared.numbers.PairNo.{PairNo}
 use Rattle.mrp_qty.specs.declared.limits.TheConstants.{MOST_BILLS, MOST_IN_ROW, MOST_OF_A_KIND, MOST_PAIRS, MOST_PER, MOST_PLANTS}
 use Rattle.mrp_rows.specs.Names.{has_plant, pair_named, plant_no}
 use Rattle.mrp_rows.specs.Table.{arrivals, horizon, is_taken_from, rises_from, Table}
-use Rattle.mrp_spell.specs.Spelling.{is_name, number_of, number_within, rule_of}
+use Rattle.mrp_spell.specs.Spelling.{is_name, spelled_number, number_within, rule_of}
 use Rattle.mrp_spell.specs.Supplies.{named_sources, names_plant, supply_of}
 use Rattle.mrp_grammar.specs.declared.fault.TableFaultKind.{TableFaultKind}
 use Rattle.mrp_grammar.specs.declared.fault.TableFaultKind.TheVariants as fault
 use Rattle.mrp_grammar.specs.declared.kind.Kind.{Kind}
 use Rattle.mrp_grammar.specs.declared.kind.Kind.TheVariants as kind
-use Rattle.mrp_grammar.specs.Faults.{faults_of, faults_of_any, HasListedFaults, IsListed, Rise}
-use Rattle.mrp_grammar.specs.Grammar.{◌>>=◌, amount_of, amount_terms, bill_fits, bill_terms, BillTerms, check, cum_of, cum_terms, demand_made, demand_of, field, is_empty_from, kind_of, known_lane, known_pair}
-use Rattle.mrp_grammar.specs.Grammar.{has_bill, has_cum, has_reset, is_made, knows_sources, lane_number, lane_terms, LaneTerms, may_follow, name_of, pair_fits, pair_terms, PairTerms, plant_of, ranged, receipt_made, receipt_of, reset_of, reset_terms}
+use Rattle.mrp_grammar.specs.Faults.{faults_of, faults_of_any, HasListedFaults, IsListedFault, Rise}
+use Rattle.mrp_grammar.specs.Grammar.{◌>>=◌, amount_row, amount_terms, bill_fits, bill_terms, BillTerms, check, cum_of, cum_terms, demand_made, demand_of, field, is_empty_from, kind_of, known_lane, known_pair}
+use Rattle.mrp_grammar.specs.Grammar.{has_bill, has_cum, has_reset, is_made, knows_sources, lane_number, lane_terms, LaneTerms, may_follow, name_field, pair_fits, pair_terms, PairTerms, plant_in_row, ranged, receipt_made, receipt_of, reset_in_row, reset_terms}
 use Rattle.mrp_grammar.specs.Grammar.{row_kind, run_terms, RunTerms, ship_of, ship_terms, TellsFault, used}
 use Rattle.mrp_grammar.specs.Reading.{first_terms, is_run, kind_of_row, row_after, row_of_kind, started, Starts, StartsWith, UnlessMemory}
 use Rattle.mrp_grammar.proofs.KeepingSteps.{chosen, found, steps, tested}
@@ -30,7 +30,7 @@ use Rattle.mrp_grammar.proofs.KeepingSteps.{chosen, found, steps, tested}
 module _ (P : TableFaultKind → Type 0) where
   -- ---- what the fields of a row spell
 
-  name : (text : List ℕ) → P fault.BadName → IfErr (name_of text) P
+  name : (text : List ℕ) → P fault.BadName → IfErr (name_field text) P
   name text h = chosen P (is_name text) text fault.BadName h
 
   number : (text : List ℕ) (low high : ℕ) → P fault.BadNumber → IfErr (ranged text low high) P
@@ -38,7 +38,7 @@ module _ (P : TableFaultKind → Type 0) where
 
   run-terms : (row : List (List ℕ)) → P fault.BadNumber → IfErr (run_terms row) P
   unfolding run_terms
-  run-terms row n = steps P _ _ (found P (number_of (field row 2)) _ n) (λ days. steps P _ _ (number (field row 3) 1 LONGEST n) (λ periods. tt))
+  run-terms row n = steps P _ _ (found P (spelled_number (field row 2)) _ n) (λ days. steps P _ _ (number (field row 3) 1 LONGEST n) (λ periods. tt))
 
   bill-terms : (row : List (List ℕ)) → P fault.BadName → P fault.BadNumber → IfErr (bill_terms row) P
   unfolding bill_terms
@@ -77,8 +77,8 @@ module _ (P : TableFaultKind → Type 0) where
 
   -- ---- what a row says
 
-  plant-of : (N : Table) (row : List (List ℕ)) → P fault.BadName → P fault.Repeated → P fault.TooMany → IfErr (plant_of N row) P
-  unfolding plant_of
+  plant-of : (N : Table) (row : List (List ℕ)) → P fault.BadName → P fault.Repeated → P fault.TooMany → IfErr (plant_in_row N row) P
+  unfolding plant_in_row
   plant-of N row m r t = steps P _ _ (name (field row 1) m) (λ x. steps P _ _ (tested P (not (has_plant N x)) _ r) (λ fresh. steps P _ _ (tested P (nat_lt (length N.plants) MOST_PLANTS) _ t) (λ room. tt)))
 
   pair-fits : (N : Table) (t : PairTerms) → P fault.Repeated → P fault.UnknownPlant → P fault.SelfSource → P fault.TooMany → IfErr (pair_fits N t) P
@@ -97,7 +97,7 @@ module _ (P : TableFaultKind → Type 0) where
   known-pair N plant item u p = steps P _ _ (found P (plant_no N plant) _ u) (λ k. steps P _ _ (found P (pair_named N (Some k) item) _ p) (λ x. tt))
 
   amount-of : {A : Type 0} (N : Table) (row : List (List ℕ)) (has_room : Bool) (made : PairNo → ℕ → ℕ → A) → P fault.BadName → P fault.BadNumber → P fault.UnknownPlant → P fault.UnknownPair → P fault.TooMany
-      → IfErr (amount_of N row has_room made) P
+      → IfErr (amount_row N row has_room made) P
   amount-of N row has_room made m n u p t = steps P _ _ (amount-terms row (horizon N) m n) (λ a. steps P _ _ (known-pair N a.plant a.item u p) (λ x. steps P _ _ (tested P has_room _ t) (λ room. tt)))
 
   demand-of : (N : Table) (row : List (List ℕ)) → P fault.BadName → P fault.BadNumber → P fault.UnknownPlant → P fault.UnknownPair → P fault.TooMany → IfErr (demand_of N row) P
@@ -121,8 +121,8 @@ module _ (P : TableFaultKind → Type 0) where
   unfolding cum_of
   cum-of N row m n r u p s t = steps P _ _ (cum-terms row m n) (λ a. steps P _ _ (tested P (not (has_cum N a.0)) _ r) (λ fresh. steps P _ _ (known-lane N a.0 u p s) (λ lane. steps P _ _ (tested P (nat_lt (length N.cums) MOST_OF_A_KIND) _ t) (λ room. tt))))
 
-  reset-of : (N : Table) (row : List (List ℕ)) → P fault.BadName → P fault.BadNumber → P fault.Repeated → P fault.UnknownPlant → P fault.UnknownPair → P fault.NotSourced → P fault.ResetOrder → IfErr (reset_of N row) P
-  unfolding reset_of
+  reset-of : (N : Table) (row : List (List ℕ)) → P fault.BadName → P fault.BadNumber → P fault.Repeated → P fault.UnknownPlant → P fault.UnknownPair → P fault.NotSourced → P fault.ResetOrder → IfErr (reset_in_row N row) P
+  unfolding reset_in_row
   reset-of N row m n r u p s o = steps P _ _ (reset-terms row (horizon N) m n) (λ a. steps P _ _ (tested P (not (has_reset N a.0)) _ r) (λ fresh. steps P _ _ (known-lane N a.0 u p s) (λ lane. steps P _ _ (tested P (rises_from 0 (arrivals N lane.0.0 lane.1.0)) _ o) (λ in_order. tt))))
 
   -- ---- the kind of a row
@@ -192,7 +192,7 @@ after (Ok k) s row h =
     steps P (check (may_follow k s.1) fault.KindOrder) _ (tested P (may_follow k s.1) _ (order k)) (λ u. steps P (row_of_kind k s.0 row) _ (of-kind k s.0 row) (λ N. tt))
 after (Err e) s row h = h
 
-later-listed : (s : Table × Kind) (row : List (List ℕ)) → IfErr (row_after s row) (IsListed row)
+later-listed : (s : Table × Kind) (row : List (List ℕ)) → IfErr (row_after s row) (IsListedFault row)
 unfolding row_after
 later-listed s row = after (kind_of_row row) s row (no-kind row)
 
@@ -234,7 +234,7 @@ of-first : (r : Result Kind TableFaultKind) (row : List (List ℕ)) (e : TableFa
 of-first (Ok k) row e h starts = by-kind k row e starts
 of-first (Err f) row e h starts = let is : f ≡ e = cc in subst (Contains faults_of_any) is h
 
-first-listed : (row : List (List ℕ)) (e : TableFaultKind) → Starts row (Err e) → IsListed row e
+first-listed : (row : List (List ℕ)) (e : TableFaultKind) → Starts row (Err e) → IsListedFault row e
 unfolding first_terms
 first-listed row e starts = of-first (kind_of_row row) row e (no-kind row) starts
 
@@ -272,7 +272,7 @@ all_of_row (Ok kind.Cum) = refl
 all_of_row (Ok kind.Reset) = refl
 all_of_row (Err e) = refl
 
-unlisted : (row : List (List ℕ)) → IsListed row fault.ReadFault → ⊥
+unlisted : (row : List (List ℕ)) → IsListedFault row fault.ReadFault → ⊥
 unlisted row h =
     let es = faults_of (kind_of_row row) in
     let own = AllPass-from_list_all is_of_row es (all_of_row (kind_of_row row)) h.0 fault.ReadFault h.1 in
@@ -282,9 +282,9 @@ unlisted row h =
 pub later_no_read_fault : (s : Table × Kind) (row : List (List ℕ)) (k : TableFaultKind) → TellsFault (row_after s row) k → k ≡ fault.ReadFault → ⊥
 later_no_read_fault s row k tells is = by (row_after s row) (later-listed s row) (subst (TellsFault (row_after s row)) is tells)
   where
-    by : (r : Result (Table × Kind) TableFaultKind) → IfErr r (IsListed row) → r ≡ Err fault.ReadFault → ⊥
+    by : (r : Result (Table × Kind) TableFaultKind) → IfErr r (IsListedFault row) → r ≡ Err fault.ReadFault → ⊥
     by (Ok t) h e = cc
-    by (Err f) h e = let same : f ≡ fault.ReadFault = cc in unlisted row (subst (IsListed row) same h)
+    by (Err f) h e = let same : f ≡ fault.ReadFault = cc in unlisted row (subst (IsListedFault row) same h)
 
 pub first_no_read_fault : (row : List (List ℕ)) (k : TableFaultKind) → UnlessMemory k (Starts row (Err k)) → k ≡ fault.ReadFault → ⊥
 first_no_read_fault row k starts is = unlisted row (first-listed row fault.ReadFault (subst (λ (x : TableFaultKind). UnlessMemory x (Starts row (Err x))) is starts))

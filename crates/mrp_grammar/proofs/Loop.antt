@@ -9,7 +9,7 @@ use Rattle.mrp_grammar.specs.declared.fault.TableFaultKind.{TableFaultKind}
 use Rattle.mrp_grammar.specs.declared.fault.TableFaultKind.TheVariants as fault
 use Rattle.mrp_grammar.specs.declared.kind.Kind.{Kind}
 use Rattle.mrp_rows.specs.Table.{Table}
-use Rattle.mrp_grammar.specs.Left.{GoesOn, HasReadOn, IsSoundTo, OfLeft, StartsBadly, TakesRow, TellsNext, TellsTaken}
+use Rattle.mrp_grammar.specs.Left.{ReadsOn, HasReadOn, IsSoundTo, OfLeft, StartsBadly, TakesRow, TellsNext, TellsTaken}
 use Rattle.mrp_grammar.specs.Reading.{kind_of_row, OfRows, row_after, rows_after, UnlessMemory}
 
 -- what follows from what is said, of the rows above or of all
@@ -59,7 +59,7 @@ rows_end number s rows same = rw same refl
 
 -- a good row
 pub goes_row : (before after : Option (List (List (List ℕ)))) (number : ℕ) (s t : Table × Kind) (row : List (List ℕ)) → TakesRow before after row → row_after s row ≡ Ok t
-    → GoesOn before after number s (number + 1) t
+    → ReadsOn before after number s (number + 1) t
 goes_row None after number s t row takes e = tt
 goes_row (Some rows) None number s t row takes e = absurd takes
 goes_row (Some rows) (Some rest) number s t row takes e = record { read = row ∷ []; rows_are = takes; next_is = refl; goes = λ more. row_goes number s t row more e }
@@ -93,11 +93,11 @@ bad_there before number s e =
 
 -- ---- the loop
 
-pub goes_nowhere : (left : Option (List (List (List ℕ)))) (number : ℕ) (s : Table × Kind) → GoesOn left left number s number s
+pub goes_nowhere : (left : Option (List (List (List ℕ)))) (number : ℕ) (s : Table × Kind) → ReadsOn left left number s number s
 goes_nowhere None number s = tt
 goes_nowhere (Some rows) number s = record { read = []; rows_are = refl; next_is = omega arith; goes = λ more. refl }
 
-pub goes_on_on : (a b c : Option (List (List (List ℕ)))) (n m k : ℕ) (s t u : Table × Kind) → GoesOn a b n s m t → GoesOn b c m t k u → GoesOn a c n s k u
+pub goes_on_on : (a b c : Option (List (List (List ℕ)))) (n m k : ℕ) (s t u : Table × Kind) → ReadsOn a b n s m t → ReadsOn b c m t k u → ReadsOn a c n s k u
 goes_on_on None b c n m k s t u f g = tt
 goes_on_on (Some xs) None c n m k s t u f g = absurd f
 goes_on_on (Some xs) (Some ys) None n m k s t u f g = absurd g
@@ -108,14 +108,14 @@ goes_on_on (Some xs) (Some ys) (Some zs) n m k s t u f g = record {
   goes = λ more. ap (rows_after n s) (append_assoc f.read g.read more) ∙ f.goes (g.read ++ more) ∙ g.goes more;
 }
 
-pub goes_to : (a b : Option (List (List (List ℕ)))) (n m : ℕ) (s t : Table × Kind) (answer : Result Table TableFault) → GoesOn a b n s m t
+pub goes_to : (a b : Option (List (List (List ℕ)))) (n m : ℕ) (s t : Table × Kind) (answer : Result Table TableFault) → ReadsOn a b n s m t
     → OfLeft b (λ rows. rows_after m t rows ≡ answer) → OfLeft a (λ rows. rows_after n s rows ≡ answer)
 goes_to None b n m s t answer f says = tt
 goes_to (Some xs) None n m s t answer f says = absurd f
 goes_to (Some xs) (Some ys) n m s t answer f says = ap (rows_after n s) f.rows_are ∙ f.goes ys ∙ says
 
 -- no row is left, so as many were read as there were
-pub read_all : (a b : Option (List (List (List ℕ)))) (n m : ℕ) (s t : Table × Kind) (old mid new : ℕ) → GoesOn a b n s m t → OfLeft b (λ rows. rows ≡ []) → mid + n ≡ old + m → new ≡ mid + 1
+pub read_all : (a b : Option (List (List (List ℕ)))) (n m : ℕ) (s t : Table × Kind) (old mid new : ℕ) → ReadsOn a b n s m t → OfLeft b (λ rows. rows ≡ []) → mid + n ≡ old + m → new ≡ mid + 1
     → OfLeft a (λ rows. new ≡ old + length rows + 1)
 read_all None b n m s t old mid new f none steps last = tt
 read_all (Some xs) None n m s t old mid new f none steps last = absurd f
@@ -127,13 +127,13 @@ read_sound : (n m : ℕ) (s t : Table × Kind) (xs ys : List (List (List ℕ))) 
 unfolding rows_after
 read_sound n m s t xs ys f = ap (rows_after n s) (sym (append-nil f.read)) ∙ f.goes []
 
-sound_to : (a b : Option (List (List (List ℕ)))) (n m : ℕ) (s t : Table × Kind) (other : ℕ) → other ≡ m → GoesOn a b n s m t → OfLeft a (IsSoundTo n s other)
+sound_to : (a b : Option (List (List (List ℕ)))) (n m : ℕ) (s t : Table × Kind) (other : ℕ) → other ≡ m → ReadsOn a b n s m t → OfLeft a (IsSoundTo n s other)
 sound_to None b n m s t other same f = tt
 sound_to (Some xs) None n m s t other same f = absurd f
 sound_to (Some xs) (Some ys) n m s t other same f =
     record { above = f.read; rest = ys; made = t.0; rows_are = f.rows_are; other_is = same ∙ f.next_is; no_fault = read_sound n m s t xs ys f }
 
-pub goes_to_fault : (a b : Option (List (List (List ℕ)))) (n m : ℕ) (s t : Table × Kind) (e : TableFault) → e.row ≡ m → GoesOn a b n s m t
+pub goes_to_fault : (a b : Option (List (List (List ℕ)))) (n m : ℕ) (s t : Table × Kind) (e : TableFault) → e.row ≡ m → ReadsOn a b n s m t
     → OfRows e.kind (Unit {0}) (OfLeft b (λ rows. rows_after m t rows ≡ Err e)) → OfRows e.kind (OfLeft a (IsSoundTo n s e.row)) (OfLeft a (λ rows. rows_after n s rows ≡ Err e))
 goes_to_fault a b n m s t e same f =
     of_rows_from e.kind (Unit {0}) (OfLeft a (IsSoundTo n s e.row)) (OfLeft b (λ rows. rows_after m t rows ≡ Err e)) (OfLeft a (λ rows. rows_after n s rows ≡ Err e))
@@ -152,11 +152,11 @@ some_there true before after number row e taken = taken
 some_there false before after number row e taken = absurd (cc)
 
 -- one turn of the loop
-pub next_true : (found : Bool) (a b c : Option (List (List (List ℕ)))) (n m : ℕ) (s t u : Table × Kind) → found ≡ true → GoesOn a b n s m t → TellsNext b c m t u (Ok found) → GoesOn a c n s (m + 1) u
+pub next_true : (found : Bool) (a b c : Option (List (List (List ℕ)))) (n m : ℕ) (s t u : Table × Kind) → found ≡ true → ReadsOn a b n s m t → TellsNext b c m t u (Ok found) → ReadsOn a c n s (m + 1) u
 next_true true a b c n m s t u e goes next = goes_on_on a b c n m (m + 1) s t u goes next
 next_true false a b c n m s t u e goes next = absurd (cc)
 
-pub next_false : (found : Bool) (a b c : Option (List (List (List ℕ)))) (n m : ℕ) (s t u : Table × Kind) → found ≡ false → GoesOn a b n s m t → TellsNext b c m t u (Ok found)
+pub next_false : (found : Bool) (a b c : Option (List (List (List ℕ)))) (n m : ℕ) (s t u : Table × Kind) → found ≡ false → ReadsOn a b n s m t → TellsNext b c m t u (Ok found)
     → OfLeft a (λ rows. rows_after n s rows ≡ Ok u.0)
 next_false true a b c n m s t u e goes next = absurd (cc)
 next_false false a b c n m s t u e goes next = goes_to a b n m s t (Ok u.0) goes next

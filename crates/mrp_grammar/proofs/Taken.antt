@@ -14,7 +14,7 @@ use Rattle.csv.specs.declared.reader.Reader.{Reader}
 use Rattle.csv.specs.declared.reader.Trim.TheVariants as trim
 use Rattle.mrp_grammar.specs.declared.fault.TableFaultKind.{TableFaultKind}
 use Rattle.mrp_grammar.specs.declared.fault.TableFaultKind.TheVariants as fault
-use Rattle.mrp_grammar.specs.Left.{fault_of, GivesAll, left_of, MayCome, OfLeft, records_in, StartsBadly, TakesRow}
+use Rattle.mrp_grammar.specs.Left.{fault_of, GivesAll, rows_left, MayCome, OfLeft, records_in, StartsBadly, TakesRow}
 use Rattle.mrp_grammar.specs.Reading.{OfRows}
 use Rattle.mrp_grammar.proofs.Records.{none_left, one_left}
 
@@ -70,11 +70,11 @@ ended s t (Some xs) (Some ys) row r = none_left default_config s xs (next_none (
 
 -- a read that found a row, and one that found none
 pub takes_row : {R : Type 0} (rem : R → Option (List ℕ)) (old new : Reader R) (row : List (List ℕ)) → GivesAll old → ReadRecord rem old new true row
-    → TakesRow (left_of rem old) (left_of rem new) row
+    → TakesRow (rows_left rem old) (rows_left rem new) row
 takes_row rem old new row gives r = rw r.1 (taken old.state new.state (source_of rem old) (pending_of (rem new.rdr) new) row (rw gives.0 at r.0))
 
 pub ends_rows : {R : Type 0} (rem : R → Option (List ℕ)) (old new : Reader R) (row : List (List ℕ)) → GivesAll old → ReadRecord rem old new false row
-    → OfLeft (left_of rem old) (λ rows. rows ≡ [])
+    → OfLeft (rows_left rem old) (λ rows. rows ≡ [])
 ends_rows rem old new row gives r = ended old.state new.state (source_of rem old) (pending_of (rem new.rdr) new) row (rw gives.0 at r.0)
 
 -- a read of a row that isn't text
@@ -86,10 +86,10 @@ bad_row (Some rows) row number bad s = record { row = row; rest = s.0; rows_are 
 -- ---- why a read failed
 
 pub explains : {R : Type 0} (rem : R → Option (List ℕ)) (old new : Reader R) (number : ℕ) (why : ErrorKind) → GivesAll old → ExplainsRead rem old new true why
-    → OfRows (fault_of why) (Unit {0}) (OfLeft (left_of rem old) (λ rows. StartsBadly number rows (record { row = number; kind = fault_of why })))
+    → OfRows (fault_of why) (Unit {0}) (OfLeft (rows_left rem old) (λ rows. StartsBadly number rows (record { row = number; kind = fault_of why })))
 explains rem old new number (error.Io e) gives r = tt
 explains rem old new number (error.Utf8 pos e) gives r =
-    bad_row (left_of rem old) r.1 number (no_text r.1 r.3) (starts old.state new.state (source_of rem old) (pending_of (rem new.rdr) new) r.1 (rw gives.0 at r.2))
+    bad_row (rows_left rem old) r.1 number (no_text r.1 r.3) (starts old.state new.state (source_of rem old) (pending_of (rem new.rdr) new) r.1 (rw gives.0 at r.2))
 explains rem old new number (error.UnequalLengths pos expected len) gives r = absurd (false≢true (sym r.0 ∙ gives.3))
 explains rem old new number (error.Serialize text) gives r = tt
 explains rem old new number (error.Deserialize pos e) gives r = tt
@@ -118,7 +118,7 @@ module _ {R : Type 0} (rem : R → Option (List ℕ)) (old new : Reader R) (give
   pub came : MayCome kind
   came = subst MayCome (sym same) (may_come rem old new why gives (explained gives.1 gives.2))
 
-  pub explains_as : (number : ℕ) (told : TableFaultKind) → told ≡ fault_of kind → OfRows told (Unit {0}) (OfLeft (left_of rem old) (λ rows. StartsBadly number rows (record { row = number; kind = told })))
+  pub explains_as : (number : ℕ) (told : TableFaultKind) → told ≡ fault_of kind → OfRows told (Unit {0}) (OfLeft (rows_left rem old) (λ rows. StartsBadly number rows (record { row = number; kind = told })))
   explains_as number told is = rw (is ∙ ap fault_of same) (explains rem old new number why gives (explained gives.1 gives.2))
 
   pub has_stopped : {F : Type 0} (called : ErrorKind → F) (failed told : F) → ((pos : _) (e : _) → called (error.Utf8 pos e) ≡ failed → ⊥) → has_failed new ≡ stops_reader why → told ≡ called kind → told ≡ failed → has_failed new ≡ true

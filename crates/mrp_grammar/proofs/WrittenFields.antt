@@ -6,16 +6,16 @@ use Rattle.std.proofs.lemmas.Bool.{and_parts, eqb-true}
 use Rattle.std.proofs.lemmas.Option.{get_or_from_slice_get}
 use Rattle.std.proofs.lemmas.Slice.Eq.{bytes_eq-Decides}
 use Rattle.csv.specs.Records.{field_at}
-use Rattle.mrp_spell.specs.Spelling.{is_name, number_of, number_text, number_within}
+use Rattle.mrp_spell.specs.Spelling.{is_name, spelled_number, number_text, number_within}
 use Rattle.mrp_spell.proofs.Decimals.{number-spelled}
 use Rattle.mrp_spell.proofs.Ranges.{number_is}
-use Rattle.mrp_rows.specs.Names.{pair_at, pair_named, pair_of, plant_no}
+use Rattle.mrp_rows.specs.Names.{found_pair, pair_named, pair_of_item, plant_no}
 use Rattle.mrp_rows.specs.Table.{item_at, plant_at, Table}
 use Rattle.mrp_grammar.specs.declared.fault.TableFaultKind.{TableFaultKind}
 use Rattle.mrp_grammar.specs.declared.fault.TableFaultKind.TheVariants as fault
 use Rattle.mrp_grammar.specs.declared.kind.Kind.{Kind}
 use Rattle.mrp_grammar.specs.declared.kind.Kind.TheVariants as kind
-use Rattle.mrp_grammar.specs.Grammar.{field, is_empty, is_empty_from, is_free, kind_of, name_of, ranged, row_kind, used}
+use Rattle.mrp_grammar.specs.Grammar.{field, is_empty, is_empty_from, is_free, kind_of, name_field, ranged, row_kind, used}
 use Rattle.mrp_grammar.specs.Reading.{kind_of_row}
 use Rattle.mrp_grammar.specs.Written.{item_name, pair_item, pair_plant, plant_name}
 use Rattle.mrp_grammar.proofs.KeepingLists.{position_there}
@@ -145,7 +145,7 @@ all_used row word b c d e f g h size ew eb ec ed ee ef eg eh = eight row size �
 
 -- ---- names and numbers
 
-pub name_text : (text name : List ℕ) → name_of text ≡ Ok name → text ≡ name
+pub name_text : (text name : List ℕ) → name_field text ≡ Ok name → text ≡ name
 name_text text name e = by (is_name text) e
   where
     by : (b : Bool) → ◌≡◌ {A = Result (List ℕ) TableFaultKind} (if b then Ok text else Err fault.BadName) (Ok name) → text ≡ name
@@ -159,7 +159,7 @@ ranged_text text low high n e = by (number_within text low high) refl e
     by (Some m) is e = number_is text low high n (is ∙ ap (λ x. Some x) (same_Ok m n e))
     by None is e = absurd (cc)
 
-pub number_is_text : (text : List ℕ) (n : ℕ) → number_of text ≡ Some n → text ≡ number_text n
+pub number_is_text : (text : List ℕ) (n : ℕ) → spelled_number text ≡ Some n → text ≡ number_text n
 number_is_text text n is = (number-spelled text n is).0
 
 -- ---- the names of what was found by its name
@@ -177,7 +177,7 @@ record Stands (N : Table) (p i x : ℕ) : Type 0 where
   plant : plant_at N x ≡ p
   item : item_at N x ≡ i
 
-stands : (N : Table) (p i x : ℕ) → pair_at N p i ≡ Some x → Stands N p i x
+stands : (N : Table) (p i x : ℕ) → found_pair N p i ≡ Some x → Stands N p i x
 stands N p i x is =
     let there = position_there (λ q. (q.plant.0 == p) && (q.item.0 == i)) N.pairs x is in
     let parts = and_parts (there.0.plant.0 == p) (there.0.item.0 == i) there.3 in
@@ -193,7 +193,7 @@ pub record IsNamed (N : Table) (at of : List ℕ) (x : ℕ) : Type 0 where
 pub pair_found : (N : Table) (plant item : List ℕ) (x : ℕ) → pair_named N (plant_no N plant) item ≡ Some x → IsNamed N plant item x
 pair_found N plant item x is = at (plant_no N plant) refl is
   where
-    by : (p : ℕ) (o : Option ℕ) → plant_no N plant ≡ Some p → position (bytes_eq item) N.items ≡ o → pair_of N p o ≡ Some x → IsNamed N plant item x
+    by : (p : ℕ) (o : Option ℕ) → plant_no N plant ≡ Some p → position (bytes_eq item) N.items ≡ o → pair_of_item N p o ≡ Some x → IsNamed N plant item x
     by p None ep ei e = absurd (cc)
     by p (Some i) ep ei e =
         let s = stands N p i x e in

@@ -4,7 +4,7 @@ use Rattle.mrp_cal.specs.Calendar.{CalendarTerms, IsCalendar, IsCalendarFrom}
 use Rattle.mrp_cal.specs.Days.{day_text}
 use Rattle.mrp_qty.specs.declared.horizon.TheConstants.{LONGEST}
 use Rattle.mrp_qty.specs.declared.quantity.TheConstants.{MOST}
-use Rattle.mrp_spell.specs.Spelling.{number_of, number_text}
+use Rattle.mrp_spell.specs.Spelling.{spelled_number, number_text}
 use Rattle.mrp_rows.specs.declared.numbers.PairNo.{PairNo}
 use Rattle.mrp_rows.specs.declared.numbers.PlantNo.{PlantNo}
 use Rattle.mrp_qty.specs.declared.limits.TheConstants.{MOST_IN_ROW, MOST_PER, MOST_PLANTS}
@@ -18,8 +18,8 @@ use Rattle.mrp_rows.specs.Names.{has_plant, pair_named, plant_no}
 use Rattle.mrp_rows.specs.Table.{horizon, Table}
 use Rattle.mrp_grammar.specs.declared.kind.Kind.{Kind}
 use Rattle.mrp_grammar.specs.declared.kind.Kind.TheVariants as kind
-use Rattle.mrp_grammar.specs.Grammar.{amount_terms, AmountTerms, bill_fits, bill_of, bill_terms, BillTerms, cum_of, cum_terms, demand_made, demand_of, field, known_lane, known_pair, lane_number, lane_terms, LaneTerms, name_of}
-use Rattle.mrp_grammar.specs.Grammar.{plant_of, plant_terms, ranged, receipt_made, receipt_of, reset_of, reset_terms, run_terms, RunTerms, ship_of, ship_terms}
+use Rattle.mrp_grammar.specs.Grammar.{amount_terms, AmountTerms, bill_fits, bill_of, bill_terms, BillTerms, cum_of, cum_terms, demand_made, demand_of, field, known_lane, known_pair, lane_number, lane_terms, LaneTerms, name_field}
+use Rattle.mrp_grammar.specs.Grammar.{plant_in_row, plant_terms, ranged, receipt_made, receipt_of, reset_in_row, reset_terms, run_terms, RunTerms, ship_of, ship_terms}
 use Rattle.mrp_grammar.specs.Reading.{first_terms, is_run, kind_of_row}
 use Rattle.mrp_grammar.specs.Written.{bill_fields, cum_fields, demand_fields, pair_item, pair_plant, plant_fields, plant_name, receipt_fields, reset_fields, run_fields, ship_fields}
 use Rattle.mrp_grammar.proofs.KeepingParts.{AmountParts, bill_parts, cum_parts, demand_parts, receipt_parts, reset_parts, ship_parts}
@@ -31,15 +31,15 @@ use Rattle.mrp_grammar.proofs.WrittenFields.{AreFree, five_used, four_used, IsNa
 
 -- ---- plants
 
-name_said : (N : Table) (row : List (List ℕ)) (name : List ℕ) → plant_of N row ≡ Ok name → field row 1 ≡ name
-unfolding plant_of
+name_said : (N : Table) (row : List (List ℕ)) (name : List ℕ) → plant_in_row N row ≡ Ok name → field row 1 ≡ name
+unfolding plant_in_row
 name_said N row name is =
     let a = after (plant_terms row) _ name is in
     let b = after_check (not (has_plant N a.0)) _ _ name a.2 in
     let c = after_check (ltb (length N.plants) MOST_PLANTS) _ _ name b.1 in
     name_text (field row 1) a.0 a.1 ∙ same_Ok a.0 name c.1
 
-pub plant_said : (N : Table) (row : List (List ℕ)) (name : List ℕ) → IsOfKind row kind.Plant → plant_of N row ≡ Ok name → row ≡ plant_fields name
+pub plant_said : (N : Table) (row : List (List ℕ)) (name : List ℕ) → IsOfKind row kind.Plant → plant_in_row N row ≡ Ok name → row ≡ plant_fields name
 plant_said N row name k is = two_used row _ name k.size k.word k.free (name_said N row name is)
 
 -- ---- bills
@@ -119,7 +119,7 @@ lane_said : (row : List (List ℕ)) (t : LaneTerms) → lane_terms row ≡ Ok t 
 unfolding lane_terms
 lane_said row t is =
     let n = two_names_read row _ t is in
-    let c = after (name_of (field row 3)) _ t n.rest in
+    let c = after (name_field (field row 3)) _ t n.rest in
     let same : record { from = n.first; to = n.second; item = c.0 } ≡ t = same_Ok _ t c.2 in
     subst (LaneSaid row) same (record { from = name_text (field row 1) n.first n.first_is; to = name_text (field row 2) n.second n.second_is; item = name_text (field row 3) c.0 c.1 })
 
@@ -182,7 +182,7 @@ cum_said N row x k is =
     let p = cum_parts N row x is in
     subst (λ (z : CumRow). row ≡ cum_fields N z) p.same (figure_said N row kind.Cum p.terms p.lane k k.free (cum_terms_said row p.terms p.read) p.known)
 
-pub reset_said : (N : Table) (row : List (List ℕ)) (x : ResetRow) → IsOfKind row kind.Reset → reset_of N row ≡ Ok x → row ≡ reset_fields N x
+pub reset_said : (N : Table) (row : List (List ℕ)) (x : ResetRow) → IsOfKind row kind.Reset → reset_in_row N row ≡ Ok x → row ≡ reset_fields N x
 reset_said N row x k is =
     let p = reset_parts N row x is in
     subst (λ (z : ResetRow). row ≡ reset_fields N z) p.same (figure_said N row kind.Reset p.terms p.lane k k.free (reset_terms_said row (horizon N) p.terms p.read) p.known)
@@ -197,7 +197,7 @@ record RunSaid (row : List (List ℕ)) (t : RunTerms) : Type 0 where
 run_terms_said : (row : List (List ℕ)) (t : RunTerms) → run_terms row ≡ Ok t → RunSaid row t
 unfolding run_terms
 run_terms_said row t is =
-    let a = after_some (number_of (field row 2)) _ _ t is in
+    let a = after_some (spelled_number (field row 2)) _ _ t is in
     let b = after (ranged (field row 3) 1 LONGEST) _ t a.2 in
     let same : record { first = field row 1; days = a.0; periods = b.0 } ≡ t = same_Ok _ t b.2 in
     subst (RunSaid row) same (record { first = refl; days = number_is_text (field row 2) a.0 a.1; periods = ranged_text (field row 3) 1 LONGEST b.0 b.1 })

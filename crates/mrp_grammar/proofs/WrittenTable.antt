@@ -14,7 +14,7 @@ use Rattle.mrp_rows.specs.Table.{Table, empty_table}
 use Rattle.mrp_grammar.specs.declared.fault.TableFaultKind.{TableFaultKind}
 use Rattle.mrp_grammar.specs.declared.kind.Kind.{Kind}
 use Rattle.mrp_grammar.specs.declared.kind.Kind.TheVariants as kind
-use Rattle.mrp_grammar.specs.Grammar.{◌>>=◌, bill_of, cum_of, demand_of, may_follow, pair_fits, pair_row, pair_terms, PairTerms, place_of, plant_of, receipt_of, reset_of, RunTerms, ship_of, with_pair_terms}
+use Rattle.mrp_grammar.specs.Grammar.{◌>>=◌, bill_of, cum_of, demand_of, may_follow, pair_fits, pair_row, pair_terms, PairTerms, kind_place, plant_in_row, receipt_of, reset_in_row, RunTerms, ship_of, with_pair_terms}
 use Rattle.mrp_grammar.specs.Reading.{at_row, first_lacking, first_terms, IsCalendarOf, IsReadSoFar, kind_of_row, read_from, Reads, row_after, row_of_kind, rows_after, started, Starts, StartsWith, waiting}
 use Rattle.mrp_grammar.specs.Written.{AreNumbered, bill_fields, cum_fields, demand_fields, later_rows, pair_rows, plant_fields, receipt_fields, reset_fields, rows_of, run_fields, ship_fields}
 use Rattle.mrp_grammar.proofs.Accept.{waited, was_read, went_on}
@@ -127,10 +127,10 @@ record Adds (N M : Table) (k : Kind) (row : Row) : Type 0 where
   calendar : M.calendar ≡ N.calendar
   numbered : IsNumbered N → IsNumbered M
   rows : later_rows M ≡ later_rows N ++ row ∷ []
-  fresh : IsFresh M (place_of k)
+  fresh : IsFresh M (kind_place k)
 
 module _ (N : Table) (row : Row) where
-  plant_adds : (x : List ℕ) → IsFresh N 1 → IsOfKind row kind.Plant → plant_of N row ≡ Ok x → Adds N (with_plant N x) kind.Plant row
+  plant_adds : (x : List ℕ) → IsFresh N 1 → IsOfKind row kind.Plant → plant_in_row N row ≡ Ok x → Adds N (with_plant N x) kind.Plant row
   plant_adds x fresh k is =
       let more : IsFresh (with_plant N x) 1 = record { pairs = fresh.pairs; bills = fresh.bills; demands = fresh.demands; receipts = fresh.receipts; ships = fresh.ships; cums = fresh.cums; resets = fresh.resets } in
       record {
@@ -187,7 +187,7 @@ module _ (N : Table) (row : Row) where
     fresh = record { pairs = fresh.pairs; bills = fresh.bills; demands = fresh.demands; receipts = fresh.receipts; ships = fresh.ships; cums = λ lt. absurd (omega arith); resets = fresh.resets };
   }
 
-  reset_adds : (x : ResetRow) → IsFresh N 8 → IsOfKind row kind.Reset → reset_of N row ≡ Ok x → Adds N (with_reset N x) kind.Reset row
+  reset_adds : (x : ResetRow) → IsFresh N 8 → IsOfKind row kind.Reset → reset_in_row N row ≡ Ok x → Adds N (with_reset N x) kind.Reset row
   reset_adds x fresh k is = record {
     calendar = refl;
     numbered = λ h. h;
@@ -223,29 +223,29 @@ made_adds N k row read made M more is =
     let a = after read (λ x. Ok (made x)) M is in
     subst (λ (m : Table). Adds N m k row) (same_Ok (made a.0) M a.2) (more a.0 a.1)
 
-row_adds : (k last : Kind) (N M : Table) (row : Row) → IsReadSoFar N last → IsFresh N (place_of k) → IsOfKind row k → row_of_kind k N row ≡ Ok M → Adds N M k row
+row_adds : (k last : Kind) (N M : Table) (row : Row) → IsReadSoFar N last → IsFresh N (kind_place k) → IsOfKind row k → row_of_kind k N row ≡ Ok M → Adds N M k row
 unfolding row_of_kind
 row_adds kind.Run last N M row so_far fresh k is = absurd (cc)
-row_adds kind.Plant last N M row so_far fresh k is = made_adds N kind.Plant row (plant_of N row) (with_plant N) M (λ x. plant_adds N row x fresh k) is
+row_adds kind.Plant last N M row so_far fresh k is = made_adds N kind.Plant row (plant_in_row N row) (with_plant N) M (λ x. plant_adds N row x fresh k) is
 row_adds kind.Pair last N M row so_far fresh k is = pair_adds N M last row so_far fresh k is
 row_adds kind.Bill last N M row so_far fresh k is = made_adds N kind.Bill row (bill_of N row) (with_bill N) M (λ x. bill_adds N row x fresh k) is
 row_adds kind.Demand last N M row so_far fresh k is = made_adds N kind.Demand row (demand_of N row) (with_demand N) M (λ x. demand_adds N row x fresh k) is
 row_adds kind.Receipt last N M row so_far fresh k is = made_adds N kind.Receipt row (receipt_of N row) (with_receipt N) M (λ x. receipt_adds N row x fresh k) is
 row_adds kind.Ship last N M row so_far fresh k is = made_adds N kind.Ship row (ship_of N row) (with_ship N) M (λ x. ship_adds N row x fresh k) is
 row_adds kind.Cum last N M row so_far fresh k is = made_adds N kind.Cum row (cum_of N row) (with_cum N) M (λ x. cum_adds N row x fresh k) is
-row_adds kind.Reset last N M row so_far fresh k is = made_adds N kind.Reset row (reset_of N row) (with_reset N) M (λ x. reset_adds N row x fresh k) is
+row_adds kind.Reset last N M row so_far fresh k is = made_adds N kind.Reset row (reset_in_row N row) (with_reset N) M (λ x. reset_adds N row x fresh k) is
 
 abbrev AddsTo : Table → Row → Table × Kind → Type 0
 AddsTo N row t = Adds N t.0 t.1 row
 
-row_after_adds : (s t : Table × Kind) (row : Row) → IsReadSoFar s.0 s.1 → IsFresh s.0 (place_of s.1) → row_after s row ≡ Ok t → Adds s.0 t.0 t.1 row
+row_after_adds : (s t : Table × Kind) (row : Row) → IsReadSoFar s.0 s.1 → IsFresh s.0 (kind_place s.1) → row_after s row ≡ Ok t → Adds s.0 t.0 t.1 row
 unfolding row_after
 row_after_adds s t row so_far fresh is =
     let a = after (kind_of_row row) _ t is in
     let b = after_check (may_follow a.0 s.1) _ _ t a.2 in
     let c = after (row_of_kind a.0 s.0 row) _ t b.1 in
     subst (AddsTo s.0 row) (same_Ok (c.0, a.0) t c.2)
-    (row_adds a.0 s.1 s.0 c.0 row so_far (stays_fresh s.0 (place_of s.1) (place_of a.0) fresh (follows a.0 s.1 b.0)) (of_kind row a.0 a.1) c.1)
+    (row_adds a.0 s.1 s.0 c.0 row so_far (stays_fresh s.0 (kind_place s.1) (kind_place a.0) fresh (follows a.0 s.1 b.0)) (of_kind row a.0 a.1) c.1)
 
 -- ---- the rows one after the other
 
@@ -254,7 +254,7 @@ record AddsAll (N M : Table) (rows : List Row) : Type 0 where
   numbered : IsNumbered N → IsNumbered M
   written : later_rows M ≡ later_rows N ++ rows
 
-rows_add : (rows : List Row) (number : ℕ) (s : Table × Kind) (M : Table) → IsReadSoFar s.0 s.1 → IsFresh s.0 (place_of s.1) → rows_after number s rows ≡ Ok M → AddsAll s.0 M rows
+rows_add : (rows : List Row) (number : ℕ) (s : Table × Kind) (M : Table) → IsReadSoFar s.0 s.1 → IsFresh s.0 (kind_place s.1) → rows_after number s rows ≡ Ok M → AddsAll s.0 M rows
 unfolding rows_after
 rows_add [] number s M so_far fresh e =
     let same : s.0 ≡ M = cc in

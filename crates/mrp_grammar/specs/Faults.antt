@@ -72,10 +72,10 @@ Rise [] = Unit {0}
 Rise (e ∷ es) = RiseFrom e es
 
 -- a fault of the row's list
-abbrev pub IsListed : List (List ℕ) → TableFaultKind → Type 0
-IsListed row e = Contains (faults_of (kind_of_row row)) e
+abbrev pub IsListedFault : List (List ℕ) → TableFaultKind → Type 0
+IsListedFault row e = Contains (faults_of (kind_of_row row)) e
 
 -- whatever the rows above, a row is refused for a fault of its list, as the first row and as a later one
 pub record HasListedFaults (row : List (List ℕ)) : Type 0 where
-  pub first : (e : TableFaultKind) → Starts row (Err e) → IsListed row e
-  pub later : (s : Table × Kind) → IfErr (row_after s row) (IsListed row)
+  pub first : (e : TableFaultKind) → Starts row (Err e) → IsListedFault row e
+  pub later : (s : Table × Kind) → IfErr (row_after s row) (IsListedFault row)

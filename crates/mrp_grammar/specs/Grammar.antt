@@ -34,7 +34,7 @@ use Rattle.mrp_rows.specs.declared.rows.PairRow.{PairRow}
 use Rattle.mrp_rows.specs.declared.rows.SourceRow.{SourceRow}
 use Rattle.mrp_rows.specs.Table.{arrivals, is_taken_from, rises_from}
 use Rattle.mrp_rows.specs.Growing.{add_item, with_plant, with_bill, with_demand, with_receipt, with_ship, with_cum, with_reset}
-use Rattle.mrp_spell.specs.Spelling.{is_name, number_of, number_within, rule_of}
+use Rattle.mrp_spell.specs.Spelling.{is_name, spelled_number, number_within, rule_of}
 
 -- the answer of a test, or the first fault, whatever the faults are
 infixl 10 ◌>>=◌
@@ -67,9 +67,9 @@ TellsSeen view (Ok x) read = read ≡ Ok (view x)
 TellsSeen view (Err e) read = TellsFault read e
 
 -- a step makes that value, or answers the fault
-abbrev pub Tells : {T B : Type 0} → Result T TableFaultKind → Result B TableFaultKind → B → Type 0
-Tells (Ok t) read made = read ≡ Ok made
-Tells (Err e) read made = TellsFault read e
+abbrev pub TellsMade : {T B : Type 0} → Result T TableFaultKind → Result B TableFaultKind → B → Type 0
+TellsMade (Ok t) read made = read ≡ Ok made
+TellsMade (Err e) read made = TellsFault read e
 
 -- a field of a row, counted from 0
 abbrev pub field : List (List ℕ) → ℕ → List ℕ
@@ -104,20 +104,20 @@ used kind.Cum = 5
 used kind.Reset = 5
 
 -- the place of a kind in the order of the kinds
-abbrev pub place_of : Kind → ℕ
-place_of kind.Run = 0
-place_of kind.Plant = 1
-place_of kind.Pair = 2
-place_of kind.Bill = 3
-place_of kind.Demand = 4
-place_of kind.Receipt = 5
-place_of kind.Ship = 6
-place_of kind.Cum = 7
-place_of kind.Reset = 8
+abbrev pub kind_place : Kind → ℕ
+kind_place kind.Run = 0
+kind_place kind.Plant = 1
+kind_place kind.Pair = 2
+kind_place kind.Bill = 3
+kind_place kind.Demand = 4
+kind_place kind.Receipt = 5
+kind_place kind.Ship = 6
+kind_place kind.Cum = 7
+kind_place kind.Reset = 8
 
 -- the run stands first and once, and rows of one kind stand together
 abbrev pub may_follow : Kind → Kind → Bool
-may_follow next last = nat_lt 0 (place_of next) && nat_le (place_of last) (place_of next)
+may_follow next last = nat_lt 0 (kind_place next) && nat_le (kind_place last) (kind_place next)
 
 -- a field is used, or empty
 abbrev pub is_free : List (List ℕ) → ℕ → ℕ → Bool
@@ -138,8 +138,8 @@ row_kind row = do
   k ← ok_or (kind_of (field row 0)) fault.UnknownKind
   with_fields row k
 
-abbrev pub name_of : List ℕ → Result (List ℕ) TableFaultKind
-name_of text = if is_name text then Ok text else Err fault.BadName
+abbrev pub name_field : List ℕ → Result (List ℕ) TableFaultKind
+name_field text = if is_name text then Ok text else Err fault.BadName
 
 abbrev pub ranged : List ℕ → ℕ → ℕ → Result ℕ TableFaultKind
 ranged text low high = ok_or (number_within text low high) fault.BadNumber
@@ -147,7 +147,7 @@ ranged text low high = ok_or (number_within text low high) fault.BadNumber
 -- ---- what a row spells, before its names are looked up
 
 abbrev pub plant_terms : List (List ℕ) → Result (List ℕ) TableFaultKind
-plant_terms row = name_of (field row 1)
+plant_terms row = name_field (field row 1)
 
 pub record BillTerms : Type 0 where
   pub plant : List ℕ
@@ -157,9 +157,9 @@ pub record BillTerms : Type 0 where
 
 unfoldable pub bill_terms : List (List ℕ) → Result BillTerms TableFaultKind
 bill_terms row = do
-  plant ← name_of (field row 1)
-  parent ← name_of (field row 2)
-  component ← name_of (field row 3)
+  plant ← name_field (field row 1)
+  parent ← name_field (field row 2)
+  component ← name_field (field row 3)
   per ← ranged (field row 4) 1 MOST_PER
   Ok (record { plant = plant; parent = parent; component = component; per = per })
 
@@ -172,8 +172,8 @@ pub record AmountTerms : Type 0 where
 
 unfoldable pub amount_terms : List (List ℕ) → ℕ → Result AmountTerms TableFaultKind
 amount_terms row periods = do
-  plant ← name_of (field row 1)
-  item ← name_of (field row 2)
+  plant ← name_field (field row 1)
+  item ← name_field (field row 2)
   period ← ranged (field row 3) 0 (periods - 1)
   quantity ← ranged (field row 4) 1 MOST_IN_ROW
   Ok (record { plant = plant; item = item; period = period; quantity = quantity })
@@ -186,9 +186,9 @@ pub record LaneTerms : Type 0 where
 
 unfoldable pub lane_terms : List (List ℕ) → Result LaneTerms TableFaultKind
 lane_terms row = do
-  from ← name_of (field row 1)
-  to ← name_of (field row 2)
-  item ← name_of (field row 3)
+  from ← name_field (field row 1)
+  to ← name_field (field row 2)
+  item ← name_field (field row 3)
   Ok (record { from = from; to = to; item = item })
 
 unfoldable pub ship_terms : List (List ℕ) → ℕ → Result (LaneTerms × ℕ × ℕ) TableFaultKind
@@ -222,8 +222,8 @@ pub record PairTerms : Type 0 where
 
 unfoldable pub pair_terms : List (List ℕ) → Result PairTerms TableFaultKind
 pair_terms row = do
-  plant ← name_of (field row 1)
-  item ← name_of (field row 2)
+  plant ← name_field (field row 1)
+  item ← name_field (field row 2)
   lead ← ranged (field row 5) 0 LONGEST_LEAD
   on_hand ← ranged (field row 6) 0 MOST_IN_ROW
   safety ← ranged (field row 7) 0 MOST_IN_ROW
@@ -239,7 +239,7 @@ pub record RunTerms : Type 0 where
 
 unfoldable pub run_terms : List (List ℕ) → Result RunTerms TableFaultKind
 run_terms row = do
-  days ← ok_or (number_of (field row 2)) fault.BadNumber
+  days ← ok_or (spelled_number (field row 2)) fault.BadNumber
   periods ← ranged (field row 3) 1 LONGEST
   Ok (record { first = field row 1; days = days; periods = periods })
 
@@ -311,15 +311,15 @@ has_reset N t = reset_between N (plant_no N t.from) (pair_named N (plant_no N t.
 -- ---- the table with one row more, or the first fault of the row
 
 -- the name of a new plant
-unfoldable pub plant_of : Table → List (List ℕ) → Result (List ℕ) TableFaultKind
-plant_of N row = do
+unfoldable pub plant_in_row : Table → List (List ℕ) → Result (List ℕ) TableFaultKind
+plant_in_row N row = do
   name ← plant_terms row
   _ ← check (not (has_plant N name)) fault.Repeated
   _ ← check (nat_lt (length N.plants) MOST_PLANTS) fault.TooMany
   Ok name
 
 abbrev pub plant_row : Table → List (List ℕ) → Result Table TableFaultKind
-plant_row N row = plant_of N row >>= λ x. Ok (with_plant N x)
+plant_row N row = plant_in_row N row >>= λ x. Ok (with_plant N x)
 
 abbrev pub supply_kind : SupplyTerms → Supply
 supply_kind MakeTerms = supply.Make
@@ -373,8 +373,8 @@ abbrev pub bill_of : Table → List (List ℕ) → Result BillRow TableFaultKind
 bill_of N row = bill_terms row >>= bill_fits N
 
 -- what is made of the pair, the period and the quantity of a demand or a receipt row, where there is room for one more
-abbrev pub amount_of : {A : Type 0} → Table → List (List ℕ) → Bool → (PairNo → ℕ → ℕ → A) → Result A TableFaultKind
-amount_of N row has_room made = do
+abbrev pub amount_row : {A : Type 0} → Table → List (List ℕ) → Bool → (PairNo → ℕ → ℕ → A) → Result A TableFaultKind
+amount_row N row has_room made = do
   t ← amount_terms row (horizon N)
   found ← known_pair N t.plant t.item
   _ ← check has_room fault.TooMany
@@ -387,10 +387,10 @@ abbrev pub receipt_made : PairNo → ℕ → ℕ → ReceiptRow
 receipt_made pair period quantity = record { pair = pair; period = period; quantity = quantity }
 
 unfoldable pub demand_of : Table → List (List ℕ) → Result DemandRow TableFaultKind
-demand_of N row = amount_of N row (nat_lt (length N.demands) MOST_OF_A_KIND) demand_made
+demand_of N row = amount_row N row (nat_lt (length N.demands) MOST_OF_A_KIND) demand_made
 
 unfoldable pub receipt_of : Table → List (List ℕ) → Result ReceiptRow TableFaultKind
-receipt_of N row = amount_of N row (nat_lt (length N.receipts) MOST_OF_A_KIND) receipt_made
+receipt_of N row = amount_row N row (nat_lt (length N.receipts) MOST_OF_A_KIND) receipt_made
 
 unfoldable pub ship_of : Table → List (List ℕ) → Result ShipRow TableFaultKind
 ship_of N row = do
@@ -407,8 +407,8 @@ cum_of N row = do
   _ ← check (nat_lt (length N.cums) MOST_OF_A_KIND) fault.TooMany
   Ok (record { from = lane.0; pair = lane.1; figure = t.1 })
 
-unfoldable pub reset_of : Table → List (List ℕ) → Result ResetRow TableFaultKind
-reset_of N row = do
+unfoldable pub reset_in_row : Table → List (List ℕ) → Result ResetRow TableFaultKind
+reset_in_row N row = do
   t ← reset_terms row (horizon N)
   _ ← check (not (has_reset N t.0)) fault.Repeated
   lane ← known_lane N t.0
@@ -431,4 +431,4 @@ abbrev pub cum_row : Table → List (List ℕ) → Result Table TableFaultKind
 cum_row N row = cum_of N row >>= λ x. Ok (with_cum N x)
 
 abbrev pub reset_row : Table → List (List ℕ) → Result Table TableFaultKind
-reset_row N row = reset_of N row >>= λ x. Ok (with_reset N x)
+reset_row N row = reset_in_row N row >>= λ x. Ok (with_reset N x)

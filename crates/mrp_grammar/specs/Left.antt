@@ -21,8 +21,8 @@ abbrev pub records_in : State → List ℕ → List (List (List ℕ))
 records_in s text = records_from default_config (length text + 1) s text
 
 -- the rows that a reader has left, where its bytes are known
-abbrev pub left_of : {R : Type 0} → (R → Option (List ℕ)) → Reader R → Option (List (List (List ℕ)))
-left_of rem s = option_map (records_in (reader_state s)) (source_of rem s)
+abbrev pub rows_left : {R : Type 0} → (R → Option (List ℕ)) → Reader R → Option (List (List (List ℕ)))
+rows_left rem s = option_map (records_in (reader_state s)) (source_of rem s)
 
 -- a reader that gives each record of the text as it stands there, however many fields it has
 abbrev pub GivesAll : {R : Type 0} → Reader R → Type 0
@@ -80,10 +80,10 @@ pub record HasReadOn (rows rest : List (List (List ℕ))) (number : ℕ) (s : Ta
   pub next_is : next ≡ number + length read
   pub goes : (more : List (List (List ℕ))) → rows_after number s (read ++ more) ≡ rows_after next t more
 
-abbrev pub GoesOn : Option (List (List (List ℕ))) → Option (List (List (List ℕ))) → ℕ → Table × Kind → ℕ → Table × Kind → Type 0
-GoesOn None after number s next t = Unit {0}
-GoesOn (Some rows) None number s next t = ⊥
-GoesOn (Some rows) (Some rest) number s next t = HasReadOn rows rest number s next t
+abbrev pub ReadsOn : Option (List (List (List ℕ))) → Option (List (List (List ℕ))) → ℕ → Table × Kind → ℕ → Table × Kind → Type 0
+ReadsOn None after number s next t = Unit {0}
+ReadsOn (Some rows) None number s next t = ⊥
+ReadsOn (Some rows) (Some rest) number s next t = HasReadOn rows rest number s next t
 
 -- of the rows from that number on, those above another row are all there, and hold no fault
 pub record IsSoundTo (number : ℕ) (s : Table × Kind) (other : ℕ) (rows : List (List (List ℕ))) : Type 0 where
@@ -96,7 +96,7 @@ pub record IsSoundTo (number : ℕ) (s : Table × Kind) (other : ℕ) (rows : Li
 
 -- what reading one row more answers
 abbrev pub TellsNext : Option (List (List (List ℕ))) → Option (List (List (List ℕ))) → ℕ → Table × Kind → Table × Kind → Result Bool TableFault → Type 0
-TellsNext before after number s t (Ok true) = GoesOn before after number s (number + 1) t
+TellsNext before after number s t (Ok true) = ReadsOn before after number s (number + 1) t
 TellsNext before after number s t (Ok false) = OfLeft before (λ rows. rows_after number s rows ≡ Ok t.0)
 TellsNext before after number s t (Err e) = OfRows e.kind (Unit {0}) (OfLeft before (λ rows. rows_after number s rows ≡ Err e))
 

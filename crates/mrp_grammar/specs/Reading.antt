@@ -14,7 +14,7 @@ use Rattle.mrp_rows.specs.declared.rows.SourceRow.{SourceRow}
 use Rattle.mrp_rows.specs.Table.{IsOnce, IsRead, IsSourced, Table, empty_table}
 use Rattle.mrp_qty.specs.declared.limits.TheConstants.{MOST_SOURCES_OF_PAIR}
 use Rattle.mrp_rows.specs.Growing.{lacks_pair}
-use Rattle.mrp_grammar.specs.Grammar.{◌>>=◌, bill_row, check, cum_row, demand_row, may_follow, pair_row, place_of}
+use Rattle.mrp_grammar.specs.Grammar.{◌>>=◌, bill_row, check, cum_row, demand_row, may_follow, pair_row, kind_place}
 use Rattle.mrp_grammar.specs.Grammar.{plant_row, receipt_row, reset_row, row_kind, run_terms, RunTerms, ship_row}
 
 -- the kind of a row whose fields are text
@@ -91,7 +91,7 @@ pub record IsReadSoFar (N : Table) (last : Kind) : Type 0 where
   pub sourced : IsSourced N
   pub items : length N.items ≤ length N.pairs
   pub sources : length N.sources ≤ MOST_SOURCES_OF_PAIR * length N.pairs
-  pub resets : place_of last < place_of kind.Reset → N.resets ≡ []
+  pub resets : kind_place last < kind_place kind.Reset → N.resets ≡ []
 
 -- a row's fault with its number
 abbrev pub at_row : {A : Type 0} → ℕ → Result A TableFaultKind → Result A TableFault

@@ -10,7 +10,7 @@ use Rattle.mrp_qty.specs.declared.quantity.TheConstants.{MOST}
 use Rattle.mrp_qty.specs.declared.limits.TheConstants.{MOST_BILLS, MOST_IN_ROW, MOST_OF_A_KIND, MOST_PAIRS, MOST_PER, MOST_PLANTS}
 use Rattle.mrp_rows.specs.Names.{has_plant, pair_named, plant_no}
 use Rattle.mrp_rows.specs.Table.{arrivals, horizon, is_taken_from, rises_from, Table}
-use Rattle.mrp_spell.specs.Spelling.{is_name, number_of, number_within, rule_of}
+use Rattle.mrp_spell.specs.Spelling.{is_name, spelled_number, number_within, rule_of}
 use Rattle.mrp_spell.specs.Supplies.{named_sources, names_plant, SourceTerms, supply_of}
 use Rattle.mrp_grammar.specs.declared.fault.TableFaultKind.{TableFaultKind}
 use Rattle.mrp_grammar.specs.declared.fault.TableFaultKind.TheVariants as fault
@@ -152,7 +152,7 @@ passes s row = row_passes (kind_of (field row 0)) (λ k. may_follow k s.1) (pass
 
 -- the first row, before its calendar's faults
 abbrev pub run_passes : List (List ℕ) → TableFaultKind → Bool
-run_passes row fault.BadNumber = is_some (number_of (field row 2)) && has_number row 3 1 LONGEST
+run_passes row fault.BadNumber = is_some (spelled_number (field row 2)) && has_number row 3 1 LONGEST
 run_passes row e = row_passes (kind_of (field row 0)) is_run (λ f. true) row e
 
 -- ---- the fault that a row has

@@ -12,7 +12,7 @@ use Rattle.mrp_record.specs.Text.{IsBeginning}
 use Rattle.mrp_record.proofs.Beginnings.{fronts_are_beginnings}
 use Rattle.mrp_events.specs.Loads.{loads}
 use Rattle.mrp_events.specs.State.{State, opening_state, IsReached, IsFinished}
-use Rattle.mrp_history.specs.History.{IsMerged, HasRoom, HaveFinished, AreHistories, at_moment, sent_by, taken_by, planned_by}
+use Rattle.mrp_history.specs.History.{IsMerged, HasRoom, HaveFinished, AreHistories, at_moment, sent_by, taken_in, planned_by}
 use Rattle.mrp_history.specs.Laws.{ExplainedStatesMerge, FinishedStatesMerge}
 use Rattle.mrp_history.specs.Stamps.{SentAt, TakenAt, Passage, IsExplainedBy, AreExplained, clock_of}
 use Rattle.mrp_history.proofs.Causal.{lanes_are_causal}
@@ -94,7 +94,7 @@ module _ (N : Table) (table : IsTable N) (states : ℕ → State) (sends takes :
   sent_is : (l : ℕ) → l < length (lanes N) → sent_by N (at_moment histories last) l ≡ sent_by N states l
   sent_is l within = ap (λ (s : State). s.sent l) (has_come (lane_at N l).sender.0 (sender_is_there N l within))
 
-  taken_is : (l : ℕ) → l < length (lanes N) → taken_by N (at_moment histories last) l ≡ taken_by N states l
+  taken_is : (l : ℕ) → l < length (lanes N) → taken_in N (at_moment histories last) l ≡ taken_in N states l
   taken_is l within = ap (λ (s : State). s.taken l) (has_come (lane_at N l).receiver.0 (receiver_is_there N l within))
 
   planned_is : (x : ℕ) → IsPair N x → planned_by N (at_moment histories last) x ≡ planned_by N states x

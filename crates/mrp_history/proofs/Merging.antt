@@ -15,7 +15,7 @@ use Rattle.mrp_events.specs.Loads.{loads}
 use Rattle.mrp_events.specs.State.{State, opening_state, IsDecided, IsReady, IsReached}
 use Rattle.mrp_events.proofs.Keeping.{opening_is_reached}
 use Rattle.mrp_events.proofs.Ordering.{has_closing}
-use Rattle.mrp_history.specs.History.{IsPrefix, sent_by, taken_by, planned_by, IsMerged, HasRoom, HaveFinished, at_moment, AreHistories}
+use Rattle.mrp_history.specs.History.{IsPrefix, sent_by, taken_in, planned_by, IsMerged, HasRoom, HaveFinished, at_moment, AreHistories}
 use Rattle.mrp_history.specs.Laws.{HistoriesMerge, FinishedHistoriesMerge}
 use Rattle.mrp_history.proofs.Decided.{sent_is_decided}
 use Rattle.mrp_history.proofs.Moving.{HasLists, Moves, HaveMoved, carry, fill, lanes_move}
@@ -29,7 +29,7 @@ module _ (N : Table) (table : IsTable N) (free : IsLoopFree N) (histories : ℕ 
   sent n l = sent_by N (at_moment histories n) l
 
   abbrev taken : ℕ → ℕ → List Record
-  taken n l = taken_by N (at_moment histories n) l
+  taken n l = taken_in N (at_moment histories n) l
 
   abbrev planned : ℕ → ℕ → Bool
   planned n x = planned_by N (at_moment histories n) x

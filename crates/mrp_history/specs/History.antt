@@ -48,8 +48,8 @@ pub record IsHistory (N : Table) (p : ℕ) (history : ℕ → State) : Type 0 wh
 abbrev pub sent_by : Table → (ℕ → State) → ℕ → List Record
 sent_by N states l = (states (lane_at N l).sender.0).sent l
 
-abbrev pub taken_by : Table → (ℕ → State) → ℕ → List Record
-taken_by N states l = (states (lane_at N l).receiver.0).taken l
+abbrev pub taken_in : Table → (ℕ → State) → ℕ → List Record
+taken_in N states l = (states (lane_at N l).receiver.0).taken l
 
 abbrev pub planned_by : Table → (ℕ → State) → ℕ → Bool
 planned_by N states x = (states (pair_at N x).plant.0).planned x
@@ -57,17 +57,17 @@ planned_by N states x = (states (pair_at N x).plant.0).planned x
 -- the state of the network is put together of what is each plant's own
 pub record IsMerged (N : Table) (states : ℕ → State) (s : State) : Type 0 where
   pub sent : (l : ℕ) → l < length (lanes N) → s.sent l ≡ sent_by N states l
-  pub taken : (l : ℕ) → l < length (lanes N) → s.taken l ≡ taken_by N states l
+  pub taken : (l : ℕ) → l < length (lanes N) → s.taken l ≡ taken_in N states l
   pub planned : (x : ℕ) → IsPair N x → s.planned x ≡ planned_by N states x
 
 -- no mailbox holds more records than its capacity
 abbrev pub HasRoom : Table → ℕ → (ℕ → State) → Type 0
 HasRoom N capacity states =
-    (l : ℕ) → l < length (lanes N) → length (sent_by N states l) ≤ length (taken_by N states l) + capacity
+    (l : ℕ) → l < length (lanes N) → length (sent_by N states l) ≤ length (taken_in N states l) + capacity
 
 -- each lane's closing record is taken, and each pair is planned
 pub record HaveFinished (N : Table) (states : ℕ → State) : Type 0 where
-  pub closed : (l : ℕ) → l < length (lanes N) → is_closed (contents (taken_by N states l)) ≡ true
+  pub closed : (l : ℕ) → l < length (lanes N) → is_closed (contents (taken_in N states l)) ≡ true
   pub planned : (x : ℕ) → IsPair N x → planned_by N states x ≡ true
 
 -- ---- histories of all plants
@@ -83,4 +83,4 @@ pub record AreHistories (N : Table) (histories : ℕ → ℕ → State) : Type 0
   pub legal : (n l : ℕ) → l < length (lanes N)
       → IsBeginning (loads N (lane_at N l)) (sent_by N (at_moment histories n) l)
   pub causal : (n l : ℕ) → l < length (lanes N)
-      → IsPrefix (taken_by N (at_moment histories n) l) (sent_by N (at_moment histories n) l)
+      → IsPrefix (taken_in N (at_moment histories n) l) (sent_by N (at_moment histories n) l)

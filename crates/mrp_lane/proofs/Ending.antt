@@ -11,8 +11,8 @@ use Rattle.mrp_record.specs.declared.record.Record.{Record}
 use Rattle.mrp_lane.specs.declared.tally.ItemPieces.{ItemPieces}
 use Rattle.mrp_lane.specs.declared.view.LaneView.{LaneView}
 use Rattle.mrp_lane.specs.Ends.{End, Holds, end_of}
-use Rattle.mrp_lane.specs.Tallies.{Counts, pieces_in, counted, counts_of}
-use Rattle.mrp_lane.specs.Views.{IsLegal, sending, taking, after_send, Takes}
+use Rattle.mrp_lane.specs.Tallies.{Counts, record_pieces, counted, counts_of}
+use Rattle.mrp_lane.specs.Views.{IsLegal, sending, taking, view_with_sent, Takes}
 use Rattle.mrp_lane.proofs.Counting.{counted_more, length_fits, record_fits}
 use Rattle.mrp_lane.proofs.Rule.{empty_is_legal}
 
@@ -64,9 +64,9 @@ module _ {Q A : Type 0} {box : Box Q A} {p : Pass Record LaneView} {l : ℕ} {li
       let most : length (list ++ r ∷ []) ≤ MOST = length_fits (view p).network l (list ++ r ∷ []) h.sized legal in
       omega (arith, number, most, length-append list (r ∷ []))
 
-  pub more_fits : All (λ i. i.pieces + pieces_in i.item.0 r < 2 ^ 64) counts.items
+  pub more_fits : All (λ i. i.pieces + record_pieces i.item.0 r < 2 ^ 64) counts.items
   more_fits =
-      subst (λ (t : Counts). All (λ (i : ItemPieces). i.pieces + pieces_in i.item.0 r < 2 ^ 64) t.items) (sym h.counted) (record_fits (view p).network l list r h.sized legal)
+      subst (λ (t : Counts). All (λ (i : ItemPieces). i.pieces + record_pieces i.item.0 r < 2 ^ 64) t.items) (sym h.counted) (record_fits (view p).network l list r h.sized legal)
 
   goes_on : (q : Pass Record LaneView) (counts' : Counts) → IsSamePass p q → (view q).named ≡ (view p).named → (view q).network ≡ (view p).network → (view q).lane ≡ (view p).lane
       → counts' ≡ counted counts r → Holds box q l (list ++ r ∷ []) counts'
@@ -82,7 +82,7 @@ module _ {Q A : Type 0} {box : Box Q A} {p : Pass Record LaneView} {l : ℕ} {li
 
 -- an offer that isn't refused
 pub sends_on : {Q A : Type 0} (box : Box Q A) (p q : Pass Record LaneView) (l : ℕ) (counts counts' : Counts) (r : Record) (stamp : ℕ) → ((view p).sends ≡ true) × Holds box p l (view p).sent counts
-    → IsLegal (view p).network l ((view p).sent ++ r ∷ []) → IsSamePass p q → view q ≡ after_send (view p) r stamp → counts' ≡ counted counts r
+    → IsLegal (view p).network l ((view p).sent ++ r ∷ []) → IsSamePass p q → view q ≡ view_with_sent (view p) r stamp → counts' ≡ counted counts r
     → ((view q).sends ≡ true) × Holds box q l (view q).sent counts'
 sends_on box p q l counts counts' r stamp (may, h) legal same is count = (
   ap (λ (v : LaneView). v.sends) is ∙ may,

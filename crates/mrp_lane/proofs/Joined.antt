@@ -1,4 +1,4 @@
--- What the joined pass of a mailbox holds, and what is left over once all is taken.
+-- What the joined_pass pass of a mailbox holds, and what is left over once all is taken.
 use Rattle.std.proofs.Common.{◌≡◌, ℕ, ◌+◌, ◌<◌, ◌≤◌, true, List, [], ◌∷◌, ◌++◌, drop, length, take, refl, sym, ap, subst, ◌∙◌, append_assoc, append-nil, length-append, arith, All}
 use Rattle.std.proofs.Math.Seq.{take-append_seam}
 use Rattle.std.proofs.lemmas.List.{drop_at, length-map, nil_from_length, take-append-drop, take_at}
@@ -13,9 +13,9 @@ use Rattle.mrp_book.specs.declared.figure.LaneFigure.{LaneFigure}
 use Rattle.mrp_lane.specs.declared.tally.ItemPieces.{ItemPieces}
 use Rattle.mrp_lane.specs.declared.view.LaneView.{LaneView}
 use Rattle.mrp_lane.specs.Ends.{End, Name, Holds, end_of}
-use Rattle.mrp_lane.specs.Reconciled.{IsCounted, carried, figures_of, figures_on}
-use Rattle.mrp_lane.specs.Tallies.{Counts, counts_of, item_of}
-use Rattle.mrp_lane.specs.Views.{AreStamped, IsLegal, IsWhole, after_take, joined, taken_all}
+use Rattle.mrp_lane.specs.Reconciled.{IsCounted, carried_over, figures_of, figures_on}
+use Rattle.mrp_lane.specs.Tallies.{Counts, counts_of, item_pieces_of}
+use Rattle.mrp_lane.specs.Views.{AreStamped, IsLegal, IsWholePass, view_with_taken, joined_pass, taken_all}
 use Rattle.mrp_lane.proofs.Counting.{figures_fit, figures_are}
 use Rattle.mrp_lane.proofs.Ending.{Box, still_ours}
 
@@ -31,7 +31,7 @@ pub both_ours : {Q A : Type 0} (box box' there : Box Q A) (p p' : Pass Record La
 both_ours box box' there p p' l l' sent taken sent_at taken_at s t is is' same ours ours' at =
     (sym (ap (λ (n : Name). n.mailbox) (names_agree box box' p p' l l' sent taken sent_at taken_at s t is is' same)) ∙ ours.0 ∙ ap (λ b. b.table.shared.table_id) (sym at), ours'.1)
 
--- what an end holds the joined pass holds
+-- what an end holds the joined_pass pass holds
 joins : {Q A : Type 0} {box : Box Q A} {p : Pass Record LaneView} {l : ℕ} {list : List Record} {counts : Counts} → Holds box p l list counts
     → (there : Box Q A) (q : Pass Record LaneView) (l' : ℕ) → IsPassOf there q → (view q).named ≡ true → (view q).lane ≡ l' → l ≡ l' → (view q).network ≡ (view p).network
     → Holds there q l' list counts
@@ -46,7 +46,7 @@ joins {Q} {A} {box} {p} {l} {list} {counts} h there q l' ours named lane number 
 }
 
 pub joins_sending : {Q A : Type 0} (box there : Box Q A) (p q : Pass Record LaneView) (w : LaneView) (l : ℕ) (counts : Counts) → Holds box p l (view p).sent counts
-    → there ≡ box → IsSamePass p q → view q ≡ joined (view p) w → ((view q).sends ≡ true) × Holds there q l (view q).sent counts
+    → there ≡ box → IsSamePass p q → view q ≡ joined_pass (view p) w → ((view q).sends ≡ true) × Holds there q l (view q).sent counts
 joins_sending box there p q w l counts h at same is = (
   ap (λ (v : LaneView). v.sends) is,
   subst (λ (list : List Record). Holds there q l list counts) (sym (ap (λ (v : LaneView). v.sent) is))
@@ -55,7 +55,7 @@ joins_sending box there p q w l counts h at same is = (
 
 pub joins_taking : {Q A : Type 0} (box box' there : Box Q A) (p p' q : Pass Record LaneView) (l l' : ℕ) (counts counts' : Counts) (s t : End)
     → Holds box p l (view p).sent counts → Holds box' p' l' (view p').taken counts' → end_of box p l (view p).sent (view p).sent_at ≡ s → end_of box' p' l' (view p').taken (view p').taken_at ≡ t → s.name ≡ t.name
-    → there ≡ box → IsSamePass p q → view q ≡ joined (view p) (view p') → ((view q).takes ≡ true) × Holds there q l (view q).taken counts'
+    → there ≡ box → IsSamePass p q → view q ≡ joined_pass (view p) (view p') → ((view q).takes ≡ true) × Holds there q l (view q).taken counts'
 joins_taking box box' there p p' q l l' counts counts' s t h h' at_s at_t names at same is =
     let agree = names_agree box box' p p' l l' (view p).sent (view p').taken (view p).sent_at (view p').taken_at s t at_s at_t names in (
       ap (λ (v : LaneView). v.takes) is,
@@ -74,10 +74,10 @@ took_none v left none =
     ap (λ (z : List Record). record v { taken = z }) (sym (ap (λ (z : List Record). v.taken ++ z) none ∙ append-nil v.taken))
     ∙ ap (λ (z : List ℕ). record v { taken = v.taken ++ left; taken_at = z }) (sym (append-nil v.taken_at))
 
-pub took_more : (v now next : LaneView) (left left' : List Record) (left_at : List ℕ) (r : Record) (stamp : ℕ) → next ≡ after_take now r stamp → now ≡ took v left left_at → left' ≡ left ++ r ∷ []
+pub took_more : (v now next : LaneView) (left left' : List Record) (left_at : List ℕ) (r : Record) (stamp : ℕ) → next ≡ view_with_taken now r stamp → now ≡ took v left left_at → left' ≡ left ++ r ∷ []
     → next ≡ took v left' (left_at ++ stamp ∷ [])
 took_more v now next left left' left_at r stamp is so_far more =
-    is ∙ ap (λ (w : LaneView). after_take w r stamp) so_far
+    is ∙ ap (λ (w : LaneView). view_with_taken w r stamp) so_far
     ∙ ap (λ (z : List Record). record v { taken = z; taken_at = (v.taken_at ++ left_at) ++ stamp ∷ [] }) (append_assoc v.taken left (r ∷ []) ∙ ap (λ (z : List Record). v.taken ++ z) (sym more))
     ∙ ap (λ (z : List ℕ). record v { taken = v.taken ++ left'; taken_at = z }) (append_assoc v.taken_at left_at (stamp ∷ []))
 
@@ -89,29 +89,29 @@ pub took_all : (v now : LaneView) (left : List Record) (left_at : List ℕ) → 
 took_all v now left left_at so_far all = sym (ap (λ (w : LaneView). w.sent) so_far) ∙ all ∙ ap (λ (w : LaneView). w.taken) so_far
 
 -- nor is any stamp left
-none_waits : (now : LaneView) → IsWhole now [] → now.sent_at ≡ now.taken_at
+none_waits : (now : LaneView) → IsWholePass now [] → now.sent_at ≡ now.taken_at
 none_waits now whole =
     whole.stamps.whole ∙ ap (λ (z : List ℕ). now.taken_at ++ z) (nil_from_length whole.stamps.waits_at whole.stamps.as_many) ∙ append-nil now.taken_at
 
-took_all_at : (v now : LaneView) (left : List Record) (left_at : List ℕ) → now ≡ took v left left_at → IsWhole now [] → v.sent_at ≡ v.taken_at ++ left_at
+took_all_at : (v now : LaneView) (left : List Record) (left_at : List ℕ) → now ≡ took v left left_at → IsWholePass now [] → v.sent_at ≡ v.taken_at ++ left_at
 took_all_at v now left left_at so_far whole =
     sym (ap (λ (w : LaneView). w.sent_at) so_far) ∙ none_waits now whole ∙ ap (λ (w : LaneView). w.taken_at) so_far
 
-pub took_stamps : (v now : LaneView) (left : List Record) (left_at : List ℕ) → now ≡ took v left left_at → length left_at ≡ length left → IsWhole now []
+pub took_stamps : (v now : LaneView) (left : List Record) (left_at : List ℕ) → now ≡ took v left left_at → length left_at ≡ length left → IsWholePass now []
     → AreStamped v.sent_at v.taken_at (length left)
 took_stamps v now left left_at so_far as_many whole =
     record { waits_at = left_at; whole = took_all_at v now left left_at so_far whole; as_many = as_many }
 
-pub took_as_many : (v now : LaneView) (left : List Record) (left_at : List ℕ) → now ≡ took v left left_at → IsWhole now [] → length v.sent_at ≡ length v.sent
+pub took_as_many : (v now : LaneView) (left : List Record) (left_at : List ℕ) → now ≡ took v left left_at → IsWholePass now [] → length v.sent_at ≡ length v.sent
 took_as_many v now left left_at so_far whole =
     sym (ap (λ (w : LaneView). length w.sent_at) so_far) ∙ whole.as_many ∙ ap (λ (w : LaneView). length w.sent) so_far
 
-pub took_is_all : (v now : LaneView) (left : List Record) (left_at : List ℕ) → now ≡ took v left left_at → now.sent ≡ now.taken → IsWhole now [] → now ≡ taken_all v
+pub took_is_all : (v now : LaneView) (left : List Record) (left_at : List ℕ) → now ≡ took v left left_at → now.sent ≡ now.taken → IsWholePass now [] → now ≡ taken_all v
 took_is_all v now left left_at so_far all whole =
     so_far ∙ ap (λ (z : List Record). record v { taken = z; taken_at = v.taken_at ++ left_at }) (sym (took_all v now left left_at so_far all))
     ∙ ap (λ (z : List ℕ). record v { taken = v.sent; taken_at = z }) (sym (took_all_at v now left left_at so_far whole))
 
--- ---- what the joined pass's counts come to
+-- ---- what the joined_pass pass's counts come to
 
 pub small_figures : {Q A : Type 0} {box : Box Q A} {p : Pass Record LaneView} {l : ℕ} {list : List Record} {counts : Counts} → Holds box p l list counts
     → All (λ i. i.opening + i.pieces ≤ MOST) counts.items
@@ -125,7 +125,7 @@ module _ {Q A : Type 0} {box : Box Q A} {p : Pass Record LaneView} {lane : LaneN
   sizes_agree =
       let N = (view p).network in
       let items = lane_items N (lane_at N lane.0) in
-      ap (λ (t : Counts). length t.items) h'.counted ∙ length-map items (item_of N lane.0 taken) ∙ sym (ap (λ (t : Counts). length t.items) h.counted ∙ length-map items (item_of N lane.0 sent))
+      ap (λ (t : Counts). length t.items) h'.counted ∙ length-map items (item_pieces_of N lane.0 taken) ∙ sym (ap (λ (t : Counts). length t.items) h.counted ∙ length-map items (item_pieces_of N lane.0 sent))
 
   pub figures_agree : figures_of lane counts.items counts'.items ≡ figures_on (view p).network lane.0 sent taken
   figures_agree = (λ j. figures_of lane (h.counted j).items (h'.counted j).items) ∙ figures_are (view p).network lane.0 sent taken h.sized.table h.legal h'.legal
@@ -167,7 +167,7 @@ pub is_counted : {Q A : Type 0} (box : Box Q A) (p q : Pass Record LaneView) (la
     → Holds box p lane.0 (view p).sent counts → Holds box p lane.0 (view p).taken counts' → sent ≡ counts.records → taken ≡ counts'.records
     → view q ≡ taken_all (view p) → (view p).sent ≡ (view p).taken ++ left
     → AreStamped (view p).sent_at (view p).taken_at (length left) → length (view p).sent_at ≡ length (view p).sent → figures ≡ figures_of lane counts.items counts'.items
-    → IsCounted lane.0 sent taken (carried q taken left figures)
+    → IsCounted lane.0 sent taken (carried_over q taken left figures)
 is_counted box p q lane counts counts' sent taken left figures h h' sent_is taken_is is parts are as_many figures_are =
     let v = view p in
     let count : sent ≡ length v.sent = sent_is ∙ ap (λ (t : Counts). t.records) h.counted in

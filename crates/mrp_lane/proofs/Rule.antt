@@ -12,8 +12,8 @@ use Rattle.mrp_record.proofs.Beginnings.{empty_is_a_beginning, fronts_are_beginn
 use Rattle.mrp_events.specs.Loads.{loads}
 use Rattle.mrp_lane.specs.declared.view.LaneView.{LaneView}
 use Rattle.mrp_lane.specs.Laws.{MailboxesKeepOrder}
-use Rattle.mrp_lane.specs.Views.{IsLegal, blank, unnamed, sending, taking, joined, spent, Line, IsNamed, Fits, AreStamped, Carries, Keeps}
-use Rattle.mrp_lane.specs.Views.{after_send, after_take, Takes, IsUntaken, Leaves}
+use Rattle.mrp_lane.specs.Views.{IsLegal, blank, unnamed, sending, taking, joined_pass, spent, Line, IsLaneNamed, FitsLine, AreStamped, CarriesLine, Keeps}
+use Rattle.mrp_lane.specs.Views.{view_with_sent, view_with_taken, Takes, IsUntaken, Leaves}
 
 -- ---- legal beginnings
 
@@ -71,7 +71,7 @@ each_set F views pass w mine others j u e =
     (λ (x : (j ≢ pass) × (get_elem? views j ≡ some u)). others j u x.0 x.1) (at_set views pass j w u e)
 
 -- a pass that may do neither fits any line
-idle_fits : (line : Line) (pass : ℕ) (v : LaneView) → v.sends ≡ false → v.takes ≡ false → Fits line pass v
+idle_fits : (line : Line) (pass : ℕ) (v : LaneView) → v.sends ≡ false → v.takes ≡ false → FitsLine line pass v
 idle_fits line pass v a b = record {
   sends = λ p. absurd (true≢false (sym p ∙ a));
   takes = λ p. absurd (true≢false (sym p ∙ b));
@@ -79,7 +79,7 @@ idle_fits line pass v a b = record {
 
 -- ---- steps
 
-module _ {mailbox : List Record} {views : List LaneView} {line : Line} (kept : Carries line mailbox views) where
+module _ {mailbox : List Record} {views : List LaneView} {line : Line} (kept : CarriesLine line mailbox views) where
   -- another pass than the sender's may not send, and another than the receiver's may not take
   not_sender : (pass other : ℕ) (v u : LaneView) → v.sends ≡ true → get_elem? views pass ≡ some v → get_elem? views other ≡ some u → other ≢ pass → u.sends ≢ true
   not_sender pass other v u may at at' apart p = apart (((kept.fits other u at').sends p).0 ∙ sym ((kept.fits pass v at).sends may).0)
@@ -105,7 +105,7 @@ begins = (
     stamps = record { waits_at = []; whole = refl; as_many = refl };
     as_many = refl;
     legal = empty_is_legal blank 0;
-    fits = each_set (Fits first_line) (unnamed ∷ []) 0 unnamed
+    fits = each_set (FitsLine first_line) (unnamed ∷ []) 0 unnamed
         record { sends = λ _. (refl, refl, (λ p. absurd (true≢false (sym p))), refl); takes = λ _. (refl, refl, (λ p. absurd (true≢false (sym p))), refl) }
         (λ j u other e. absurd (other (last_place [] unnamed u j (λ x. some-ne-none u (sym x)) e)));
   },
@@ -113,13 +113,13 @@ begins = (
 
 -- a push
 pub sends : (n pass : ℕ) (v : LaneView) (r : Record) (stamp : ℕ) → v.sends ≡ true → v.named ≡ true → IsLegal v.network v.lane (v.sent ++ r ∷ [])
-    → Pushes Keeps n pass v r (λ w. w ≡ after_send v r stamp)
+    → Pushes Keeps n pass v r (λ w. w ≡ view_with_sent v r stamp)
 sends n pass v r stamp may named legal mailbox views _ (line, kept) at =
     let mine = (kept.fits pass v at).sends may in
     let longer : Line = record line { sent = line.sent ++ r ∷ []; sent_at = line.sent_at ++ stamp ∷ [] } in
     let same : v.sent ++ r ∷ [] ≡ longer.sent = ap (λ (l : List Record). l ++ r ∷ []) mine.1 in
     let same_at : v.sent_at ++ stamp ∷ [] ≡ longer.sent_at = ap (λ (l : List ℕ). l ++ stamp ∷ []) mine.3 in (
-      after_send v r stamp,
+      view_with_sent v r stamp,
       (
         longer,
         record {
@@ -127,7 +127,7 @@ sends n pass v r stamp may named legal mailbox views _ (line, kept) at =
           stamps = stamped_more line.sent_at line.taken_at mailbox r stamp kept.stamps;
           as_many = omega (arith, kept.as_many, length-append line.sent_at (stamp ∷ []), length-append line.sent (r ∷ []));
           legal = subst (IsLegal line.network line.lane) same (legal_there kept v (v.sent ++ r ∷ []) (mine.2 named) legal);
-          fits = each_set (Fits longer) views pass (after_send v r stamp)
+          fits = each_set (FitsLine longer) views pass (view_with_sent v r stamp)
               record { sends = λ _. (mine.0, same, mine.2, same_at); takes = (kept.fits pass v at).takes }
               (λ j u other e. record { sends = λ p. absurd (not_sender kept pass j v u may at e other p); takes = (kept.fits j u e).takes });
         },
@@ -149,7 +149,7 @@ takes pass v may named r mailbox views (line, kept) at =
     let same_at : v.taken_at ++ stamp ∷ [] ≡ longer.taken_at = ap (λ (l : List ℕ). l ++ stamp ∷ []) mine.3 in
     let whole : line.sent ≡ longer.taken ++ mailbox = kept.whole ∙ sym (append_assoc line.taken (r ∷ []) mailbox) in
     let front : IsLegal line.network line.lane longer.taken = front_is_legal line.network line.lane longer.taken mailbox (subst (IsLegal line.network line.lane) whole kept.legal) in (
-      after_take v r stamp,
+      view_with_taken v r stamp,
       (
         longer,
         record {
@@ -157,7 +157,7 @@ takes pass v may named r mailbox views (line, kept) at =
           stamps = first.1;
           as_many = kept.as_many;
           legal = kept.legal;
-          fits = each_set (Fits longer) views pass (after_take v r stamp)
+          fits = each_set (FitsLine longer) views pass (view_with_taken v r stamp)
               record { sends = (kept.fits pass v at).sends; takes = λ _. (mine.0, same, mine.2, same_at) }
               (λ j u other e. record { sends = (kept.fits j u e).sends; takes = λ p. absurd (not_taker kept pass j v u may at e other p) });
         },
@@ -182,13 +182,13 @@ leaves pass v may mailbox views (line, kept) at sends =
 -- the split of the first pass, which names both
 pub parts : (pass : ℕ) (v : LaneView) (N : Table) (l : ℕ) → v ≡ unnamed → Forks Keeps pass v (sending N l) (taking N l)
 parts pass v N l first mailbox views (line, kept) at =
-    let was : Fits line pass unnamed = subst (Fits line pass) first (kept.fits pass v at) in
+    let was : FitsLine line pass unnamed = subst (FitsLine line pass) first (kept.fits pass v at) in
     let here : get_elem? views pass ≡ some unnamed = at ∙ ap (λ (x : LaneView). some x) first in
     let left : LaneView = sending N l in
     let right : LaneView = taking N l in
     let after : List LaneView = set views pass left in
     let new : Line = record { network = N; lane = l; sender = pass; taker = length after; sent = []; taken = []; sent_at = []; taken_at = [] } in
-    let Old : ℕ → LaneView → Type 0 = λ j u. (u.sends ≡ true → (j ≡ pass) × ([] ≡ u.sent) × IsNamed new u × ([] ≡ u.sent_at)) × (u.takes ≢ true) in
+    let Old : ℕ → LaneView → Type 0 = λ j u. (u.sends ≡ true → (j ≡ pass) × ([] ≡ u.sent) × IsLaneNamed new u × ([] ≡ u.sent_at)) × (u.takes ≢ true) in
     let old : Each Old after = each_set Old views pass left ((λ _. (refl, refl, (λ _. (refl, refl)), refl)), λ p. true≢false (sym p))
     (λ j u other e. ((λ p. absurd (not_sender kept pass j unnamed u refl here e other p)), λ p. not_taker kept pass j unnamed u refl here e other p)) in
     let nothing : [] ≡ mailbox = (was.sends refl).1 ∙ kept.whole ∙ ap (λ (x : List Record). x ++ mailbox) (sym (was.takes refl).1) in (
@@ -214,15 +214,15 @@ parts pass v N l first mailbox views (line, kept) at =
     )
 
 -- the sender's pass takes in the receiver's
-pub joins : (pass : ℕ) (v : LaneView) (other : ℕ) (u : LaneView) → v.sends ≡ true → v.named ≡ true → u.takes ≡ true → Merges Keeps pass v other u (joined v u) spent
+pub joins : (pass : ℕ) (v : LaneView) (other : ℕ) (u : LaneView) → v.sends ≡ true → v.named ≡ true → u.takes ≡ true → Merges Keeps pass v other u (joined_pass v u) spent
 joins pass v other u a named b mailbox views (line, kept) at two at' =
-    let both : LaneView = joined v u in
+    let both : LaneView = joined_pass v u in
     let mine = (kept.fits pass v at).sends a in
     let after : List LaneView = set views pass both in
     let was : get_elem? views other ≡ some u = ⊎_elim (λ (x : (other ≡ pass) × (both ≡ u)). absurd (two x.0)) (λ (x : (other ≢ pass) × (get_elem? views other ≡ some u)). x.1) (at_set views pass other both u at') in
     let theirs = (kept.fits other u was).takes b in
     let new : Line = record line { taker = pass } in
-    let Now : ℕ → LaneView → Type 0 = λ j y. j ≢ other → Fits new j y in
+    let Now : ℕ → LaneView → Type 0 = λ j y. j ≢ other → FitsLine new j y in
     let now : Each Now after = each_set Now views pass both
     (λ _. record { sends = λ _. (mine.0, mine.1, (λ _. mine.2 named), mine.3); takes = λ _. (refl, theirs.1, (λ _. mine.2 named), theirs.3) })
     (λ j y _ e apart. record { sends = (kept.fits j y e).sends; takes = λ p. absurd (not_taker kept other j u y b was e apart p) }) in (
@@ -232,7 +232,7 @@ joins pass v other u a named b mailbox views (line, kept) at two at' =
         stamps = kept.stamps;
         as_many = kept.as_many;
         legal = kept.legal;
-        fits = each_set (Fits new) after other spent (idle_fits new other spent refl refl) (λ j y apart e. now j y e apart);
+        fits = each_set (FitsLine new) after other spent (idle_fits new other spent refl refl) (λ j y apart e. now j y e apart);
       },
     )
 

@@ -26,8 +26,8 @@ pub record End : Type 0 where
   pub stamps : List ℕ
 
 -- the list with the record is a legal beginning
-abbrev pub IsNext : End → Record → Type 0
-IsNext end r = IsLegal end.name.network end.name.lane (end.list ++ r ∷ [])
+abbrev pub IsNextRecord : End → Record → Type 0
+IsNextRecord end r = IsLegal end.name.network end.name.lane (end.list ++ r ∷ [])
 
 -- the list is a legal beginning
 abbrev pub HasLegalList : End → Type 0

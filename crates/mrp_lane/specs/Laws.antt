@@ -12,7 +12,7 @@ IsViewOf views v = (pass : ℕ) × (get_elem? views pass ≡ some v)
 
 -- at each moment what one end sent is what the other has taken and then what the mailbox holds, and so are the stamps;
 -- it is a legal beginning; both ends are of one lane of one network
-pub record IsInOrder (mailbox : List Record) (send take : LaneView) : Type 0 where
+pub record EndsAreInOrder (mailbox : List Record) (send take : LaneView) : Type 0 where
   pub whole : send.sent ≡ take.taken ++ mailbox
   pub stamps : AreStamped send.sent_at take.taken_at (length mailbox)
   pub legal : IsLegal send.network send.lane send.sent
@@ -22,4 +22,4 @@ pub record IsInOrder (mailbox : List Record) (send take : LaneView) : Type 0 whe
 abbrev pub MailboxesKeepOrder : Type 0
 MailboxesKeepOrder =
     (mailbox : List Record) (views : List LaneView) → Keeps mailbox views → (send take : LaneView) → IsViewOf views send → IsViewOf views take
-    → send.sends ≡ true → send.named ≡ true → take.takes ≡ true → take.named ≡ true → IsInOrder mailbox send take
+    → send.sends ≡ true → send.named ≡ true → take.takes ≡ true → take.named ≡ true → EndsAreInOrder mailbox send take

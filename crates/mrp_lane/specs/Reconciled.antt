@@ -27,14 +27,14 @@ abbrev pub figures_on : Table → ℕ → List Record → List Record → List L
 figures_on N l sent taken = map (figure_on N l sent taken) (lane_items N (lane_at N l))
 
 -- the figures of the pieces that two ends counted, item by item
-abbrev pub figure_of : LaneNo → ItemPieces → ItemPieces → LaneFigure
-figure_of lane sent taken =
+abbrev pub lane_figure : LaneNo → ItemPieces → ItemPieces → LaneFigure
+lane_figure lane sent taken =
     record { lane = lane; item = sent.item; opening = sent.opening; shipped = sent.opening + sent.pieces; received = taken.opening + taken.pieces }
 
 abbrev pub figures_of : LaneNo → List ItemPieces → List ItemPieces → List LaneFigure
 figures_of lane [] taken = []
 figures_of lane (s ∷ sent) [] = []
-figures_of lane (s ∷ sent) (t ∷ taken) = figure_of lane s t ∷ figures_of lane sent taken
+figures_of lane (s ∷ sent) (t ∷ taken) = lane_figure lane s t ∷ figures_of lane sent taken
 
 -- ---- what went over a lane
 
@@ -52,8 +52,8 @@ pub record Carried : Type 0 where
   pub figures : List LaneFigure
 
 -- the joined pass knows what was sent; what was taken before are the first so many records of that
-abbrev pub carried : Pass Record LaneView → ℕ → List Record → List LaneFigure → Carried
-carried pass count left figures = record {
+abbrev pub carried_over : Pass Record LaneView → ℕ → List Record → List LaneFigure → Carried
+carried_over pass count left figures = record {
   network = (view pass).network;
   lane = (view pass).lane;
   sent = (view pass).sent;

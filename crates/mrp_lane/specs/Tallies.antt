@@ -12,17 +12,17 @@ pub record Counts : Type 0 where
   pub records : ℕ
   pub items : List ItemPieces
 
-abbrev pub is_same_item : ItemPieces → ItemPieces → Bool
-is_same_item a b = a.item.0 == b.item.0
+abbrev pub is_same_pieces : ItemPieces → ItemPieces → Bool
+is_same_pieces a b = a.item.0 == b.item.0
 
 -- ---- with one record more
 
 -- the pieces of an item in a record
-abbrev pub pieces_in : ℕ → Record → ℕ
-pieces_in item r = if is_of item (content r) then quantity_of (content r) else 0
+abbrev pub record_pieces : ℕ → Record → ℕ
+record_pieces item r = if is_of item (content r) then quantity_of (content r) else 0
 
 abbrev pub with_record : Record → ItemPieces → ItemPieces
-with_record r i = record i { pieces = i.pieces + pieces_in i.item.0 r }
+with_record r i = record i { pieces = i.pieces + record_pieces i.item.0 r }
 
 abbrev pub counted : Counts → Record → Counts
 counted t r = record { records = t.records + 1; items = map (with_record r) t.items }
@@ -33,9 +33,9 @@ more_of item quantity i = record i { pieces = i.pieces + (if item == i.item.0 th
 
 -- ---- of a list
 
-abbrev pub item_of : Table → ℕ → List Record → ItemNo → ItemPieces
-item_of N l records item = record { item = item; opening = opening N (lane_at N l) item; pieces = moved item.0 (contents records) }
+abbrev pub item_pieces_of : Table → ℕ → List Record → ItemNo → ItemPieces
+item_pieces_of N l records item = record { item = item; opening = opening N (lane_at N l) item; pieces = moved item.0 (contents records) }
 
 -- the counts of the records on the lane l of the network N
 abbrev pub counts_of : Table → ℕ → List Record → Counts
-counts_of N l records = record { records = length records; items = map (item_of N l records) (lane_items N (lane_at N l)) }
+counts_of N l records = record { records = length records; items = map (item_pieces_of N l records) (lane_items N (lane_at N l)) }

@@ -41,8 +41,8 @@ abbrev pub taking : Table → ℕ → LaneView
 taking N l = record unnamed { sends = false; named = true; network = N; lane = l }
 
 -- the sender's pass when it has taken in the receiver's, which is spent then
-abbrev pub joined : LaneView → LaneView → LaneView
-joined v w = record v { sends = true; takes = true; named = true; taken = w.taken; taken_at = w.taken_at }
+abbrev pub joined_pass : LaneView → LaneView → LaneView
+joined_pass v w = record v { sends = true; takes = true; named = true; taken = w.taken; taken_at = w.taken_at }
 
 abbrev pub spent : LaneView
 spent = record unnamed { sends = false; takes = false }
@@ -61,13 +61,13 @@ pub record Line : Type 0 where
   pub sent_at : List ℕ
   pub taken_at : List ℕ
 
-abbrev pub IsNamed : Line → LaneView → Type 0
-IsNamed line v = v.named ≡ true → (v.network ≡ line.network) × (v.lane ≡ line.lane)
+abbrev pub IsLaneNamed : Line → LaneView → Type 0
+IsLaneNamed line v = v.named ≡ true → (v.network ≡ line.network) × (v.lane ≡ line.lane)
 
 -- the pass that sends is one, and so is the pass that takes; each knows its list, whose lane it is, and its stamps
-pub record Fits (line : Line) (pass : ℕ) (v : LaneView) : Type 0 where
-  pub sends : v.sends ≡ true → (pass ≡ line.sender) × (v.sent ≡ line.sent) × IsNamed line v × (v.sent_at ≡ line.sent_at)
-  pub takes : v.takes ≡ true → (pass ≡ line.taker) × (v.taken ≡ line.taken) × IsNamed line v × (v.taken_at ≡ line.taken_at)
+pub record FitsLine (line : Line) (pass : ℕ) (v : LaneView) : Type 0 where
+  pub sends : v.sends ≡ true → (pass ≡ line.sender) × (v.sent ≡ line.sent) × IsLaneNamed line v × (v.sent_at ≡ line.sent_at)
+  pub takes : v.takes ≡ true → (pass ≡ line.taker) × (v.taken ≡ line.taken) × IsLaneNamed line v × (v.taken_at ≡ line.taken_at)
 
 -- the stamps of what was sent are those of what was taken and then as many as records wait
 pub record AreStamped (sent_at taken_at : List ℕ) (waiting : ℕ) : Type 0 where
@@ -77,28 +77,28 @@ pub record AreStamped (sent_at taken_at : List ℕ) (waiting : ℕ) : Type 0 whe
 
 -- what was sent is what was taken and then what the mailbox holds, and so are its stamps, one for each record; it is a
 -- legal beginning
-pub record Carries (line : Line) (mailbox : List Record) (views : List LaneView) : Type 0 where
+pub record CarriesLine (line : Line) (mailbox : List Record) (views : List LaneView) : Type 0 where
   pub whole : line.sent ≡ line.taken ++ mailbox
   pub stamps : AreStamped line.sent_at line.taken_at (length mailbox)
   pub as_many : length line.sent_at ≡ length line.sent
   pub legal : IsLegal line.network line.lane line.sent
-  pub fits : (pass : ℕ) (v : LaneView) → get_elem? views pass ≡ some v → Fits line pass v
+  pub fits : (pass : ℕ) (v : LaneView) → get_elem? views pass ≡ some v → FitsLine line pass v
 
 abbrev pub Keeps : List Record → List LaneView → Type 0
-Keeps mailbox views = (line : Line) × Carries line mailbox views
+Keeps mailbox views = (line : Line) × CarriesLine line mailbox views
 
 -- ---- what a step tells
 
-abbrev pub after_send : LaneView → Record → ℕ → LaneView
-after_send v r stamp = record v { sent = v.sent ++ r ∷ []; sent_at = v.sent_at ++ stamp ∷ [] }
+abbrev pub view_with_sent : LaneView → Record → ℕ → LaneView
+view_with_sent v r stamp = record v { sent = v.sent ++ r ∷ []; sent_at = v.sent_at ++ stamp ∷ [] }
 
-abbrev pub after_take : LaneView → Record → ℕ → LaneView
-after_take v r stamp = record v { taken = v.taken ++ r ∷ []; taken_at = v.taken_at ++ stamp ∷ [] }
+abbrev pub view_with_taken : LaneView → Record → ℕ → LaneView
+view_with_taken v r stamp = record v { taken = v.taken ++ r ∷ []; taken_at = v.taken_at ++ stamp ∷ [] }
 
 -- the record is taken with some stamp, and what was taken stays a legal beginning
 pub record Takes (v : LaneView) (r : Record) (w : LaneView) : Type 0 where
   pub stamp : ℕ
-  pub is : w ≡ after_take v r stamp
+  pub is : w ≡ view_with_taken v r stamp
   pub legal : IsLegal v.network v.lane w.taken
 
 -- the pass has taken all that was sent
@@ -111,10 +111,10 @@ pub record IsUntaken (sent mailbox : List Record) : Type 0 where
   pub whole : sent ≡ taken ++ mailbox
 
 -- a pass that may push and pop knows that what was sent and isn't taken is in the mailbox, with its stamps
-pub record IsWhole (v : LaneView) (mailbox : List Record) : Type 0 where
+pub record IsWholePass (v : LaneView) (mailbox : List Record) : Type 0 where
   pub records : v.sent ≡ v.taken ++ mailbox
   pub stamps : AreStamped v.sent_at v.taken_at (length mailbox)
   pub as_many : length v.sent_at ≡ length v.sent
 
 abbrev pub Leaves : LaneView → List Record → Type 0
-Leaves v mailbox = v.sends ≡ true → IsWhole v mailbox
+Leaves v mailbox = v.sends ≡ true → IsWholePass v mailbox

@@ -4,7 +4,7 @@ ghost use Rattle.crossbeam_queue.specs.Passes.{view, IsPassOf};
 ghost use Rattle.mrp_net.specs.Lanes.{lanes};
 ghost use Rattle.mrp_qty.specs.declared.quantity.TheConstants.{MOST};
 ghost use Rattle.mrp_lane.specs.Ends.{AreOfOneLane, HasLegalList, Holds};
-ghost use Rattle.mrp_lane.specs.Reconciled.{figure_of, figures_of, figures_on};
+ghost use Rattle.mrp_lane.specs.Reconciled.{lane_figure, figures_of, figures_on};
 ghost use Rattle.mrp_lane.specs.Views.{AreStamped, IsLegal, taken_all};
 
 use crate::send::SendEnd;
@@ -35,13 +35,13 @@ pub struct Reconciled {
 }
 
 impl Model for Reconciled {
-    ghost use Rattle.mrp_lane.specs.Reconciled.{Carried, IsCounted, carried};
+    ghost use Rattle.mrp_lane.specs.Reconciled.{Carried, IsCounted, carried_over};
 
     ghost Value = { Carried };
 
-    ghost view = { λ r. carried r.pass r.taken r.left.items r.figures.items };
+    ghost view = { λ r. carried_over r.pass r.taken r.left.items r.figures.items };
 
-    ghost invariant = { λ r. IsCounted r.lane.0 r.sent r.taken (carried r.pass r.taken r.left.items r.figures.items) };
+    ghost invariant = { λ r. IsCounted r.lane.0 r.sent r.taken (carried_over r.pass r.taken r.left.items r.figures.items) };
 }
 
 impl Reconciled {
@@ -206,7 +206,7 @@ fn lane_figures(
 fn figure(lane: LaneNo, sent: ItemPieces, taken: ItemPieces) -> LaneFigure
     requires shipped { sent.opening + sent.pieces ≤ MOST }
     requires received { taken.opening + taken.pieces ≤ MOST }
-    ensures { result ≡ figure_of lane sent taken }
+    ensures { result ≡ lane_figure lane sent taken }
 {
     LaneFigure {
         lane,

@@ -3,8 +3,8 @@ ghost use Rattle.std.specs.Prelude.{◌≡◌, ◌<◌, true, [], ◌∷◌, ◌
 ghost use Rattle.crossbeam_queue.specs.Fifo.{Held};
 ghost use Rattle.crossbeam_queue.specs.Passes.{view, IsPassOf, IsSamePass, ruled_capacity};
 ghost use Rattle.mrp_net.specs.Lanes.{lanes};
-ghost use Rattle.mrp_lane.specs.Ends.{HasLegalList, IsNext};
-ghost use Rattle.mrp_lane.specs.Views.{after_send, IsLegal, IsUntaken};
+ghost use Rattle.mrp_lane.specs.Ends.{HasLegalList, IsNextRecord};
+ghost use Rattle.mrp_lane.specs.Views.{view_with_sent, IsLegal, IsUntaken};
 
 use crate::tally::Tally;
 use crate::view::{LanePass, Mailbox, Sent, Stamp};
@@ -62,7 +62,7 @@ impl SendEnd {
     /// is what had been taken by then and these records. Of the lists that says no more than that at least so
     /// many were sent: which moment it was no clause says.
     pub fn offer<S: Stamp, R: Wait>(&mut self, rt: &R, entry: Record) -> Result<(), Record>
-        requires legal { IsNext self.old entry }
+        requires legal { IsNextRecord self.old entry }
         ensures name { self.new.name ≡ self.old.name }
         ensures sent { OnOk result (self.new.list ≡ self.old.list ++ entry ∷ []) }
         ensures stamped { OnOk result (self.new.stamps ≡ self.old.stamps ++ S.stamp ∷ []) }
@@ -91,7 +91,7 @@ fn push<S: Stamp, R: Wait>(
     requires named { (view pass.old).named ≡ true }
     requires legal { IsLegal (view pass.old).network (view pass.old).lane ((view pass.old).sent ++ entry ∷ []) }
     ensures same { IsSamePass pass.old pass.new }
-    ensures sent { OnOk result (view pass.new ≡ after_send (view pass.old) entry S.stamp) }
+    ensures sent { OnOk result (view pass.new ≡ view_with_sent (view pass.old) entry S.stamp) }
     ensures back { IfErr result (λ back. back ≡ entry) }
     ensures unchanged { IfErr result (λ _. view pass.new ≡ view pass.old) }
     ensures full { IfErr result (λ _. Held (ruled_capacity mailbox.now) (IsUntaken (view pass.old).sent)) }

@@ -3,7 +3,7 @@ ghost use Rattle.std.specs.Prelude.{◌≡◌, ◌<◌, true, [], ◌∷◌, ◌
 ghost use Rattle.crossbeam_queue.specs.Passes.{view, IsPassOf, IsSamePass};
 ghost use Rattle.mrp_net.specs.Lanes.{lanes};
 ghost use Rattle.mrp_lane.specs.Ends.{HasLegalList, IsStampedOnce};
-ghost use Rattle.mrp_lane.specs.Views.{IsWhole, Takes};
+ghost use Rattle.mrp_lane.specs.Views.{IsWholePass, Takes};
 
 use crate::tally::Tally;
 use crate::view::{LanePass, Mailbox, Taken};
@@ -74,7 +74,7 @@ pub(crate) fn pop<R: Wait>(rt: &R, mailbox: &Mailbox, pass: &mut LanePass) -> Op
     ensures taken { IfSome result (λ entry. Takes (view pass.old) entry (view pass.new)) }
     ensures unchanged { IfNone result (view pass.new ≡ view pass.old) }
     ensures empty { IfNone result ((view pass.old).sends ≡ true → (view pass.old).sent ≡ (view pass.old).taken) }
-    ensures whole { IfNone result ((view pass.old).sends ≡ true → IsWhole (view pass.old) []) }
+    ensures whole { IfNone result ((view pass.old).sends ≡ true → IsWholePass (view pass.old) []) }
 {
     mailbox.pop_as::<Taken, R>(rt, pass)
 }

@@ -4,7 +4,7 @@ ghost use Rattle.std.specs.List.{IsDistinct};
 ghost use Rattle.mrp_loops.specs.Sized.{IsSized};
 ghost use Rattle.mrp_net.specs.Lanes.{lanes, lane_at, lane_items};
 ghost use Rattle.mrp_lane.specs.declared.tally.ItemPieces.{ItemPieces};
-ghost use Rattle.mrp_lane.specs.Tallies.{counts_of, counted, is_same_item, item_of, more_of, pieces_in};
+ghost use Rattle.mrp_lane.specs.Tallies.{counts_of, counted, is_same_pieces, item_pieces_of, more_of, record_pieces};
 
 use mrp_net::{ItemNo, LaneNo, Network};
 use mrp_qty::{Memory, Qty};
@@ -36,13 +36,13 @@ pub struct Tally {
 
 impl Model for Tally {
     ghost use Rattle.std.specs.List.{IsDistinct};
-    ghost use Rattle.mrp_lane.specs.Tallies.{Counts, is_same_item};
+    ghost use Rattle.mrp_lane.specs.Tallies.{Counts, is_same_pieces};
 
     ghost Value = { Counts };
 
     ghost view = { λ t. record { records = t.records; items = t.items.items } };
 
-    ghost invariant = { λ t. IsDistinct is_same_item t.items.items };
+    ghost invariant = { λ t. IsDistinct is_same_pieces t.items.items };
 }
 
 impl Tally {
@@ -67,7 +67,7 @@ impl Tally {
     /// One record more.
     pub fn add(&mut self, entry: &Record)
         requires number { self.old.records + 1 < 2 ^ 64 }
-        requires fits { All (λ i. i.pieces + pieces_in i.item.0 entry.now < 2 ^ 64) self.old.items }
+        requires fits { All (λ i. i.pieces + record_pieces i.item.0 entry.now < 2 ^ 64) self.old.items }
         ensures { self.new ≡ counted self.old entry.now }
     {
         self.records += 1;
@@ -100,7 +100,7 @@ fn opened(alloc: Global, network: &Network, lane: LaneNo) -> Result<Vec<ItemPiec
     requires sized { IsSized network.now }
     requires lane { lane.0 < length (lanes network.now) }
     ensures items { IfOk result (λ items. items.items ≡ (counts_of network.now lane.0 []).items) }
-    ensures once { IfOk result (λ items. IsDistinct is_same_item items.items) }
+    ensures once { IfOk result (λ items. IsDistinct is_same_pieces items.items) }
 {
     let on_lane = network.lane_items(lane);
     let mut items = Vec::with_capacity(alloc, on_lane.len().saturating_add(APART))?;
@@ -115,7 +115,7 @@ fn opened_item(network: &Network, lane: LaneNo, item: ItemNo) -> ItemPieces
     requires sized { IsSized network.now }
     requires lane { lane.0 < length (lanes network.now) }
     requires item { Contains (lane_items network.now (lane_at network.now lane.0)) item }
-    ensures { result ≡ item_of network.now lane.0 [] item }
+    ensures { result ≡ item_pieces_of network.now lane.0 [] item }
 {
     ItemPieces {
         item,
@@ -126,7 +126,7 @@ fn opened_item(network: &Network, lane: LaneNo, item: ItemNo) -> ItemPieces
 
 /// Adds the pieces to the item's, and answers where it stands; `near` is where the last one stood.
 fn add_pieces(items: &mut [ItemPieces], near: usize, item: ItemNo, quantity: u64) -> usize
-    requires once { IsDistinct is_same_item items.old }
+    requires once { IsDistinct is_same_pieces items.old }
     requires fits { All (λ i. i.item.0 ≡ item.0 → i.pieces + quantity < 2 ^ 64) items.old }
     ensures { items.new ≡ map (more_of item.0 quantity) items.old }
 {

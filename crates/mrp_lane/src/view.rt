@@ -66,9 +66,9 @@ pub struct Sent<S: Stamp> {
 
 impl<S: Stamp> Outcome<Record, LaneView> for Sent<S> {
     ghost use Rattle.std.specs.Prelude.{◌≡◌};
-    ghost use Rattle.mrp_lane.specs.Views.{after_send};
+    ghost use Rattle.mrp_lane.specs.Views.{view_with_sent};
 
-    ghost then = { λ v r w. w ≡ after_send v r S.stamp };
+    ghost then = { λ v r w. w ≡ view_with_sent v r S.stamp };
 }
 
 impl<S: Stamp> Lesson<Record, LaneView> for Sent<S> {
@@ -128,9 +128,9 @@ impl<N: Naming> Split<LaneView> for Parting<N> {
 pub struct Meeting;
 
 impl Join<LaneView> for Meeting {
-    ghost use Rattle.mrp_lane.specs.Views.{joined, spent};
+    ghost use Rattle.mrp_lane.specs.Views.{joined_pass, spent};
 
-    ghost both = { joined };
+    ghost both = { joined_pass };
 
     ghost spent = { spent };
 }

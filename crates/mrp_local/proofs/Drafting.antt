@@ -79,10 +79,10 @@ module _ (N : Table) (is : IsTable N) (plant : ℕ) (taken : ℕ → List Record
       (λ mine. ap (λ (rows : PlanRows). e.per * slice_index rows.release t) (parents k d h (eqb-true e.component.0 x mine))))
       ∙ views_have_bills N is plant x at.pair at.at_plant table t
 
-  seen_incoming : (t : ℕ) → t < horizon N → local_incoming (plant_rows N plant) taken (plant_pair N x) t ≡ network.local_incoming N taken x t
+  seen_incoming : (t : ℕ) → t < horizon N → local_incoming (plant_rows N plant) taken (plant_pair N x) t ≡ network.incoming_brought N taken x t
   seen_incoming t within = omega (arith, amount_is N plant x (received N) t at within, despatches_brought N plant taken x at t)
 
-  seen_gross : (t : ℕ) → t < horizon N → local_gross (plant_rows N plant) taken plans (plant_pair N x) t ≡ network.local_gross N taken table x t
+  seen_gross : (t : ℕ) → t < horizon N → local_gross (plant_rows N plant) taken plans (plant_pair N x) t ≡ network.gross_brought N taken table x t
   seen_gross t within = omega (arith, amount_is N plant x (demand N) t at within, asked_is t, schedules_brought N plant taken x at t)
 
 -- ---- plans
@@ -100,10 +100,10 @@ module _ (N : Table) (is : IsTable N) (plant : ℕ) (planned : ℕ → Bool) (ta
   legal_here = subst (λ (p : ℕ). AreLegal N p taken) (sym at.at_plant) legal
 
   -- by the rules of the network a ready pair gets the plan
-  pub network_plan : IsLoopFree N → plan_at N x ≡ network.local_plan N taken (plan_of N) x
+  pub network_plan : IsLoopFree N → plan_at N x ≡ network.plan_brought N taken (plan_of N) x
   network_plan free =
       (one_plan N is free).fits.rows x at.pair
-      ∙ sym (same_plan N x (network.local_incoming N taken x) (network.local_gross N taken (plan_of N) x) (incoming N x) (gross N (plan_of N) x)
+      ∙ sym (same_plan N x (network.incoming_brought N taken x) (network.gross_brought N taken (plan_of N) x) (incoming N x) (gross N (plan_of N) x)
       (λ t within. despatches_bring_incoming N is planned taken x at.pair legal_here ready t)
       (λ t within. schedules_bring_gross N is planned taken x at.pair legal_here ready t within))
 

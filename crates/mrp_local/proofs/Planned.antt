@@ -17,7 +17,7 @@ use Rattle.mrp_loops.proofs.Within.{plan_is_within}
 use Rattle.mrp_record.specs.declared.record.Record.{Record}
 use Rattle.mrp_events.specs.Local.{AreLegal}
 use Rattle.mrp_local.specs.Local.{local_incoming, local_gross, local_row, AwaitsNothing, IsPlannedLocally, IsLocal}
-use Rattle.mrp_local.specs.Laws.{IsPairAt, GetsThePlan, LocalPlansAreThePlan, DraftsAreThePlan, DraftsAreWithin, PlannableIsLocal}
+use Rattle.mrp_local.specs.Laws.{IsPairAt, GetsThePlan, PlantPlansAreThePlan, DraftsAreThePlan, DraftsAreWithin, PlannableIsLocal}
 use Rattle.mrp_local.proofs.Drafting.{HasParents, draft_incoming, draft_gross, draft_plan}
 use Rattle.mrp_local.proofs.Seeing.{sees_pair, seen_edges, ready_over_network, ready_on_view}
 
@@ -65,7 +65,7 @@ module _ (N : Table) (is : IsTable N) (free : IsLoopFree N) (plant : ℕ) (taken
   pub drafts_are : (x : ℕ) → IsPairAt N plant x → AwaitsNothing (plant_rows N plant) taken planned (plant_pair N x) → GetsThePlan N (plant_rows N plant) taken plans x
   drafts_are x at ready = next x at ready (λ y edge there before. plans_are y there before)
 
-pub local_plans_are_the_plan : LocalPlansAreThePlan
+pub local_plans_are_the_plan : PlantPlansAreThePlan
 local_plans_are_the_plan N is free plant taken planned plans works x at done =
     plans_are N is free plant taken works.legal planned plans works.local x at done
 

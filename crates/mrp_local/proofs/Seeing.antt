@@ -22,14 +22,14 @@ use Rattle.mrp_view.specs.declared.view.IncomingItem.{IncomingItem}
 use Rattle.mrp_view.specs.declared.view.PlantEdge.{PlantEdge}
 use Rattle.mrp_view.specs.declared.view.PlantPair.{PlantPair}
 use Rattle.mrp_view.specs.View.{PlantRows, is_of_plant, plant_pair, plant_pairs, plant_edge, plant_edges, edges_to, plant_amounts, plant_rows, comes_to, lane_numbers, incoming_item, incoming_lane, incoming_lanes}
-use Rattle.mrp_view.specs.Seen.{IsOwn}
+use Rattle.mrp_view.specs.Seen.{IsOwnPair}
 use Rattle.mrp_view.proofs.Seeing.{owned, owned_there}
 use Rattle.mrp_loops.specs.Loop.{HasEdge}
 use Rattle.mrp_loops.proofs.Edges.{demanders_edge, demanders_only, HasEdge-from_in}
 use Rattle.mrp_record.specs.declared.record.Record.{Record}
 use Rattle.mrp_events.specs.State as state
 use Rattle.mrp_events.specs.State.{IsReady}
-use Rattle.mrp_local.specs.Local.{amount_at, HasBrought, AwaitsNothing}
+use Rattle.mrp_local.specs.Local.{amount_at, HasCome, AwaitsNothing}
 use Rattle.mrp_local.specs.Laws.{IsPairAt}
 
 -- ---- amounts
@@ -45,7 +45,7 @@ pairs_are_at N plant =
     (λ k d within. let own = owned (length N.pairs) (λ y. (pair_at N y).plant.0) plant k d within in record { pair = own.0; at_plant = own.1 })
 
 -- the pairs that a view has are those of its plant
-pub own_at : (V : PlantRows) (N : Table) (plant : ℕ) (x : PairNo) → V ≡ plant_rows N plant → IsOwn V x → IsPairAt N plant x.0
+pub own_at : (V : PlantRows) (N : Table) (plant : ℕ) (x : PairNo) → V ≡ plant_rows N plant → IsOwnPair V x → IsPairAt N plant x.0
 own_at V N plant x view (q, there, is) =
     let all : All (λ z. IsPairAt N plant z.number.0) V.pairs = subst (λ (z : PlantRows). All (λ q. IsPairAt N plant q.number.0) z.pairs) (sym view) (pairs_are_at N plant) in
     subst (λ (n : PairNo). IsPairAt N plant n.0) is (All-contains (λ (z : PlantPair). IsPairAt N plant z.number.0) V.pairs q all there)
@@ -131,17 +131,17 @@ sees_lane N plant l within here =
     (In-filter (comes_to N plant) (lane_numbers N) l (In-range 0 (length (lanes N)) l (omega arith) (omega arith)) (eq-eqb (lane_at N l).receiver.0 plant here))
 
 -- each lane has brought what it has of an item: by all lanes of the network, and by those that the plant sees
-brought_over_lanes : (N : Table) (plant : ℕ) (taken : ℕ → List Record) (item : ItemNo) → All (HasBrought taken item) (incoming_lanes N plant)
+brought_over_lanes : (N : Table) (plant : ℕ) (taken : ℕ → List Record) (item : ItemNo) → All (HasCome taken item) (incoming_lanes N plant)
     → (l : ℕ) → l < length (lanes N) → state.HasBrought N taken plant item l
 brought_over_lanes N plant taken item all l within here there =
-    All-in (HasBrought taken item) (incoming_lanes N plant) (incoming_lane N l) all (sees_lane N plant l within here)
+    All-in (HasCome taken item) (incoming_lanes N plant) (incoming_lane N l) all (sees_lane N plant l within here)
     (subst (λ (items : List ItemNo). Contains items item) (sym (items_are N (lane_at N l))) there)
 
 brought_on_view : (N : Table) (plant : ℕ) (taken : ℕ → List Record) (item : ItemNo) → ((l : ℕ) → l < length (lanes N) → state.HasBrought N taken plant item l)
-    → All (HasBrought taken item) (incoming_lanes N plant)
+    → All (HasCome taken item) (incoming_lanes N plant)
 brought_on_view N plant taken item each =
     let numbers : List ℕ = filter (comes_to N plant) (lane_numbers N) in
-    All-map (HasBrought taken item) (incoming_lane N) numbers
+    All-map (HasCome taken item) (incoming_lane N) numbers
     (λ k d h carries.
     let own = owned (length (lanes N)) (λ l. (lane_at N l).receiver.0) plant k d h in
     each (get_or numbers k d) own.0 own.1 (subst (λ (items : List ItemNo). Contains items item) (items_are N (lane_at N (get_or numbers k d))) carries))

@@ -38,7 +38,7 @@ use Rattle.mrp_events.proofs.Sending.{despatches_are_seen, customer_by_schedule}
 use Rattle.mrp_events.proofs.Small.{load_is_small}
 use Rattle.mrp_cursor.specs.Cursor as cursor
 use Rattle.mrp_cursor.specs.Cursor.{OutFigures, Goods}
-use Rattle.mrp_cursor.specs.Laws.{IsSmall, IsBounded}
+use Rattle.mrp_cursor.specs.Laws.{IsSmallGoods, IsBounded}
 use Rattle.mrp_cursor.specs.Shows.{ShowsSent}
 use Rattle.mrp_cursor.proofs.Texts.{small_are_bounded}
 use Rattle.mrp_local.specs.Goods.{goods_by, goods_of, IsSendable}
@@ -61,14 +61,14 @@ module _ (N : Table) (is : IsTable N) (free : IsLoopFree N) (plant : ℕ) (taken
       (ready, network_plan N is plant planned taken legal x at ready free)
 
   abbrev Carried : LaneKind → Lane → ItemNo → Type 0
-  Carried kind lane item = load_of N lane item ≡ cursor.load_of (goods_by kind (plant_rows N plant) taken plans l (outgoing_item N lane item))
+  Carried kind lane item = load_of N lane item ≡ cursor.goods_load (goods_by kind (plant_rows N plant) taken plans l (outgoing_item N lane item))
 
   called : l < length (lanes N) → (lane_at N l).sender.0 ≡ plant → (lane_at N l).kind ≡ Schedule → (item : ItemNo) → Contains (lane_items N (lane_at N l)) item
       → planned (source_on N (lane_at N l) item).pair.0 ≡ true → Carried Schedule (lane_at N l) item
   called within here kind item there done =
       let lane : Lane = lane_at N l in
       let has = items_have_sources N is lane item there in
-      let i : view.Load = outgoing_item N lane item in
+      let i : view.OutgoingLoad = outgoing_item N lane item in
       let source : (view.call_of i).customer.0 ≡ (source_on N lane item).pair.0 = ap (λ (c : Call). c.customer.0) (call_seen N lane item kind) in
       let opening : ℕ = cum i.figure i.item.0 (contents (taken (l - 1))) in
       let mine : customer_of lane ≡ plant = customer_by_schedule lane kind ∙ here in
@@ -87,7 +87,7 @@ module _ (N : Table) (is : IsTable N) (free : IsLoopFree N) (plant : ℕ) (taken
 
   -- at each place of a lane that goes out
   pub goods_at : l < length (lanes N) → (lane_at N l).sender.0 ≡ plant → (place : ℕ) (d : ItemNo) → IsSendable planned (outgoing_lane N l) place
-      → (place < length (lane_items N (lane_at N l))) × (load_of N (lane_at N l) (get_or (lane_items N (lane_at N l)) place d) ≡ cursor.load_of (goods_of (plant_rows N plant) taken plans (outgoing_lane N l) place))
+      → (place < length (lane_items N (lane_at N l))) × (load_of N (lane_at N l) (get_or (lane_items N (lane_at N l)) place d) ≡ cursor.goods_load (goods_of (plant_rows N plant) taken plans (outgoing_lane N l) place))
   goods_at within here place d sendable =
       let lane : Lane = lane_at N l in
       let items : List ItemNo = lane_items N lane in
@@ -96,8 +96,8 @@ module _ (N : Table) (is : IsTable N) (free : IsLoopFree N) (plant : ℕ) (taken
       let read : view.load_at (outgoing_lane N l).items place ≡ outgoing_item N lane item = get_or-map (outgoing_item N lane) items place d view.no_load inside in
       let carried = by_kind lane.kind within here refl item (Contains-get_or items place d inside)
       (λ kind. ap (λ (c : Call). planned c.customer.0) (sym (call_seen N lane item kind))
-      ∙ ap (λ (i : view.Load). planned (view.call_of i).customer.0) (sym read) ∙ sendable.decided kind) in
-      (inside, carried ∙ ap (λ (i : view.Load). cursor.load_of (goods_by lane.kind (plant_rows N plant) taken plans l i)) (sym read))
+      ∙ ap (λ (i : view.OutgoingLoad). planned (view.call_of i).customer.0) (sym read) ∙ sendable.decided kind) in
+      (inside, carried ∙ ap (λ (i : view.OutgoingLoad). cursor.goods_load (goods_by lane.kind (plant_rows N plant) taken plans l i)) (sym read))
 
   no_item : ItemNo
   no_item = record { 0 = 0 }
@@ -167,14 +167,14 @@ module _ (N : Table) (sized : IsSized N) (plant : ℕ) (taken : ℕ → List Rec
   abbrev goods : ℕ → Goods
   goods = goods_of (plant_rows N plant) taken plans lane
 
-  goods_fit : (place : ℕ) → IsSendable planned lane place → FitsCursor (cursor.load_of (goods place))
+  goods_fit : (place : ℕ) → IsSendable planned lane place → FitsCursor (cursor.goods_load (goods place))
   goods_fit place sendable =
       let d : ItemNo = record { 0 = 0 } in
       let items : List ItemNo = lane_items N (lane_at N l) in
       let carried = goods_at N sized.table sized.loop_free plant taken works.legal planned plans works.local l within here place d sendable in
       subst FitsCursor carried.1 (load_fits N sized (lane_at N l) (get_or items place d) (Contains-get_or items place d carried.0))
 
-  goods_small : (place : ℕ) → IsSendable planned lane place → IsSmall (goods place)
+  goods_small : (place : ℕ) → IsSendable planned lane place → IsSmallGoods (goods place)
   goods_small place sendable = let fits = goods_fit place sendable in record { lines = fits.lines; figures = fits.figures }
 
   goods_bounded : (o : OutFigures) (sent : List Record) → QueuesSendable planned lane o → ShowsSent goods o sent → IsBounded goods o

@@ -8,7 +8,7 @@ use Rattle.mrp_net.specs.declared.lane.LaneKind.{LaneKind}
 use Rattle.mrp_net.specs.declared.lane.LaneKind.TheVariants.{Despatch, Schedule}
 use Rattle.mrp_view.specs.declared.view.Call.{Call}
 use Rattle.mrp_view.specs.declared.view.OutgoingLane.{OutgoingLane}
-use Rattle.mrp_view.specs.Loads.{Load, call_of, load_at}
+use Rattle.mrp_view.specs.Loads.{OutgoingLoad, call_of, load_at}
 use Rattle.mrp_view.specs.View.{PlantRows}
 use Rattle.mrp_record.specs.declared.record.Record.{Record}
 use Rattle.mrp_record.specs.Entries.{Delivery, contents, cum}
@@ -19,7 +19,7 @@ use Rattle.mrp_cursor.specs.Cursor.{Goods}
 -- ---- despatch lanes
 
 -- the shipments on their way, in table order
-abbrev pub despatch_goods : Load → Goods
+abbrev pub despatch_goods : OutgoingLoad → Goods
 despatch_goods i = record {
   item = i.item.0;
   opening = i.figure;
@@ -34,7 +34,7 @@ abbrev pub share : Call → ℕ → ℕ
 share call release = share_of call.low call.high release
 
 -- its part of what the customer's plan releases in a period
-abbrev pub called_for : (ℕ → PlanRows) → Load → ℕ → ℕ
+abbrev pub called_for : (ℕ → PlanRows) → OutgoingLoad → ℕ → ℕ
 called_for plans i period = share (call_of i) (slice_index (plans (call_of i).customer.0).release period)
 
 -- an amount of each period from a mark on, as deliveries; a period without pieces has none
@@ -42,7 +42,7 @@ abbrev pub by_period_from : (ℕ → ℕ) → ℕ → ℕ → List Delivery
 by_period_from amount periods mark = filter has_pieces (map (delivery_in amount) (range_with_len mark (periods - mark)))
 
 -- the parts of the customer's releases, beyond what the supplier's despatches so far come to
-abbrev pub schedule_goods : PlantRows → List Record → (ℕ → PlanRows) → Load → Goods
+abbrev pub schedule_goods : PlantRows → List Record → (ℕ → PlanRows) → OutgoingLoad → Goods
 schedule_goods V despatched plans i = record {
   item = i.item.0;
   opening = cum i.figure i.item.0 (contents despatched);
@@ -53,7 +53,7 @@ schedule_goods V despatched plans i = record {
 -- ---- both
 
 -- of each item of a lane; the despatch lane of the same two plants has the number before a schedule lane's
-abbrev pub goods_by : LaneKind → PlantRows → (ℕ → List Record) → (ℕ → PlanRows) → ℕ → Load → Goods
+abbrev pub goods_by : LaneKind → PlantRows → (ℕ → List Record) → (ℕ → PlanRows) → ℕ → OutgoingLoad → Goods
 goods_by Despatch V taken plans l i = despatch_goods i
 goods_by Schedule V taken plans l i = schedule_goods V (taken (l - 1)) plans i
 

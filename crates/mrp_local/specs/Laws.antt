@@ -14,8 +14,8 @@ use Rattle.mrp_record.specs.declared.record.Record.{Record}
 use Rattle.mrp_events.specs.Loads.{loads}
 use Rattle.mrp_events.specs.Local.{AreLegal}
 use Rattle.mrp_events.specs.State.{State, CanPlan}
-use Rattle.mrp_cursor.specs.Cursor.{OutFigures, Goods, load_of}
-use Rattle.mrp_cursor.specs.Laws.{Agrees, IsSmall, IsBounded}
+use Rattle.mrp_cursor.specs.Cursor.{OutFigures, Goods, goods_load}
+use Rattle.mrp_cursor.specs.Laws.{Agrees, IsSmallGoods, IsBounded}
 use Rattle.mrp_cursor.specs.Shows.{ShowsSent}
 use Rattle.mrp_local.specs.Goods.{IsSendable, goods_of}
 use Rattle.mrp_local.specs.Local.{local_incoming, local_gross, local_row, local_plan}
@@ -39,8 +39,8 @@ IsReadyAt N plant taken planned x = AwaitsNothing (plant_rows N plant) taken pla
 -- ---- plans
 
 -- the pairs that a plant has planned have the plan of the network
-abbrev pub LocalPlansAreThePlan : Type 0
-LocalPlansAreThePlan =
+abbrev pub PlantPlansAreThePlan : Type 0
+PlantPlansAreThePlan =
     (N : Table) → IsTable N → IsLoopFree N
     → (plant : ℕ) (taken : ℕ → List Record) (planned : ℕ → Bool) (plans : ℕ → PlanRows)
     → PlansLocally N plant taken planned plans
@@ -90,7 +90,7 @@ PlannableIsLocal =
 pub record HasGoods (N : Table) (planned : ℕ → Bool) (lane : OutgoingLane) (goods : ℕ → Goods) : Type 0 where
   pub size : length (loads N (lane_at N lane.number.0)) ≡ length lane.items
   pub each : (place : ℕ) → IsSendable planned lane place
-      → slice_get (loads N (lane_at N lane.number.0)) place ≡ Some (load_of (goods place))
+      → slice_get (loads N (lane_at N lane.number.0)) place ≡ Some (goods_load (goods place))
 
 abbrev pub LocalGoodsAreTheLoads : Type 0
 LocalGoodsAreTheLoads =
@@ -113,7 +113,7 @@ LocalGoodsAgree =
 
 -- in a sized network they are small, and a cursor that shows what was sent of them stays within 64 bits
 pub record HasSmallGoods (planned : ℕ → Bool) (lane : OutgoingLane) (goods : ℕ → Goods) : Type 0 where
-  pub small : (place : ℕ) → IsSendable planned lane place → IsSmall (goods place)
+  pub small : (place : ℕ) → IsSendable planned lane place → IsSmallGoods (goods place)
   pub bounded : (o : OutFigures) (sent : List Record)
       → QueuesSendable planned lane o → ShowsSent goods o sent → IsBounded goods o
 

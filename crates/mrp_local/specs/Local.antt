@@ -77,14 +77,14 @@ abbrev pub Carries : IncomingLane → ItemNo → Type 0
 Carries lane item = Contains (map (λ i. i.item) lane.items) item
 
 -- the item's whole block has come, if the lane has one
-abbrev pub HasBrought : (ℕ → List Record) → ItemNo → IncomingLane → Type 0
-HasBrought taken item lane = Carries lane item → is_ended item.0 (contents (taken lane.number.0)) ≡ true
+abbrev pub HasCome : (ℕ → List Record) → ItemNo → IncomingLane → Type 0
+HasCome taken item lane = Carries lane item → is_ended item.0 (contents (taken lane.number.0)) ≡ true
 
 -- nothing is missing for the plan of a pair: its parents are planned, and each lane that comes in has
 -- brought what it has of the item
 pub record AwaitsNothing (V : PlantRows) (taken : ℕ → List Record) (planned : ℕ → Bool) (p : PlantPair) : Type 0 where
   pub parents : All (λ e. e.component.0 ≡ p.number.0 → planned e.parent.0 ≡ true) V.edges
-  pub brought : All (HasBrought taken p.item) V.incoming
+  pub brought : All (HasCome taken p.item) V.incoming
 
 pub record CanBePlanned (V : PlantRows) (taken : ℕ → List Record) (planned : ℕ → Bool) (p : PlantPair) : Type 0 where
   pub unplanned : planned p.number.0 ≡ false

@@ -1,12 +1,12 @@
 //! Laws of local plans and of what is sent by them. Each is the contract of a function that does nothing.
 
-ghost use Rattle.mrp_local.specs.Laws.{LocalPlansAreThePlan, DraftsAreThePlan, DraftsAreWithin, PlannableIsLocal};
+ghost use Rattle.mrp_local.specs.Laws.{PlantPlansAreThePlan, DraftsAreThePlan, DraftsAreWithin, PlannableIsLocal};
 ghost use Rattle.mrp_local.specs.Laws.{LocalGoodsAreTheLoads, LocalGoodsAgree, LocalGoodsAreSmall};
 
 /// Whatever has come to a plant so far, the pairs that it has planned have the plan of the network, and
 /// so will each pair for which nothing is missing.
 pub fn local_plans_are_the_plan()
-    ensures planned { LocalPlansAreThePlan }
+    ensures planned { PlantPlansAreThePlan }
     ensures drafts { DraftsAreThePlan }
 {}
 

@@ -12,7 +12,7 @@ use Rattle.mrp_net.specs.declared.lane.Lane.{Lane}
 use Rattle.mrp_net.specs.declared.lane.LaneKind.{LaneKind}
 use Rattle.mrp_net.specs.declared.lane.LaneKind.TheVariants.{Despatch, Schedule}
 use Rattle.mrp_net.specs.Edges.{part, source_edge}
-use Rattle.mrp_net.specs.Lanes.{customer_of, supplier_of, item_of, figure, shipped_from, opening, pair_on}
+use Rattle.mrp_net.specs.Lanes.{customer_of, supplier_of, item_of_source, figure, shipped_from, opening, pair_on}
 use Rattle.mrp_net.specs.Plan.{rows_at, plan_of}
 use Rattle.mrp_net.specs.Sums.{pair_at}
 use Rattle.mrp_net.proofs.Sharing.{pairs_are_found}
@@ -53,7 +53,7 @@ lane_figures_within N sized lane s over =
     let row : IsSourceRow N s = subst (IsSourceRow N) over.2 (All-filter test (IsSourceRow N) N.sources sized.table.read.sources k s over.1) in
     let passes : test s ≡ true = subst (λ (r : SourceRow). test r ≡ true) over.2 (filter_passes test N.sources k s over.1) in
     let parts = and_parts ((pair_at N s.pair.0).plant.0 == customer_of lane) (s.plant.0 == supplier_of lane) passes in
-    let item : ItemNo = item_of N s in
+    let item : ItemNo = item_of_source N s in
     let x : ℕ = pair_on N lane item in
     let taker : s.pair.0 ≡ x =
     sym (pairs_are_found N sized.table s.pair.0 row.pair)

@@ -8,7 +8,7 @@ use Rattle.mrp_net.specs.Edges.{demanders}
 use Rattle.mrp_loops.specs.Loop.{HasEdge, LeadsTo, IsLoopFree, AreCodes}
 use Rattle.mrp_loops.specs.Need.{AreNeeds, AreWithin}
 use Rattle.mrp_loops.specs.Sized.{IsSized}
-use Rattle.mrp_loops.specs.Taking.{waiting, IsTaken}
+use Rattle.mrp_loops.specs.Taking.{waiting_edges, IsTaken}
 use Rattle.mrp_loops.specs.Walk.{IsStuck}
 use Rattle.mrp_net.proofs.Members.{Contains-from_in}
 use Rattle.mrp_loops.proofs.Edges.{HasEdge-pairs, demanders_only, edge_pairs}
@@ -58,7 +58,7 @@ stuck_from_taken N queue left codes taken = record {
   table = taken.counted.table;
   size = taken.counted.left_size;
   demander = λ x pair some.
-      let waits : 0 < waiting N queue x = omega (arith, taken.counted.counts x pair, edges_to-none x) in
+      let waits : 0 < waiting_edges N queue x = omega (arith, taken.counted.counts x pair, edges_to-none x) in
       let e = waiting-some N queue x waits in
       let from = (edge_pairs N taken.counted.table e.0 (demanders_only N x e.0 e.1).0).0 in
       let test : (slice_index left e.0.demander.0 == 0) ≡ false = sym (taken.counted.queued e.0.demander.0 from) ∙ e.2 in

@@ -8,7 +8,7 @@ use Rattle.mrp_rows.specs.Table.{Table}
 use Rattle.mrp_net.proofs.Members.{In, All-in}
 use Rattle.mrp_loops.specs.Laws.{WalkedLoopIsOne}
 use Rattle.mrp_loops.specs.Loop.{Leads, IsRound, first_or}
-use Rattle.mrp_loops.specs.Upstream.{GoesTo, ComesFrom, IsAt}
+use Rattle.mrp_loops.specs.Upstream.{GoesTo, ComesFrom, IsWalkedTo}
 use Rattle.mrp_loops.proofs.Rings.{Leads-append}
 
 -- ---- each step goes to one pair
@@ -19,7 +19,7 @@ goes_one N x y z a b =
     let high : z ≤ y = b.1 y a.0 in
     omega arith
 
-at_one : (N : Table) (n x y : ℕ) → IsAt N n x → IsAt N n y → x ≡ y
+at_one : (N : Table) (n x y : ℕ) → IsWalkedTo N n x → IsWalkedTo N n y → x ≡ y
 at_one N zero x y a b =
     let low : x ≤ y = a.1 y b.0 in
     let high : y ≤ x = b.1 x a.0 in
@@ -49,12 +49,12 @@ stays N (v ∷ xs) x y round here goes = ⊎_elim
     (λ later. next_in N v xs v x y round goes (inl later))
     here
 
-walk_stays : (N : Table) (a : List ℕ) (n x : ℕ) → IsRound (ComesFrom N) a → In a x → IsAt N n x → (m y : ℕ) → n ≤ m → IsAt N m y → In a y
+walk_stays : (N : Table) (a : List ℕ) (n x : ℕ) → IsRound (ComesFrom N) a → In a x → IsWalkedTo N n x → (m y : ℕ) → n ≤ m → IsWalkedTo N m y → In a y
 walk_stays N a n x round here at zero y before then =
     let same : n ≡ zero = omega arith in
-    subst (λ (w : ℕ). In a w) (at_one N zero x y (subst (λ (k : ℕ). IsAt N k x) same at) then) here
+    subst (λ (w : ℕ). In a w) (at_one N zero x y (subst (λ (k : ℕ). IsWalkedTo N k x) same at) then) here
 walk_stays N a n x round here at (suc m) y before then = ⊎_elim
-    (λ same. subst (λ (w : ℕ). In a w) (at_one N (suc m) x y (subst (λ (k : ℕ). IsAt N k x) same at) then) here)
+    (λ same. subst (λ (w : ℕ). In a w) (at_one N (suc m) x y (subst (λ (k : ℕ). IsWalkedTo N k x) same at) then) here)
     (λ less. let less' : n ≢ suc m = less in stays N a then.0 y round (walk_stays N a n x round here at m then.0 (omega arith) then.1) then.2)
     (cases_eq n (suc m))
 

@@ -4,12 +4,12 @@ use Rattle.mrp_rows.specs.Table.{Table}
 use Rattle.mrp_rows.specs.declared.numbers.PairNo.{PairNo}
 use Rattle.mrp_net.specs.declared.edge.Edge.{Edge}
 use Rattle.mrp_net.specs.Edges.{demanders}
-use Rattle.mrp_loops.specs.Taking.{is_in, IsCounted, IsAbove}
+use Rattle.mrp_loops.specs.Taking.{is_in, HasCounts, IsAbove}
 
 -- the pair y is being taken away: of its edges those of `passed` are passed, and those of `rest` aren't
 pub record IsPassing (N : Table) (done : List PairNo) (y : PairNo) (code : ℕ)
     (passed rest : List Edge) (queue : List PairNo) (left codes : List ℕ) : Type 0 where
-  pub counted : IsCounted N (done ++ y ∷ []) rest queue left codes
+  pub counted : HasCounts N (done ++ y ∷ []) rest queue left codes
   pub front : (others : List PairNo) × (queue ≡ (done ++ y ∷ []) ++ others)
   pub above : IsAbove N done codes
   pub raised : All (λ e. code ≤ slice_index codes e.pair.0) passed

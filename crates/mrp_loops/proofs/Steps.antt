@@ -10,7 +10,7 @@ use Rattle.mrp_rows.specs.declared.numbers.PairNo.{PairNo}
 use Rattle.mrp_net.specs.declared.edge.Edge.{Edge}
 use Rattle.mrp_net.specs.Edges.{demanders, suppliers}
 use Rattle.mrp_loops.specs.Loop.{HasEdge, HasChain}
-use Rattle.mrp_loops.specs.Taking.{is_in, waiting, edges_to, IsTaken}
+use Rattle.mrp_loops.specs.Taking.{is_in, waiting_edges, edge_count, IsTaken}
 use Rattle.mrp_loops.proofs.Passing.{IsPassing, IsBegun}
 use Rattle.mrp_net.proofs.Members.{In-from_contains, All-in}
 use Rattle.mrp_loops.proofs.Edges.{demanders_edge, suppliers_edge, suppliers_only, HasEdge-from_in, edge_pairs}
@@ -22,7 +22,7 @@ pub longest_taken : (N : Table) (done queue : List PairNo) (left codes : List �
 longest_taken N done queue left codes taken y pair none zero h = omega arith
 longest_taken N done queue left codes taken y pair none (suc m) h =
     let e = demanders_edge N taken.counted.table h.0 y h.1 in
-    let zero_waiting : waiting N done y ≡ 0 = omega (arith, taken.counted.counts y pair) in
+    let zero_waiting : waiting_edges N done y ≡ 0 = omega (arith, taken.counted.counts y pair) in
     let in_done = waiting-zero N done y e.0 zero_waiting e.1 in
     let above = taken.above.above h.0 y m (ap (is_in done) (sym e.2) ∙ in_done) pair h.1 h.2 in
     omega arith
@@ -95,11 +95,11 @@ module _ (N : Table) (done : List PairNo) (y : PairNo) (code : ℕ) (passed rest
   codes_other : (x : ℕ) → x ≢ e.pair.0 → slice_index codes_after x ≡ slice_index codes x
   codes_other x ne = get_or-set_other codes e.pair.0 x _ 0 ne
 
-  edges_same : edges_to (e ∷ rest) e.pair.0 ≡ 1 + edges_to rest e.pair.0
-  edges_same = edges_to-cons e rest e.pair.0 ∙ ap (λ b. cond b 1 0 + edges_to rest e.pair.0) (eq-eqb e.pair.0 e.pair.0 refl)
+  edges_same : edge_count (e ∷ rest) e.pair.0 ≡ 1 + edge_count rest e.pair.0
+  edges_same = edges_to-cons e rest e.pair.0 ∙ ap (λ b. cond b 1 0 + edge_count rest e.pair.0) (eq-eqb e.pair.0 e.pair.0 refl)
 
-  edges_other : (x : ℕ) → x ≢ e.pair.0 → edges_to (e ∷ rest) x ≡ 0 + edges_to rest x
-  edges_other x ne = edges_to-cons e rest x ∙ ap (λ b. cond b 1 0 + edges_to rest x) (ne_eqb e.pair.0 x (λ s. ne (sym s)))
+  edges_other : (x : ℕ) → x ≢ e.pair.0 → edge_count (e ∷ rest) x ≡ 0 + edge_count rest x
+  edges_other x ne = edges_to-cons e rest x ∙ ap (λ b. cond b 1 0 + edge_count rest x) (ne_eqb e.pair.0 x (λ s. ne (sym s)))
 
   -- the pair of the edge waits for a demander still
   pub waits : Before → IsPair N e.pair.0 → 1 ≤ slice_index left e.pair.0
@@ -111,9 +111,9 @@ module _ (N : Table) (done : List PairNo) (y : PairNo) (code : ℕ) (passed rest
       (λ ne. let ne' : x ≢ e.pair.0 = ne in omega (arith, codes_other x ne'))
       (cases_eq x e.pair.0)
 
-  counts_after : Before → IsPair N e.pair.0 → (x : ℕ) → IsPair N x → slice_index left_after x ≡ waiting N (done ++ y ∷ []) x + edges_to rest x
+  counts_after : Before → IsPair N e.pair.0 → (x : ℕ) → IsPair N x → slice_index left_after x ≡ waiting_edges N (done ++ y ∷ []) x + edge_count rest x
   counts_after p to x pair = ⊎_elim
-      (λ same. subst (λ (w : ℕ). slice_index left_after w ≡ waiting N (done ++ y ∷ []) w + edges_to rest w) (sym same) (omega (arith, left_same p to, p.counted.counts e.pair.0 to, edges_same)))
+      (λ same. subst (λ (w : ℕ). slice_index left_after w ≡ waiting_edges N (done ++ y ∷ []) w + edge_count rest w) (sym same) (omega (arith, left_same p to, p.counted.counts e.pair.0 to, edges_same)))
       (λ ne. let ne' : x ≢ e.pair.0 = ne in omega (arith, left_other x ne', p.counted.counts x pair, edges_other x ne'))
       (cases_eq x e.pair.0)
 

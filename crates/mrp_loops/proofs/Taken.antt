@@ -12,7 +12,7 @@ use Rattle.mrp_rows.specs.Table.{Table, IsPair}
 use Rattle.mrp_rows.specs.declared.numbers.PairNo.{PairNo}
 use Rattle.mrp_net.specs.declared.edge.Edge.{Edge}
 use Rattle.mrp_net.specs.Edges.{demanders, suppliers}
-use Rattle.mrp_loops.specs.Taking.{is_in, waiting, edges_to}
+use Rattle.mrp_loops.specs.Taking.{is_in, waiting_edges, edge_count}
 use Rattle.mrp_net.proofs.Members.{In}
 use Rattle.mrp_loops.proofs.Counts.{count-cons, count_split, count_all, count-zero, count-some}
 use Rattle.mrp_loops.proofs.Edges.{count_between}
@@ -48,16 +48,16 @@ not_true false e = refl
 
 -- ---- edges from pairs that aren't taken away
 
-pub waiting-none : (N : Table) (x : ℕ) → waiting N [] x ≡ length (demanders N x)
-unfolding waiting
+pub waiting-none : (N : Table) (x : ℕ) → waiting_edges N [] x ≡ length (demanders N x)
+unfolding waiting_edges
 waiting-none N x = count_all (demanders N x)
 
-pub edges_to-none : (x : ℕ) → edges_to [] x ≡ 0
-unfolding edges_to
+pub edges_to-none : (x : ℕ) → edge_count [] x ≡ 0
+unfolding edge_count
 edges_to-none x = refl
 
-pub edges_to-cons : (e : Edge) (es : List Edge) (x : ℕ) → edges_to (e ∷ es) x ≡ cond (e.pair.0 == x) 1 0 + edges_to es x
-unfolding edges_to
+pub edges_to-cons : (e : Edge) (es : List Edge) (x : ℕ) → edge_count (e ∷ es) x ≡ cond (e.pair.0 == x) 1 0 + edge_count es x
+unfolding edge_count
 edges_to-cons e es x = count-cons (λ (w : Edge). w.pair.0 == x) e es
 
 less_one : (a b c : Bool) (y d : ℕ) → (a ≡ true → (y == d) ≡ false) → b ≡ (a || ((y == d) || false)) → c ≡ (d == y) → cond (not a) 1 0 ≡ cond (not b) 1 0 + cond c 1 0
@@ -69,8 +69,8 @@ less_one false b c y d apart is at = ⊎_elim
     (λ ne. let f : (d == y) ≡ false = ne_eqb d y (λ e. ne (sym e)) in let g : (y == d) ≡ false = ne_eqb y d ne in rw (is, at, f, g) refl)
     (cases_eq y d)
 
-pub waiting-more : (N : Table) (done : List PairNo) (y : PairNo) (x : ℕ) → IsPair N y.0 → IsPair N x → is_in done y.0 ≡ false → waiting N done x ≡ waiting N (done ++ y ∷ []) x + edges_to (suppliers N y.0) x
-unfolding waiting edges_to
+pub waiting-more : (N : Table) (done : List PairNo) (y : PairNo) (x : ℕ) → IsPair N y.0 → IsPair N x → is_in done y.0 ≡ false → waiting_edges N done x ≡ waiting_edges N (done ++ y ∷ []) x + edge_count (suppliers N y.0) x
+unfolding waiting_edges edge_count
 waiting-more N done y x from to new =
     let parts = count_split (λ (e : Edge). not (is_in done e.demander.0)) (λ (e : Edge). not (is_in (done ++ y ∷ []) e.demander.0)) (λ (e : Edge). e.demander.0 == y.0)
     (λ e. less_one (is_in done e.demander.0) (is_in (done ++ y ∷ []) e.demander.0) (e.demander.0 == y.0) y.0 e.demander.0
@@ -79,12 +79,12 @@ waiting-more N done y x from to new =
     (demanders N x) in
     parts ∙ ap (λ n. count_by (λ (e : Edge). not (is_in (done ++ y ∷ []) e.demander.0)) (demanders N x) + n) (count_between N y.0 x from to)
 
-pub waiting-zero : (N : Table) (done : List PairNo) (x : ℕ) (e : Edge) → waiting N done x ≡ 0 → In (demanders N x) e → is_in done e.demander.0 ≡ true
-unfolding waiting
+pub waiting-zero : (N : Table) (done : List PairNo) (x : ℕ) (e : Edge) → waiting_edges N done x ≡ 0 → In (demanders N x) e → is_in done e.demander.0 ≡ true
+unfolding waiting_edges
 waiting-zero N done x e z h = not_not (is_in done e.demander.0) (count-zero (λ (w : Edge). not (is_in done w.demander.0)) (demanders N x) e z h)
 
-pub waiting-some : (N : Table) (done : List PairNo) (x : ℕ) → 0 < waiting N done x → (e : Edge) × In (demanders N x) e × (is_in done e.demander.0 ≡ false)
-unfolding waiting
+pub waiting-some : (N : Table) (done : List PairNo) (x : ℕ) → 0 < waiting_edges N done x → (e : Edge) × In (demanders N x) e × (is_in done e.demander.0 ≡ false)
+unfolding waiting_edges
 waiting-some N done x l =
     let c = count-some (λ (w : Edge). not (is_in done w.demander.0)) (demanders N x) l in
     (c.0, c.1, not_true (is_in done c.0.demander.0) c.2)

@@ -12,19 +12,19 @@ abbrev pub is_in : List PairNo → ℕ → Bool
 is_in pairs x = list_any (λ z. z.0 == x) pairs
 
 -- how many edges to x come from pairs that aren't in the list
-unfoldable pub waiting : Table → List PairNo → ℕ → ℕ
-waiting N done x = count_by (λ e. not (is_in done e.demander.0)) (demanders N x)
+unfoldable pub waiting_edges : Table → List PairNo → ℕ → ℕ
+waiting_edges N done x = count_by (λ e. not (is_in done e.demander.0)) (demanders N x)
 
 -- how many of the edges go to x
-unfoldable pub edges_to : List Edge → ℕ → ℕ
-edges_to es x = count_by (λ e. e.pair.0 == x) es
+unfoldable pub edge_count : List Edge → ℕ → ℕ
+edge_count es x = count_by (λ e. e.pair.0 == x) es
 
 -- counts, codes and queue, where the pairs of `done` are taken away but for the edges of `rest`
-pub record IsCounted (N : Table) (done : List PairNo) (rest : List Edge) (queue : List PairNo) (left codes : List ℕ) : Type 0 where
+pub record HasCounts (N : Table) (done : List PairNo) (rest : List Edge) (queue : List PairNo) (left codes : List ℕ) : Type 0 where
   pub table : IsTable N
   pub left_size : length left ≡ length N.pairs
   pub codes_size : length codes ≡ length N.pairs
-  pub counts : (x : ℕ) → IsPair N x → slice_index left x ≡ waiting N done x + edges_to rest x
+  pub counts : (x : ℕ) → IsPair N x → slice_index left x ≡ waiting_edges N done x + edge_count rest x
   pub queued : (x : ℕ) → IsPair N x → is_in queue x ≡ (slice_index left x == 0)
   pub pairs : All (λ z. IsPair N z.0) queue
   pub once : (j k : ℕ) (d : PairNo) → j < k → k < length queue → (slice_index_or queue j d).0 ≡ (slice_index_or queue k d).0 → ⊥
@@ -37,5 +37,5 @@ pub record IsAbove (N : Table) (done : List PairNo) (codes : List ℕ) : Type 0 
 
 -- the pairs of `done` are taken away
 pub record IsTaken (N : Table) (done queue : List PairNo) (left codes : List ℕ) : Type 0 where
-  pub counted : IsCounted N done [] queue left codes
+  pub counted : HasCounts N done [] queue left codes
   pub above : IsAbove N done codes

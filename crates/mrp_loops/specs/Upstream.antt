@@ -25,13 +25,13 @@ abbrev pub ComesFrom : Table → ℕ → ℕ → Type 0
 ComesFrom N y x = GoesTo N x y
 
 -- where the walk is after so many steps: it begins with the first pair in the table that is left
-abbrev pub IsAt : Table → ℕ → ℕ → Type 0
-IsAt N zero x = IsFirst (IsLeft N) x
-IsAt N (suc n) x = (y : ℕ) × IsAt N n y × GoesTo N y x
+abbrev pub IsWalkedTo : Table → ℕ → ℕ → Type 0
+IsWalkedTo N zero x = IsFirst (IsLeft N) x
+IsWalkedTo N (suc n) x = (y : ℕ) × IsWalkedTo N n y × GoesTo N y x
 
 -- the walk comes to x
 abbrev pub IsMet : Table → ℕ → Type 0
-IsMet N x = (n : ℕ) × IsAt N n x
+IsMet N x = (n : ℕ) × IsWalkedTo N n x
 
 -- the loop of the walk: it comes to each pair of the list, to each from the next, and to the last from the first
 pub record IsWalked (N : Table) (pairs : List ℕ) : Type 0 where

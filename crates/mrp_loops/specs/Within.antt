@@ -8,8 +8,8 @@ use Rattle.mrp_rows.specs.declared.rows.SourceRow.{SourceRow}
 use Rattle.mrp_rows.specs.Table.{Table, IsPair, horizon}
 use Rattle.mrp_net.specs.declared.lane.Lane.{Lane}
 use Rattle.mrp_net.specs.Edges.{part, source_edge}
-use Rattle.mrp_net.specs.Lanes.{customer_of, supplier_of, item_of, taken_over, figure, shipped_from, opening}
-use Rattle.mrp_net.specs.PlanLaws.{released}
+use Rattle.mrp_net.specs.Lanes.{customer_of, supplier_of, item_of_source, taken_over, figure, shipped_from, opening}
+use Rattle.mrp_net.specs.PlanLaws.{release_at}
 use Rattle.mrp_net.specs.Plan.{rows_at, plan_of, Fits}
 use Rattle.mrp_net.specs.Sums.{pair_at, params_at, supply}
 use Rattle.mrp_loops.specs.Need.{AreNeeds}
@@ -48,7 +48,7 @@ PlansAreWithin =
     → IsWithin (params_at N x) (rows_at table x).incoming (rows_at table x).gross
 
 -- each quantity and balance of the rows is within 10^15
-pub record AreSmall (rows : PlanRows) : Type 0 where
+pub record IsSmallPlan (rows : PlanRows) : Type 0 where
   pub gross : All (λ quantity. quantity ≤ MOST) rows.gross
   pub incoming : All (λ quantity. quantity ≤ MOST) rows.incoming
   pub order : All (λ quantity. quantity ≤ MOST) rows.order
@@ -59,7 +59,7 @@ pub record AreSmall (rows : PlanRows) : Type 0 where
 abbrev pub QuantitiesAreWithin : Type 0
 QuantitiesAreWithin =
     (N : Table) → IsSized N → (table : List PlanRows) → Fits N table → (x : ℕ) → IsPair N x
-    → AreSmall (rows_at table x)
+    → IsSmallPlan (rows_at table x)
 
 -- ---- the plan
 
@@ -72,7 +72,7 @@ pub record IsPlanWithin (N : Table) (needs : List ℕ) (x : ℕ) : Type 0 where
   pub together : IsWithin (params_at N x) (plan_at N x).incoming (plan_at N x).gross
   pub releases : sum (plan_at N x).release ≤ slice_index needs x
   pub supply : supply N x + sum (plan_at N x).release ≤ MOST
-  pub each : AreSmall (plan_at N x)
+  pub each : IsSmallPlan (plan_at N x)
 
 -- in the plan of a sized network on hand, receipts, gross requirements, safety stock and the rule's
 -- quantities of each pair are together within 10^15, and its releases within its need
@@ -83,11 +83,11 @@ PlanIsWithin = (N : Table) → IsSized N → (needs : List ℕ) → AreNeeds N n
 
 -- the parts that a source takes of its pair's releases, of all periods
 abbrev pub parts_of : Table → List PlanRows → SourceRow → ℕ
-parts_of N table s = sum_by (λ t. part (source_edge N s) (released table s.pair.0 t)) (range_with_len 0 (horizon N))
+parts_of N table s = sum_by (λ t. part (source_edge N s) (release_at table s.pair.0 t)) (range_with_len 0 (horizon N))
 
 -- over a lane the figure with which an item begins and all parts of the plan's releases of it are
 -- together within 10^15
 abbrev pub LaneFiguresAreWithin : Type 0
 LaneFiguresAreWithin =
     (N : Table) → IsSized N → (lane : Lane) (s : SourceRow) → Contains (taken_over N (customer_of lane) (supplier_of lane)) s
-    → opening N lane (item_of N s) + parts_of N (plan_of N) s ≤ MOST
+    → opening N lane (item_of_source N s) + parts_of N (plan_of N) s ≤ MOST

@@ -12,7 +12,7 @@ use Rattle.mrp_net.specs.declared.lane.Lane.{Lane}
 use Rattle.mrp_net.specs.declared.lane.LaneKind.TheVariants.{Despatch, Schedule}
 use Rattle.mrp_net.specs.declared.lane.Shipment.{Shipment}
 use Rattle.mrp_group.specs.Groups.{group}
-use Rattle.mrp_net.specs.Lanes.{lanes, lanes_of, lanes_between, taken_over, item_of, lane_items, shipments, shipment_of, ships_from, pair_on, customer_of, supplier_of}
+use Rattle.mrp_net.specs.Lanes.{lanes, lanes_of, lanes_between, taken_over, item_of_source, lane_items, shipments, shipment_of, ships_from, pair_on, customer_of, supplier_of}
 use Rattle.mrp_net.specs.LaneLaws.{is_despatch, despatches_to, arriving, IncomingComesOverLanes, ShipmentsAreOfItems}
 use Rattle.mrp_net.specs.RouteLaws.{over_plants}
 use Rattle.mrp_net.specs.Sums.{pair_at, no_pair, received, shipped}
@@ -30,7 +30,7 @@ use Rattle.mrp_net.proofs.Twos.{some_in}
 -- a shipment of an item between two plants has a source that brings it
 shipment_has_source : (N : Table) → IsTable N → (lane : Lane) (item : ItemNo) (k : ℕ) (d : ShipRow) → k < length N.ships
     → (get_or N.ships k d).pair.0 ≡ pair_on N lane item → (get_or N.ships k d).from.0 ≡ supplier_of lane
-    → (s : SourceRow) × In (taken_over N (customer_of lane) (supplier_of lane)) s × (item_of N s ≡ item)
+    → (s : SourceRow) × In (taken_over N (customer_of lane) (supplier_of lane)) s × (item_of_source N s ≡ item)
 shipment_has_source N is lane item k d h to from =
     let r : ShipRow = get_or N.ships k d in
     let x = pair_on N lane item in
@@ -50,7 +50,7 @@ shipment_has_source N is lane item k d h to from =
     )
 
 -- where no source brings the item, there is no shipment
-none_shipped : (N : Table) → IsTable N → (lane : Lane) (item : ItemNo) → ((s : SourceRow) → In (taken_over N (customer_of lane) (supplier_of lane)) s → item_of N s ≡ item → ⊥)
+none_shipped : (N : Table) → IsTable N → (lane : Lane) (item : ItemNo) → ((s : SourceRow) → In (taken_over N (customer_of lane) (supplier_of lane)) s → item_of_source N s ≡ item → ⊥)
     → shipments N lane item ≡ []
 none_shipped N is lane item none =
     let x = pair_on N lane item in
@@ -65,7 +65,7 @@ pub shipments_are_of_items : ShipmentsAreOfItems
 shipments_are_of_items N is lane item other =
     let over = taken_over N (customer_of lane) (supplier_of lane) in
     none_shipped N is lane item (λ s taken same.
-    other (Contains-from_in (lane_items N lane) item (subst (λ (i : ItemNo). In (map (item_of N) over) i) same (In-map (item_of N) over s taken))))
+    other (Contains-from_in (lane_items N lane) item (subst (λ (i : ItemNo). In (map (item_of_source N) over) i) same (In-map (item_of_source N) over s taken))))
 
 -- ---- the shipments to a pair, plant by plant
 

@@ -10,7 +10,7 @@ use Rattle.mrp_rows.specs.declared.rows.SourceRow.{SourceRow}
 use Rattle.mrp_rows.specs.Table.{Table, IsTable, IsPair, source_pair, item_at}
 use Rattle.mrp_net.specs.declared.edge.Edge.{Edge}
 use Rattle.mrp_net.specs.Edges.{part, edge_need, bill_edge, source_edge, edges, demanders}
-use Rattle.mrp_net.specs.PlanLaws.{released, asked_by_bill, asked_by_source, GrossIsLocalAndCalled}
+use Rattle.mrp_net.specs.PlanLaws.{release_at, asked_by_bill, asked_by_source, GrossIsLocalAndCalled}
 use Rattle.mrp_net.specs.RouteLaws.{over_route, over_plants}
 use Rattle.mrp_net.specs.Sums.{pair_at}
 use Rattle.mrp_net.proofs.Covering.{sum_by-same, routes_cover_suppliers}
@@ -21,7 +21,7 @@ use Rattle.mrp_net.proofs.Sharing.{sum_map}
 
 -- what an edge asks of its pair
 abbrev asked_by : List PlanRows → ℕ → Edge → ℕ
-asked_by table t e = edge_need e (released table e.demander.0 t)
+asked_by table t e = edge_need e (release_at table e.demander.0 t)
 
 abbrev asked_of : List PlanRows → ℕ → ℕ → Edge → ℕ
 asked_of table x t e = cond (eqb e.pair.0 x) (asked_by table t e) 0
@@ -35,13 +35,13 @@ all_edges N table x t is =
 
 -- of a component row and of a source
 bill_asks : (table : List PlanRows) (x t : ℕ) (b : BillRow) → asked_of table x t (bill_edge b) ≡ asked_by_bill table x t b
-bill_asks table x t b = ap (λ (z : ℕ). cond (eqb b.component.0 x) z 0) (whole_need b.per (released table b.parent.0 t))
+bill_asks table x t b = ap (λ (z : ℕ). cond (eqb b.component.0 x) z 0) (whole_need b.per (release_at table b.parent.0 t))
 
 one_for_one : (n : ℕ) → 1 * n ≡ n
 one_for_one n = omega arith
 
 source_asks : (N : Table) (table : List PlanRows) (x t : ℕ) (s : SourceRow) → asked_of table x t (source_edge N s) ≡ asked_by_source N table x t s
-source_asks N table x t s = ap (λ (z : ℕ). cond (eqb (source_pair N s) x) z 0) (one_for_one (part (source_edge N s) (released table s.pair.0 t)))
+source_asks N table x t s = ap (λ (z : ℕ). cond (eqb (source_pair N s) x) z 0) (one_for_one (part (source_edge N s) (release_at table s.pair.0 t)))
 
 -- a source of another plant asks nothing of the pair
 cond_same : (n : ℕ) (b : Bool) → cond b n n ≡ n
@@ -50,7 +50,7 @@ cond_same n false = refl
 
 from_there : (N : Table) (table : List PlanRows) (x t : ℕ) (s : SourceRow) → IsPair N x → asked_by_source N table x t s ≡ cond (eqb s.plant.0 (pair_at N x).plant.0) (asked_by_source N table x t s) 0
 from_there N table x t s pair =
-    let amount : ℕ = part (source_edge N s) (released table s.pair.0 t) in
+    let amount : ℕ = part (source_edge N s) (release_at table s.pair.0 t) in
     let here : Bool = eqb s.plant.0 (pair_at N x).plant.0 in
     elim (cases_Bool (eqb (source_pair N s) x)) as (λ _. asked_by_source N table x t s ≡ cond here (asked_by_source N table x t s) 0) [
       | inl same ↦

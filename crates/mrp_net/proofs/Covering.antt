@@ -13,7 +13,7 @@ use Rattle.mrp_rows.specs.Table.{Table, IsTable, IsPair, IsSourceRow, horizon, i
 use Rattle.mrp_net.specs.declared.edge.Edge.{Edge}
 use Rattle.mrp_net.specs.Edges.{edge_need, demanders}
 use Rattle.mrp_group.specs.Groups.{group}
-use Rattle.mrp_net.specs.Lanes.{taken_over, item_of, customer_of, supplier_of}
+use Rattle.mrp_net.specs.Lanes.{taken_over, item_of_source, customer_of, supplier_of}
 use Rattle.mrp_net.specs.LaneLaws.{is_same_item, OneSourceBringsAnItem, LaneItemsStandOnce}
 use Rattle.mrp_net.specs.PlanLaws.{PlansLookAtDemanders}
 use Rattle.mrp_net.specs.RouteLaws.{taken_by, taken_from, over_route, over_plants, RoutesCoverCustomers, RoutesCoverSuppliers, RoutesCoverSources}
@@ -104,12 +104,12 @@ IsDistinct-filter {X} e p (x ∷ xs) once =
 -- two sources over a route that bring the same item are one
 same_over_route : (N : Table) → IsTable N → (customer supplier : ℕ) (s r : SourceRow) → IsPair N s.pair.0 → IsPair N r.pair.0
     → (eqb (pair_at N s.pair.0).plant.0 customer && eqb s.plant.0 supplier) ≡ true → (eqb (pair_at N r.pair.0).plant.0 customer && eqb r.plant.0 supplier) ≡ true
-    → is_same_item (item_of N s) (item_of N r) ≡ true → is_same_source s r ≡ true
+    → is_same_item (item_of_source N s) (item_of_source N r) ≡ true → is_same_source s r ≡ true
 same_over_route N is customer supplier s r in_s in_r over_s over_r same =
     let of_s = and_parts (eqb (pair_at N s.pair.0).plant.0 customer) (eqb s.plant.0 supplier) over_s in
     let of_r = and_parts (eqb (pair_at N r.pair.0).plant.0 customer) (eqb r.plant.0 supplier) over_r in
     let plants : (pair_at N s.pair.0).plant.0 ≡ (pair_at N r.pair.0).plant.0 = eqb-true (pair_at N s.pair.0).plant.0 customer of_s.0 ∙ sym (eqb-true (pair_at N r.pair.0).plant.0 customer of_r.0) in
-    let items : (pair_at N s.pair.0).item.0 ≡ (pair_at N r.pair.0).item.0 = eqb-true (item_of N s).0 (item_of N r).0 same in
+    let items : (pair_at N s.pair.0).item.0 ≡ (pair_at N r.pair.0).item.0 = eqb-true (item_of_source N s).0 (item_of_source N r).0 same in
     let pairs : s.pair.0 ≡ r.pair.0 =
     sym (pairs_are_found N is s.pair.0 in_s)
     ∙ ap (λ (z : ℕ). pair_no N z (pair_at N s.pair.0).item.0) plants
@@ -123,7 +123,7 @@ no_source : SourceRow
 no_source = record { pair = record { 0 = 0 }; plant = record { 0 = 0 }; low = 0; high = 0 }
 
 items_apart : (N : Table) → IsTable N → (customer supplier i j : ℕ) → i < j → j < length (taken_over N customer supplier)
-    → is_same_item (item_of N (get_or (taken_over N customer supplier) i no_source)) (item_of N (get_or (taken_over N customer supplier) j no_source)) ≡ false
+    → is_same_item (item_of_source N (get_or (taken_over N customer supplier) i no_source)) (item_of_source N (get_or (taken_over N customer supplier) j no_source)) ≡ false
 items_apart N is customer supplier i j before within =
     let test = λ (s : SourceRow). eqb (pair_at N s.pair.0).plant.0 customer && eqb s.plant.0 supplier in
     let over : List SourceRow = taken_over N customer supplier in
@@ -133,19 +133,19 @@ items_apart N is customer supplier i j before within =
     let pass : All (λ s. test s ≡ true) over = filter_passes test N.sources in
     let earlier : i < length over = omega arith in
     let apart : is_same_source s r ≡ false = apart_from_distinct is_same_source over i j no_source (IsDistinct-filter is_same_source test N.sources is.once.sources) before within in
-    false_from_ne_true (is_same_item (item_of N s) (item_of N r))
+    false_from_ne_true (is_same_item (item_of_source N s) (item_of_source N r))
     (λ same. true≢false (sym (same_over_route N is customer supplier s r (rows i no_source earlier).pair (rows j no_source within).pair (pass i no_source earlier) (pass j no_source within) same) ∙ apart))
 
 pub one_source_brings_an_item : OneSourceBringsAnItem
 one_source_brings_an_item N is customer supplier =
     let over : List SourceRow = taken_over N customer supplier in
-    IsDistinct-from_apart is_same_item (map (item_of N) over)
+    IsDistinct-from_apart is_same_item (map (item_of_source N) over)
     (λ i j d before within.
-    let short : j < length over = omega (arith, within, length-map over (item_of N)) in
-    let first : get_or (map (item_of N) over) i d ≡ item_of N (get_or over i no_source) = get_or-map (item_of N) over i no_source d (omega (arith, before, short)) in
-    let second : get_or (map (item_of N) over) j d ≡ item_of N (get_or over j no_source) = get_or-map (item_of N) over j no_source d short in
-    ap (λ (z : ItemNo). is_same_item z (get_or (map (item_of N) over) j d)) first
-    ∙ ap (λ (z : ItemNo). is_same_item (item_of N (get_or over i no_source)) z) second
+    let short : j < length over = omega (arith, within, length-map over (item_of_source N)) in
+    let first : get_or (map (item_of_source N) over) i d ≡ item_of_source N (get_or over i no_source) = get_or-map (item_of_source N) over i no_source d (omega (arith, before, short)) in
+    let second : get_or (map (item_of_source N) over) j d ≡ item_of_source N (get_or over j no_source) = get_or-map (item_of_source N) over j no_source d short in
+    ap (λ (z : ItemNo). is_same_item z (get_or (map (item_of_source N) over) j d)) first
+    ∙ ap (λ (z : ItemNo). is_same_item (item_of_source N (get_or over i no_source)) z) second
     ∙ items_apart N is customer supplier i j before short)
 
 pub lane_items_stand_once : LaneItemsStandOnce

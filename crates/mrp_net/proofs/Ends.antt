@@ -14,7 +14,7 @@ use Rattle.mrp_rows.specs.Table.{Table, IsTable, IsSourceRow, plant_at}
 use Rattle.mrp_net.specs.declared.lane.Lane.{Lane}
 use Rattle.mrp_net.specs.declared.lane.LaneKind.{LaneKind}
 use Rattle.mrp_net.specs.declared.lane.LaneKind.TheVariants.{Despatch, Schedule}
-use Rattle.mrp_net.specs.Lanes.{lanes_of, lanes_between, both_lanes, taken_over, item_of, figure, shipped_from, opening, pair_on, supplier_of}
+use Rattle.mrp_net.specs.Lanes.{lanes_of, lanes_between, both_lanes, taken_over, item_of_source, figure, shipped_from, opening, pair_on, supplier_of}
 use Rattle.mrp_net.specs.LaneLaws.{JoinsTwo, LanesJoinTwoPlants, OpeningsAreSupplied}
 use Rattle.mrp_net.specs.SupplyLaws.{PartsAreWithin}
 use Rattle.mrp_net.specs.Sources.{no_source}
@@ -38,7 +38,7 @@ joins N customer supplier is c s some =
     let despatch : Lane = record { kind = Despatch; sender = record { 0 = supplier }; receiver = record { 0 = customer } } in
     let schedule : Lane = record { kind = Schedule; sender = record { 0 = customer }; receiver = record { 0 = supplier } } in
     let two = apart N customer supplier is some in
-    let items : 1 ≤ length (map (item_of N) (taken_over N customer supplier)) = omega (arith, length-map (taken_over N customer supplier) (item_of N)) in
+    let items : 1 ≤ length (map (item_of_source N) (taken_over N customer supplier)) = omega (arith, length-map (taken_over N customer supplier) (item_of_source N)) in
     All-cons (JoinsTwo N) despatch (schedule ∷ []) (record { customer = c; supplier = s; two = two; some = items })
     (All-cons (JoinsTwo N) schedule [] (record { customer = c; supplier = s; two = two; some = items }) (All-nil (JoinsTwo N)))
 

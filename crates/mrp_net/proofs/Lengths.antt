@@ -10,7 +10,7 @@ use Rattle.mrp_rows.specs.Table.{Table, IsTable, horizon}
 use Rattle.mrp_net.specs.declared.lane.Lane.{Lane}
 use Rattle.mrp_net.specs.declared.lane.LaneKind.{LaneKind}
 use Rattle.mrp_net.specs.declared.lane.LaneKind.TheVariants.{Despatch, Schedule}
-use Rattle.mrp_net.specs.Lanes.{lane_items, shipments, shipment_of, ships_from, taken_over, item_of, reset, pair_on, customer_of, supplier_of}
+use Rattle.mrp_net.specs.Lanes.{lane_items, shipments, shipment_of, ships_from, taken_over, item_of_source, reset, pair_on, customer_of, supplier_of}
 use Rattle.mrp_net.specs.Sums.{pair_at}
 use Rattle.mrp_net.specs.Texts.{most_lines, longest_block}
 
@@ -34,4 +34,4 @@ block_is_short N lane item is = omega (arith, lines_by_kind N lane item lane.kin
 pub lane_items_are_few : (N : Table) (lane : Lane) → IsTable N → length (lane_items N lane) ≤ 80000
 lane_items_are_few N lane is =
     let test = λ (s : SourceRow). eqb (pair_at N s.pair.0).plant.0 (customer_of lane) && eqb s.plant.0 (supplier_of lane) in
-    omega (arith, length-map (taken_over N (customer_of lane) (supplier_of lane)) (item_of N), length-filter test N.sources, count_by-le-length test N.sources, is.read.limits.sources)
+    omega (arith, length-map (taken_over N (customer_of lane) (supplier_of lane)) (item_of_source N), length-filter test N.sources, count_by-le-length test N.sources, is.read.limits.sources)

@@ -15,7 +15,7 @@ use Rattle.mrp_rows.specs.declared.rows.SourceRow.{SourceRow}
 use Rattle.mrp_rows.specs.Table.{Table, IsTable, IsPair, pair_no, plant_at, item_at, source_pair}
 use Rattle.mrp_net.specs.declared.edge.Edge.{Edge}
 use Rattle.mrp_net.specs.Edges.{bill_edge, source_edge, edges}
-use Rattle.mrp_net.specs.Lanes.{item_of}
+use Rattle.mrp_net.specs.Lanes.{item_of_source}
 use Rattle.mrp_net.specs.EdgeLaws.{SourcePairsAreThere, is_local, IsLocalEdge, LocalEdgesAreBills, LocalEdgesAreWhole, LocalDemandersAreWhole, CrossingEdgesAreSources}
 use Rattle.mrp_net.specs.Sums.{pair_at, no_pair}
 use Rattle.mrp_net.proofs.Naming.{place_of}
@@ -40,7 +40,7 @@ pair_of N x plant item is pair =
       ap (λ (z : ℕ). (pair_at N z).item.0) place ∙ eqb-true (pair_at N n).item.0 item parts.1,
     )
 
-source_pair_is : (N : Table) (s : SourceRow) → IsPair N s.pair.0 → IsPair N (source_pair N s) → IsPair N (source_pair N s) × ((pair_at N (source_pair N s)).plant ≡ s.plant) × ((pair_at N (source_pair N s)).item ≡ item_of N s)
+source_pair_is : (N : Table) (s : SourceRow) → IsPair N s.pair.0 → IsPair N (source_pair N s) → IsPair N (source_pair N s) × ((pair_at N (source_pair N s)).plant ≡ s.plant) × ((pair_at N (source_pair N s)).item ≡ item_of_source N s)
 source_pair_is N s takes pair =
     let both = pair_of N (source_pair N s) s.plant.0 (item_at N s.pair.0) refl pair in (
       pair,

@@ -16,7 +16,7 @@ use Rattle.mrp_net.specs.declared.lane.LaneKind.TheVariants.{Despatch, Schedule}
 use Rattle.mrp_net.specs.declared.lanes.Taken.{Taken}
 use Rattle.mrp_group.specs.Groups.{group, sorted_by, IsGrouped, ShowsGroups}
 use Rattle.mrp_net.specs.Sums.{pair_at, no_pair}
-use Rattle.mrp_net.specs.Lanes.{lanes, lanes_of, lanes_between, both_lanes, lane_items, pair_on, taken_over, item_of, figure, shipped_from, opening, customer_of, supplier_of}
+use Rattle.mrp_net.specs.Lanes.{lanes, lanes_of, lanes_between, both_lanes, lane_items, pair_on, taken_over, item_of_source, figure, shipped_from, opening, customer_of, supplier_of}
 use Rattle.mrp_net.specs.Routes.{route_no, taken, AreItems, IsLane}
 use Rattle.mrp_group.proofs.Grouping.{range-suc, sorted_by-suc}
 use Rattle.mrp_group.proofs.Sorting.{IsGrouped-from_begins, IsGrouped-within}
@@ -91,7 +91,7 @@ taken_group N customer supplier is h =
     ∙ ap (map (taken N)) (filter_same (λ s. eqb (taken N s).route (route_no N customer supplier)) (λ s. eqb (pair_at N s.pair.0).plant.0 customer && eqb s.plant.0 supplier) N.sources
     (λ k d lt. place_test (pair_at N (get_or N.sources k d).pair.0).plant.0 (get_or N.sources k d).plant.0 customer supplier (length N.plants) (is.read.sources k d lt).plant h))
 
-items_slice : (N : Table) (rows : List ItemNo) (starts : List ℕ) (customer supplier : ℕ) → IsTable N → AreItems N rows starts → customer < length N.plants → supplier < length N.plants → slice_range rows (slice_index starts (route_no N customer supplier)) (slice_index starts (route_no N customer supplier + 1)) ≡ map (item_of N) (taken_over N customer supplier)
+items_slice : (N : Table) (rows : List ItemNo) (starts : List ℕ) (customer supplier : ℕ) → IsTable N → AreItems N rows starts → customer < length N.plants → supplier < length N.plants → slice_range rows (slice_index starts (route_no N customer supplier)) (slice_index starts (route_no N customer supplier + 1)) ≡ map (item_of_source N) (taken_over N customer supplier)
 items_slice N rows starts customer supplier is are h g =
     ShowsGroups-slice (λ (t : Taken). t.item) (λ t. t.route) (length N.plants * length N.plants) (map (taken N) N.sources) rows starts (route_no N customer supplier) are (route_within N customer supplier h g)
     ∙ ap (map (λ (t : Taken). t.item)) (taken_group N customer supplier is g)
@@ -154,7 +154,7 @@ routes_within N is =
 pub lane_items_within : (N : Table) (lane : Lane) → IsTable N → All (λ item. item.0 < length N.items) (lane_items N lane)
 lane_items_within N lane is =
     let test = λ (s : SourceRow). eqb (pair_at N s.pair.0).plant.0 (customer_of lane) && eqb s.plant.0 (supplier_of lane) in
-    All-map (λ (item : ItemNo). item.0 < length N.items) (item_of N) (taken_over N (customer_of lane) (supplier_of lane))
+    All-map (λ (item : ItemNo). item.0 < length N.items) (item_of_source N) (taken_over N (customer_of lane) (supplier_of lane))
     (λ k d h. let row = All-filter test (IsSourceRow N) N.sources is.read.sources k d h in
     (is.read.pairs (get_or (taken_over N (customer_of lane) (supplier_of lane)) k d).pair.0 no_pair row.pair).item)
 

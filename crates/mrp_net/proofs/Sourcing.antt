@@ -16,7 +16,7 @@ use Rattle.mrp_net.specs.declared.lane.Lane.{Lane}
 use Rattle.mrp_net.specs.declared.lane.Shipment.{Shipment}
 use Rattle.mrp_net.specs.declared.lanes.Sent.{Sent}
 use Rattle.mrp_group.specs.Groups.{before_key}
-use Rattle.mrp_net.specs.Lanes.{figure, shipped_from, ships_from, shipment_of, lane_items, pair_on, taken_over, item_of, customer_of, supplier_of}
+use Rattle.mrp_net.specs.Lanes.{figure, shipped_from, ships_from, shipment_of, lane_items, pair_on, taken_over, item_of_source, customer_of, supplier_of}
 use Rattle.mrp_net.specs.Sources.{source_no, AreSourceStarts, sent, AreShipments, AreSent}
 use Rattle.mrp_net.specs.Sums.{pair_at}
 use Rattle.mrp_net.proofs.Covering.{sum_by-same}
@@ -160,11 +160,11 @@ item_is_taken N lane item is contains =
     let k : ℕ = contains.0 in
     let test = λ (s : SourceRow). eqb (pair_at N s.pair.0).plant.0 (customer_of lane) && eqb s.plant.0 (supplier_of lane) in
     let over : List SourceRow = taken_over N (customer_of lane) (supplier_of lane) in
-    let short : k < length over = omega (arith, contains.1, length-map over (item_of N)) in
+    let short : k < length over = omega (arith, contains.1, length-map over (item_of_source N)) in
     let s : SourceRow = get_or over k no_source in
     let row = All-filter test (IsSourceRow N) N.sources is.read.sources k no_source short in
     let parts = and_parts (eqb (pair_at N s.pair.0).plant.0 (customer_of lane)) (eqb s.plant.0 (supplier_of lane)) (filter_passes test N.sources k no_source short) in
-    let same : item_of N s ≡ item = sym (get_or-map (item_of N) over k no_source item short) ∙ contains.2 in
+    let same : item_of_source N s ≡ item = sym (get_or-map (item_of_source N) over k no_source item short) ∙ contains.2 in
     let taker : s.pair.0 ≡ pair_on N lane item =
     sym (pairs_are_found N is s.pair.0 row.pair)
     ∙ ap (λ (z : ℕ). pair_no N z (pair_at N s.pair.0).item.0) (eqb-true (pair_at N s.pair.0).plant.0 (customer_of lane) parts.0)

@@ -9,7 +9,7 @@ use Rattle.mrp_rows.specs.declared.rows.SourceRow.{SourceRow}
 use Rattle.mrp_rows.specs.Table.{Table}
 use Rattle.mrp_net.specs.declared.lane.Lane.{Lane}
 use Rattle.mrp_net.specs.declared.lane.LaneKind.TheVariants.{Despatch, Schedule}
-use Rattle.mrp_net.specs.Lanes.{lanes, lanes_of, lanes_between, both_lanes, lane_at, taken_over, item_of, customer_of, supplier_of}
+use Rattle.mrp_net.specs.Lanes.{lanes, lanes_of, lanes_between, both_lanes, lane_at, taken_over, item_of_source, customer_of, supplier_of}
 use Rattle.mrp_net.specs.LaneLaws.{despatch_lane, schedule_lane, AreBothLanes, LanesComeInTwos, LanesStandOnce, SourcesHaveLanes}
 use Rattle.mrp_net.specs.Sums.{pair_at, no_pair}
 use Rattle.mrp_net.proofs.Members.{In, In-from_contains, Contains-from_in, In-filter, In-map, In-flat_map, In-range}
@@ -124,7 +124,7 @@ sources_have_lanes N is k d h =
     let customer : PlantNo = (pair_at N s.pair.0).plant in
     let taken = source_is_taken N s (In-from_contains N.sources s (Contains-get_or N.sources k d h)) in
     let some = some_in (taken_over N customer.0 s.plant.0) s taken in
-    let item = Contains-from_in (map (item_of N) (taken_over N customer.0 s.plant.0)) (item_of N s) (In-map (item_of N) (taken_over N customer.0 s.plant.0) s taken) in
+    let item = Contains-from_in (map (item_of_source N) (taken_over N customer.0 s.plant.0)) (item_of_source N s) (In-map (item_of_source N) (taken_over N customer.0 s.plant.0) s taken) in
     record {
       despatch = between_is_lane N customer s.plant (despatch_lane N s) some own.plant row.plant (inl refl);
       schedule = between_is_lane N customer s.plant (schedule_lane N s) some own.plant row.plant (inr (inl refl));

@@ -5,7 +5,7 @@ use Rattle.std.specs.List.{AllPairs}
 use Rattle.mrp_rows.specs.Table.{Table, IsTable, IsPair, source_pair}
 use Rattle.mrp_net.specs.declared.edge.Edge.{Edge}
 use Rattle.mrp_net.specs.Edges.{edge_need, bill_edge, source_edge, edges, demanders}
-use Rattle.mrp_net.specs.Lanes.{item_of}
+use Rattle.mrp_net.specs.Lanes.{item_of_source}
 use Rattle.mrp_net.specs.Sums.{pair_at}
 
 -- no two edges join the same two pairs
@@ -25,7 +25,7 @@ is_local N e = (pair_at N e.demander.0).plant.0 == (pair_at N e.pair.0).plant.0
 abbrev pub SourcePairsAreThere : Type 0
 SourcePairsAreThere =
     (N : Table) → IsTable N
-    → All (λ s. IsPair N (source_pair N s) × ((pair_at N (source_pair N s)).plant ≡ s.plant) × ((pair_at N (source_pair N s)).item ≡ item_of N s)) N.sources
+    → All (λ s. IsPair N (source_pair N s) × ((pair_at N (source_pair N s)).plant ≡ s.plant) × ((pair_at N (source_pair N s)).item ≡ item_of_source N s)) N.sources
 
 -- the edges within plants are those of components
 abbrev pub LocalEdgesAreBills : Type 0

@@ -9,7 +9,7 @@ use Rattle.mrp_net.specs.declared.lane.Lane.{Lane}
 use Rattle.mrp_net.specs.declared.lane.LaneKind.{LaneKind}
 use Rattle.mrp_net.specs.declared.lane.LaneKind.TheVariants.{Despatch, Schedule}
 use Rattle.mrp_net.specs.declared.lane.Shipment.{Shipment}
-use Rattle.mrp_net.specs.Lanes.{lanes, lane_at, taken_over, item_of, lane_items, opening, shipments, pair_on, customer_of, supplier_of}
+use Rattle.mrp_net.specs.Lanes.{lanes, lane_at, taken_over, item_of_source, lane_items, opening, shipments, pair_on, customer_of, supplier_of}
 use Rattle.mrp_net.specs.Sources.{source_on, supplied_on}
 use Rattle.mrp_net.specs.Sums.{pair_at, incoming, received, supply}
 
@@ -19,7 +19,7 @@ is_same_item i j = i.0 == j.0
 
 abbrev pub OneSourceBringsAnItem : Type 0
 OneSourceBringsAnItem =
-    (N : Table) → IsTable N → (customer supplier : ℕ) → IsDistinct is_same_item (map (item_of N) (taken_over N customer supplier))
+    (N : Table) → IsTable N → (customer supplier : ℕ) → IsDistinct is_same_item (map (item_of_source N) (taken_over N customer supplier))
 
 abbrev pub LaneItemsStandOnce : Type 0
 LaneItemsStandOnce = (N : Table) → IsTable N → (lane : Lane) → IsDistinct is_same_item (lane_items N lane)
@@ -54,8 +54,8 @@ schedule_lane N s = record { kind = Schedule; sender = (pair_at N s.pair.0).plan
 pub record HasBothLanes (N : Table) (s : SourceRow) : Type 0 where
   pub despatch : Contains (lanes N) (despatch_lane N s)
   pub schedule : Contains (lanes N) (schedule_lane N s)
-  pub despatched : Contains (lane_items N (despatch_lane N s)) (item_of N s)
-  pub scheduled : Contains (lane_items N (schedule_lane N s)) (item_of N s)
+  pub despatched : Contains (lane_items N (despatch_lane N s)) (item_of_source N s)
+  pub scheduled : Contains (lane_items N (schedule_lane N s)) (item_of_source N s)
 
 abbrev pub SourcesHaveLanes : Type 0
 SourcesHaveLanes = (N : Table) → IsTable N → All (HasBothLanes N) N.sources

@@ -48,11 +48,11 @@ abbrev pub supplier_of : Lane → ℕ
 supplier_of lane = elim lane.kind [ Despatch ↦ lane.sender.0 | Schedule ↦ lane.receiver.0 ]
 
 -- the items of a lane, in table order of the customer's pairs
-abbrev pub item_of : Table → SourceRow → ItemNo
-item_of N s = (pair_at N s.pair.0).item
+abbrev pub item_of_source : Table → SourceRow → ItemNo
+item_of_source N s = (pair_at N s.pair.0).item
 
 abbrev pub lane_items : Table → Lane → List ItemNo
-lane_items N lane = map (item_of N) (taken_over N (customer_of lane) (supplier_of lane))
+lane_items N lane = map (item_of_source N) (taken_over N (customer_of lane) (supplier_of lane))
 
 -- what the supplier had shipped to the pair before the shipments of the table, and those shipments
 abbrev pub figure : Table → ℕ → ℕ → ℕ

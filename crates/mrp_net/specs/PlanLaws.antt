@@ -18,15 +18,15 @@ PlansLookAtDemanders =
     → pair_plan N a x ≡ pair_plan N b x
 
 -- the release of a pair in a period
-abbrev pub released : List PlanRows → ℕ → ℕ → ℕ
-released table x t = slice_index (rows_at table x).release t
+abbrev pub release_at : List PlanRows → ℕ → ℕ → ℕ
+release_at table x t = slice_index (rows_at table x).release t
 
 -- what a component row asks of a pair, and what a source asks of it
 abbrev pub asked_by_bill : List PlanRows → ℕ → ℕ → BillRow → ℕ
-asked_by_bill table x t b = if b.component.0 == x then b.per * released table b.parent.0 t else 0
+asked_by_bill table x t b = if b.component.0 == x then b.per * release_at table b.parent.0 t else 0
 
 abbrev pub asked_by_source : Table → List PlanRows → ℕ → ℕ → SourceRow → ℕ
-asked_by_source N table x t s = if source_pair N s == x then part (source_edge N s) (released table s.pair.0 t) else 0
+asked_by_source N table x t s = if source_pair N s == x then part (source_edge N s) (release_at table s.pair.0 t) else 0
 
 -- gross requirements are the demand rows, what is asked within the plant, and what is asked over the
 -- routes on which the plant is the supplier

@@ -9,7 +9,7 @@ use Rattle.mrp_net.specs.declared.lanes.Taken.{Taken}
 use Rattle.mrp_group.specs.Groups.{ShowsGroups}
 use Rattle.mrp_net.specs.Sums.{pair_at}
 use Rattle.mrp_net.specs.Sources.{AreSourceStarts, AreShipments, AreSent, AreResets}
-use Rattle.mrp_net.specs.Lanes.{lanes, item_of, figure, shipped_from, customer_of, supplier_of}
+use Rattle.mrp_net.specs.Lanes.{lanes, item_of_source, figure, shipped_from, customer_of, supplier_of}
 
 -- the number of a route: by customer, then by supplier
 abbrev pub route_no : Table → ℕ → ℕ → ℕ
@@ -17,7 +17,7 @@ route_no N customer supplier = customer * length N.plants + supplier
 
 -- the item of a source and its route
 abbrev pub taken : Table → SourceRow → Taken
-taken N s = record { route = route_no N (pair_at N s.pair.0).plant.0 s.plant.0; item = item_of N s }
+taken N s = record { route = route_no N (pair_at N s.pair.0).plant.0 s.plant.0; item = item_of_source N s }
 
 -- the items of each route
 abbrev pub AreItems : Table → List ItemNo → List ℕ → Type 0

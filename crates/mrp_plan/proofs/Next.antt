@@ -7,7 +7,7 @@ use Rattle.mrp_rows.specs.declared.numbers.PairNo.{PairNo}
 use Rattle.mrp_net.specs.Plan.{Fits, pair_plan, rows_at}
 use Rattle.mrp_loops.specs.Need.{AreNeeds}
 use Rattle.mrp_loops.specs.Sized.{IsSized, IsPlanningOrder}
-use Rattle.mrp_plan.specs.Progress.{CanPlan, IsPlannedTo}
+use Rattle.mrp_plan.specs.Progress.{CanBeDrafted, IsPlannedTo}
 use Rattle.mrp_loops.proofs.Orders.{place_in_table}
 use Rattle.mrp_loops.proofs.Within.{needs_within}
 use Rattle.mrp_plan.proofs.Planning.{can_plan, next_kept, next_planned}
@@ -26,10 +26,10 @@ module _ (N M : Table) (needs : List ℕ) (pairs : List PairNo) (k : ℕ) (table
   next_at : slice_index order k ≡ next
   next_at = get_or-map (λ (x : PairNo). x.0) pairs k (record { 0 = 0 }) 0 within
 
-  pub next_can : CanPlan M table next
+  pub next_can : CanBeDrafted M table next
   next_can =
-      let can : CanPlan N table (slice_index order k) = can_plan N needs order k table sized.table are_needs (needs_within N sized needs are_needs) is next_within planned in
-      subst (λ (n : Table). CanPlan n table next) (sym same) (subst (CanPlan N table) next_at can)
+      let can : CanBeDrafted N table (slice_index order k) = can_plan N needs order k table sized.table are_needs (needs_within N sized needs are_needs) is next_within planned in
+      subst (λ (n : Table). CanBeDrafted n table next) (sym same) (subst (CanBeDrafted N table) next_at can)
 
   -- the plan of the pair is in the table already
   pub next_fits : Fits N table → rows_at table next ≡ pair_plan M table next

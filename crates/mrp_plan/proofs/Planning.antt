@@ -18,7 +18,7 @@ use Rattle.mrp_net.specs.declared.edge.Edge.{Edge}
 use Rattle.mrp_loops.specs.Need.{AreNeeds, AreWithin}
 use Rattle.mrp_loops.specs.Sized.{IsPlanningOrder}
 use Rattle.mrp_plan.specs.Explosion.{asked_total}
-use Rattle.mrp_plan.specs.Progress.{CanPlan, HasRooms, IsPlannedTo}
+use Rattle.mrp_plan.specs.Progress.{CanBeDrafted, HavePeriods, IsPlannedTo}
 use Rattle.mrp_net.proofs.Periods.{incomings-le}
 use Rattle.mrp_net.proofs.Totals.{gross_sum-le}
 use Rattle.mrp_plan.proofs.Asked.{no_edge}
@@ -100,7 +100,7 @@ pub length-row_of : (N : Table) (amount : ℕ → ℕ) → length (row_of N amou
 length-row_of N amount = length-map-range_with_len amount 0 (horizon N)
 
 -- the rows of a pair that can be planned are within the bound
-pub is_within : (N : Table) (table : List PlanRows) (x : ℕ) (row : List ℕ) → CanPlan N table x → length row ≡ horizon N
+pub is_within : (N : Table) (table : List PlanRows) (x : ℕ) (row : List ℕ) → CanBeDrafted N table x → length row ≡ horizon N
     → sum row ≤ demand_total N x + asked_total table (demanders N x) → IsWithin (params_at N x) (row_of N (incoming N x)) row
 is_within N table x row can size total =
     let own = can.is_table.read.pairs x no_pair can.in_table in
@@ -112,7 +112,7 @@ is_within N table x row can size total =
     }
 
 -- so are those of its plan
-pub pair_within : (N : Table) (table : List PlanRows) (x : ℕ) → CanPlan N table x → IsWithin (params_at N x) (row_of N (incoming N x)) (row_of N (gross N table x))
+pub pair_within : (N : Table) (table : List PlanRows) (x : ℕ) → CanBeDrafted N table x → IsWithin (params_at N x) (row_of N (incoming N x)) (row_of N (gross N table x))
 pair_within N table x can = is_within N table x (row_of N (gross N table x)) can (length-row_of N (gross N table x)) (gross_sum-le N table x can.is_table)
 
 -- demand rows and what the demanders ask are the gross requirements
@@ -128,7 +128,7 @@ gross_row N table x row size each =
 
 -- the pair at place k can be planned
 pub can_plan : (N : Table) (needs order : List ℕ) (k : ℕ) (table : List PlanRows) → IsTable N → AreNeeds N needs → AreWithin N needs → IsPlanningOrder N order → k < length order
-    → IsPlannedTo N needs order k table → CanPlan N table (slice_index order k)
+    → IsPlannedTo N needs order k table → CanBeDrafted N table (slice_index order k)
 can_plan N needs order k table tables are_needs are_within is within planned =
     let x = slice_index order k in
     let in_table = place_in_table N order is k within in
@@ -225,7 +225,7 @@ next_kept N needs order k table tables are_needs are_within is within planned ke
     }
 
 -- in a table that fits the plan of each pair has the periods of the network
-pub fits_rooms : (N : Table) (table : List PlanRows) → Fits N table → HasRooms N table
+pub fits_rooms : (N : Table) (table : List PlanRows) → Fits N table → HavePeriods N table
 fits_rooms N table fits x in_table =
     ap (λ (r : PlanRows). length r.gross) (fits.rows x in_table) ∙ ap (λ (r : List ℕ). length r) (one-gross N table x) ∙ length-row_of N (gross N table x)
 

@@ -10,11 +10,11 @@ use Rattle.mrp_net.specs.Plan.{rows_at, pair_plan}
 use Rattle.mrp_plan.specs.Explosion.{asked_total}
 
 -- the plan of each pair has the periods of the network
-abbrev pub HasRooms : Table → List PlanRows → Type 0
-HasRooms N table = (x : ℕ) → IsPair N x → length (rows_at table x).gross ≡ horizon N
+abbrev pub HavePeriods : Table → List PlanRows → Type 0
+HavePeriods N table = (x : ℕ) → IsPair N x → length (rows_at table x).gross ≡ horizon N
 
 -- the demanders of the pair have their releases, and all its quantities together are within 10^15
-pub record CanPlan (N : Table) (table : List PlanRows) (x : ℕ) : Type 0 where
+pub record CanBeDrafted (N : Table) (table : List PlanRows) (x : ℕ) : Type 0 where
   pub is_table : IsTable N
   pub in_table : IsPair N x
   pub size : length table ≡ length N.pairs
@@ -27,6 +27,6 @@ pub record CanPlan (N : Table) (table : List PlanRows) (x : ℕ) : Type 0 where
 -- has room for a plan
 pub record IsPlannedTo (N : Table) (needs order : List ℕ) (k : ℕ) (table : List PlanRows) : Type 0 where
   pub size : length table ≡ length N.pairs
-  pub rooms : HasRooms N table
+  pub rooms : HavePeriods N table
   pub rows : (j : ℕ) → j < k → rows_at table (slice_index order j) ≡ pair_plan N table (slice_index order j)
   pub releases : (j : ℕ) → j < k → sum (rows_at table (slice_index order j)).release ≤ slice_index needs (slice_index order j)

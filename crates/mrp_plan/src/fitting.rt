@@ -8,7 +8,7 @@ ghost use Rattle.mrp_net.specs.Plan.{Fits, gross, pair_plan, rows_at, asked};
 ghost use Rattle.mrp_loops.specs.Need.{AreNeeds};
 ghost use Rattle.mrp_loops.specs.Sized.{IsSized, IsPlanningOrder};
 ghost use Rattle.mrp_plan.specs.Explosion.{CanAsk};
-ghost use Rattle.mrp_plan.specs.Progress.{CanPlan, HasRooms, IsPlannedTo};
+ghost use Rattle.mrp_plan.specs.Progress.{CanBeDrafted, HavePeriods, IsPlannedTo};
 
 use crate::Plan;
 use crate::explosion::part_of;
@@ -45,7 +45,7 @@ pub fn fits(net: &SizedNet, plan: &Plan) -> bool
 /// Whether the plan of each pair has the periods of the network.
 fn has_periods(network: &Network, plan: &Plan) -> bool
     requires { length plan.now ≡ length network.now.pairs }
-    ensures { IsTrue result ↔ HasRooms network.now plan.now }
+    ensures { IsTrue result ↔ HavePeriods network.now plan.now }
 {
     let periods = network.horizon().get() as usize;
     for x in 0..plan.len() {
@@ -72,7 +72,7 @@ fn fits_next(net: &SizedNet, order: &[PairNo], k: usize, plan: &Plan) -> bool
 
 /// Whether the plan obeys the rules at one pair.
 fn fits_at(network: &Network, x: PairNo, plan: &Plan) -> bool
-    requires { CanPlan network.now plan.now x.0 }
+    requires { CanBeDrafted network.now plan.now x.0 }
     ensures { IsTrue result ↔ (rows_at plan.now x.0 ≡ pair_plan network.now plan.now x.0) }
 {
     let own = plan.pair(x);
@@ -102,7 +102,7 @@ fn has_incoming(network: &Network, x: PairNo, row: &Row) -> bool
 
 /// Whether the row is the gross requirements of the pair.
 fn has_gross(network: &Network, x: PairNo, plan: &Plan, row: &Row) -> bool
-    requires can { CanPlan network.now plan.now x.0 }
+    requires can { CanBeDrafted network.now plan.now x.0 }
     requires periods { length row.now ≡ horizon network.now }
     ensures { IsTrue result ↔ (row.now ≡ row_of network.now (gross network.now plan.now x.0)) }
 {

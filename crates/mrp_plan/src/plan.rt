@@ -8,7 +8,7 @@ ghost use Rattle.mrp_net.specs.Sums.{demand, demand_total, incoming, received_to
 ghost use Rattle.mrp_net.specs.Plan.{Fits, gross, pair_plan, plan_of, rows_at};
 ghost use Rattle.mrp_loops.specs.Need.{AreNeeds};
 ghost use Rattle.mrp_loops.specs.Sized.{IsSized, IsPlanningOrder};
-ghost use Rattle.mrp_plan.specs.Progress.{CanPlan, IsPlannedTo};
+ghost use Rattle.mrp_plan.specs.Progress.{CanBeDrafted, IsPlannedTo};
 
 use crate::explosion::explode_all;
 use mrp_loops::SizedNet;
@@ -134,7 +134,7 @@ fn plan_one(
     incoming_row: &mut Row,
     gross_row: &mut Row,
 )
-    requires can { CanPlan network.now plans.old x.0 }
+    requires can { CanBeDrafted network.now plans.old x.0 }
     requires incoming_room { length incoming_row.old ≡ horizon network.now }
     requires gross_room { length gross_row.old ≡ horizon network.now }
     ensures planned { plans.new ≡ slice_set plans.old x.0 (pair_plan network.now plans.old x.0) }

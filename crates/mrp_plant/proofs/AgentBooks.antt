@@ -21,7 +21,7 @@ use Rattle.mrp_events.specs.LoadLaws.{lane_form}
 use Rattle.mrp_events.specs.Loads.{loads}
 use Rattle.mrp_events.specs.State.{CanTake, after_take, changed}
 use Rattle.mrp_events.proofs.Ordering.{lanes_keep_order}
-use Rattle.mrp_agent.specs.Shows.{Shows, BooksShow, form_of}
+use Rattle.mrp_agent.specs.Shows.{ShowsHistory, BooksShow, form_of}
 use Rattle.mrp_agent.specs.State.{AgentState, book_at, incoming_at, incoming_place}
 use Rattle.mrp_agent.proofs.Formed.{form_same, legal_in_form}
 use Rattle.mrp_agent.proofs.Placed.{in_placed}
@@ -51,12 +51,12 @@ form_at A l m p at comes = form_same m.network p A.view at.shown.view l (in_ther
 
 -- its book shows what was taken on the lane
 book_shows : (A : AgentState) (l : ℕ) (taken : ℕ → List Record) (N : Table) (p : ℕ) → A.view ≡ plant_rows N p → IsIn N p l → BooksShow A taken
-    → book.Shows (form_of A.view (incoming_at A.view (incoming_place A.view l))) (book_at A (incoming_place A.view l)) (taken l)
+    → book.BookShows (form_of A.view (incoming_at A.view (incoming_place A.view l))) (book_at A (incoming_place A.view l)) (taken l)
 book_shows A l taken N p view comes books =
     let k : ℕ = incoming_place A.view l in
     let place = in_placed A.view N p l view (in_there N p l comes) in
     let number : (incoming_at A.view k).number.0 ≡ l = ap (λ (lane : IncomingLane). lane.number.0) place.is in
-    subst (λ (n : ℕ). book.Shows (form_of A.view (incoming_at A.view k)) (book_at A k) (taken n)) number (books k place.within)
+    subst (λ (n : ℕ). book.BookShows (form_of A.view (incoming_at A.view k)) (book_at A k) (taken n)) number (books k place.within)
 
 -- what it has booked on a lane is in the lane's form
 booked_in_form : (A : AgentState) (l : ℕ) (taken : ℕ → List Record) (records : List Record) (N : Table) (p : ℕ) → A.view ≡ plant_rows N p → IsIn N p l → BooksShow A taken
@@ -70,7 +70,7 @@ booked_in_form A l taken records N p view comes books is =
 
 abbrev pub Booked : AgentState → AgentState → ℕ → Record → Result Unit BookFault → Type 0
 Booked A B l r o =
-    OnOk o ((sent taken : ℕ → List Record) (planned : ℕ → Bool) → Shows A sent taken planned → Shows B sent (changed taken l (taken l ++ r ∷ [])) planned)
+    OnOk o ((sent taken : ℕ → List Record) (planned : ℕ → Bool) → ShowsHistory A sent taken planned → ShowsHistory B sent (changed taken l (taken l ++ r ∷ [])) planned)
 
 pub booked_shows : (A B : AgentState) (l : ℕ) (r : Record) (o : Result Unit BookFault) → B.view ≡ A.view → Booked A B l r o
     → OnOk o ((m : Moment) (p : ℕ) → IsAt ShowsAgent m p A → IsIn m.network p l → ShowsAgent m.network p (after_take m.state l r) B)

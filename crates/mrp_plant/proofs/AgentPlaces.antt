@@ -24,5 +24,5 @@ in_there N p l in_ =
 
 -- ---- its pairs are seen
 
-pub own_seen : (V : PlantRows) (N : Table) (p : ℕ) (x : PairNo) → V ≡ plant_rows N p → IsOwn N p x.0 → seen.IsOwn V x
-own_seen V N p x view own = subst (λ (z : PlantRows). seen.IsOwn z x) (sym view) (is_own N p x own.pair own.at_plant)
+pub own_seen : (V : PlantRows) (N : Table) (p : ℕ) (x : PairNo) → V ≡ plant_rows N p → IsOwn N p x.0 → seen.IsOwnPair V x
+own_seen V N p x view own = subst (λ (z : PlantRows). seen.IsOwnPair z x) (sym view) (is_own N p x own.pair own.at_plant)

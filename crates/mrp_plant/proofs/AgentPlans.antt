@@ -14,8 +14,8 @@ use Rattle.mrp_local.specs.Local.{CanBePlanned}
 use Rattle.mrp_local.proofs.Planned.{plannable_is_local}
 use Rattle.mrp_local.proofs.Seeing.{own_at, seen_there}
 use Rattle.mrp_agent.specs.Drafts.{drafted_gross, drafted_incoming}
-use Rattle.mrp_agent.specs.Shows.{Shows}
-use Rattle.mrp_agent.specs.State.{AgentState, pair_of}
+use Rattle.mrp_agent.specs.Shows.{ShowsHistory}
+use Rattle.mrp_agent.specs.State.{AgentState, pair_owned}
 use Rattle.mrp_agent.proofs.DraftLaws.{drafts_are_within}
 use Rattle.mrp_plant.specs.Agents.{ShowsAgent}
 use Rattle.mrp_plant.specs.Moments.{Moment, IsAt, IsOwn, Has}
@@ -25,7 +25,7 @@ use Rattle.mrp_plant.proofs.AgentWorks.{works_in}
 -- the numbers are those of the pairs that can be planned
 abbrev pub AreReady : AgentState → List PairNo → Type 0
 AreReady A numbers =
-    (sent taken : ℕ → List Record) (planned : ℕ → Bool) → Shows A sent taken planned
+    (sent taken : ℕ → List Record) (planned : ℕ → Bool) → ShowsHistory A sent taken planned
     → (p : PlantPair) → Contains A.view.pairs p → Contains numbers p.number ↔ CanBePlanned A.view taken planned p
 
 module _ (A : AgentState) (numbers : List PairNo) (exact : AreReady A numbers) where
@@ -44,14 +44,14 @@ module _ (A : AgentState) (numbers : List PairNo) (exact : AreReady A numbers) w
         (subst (λ (V : PlantRows). CanBePlanned V m.state.taken m.state.planned (plant_pair m.network x.0)) (sym at.shown.view)
         ((plannable_is_local m.network at.sized.table p m.state x.0 own).0 can))
 
-    draft_at : Contains numbers x → IsWithin (pair_of A.view x).params (drafted_incoming A x) (drafted_gross A x)
+    draft_at : Contains numbers x → IsWithin (pair_owned A.view x).params (drafted_incoming A x) (drafted_gross A x)
     draft_at listed =
         drafts_are_within m.network at.sized p A m.state.sent m.state.taken m.state.planned (works_in A m p at) x.0 own (listed_can_be listed).ready
 
-  pub draft_within : (x : PairNo) → Has ShowsAgent A x.0 → Contains numbers x → IsWithin (pair_of A.view x).params (drafted_incoming A x) (drafted_gross A x)
+  pub draft_within : (x : PairNo) → Has ShowsAgent A x.0 → Contains numbers x → IsWithin (pair_owned A.view x).params (drafted_incoming A x) (drafted_gross A x)
   draft_within x (m, p, at, own) listed = draft_at m p x at own listed
 
-pub has_own : (A : AgentState) (x : PairNo) → Has ShowsAgent A x.0 → seen.IsOwn A.view x
+pub has_own : (A : AgentState) (x : PairNo) → Has ShowsAgent A x.0 → seen.IsOwnPair A.view x
 has_own A x (m, p, at, own) = own_seen A.view m.network p x at.shown.view own
 
 -- ---- what planning answers
@@ -60,7 +60,7 @@ module _ (A : AgentState) (numbers ready : List PairNo) (same : numbers ≡ read
   exact_ready : AreReady A ready
   exact_ready = subst (AreReady A) same exact
 
-  pub plans_within : Has ShowsAgent A x.0 → Contains ready x → IsWithin (pair_of A.view x).params (drafted_incoming A x) (drafted_gross A x)
+  pub plans_within : Has ShowsAgent A x.0 → Contains ready x → IsWithin (pair_owned A.view x).params (drafted_incoming A x) (drafted_gross A x)
   plans_within has listed = draft_within A ready exact_ready x has listed
 
   pub planned_could : (b : Bool) → IsTrue b ↔ Contains ready x → b ≡ true
@@ -72,7 +72,7 @@ module _ (A : AgentState) (numbers ready : List PairNo) (same : numbers ≡ read
   unplanned_could_not b can is m p at own = λ may. false≢true (sym is ∙ can.1 (can_listed A ready exact_ready m p x at own may))
 
 pub planned_shows : (A B : AgentState) (x : PairNo) (b : Bool) → B.view ≡ A.view
-    → OnTrue b ((sent taken : ℕ → List Record) (planned : ℕ → Bool) → Shows A sent taken planned → Shows B sent taken (changed planned x.0 true)) → b ≡ true
+    → OnTrue b ((sent taken : ℕ → List Record) (planned : ℕ → Bool) → ShowsHistory A sent taken planned → ShowsHistory B sent taken (changed planned x.0 true)) → b ≡ true
     → (m : Moment) (p : ℕ) → IsAt ShowsAgent m p A → IsOwn m.network p x.0 → ShowsAgent m.network p (after_plan m.state x.0) B
 planned_shows A B x false same planned is = absurd (false≢true is)
 planned_shows A B x true same planned is = λ m p at own. record {
@@ -83,16 +83,16 @@ planned_shows A B x true same planned is = λ m p at own. record {
 
 -- ---- the first of them
 
-pub first_own : (A : AgentState) (numbers : List PairNo) → All (seen.IsOwn A.view) numbers → (o : Option PairNo) → o ≡ slice_get numbers 0
+pub first_own : (A : AgentState) (numbers : List PairNo) → All (seen.IsOwnPair A.view) numbers → (o : Option PairNo) → o ≡ slice_get numbers 0
     → IfSome o (λ x. (m : Moment) (p : ℕ) → IsAt ShowsAgent m p A → IsOwn m.network p x.0)
 first_own A [] own None is = tt
 first_own A [] own (Some x) is = absurd (cc is)
 first_own A (y ∷ ys) own None is = tt
 first_own A (y ∷ ys) own (Some x) is = λ m p at.
     let same : x ≡ y = cc is in
-    own_at A.view m.network p x at.shown.view (subst (seen.IsOwn A.view) (sym same) (own 0 y (omega arith)))
+    own_at A.view m.network p x at.shown.view (subst (seen.IsOwnPair A.view) (sym same) (own 0 y (omega arith)))
 
-pub first_can : (A : AgentState) (numbers : List PairNo) → AreReady A numbers → All (seen.IsOwn A.view) numbers → (o : Option PairNo) → o ≡ slice_get numbers 0
+pub first_can : (A : AgentState) (numbers : List PairNo) → AreReady A numbers → All (seen.IsOwnPair A.view) numbers → (o : Option PairNo) → o ≡ slice_get numbers 0
     → IfSome o (λ x. (m : Moment) (p : ℕ) → IsAt ShowsAgent m p A → CanPlan m.network m.state x.0)
 first_can A [] exact own None is = tt
 first_can A [] exact own (Some x) is = absurd (cc is)

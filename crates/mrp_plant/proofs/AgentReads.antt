@@ -1,4 +1,4 @@
--- What an agent says of its plans and of what it has received.
+-- What an agent says of its plans and of what it has received_over.
 use Rattle.std.proofs.Common.{◌≡◌, ◌↔◌, ℕ, inl, inr, Bool, true, false, Option, None, Some, unwrap_or, refl, sym, ap, ◌∙◌, subst, Contains}
 use Rattle.std.specs.Prelude.{IfSome, IfNone, IsSome, IsTrue}
 use Rattle.std.proofs.lemmas.Bool.{cases_Bool}
@@ -14,7 +14,7 @@ use Rattle.mrp_view.specs.View.{PlantRows, incoming_item, incoming_lane, plant_p
 use Rattle.mrp_view.specs.declared.view.IncomingLane.{IncomingLane}
 use Rattle.mrp_events.specs.Laws.{cum_on}
 use Rattle.mrp_ready.specs.Progress.{is_planned}
-use Rattle.mrp_agent.specs.Reading.{received}
+use Rattle.mrp_agent.specs.Reading.{received_over}
 use Rattle.mrp_agent.specs.State.{AgentState, pair_place, plans_of}
 use Rattle.mrp_agent.proofs.Network.{planned_pairs_have_the_plan}
 use Rattle.mrp_agent.proofs.Reading.{received_figures_are_cumulative}
@@ -64,7 +64,7 @@ given_plan now A x (Some plan) there is = λ m p at own. plan_is A x (now plan) 
 -- ---- figures
 
 pub received_is : (A : AgentState) (l : LaneNo) (item : ItemNo) (m : Moment) (p : ℕ) → IsAt ShowsAgent m p A → IsIn m.network p l.0 → Contains (lane_items m.network (lane_at m.network l.0)) item
-    → received A.view m.state.taken l item ≡ Some (cum_on m.network l.0 item (m.state.taken l.0))
+    → received_over A.view m.state.taken l item ≡ Some (cum_on m.network l.0 item (m.state.taken l.0))
 received_is A l item m p at comes there =
     let N : Table = m.network in
     let lane : IncomingLane = incoming_lane N l.0 in

@@ -25,21 +25,21 @@ use Rattle.mrp_events.specs.State.{IsDecided, after_send, changed}
 use Rattle.mrp_cursor.specs.Laws.{IsQueued, MaySend}
 use Rattle.mrp_local.specs.Goods.{goods_by, IsSendable}
 use Rattle.mrp_agent.specs.Laws.{WorksIn}
-use Rattle.mrp_agent.specs.Sending.{Continues, goods_at}
+use Rattle.mrp_agent.specs.Sending.{ContinuesSent, goods_at}
 use Rattle.mrp_agent.specs.Sent.{GivenIsLegal, NoneCanBeSent, IsAppended}
-use Rattle.mrp_agent.specs.Shows.{Shows}
+use Rattle.mrp_agent.specs.Shows.{ShowsHistory}
 use Rattle.mrp_agent.specs.State.{AgentState, outgoing_at, outgoing_place, out_at, plans_of, no_outgoing}
 use Rattle.mrp_agent.proofs.Left.{lanes_are_seen}
 use Rattle.mrp_agent.proofs.Network.{agrees_at, sent_is_within_64, nothing_legal_is_left}
 use Rattle.mrp_agent.proofs.Placed.{out_placed}
 use Rattle.mrp_plant.specs.Agents.{ShowsAgent}
-use Rattle.mrp_plant.specs.Moments.{Moment, IsAt, IsOut, IsNext, Sends}
+use Rattle.mrp_plant.specs.Moments.{Moment, IsAt, IsOut, IsNext, SendsLane}
 use Rattle.mrp_plant.proofs.AgentPlaces.{out_there}
 use Rattle.mrp_plant.proofs.AgentWorks.{works_in}
 
 -- ---- what may be sent is decided
 
-goods_item : (kind : LaneKind) (V : PlantRows) (taken : ℕ → List Record) (plans : ℕ → PlanRows) (l : ℕ) (i : view.Load) → (goods_by kind V taken plans l i).item ≡ i.item.0
+goods_item : (kind : LaneKind) (V : PlantRows) (taken : ℕ → List Record) (plans : ℕ → PlanRows) (l : ℕ) (i : view.OutgoingLoad) → (goods_by kind V taken plans l i).item ≡ i.item.0
 goods_item Despatch V taken plans l i = refl
 goods_item Schedule V taken plans l i = refl
 
@@ -51,10 +51,10 @@ sendable_decided N is planned l place sendable item same kind =
     let items : List ItemNo = lane_items N lane in
     let within : place < length items = omega (arith, sendable.within, length-map items (outgoing_item N lane)) in
     let read : view.load_at (outgoing_lane N l).items place ≡ outgoing_item N lane (get_or items place item) = get_or-map (outgoing_item N lane) items place item view.no_load within in
-    let there : get_or items place item ≡ item = sym (ap (λ (i : view.Load). i.item) read) ∙ same in
+    let there : get_or items place item ≡ item = sym (ap (λ (i : view.OutgoingLoad). i.item) read) ∙ same in
     let has = items_have_sources N is lane item (place, within, there) in
     ap planned (sym has.taker) ∙ ap (λ (c : Call). planned c.customer.0) (sym (call_seen N lane item kind))
-    ∙ sym (ap (λ (i : view.Load). planned (view.call_of i).customer.0) (read ∙ ap (outgoing_item N lane) there)) ∙ sendable.decided kind
+    ∙ sym (ap (λ (i : view.OutgoingLoad). planned (view.call_of i).customer.0) (read ∙ ap (outgoing_item N lane) there)) ∙ sendable.decided kind
 
 module _ (N : Table) (is : IsTable N) (p : ℕ) (A : AgentState) (sent taken : ℕ → List Record) (planned : ℕ → Bool) (w : WorksIn N p A sent taken planned)
     (k l : ℕ) (within : k < length A.view.outgoing) (number : (outgoing_at A.view k).number.0 ≡ l) where
@@ -90,7 +90,7 @@ given_is_next A l r given m p at out =
     let place = out_placed A.view N p l at.shown.view (out_there N p l out) in
     let n : ℕ = (outgoing_at A.view k).number.0 in
     let bounded = sent_is_within_64 N at.sized p A m.state.sent m.state.taken m.state.planned w k place.within in
-    let continues : Continues A m.state.sent m.state.taken k r = given m.state.sent m.state.taken m.state.planned at.shown.history bounded in
+    let continues : ContinuesSent A m.state.sent m.state.taken k r = given m.state.sent m.state.taken m.state.planned at.shown.history bounded in
     let both = continues (loads N (lane_at N n)) (agrees_at N at.sized p A m.state.sent m.state.taken m.state.planned w k place.within) in
     record {
       legal = subst (λ (z : ℕ). IsBeginning (loads N (lane_at N z)) (m.state.sent z ++ r ∷ [])) place.number both.0;
@@ -118,11 +118,11 @@ sent_shows A B l r same appended m p at out =
     record {
       view = same ∙ at.shown.view;
       enough = subst IsView (sym same) at.shown.enough;
-      history = subst (λ (z : ℕ). Shows B (changed m.state.sent z (m.state.sent z ++ r ∷ [])) m.state.taken m.state.planned) place.number
+      history = subst (λ (z : ℕ). ShowsHistory B (changed m.state.sent z (m.state.sent z ++ r ∷ [])) m.state.taken m.state.planned) place.number
           (appended m.state.sent m.state.taken m.state.planned at.shown.history bounded);
     }
 
-pub out_within : (A : AgentState) (l : ℕ) → Sends ShowsAgent A l → outgoing_place A.view l < length A.view.outgoing
+pub out_within : (A : AgentState) (l : ℕ) → SendsLane ShowsAgent A l → outgoing_place A.view l < length A.view.outgoing
 out_within A l (m, p, at, out) = (out_placed A.view m.network p l at.shown.view (out_there m.network p l out)).within
 
 -- ---- what its calls answer

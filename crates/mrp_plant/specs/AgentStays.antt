@@ -14,7 +14,7 @@ use Rattle.mrp_view.specs.declared.view.IncomingLane.{IncomingLane}
 use Rattle.mrp_view.specs.declared.view.OutgoingLane.{OutgoingLane}
 use Rattle.mrp_view.specs.declared.view.PlantPair.{PlantPair}
 use Rattle.mrp_view.specs.Loads as view
-use Rattle.mrp_view.specs.Seen.{IsView, IsOwn, lane_before}
+use Rattle.mrp_view.specs.Seen.{IsView, IsOwnPair, lane_before}
 use Rattle.mrp_view.specs.View.{PlantRows, plant_rows}
 use Rattle.mrp_record.specs.declared.record.Record.{Record}
 use Rattle.mrp_record.specs.Entries.{contents, is_ended}
@@ -27,7 +27,7 @@ use Rattle.mrp_local.proofs.Seeing.{pairs_are_at}
 use Rattle.mrp_local.specs.Goods.{goods_by, goods_of, schedule_goods, IsSendable}
 use Rattle.mrp_local.specs.Local.{amount_at, asked_within, booked_on, is_of_kind, lanes_in, local_gross, local_incoming}
 use Rattle.mrp_local.specs.Local.{local_plan, local_row, pieces_in, AwaitsNothing, IsLocal, IsPlannedLocally}
-use Rattle.mrp_agent.specs.Shows.{Shows, OutShows, awaited, awaited_on, form_of, joins_of, up_to_last}
+use Rattle.mrp_agent.specs.Shows.{ShowsHistory, OutShows, awaited, awaited_on, form_of, joins_of, up_to_last}
 use Rattle.mrp_agent.specs.State.{AgentState, book_at, incoming_at, out_at, outgoing_at, pair_place, plans_of, no_incoming, no_outgoing}
 use Rattle.mrp_agent.proofs.Owning.{own_of_item}
 use Rattle.mrp_plant.specs.Agents.{ShowsAgent}
@@ -65,19 +65,19 @@ agree_on N p s t agree = record {
 abbrev block_in : PlantRows → List Record → IncomingItem → Awaited
 block_in V records i = record { pair = pair_place V i.pair.0; ended = is_ended i.item.0 (contents records) }
 
-abbrev goods_on : LaneKind → PlantRows → (ℕ → List Record) → (ℕ → PlanRows) → ℕ → List view.Load → ℕ → Goods
+abbrev goods_on : LaneKind → PlantRows → (ℕ → List Record) → (ℕ → PlanRows) → ℕ → List view.OutgoingLoad → ℕ → Goods
 goods_on kind V taken plans l items place = goods_by kind V taken plans l (view.load_at items place)
 
-abbrev schedule_goods_on : PlantRows → (ℕ → PlanRows) → List view.Load → List Record → ℕ → Goods
+abbrev schedule_goods_on : PlantRows → (ℕ → PlanRows) → List view.OutgoingLoad → List Record → ℕ → Goods
 schedule_goods_on V plans items records place = schedule_goods V records plans (view.load_at items place)
 
-goods_same : (kind : LaneKind) (V : PlantRows) (taken others : ℕ → List Record) (plans : ℕ → PlanRows) (l : ℕ) (items : List view.Load)
+goods_same : (kind : LaneKind) (V : PlantRows) (taken others : ℕ → List Record) (plans : ℕ → PlanRows) (l : ℕ) (items : List view.OutgoingLoad)
     → (kind ≡ Schedule → taken (l - 1) ≡ others (l - 1)) → goods_on kind V taken plans l items ≡ goods_on kind V others plans l items
 goods_same Despatch V taken others plans l items same = refl
 goods_same Schedule V taken others plans l items same = ap (schedule_goods_on V plans items) (same refl)
 
 module _ (A : AgentState) (enough : IsView A.view) (s t : State) (same : AgreeOn A.view s t) where
-  own_same : (x : PairNo) → IsOwn A.view x → s.planned x.0 ≡ t.planned x.0
+  own_same : (x : PairNo) → IsOwnPair A.view x → s.planned x.0 ≡ t.planned x.0
   own_same x (p, there, is) =
       subst (λ (n : PairNo). s.planned n.0 ≡ t.planned n.0) is
       (All-contains (λ (q : PlantPair). s.planned q.number.0 ≡ t.planned q.number.0) A.view.pairs p same.pairs there)
@@ -140,7 +140,7 @@ module _ (A : AgentState) (enough : IsView A.view) (s t : State) (same : AgreeOn
   customer_same : (k j : ℕ) → k < length A.view.outgoing → (outgoing_at A.view k).kind ≡ Schedule → j < length (outgoing_at A.view k).items
       → s.planned (customer_at k j).0 ≡ t.planned (customer_at k j).0
   customer_same k j within kind inside =
-      let i : view.Load = view.load_at (outgoing_at A.view k).items j in
+      let i : view.OutgoingLoad = view.load_at (outgoing_at A.view k).items j in
       let called = (enough.schedules k no_outgoing within kind).calls j view.no_load inside in
       own_same (customer_at k j) (own_of_item A.view (customer_at k j) i.item called.own)
 
@@ -170,10 +170,10 @@ module _ (A : AgentState) (enough : IsView A.view) (s t : State) (same : AgreeOn
         );
       }
 
-  shows_same : Shows A s.sent s.taken s.planned → Shows A t.sent t.taken t.planned
+  shows_same : ShowsHistory A s.sent s.taken s.planned → ShowsHistory A t.sent t.taken t.planned
   shows_same shown = record {
     books = λ k within.
-        subst (book.Shows (form_of A.view (incoming_at A.view k)) (book_at A k)) (same.ins k no_incoming within) (shown.books k within);
+        subst (book.BookShows (form_of A.view (incoming_at A.view k)) (book_at A k)) (same.ins k no_incoming within) (shown.books k within);
     waits = subst (λ (z : List Awaited). AreCounts A.progress.waits (joins_of A.view) A.progress.planned (open_blocks z)) awaited_same shown.waits;
     came = λ p there u low.
         shown.came p there u low ∙ ap (λ (n : ℕ). up_to_last (amount_at A.view A.view.receipts p.number u + n)) (booked_same Despatch p.item u);

@@ -5,10 +5,10 @@ use Rattle.mrp_view.specs.Seen.{IsView}
 use Rattle.mrp_view.specs.View.{plant_rows}
 use Rattle.mrp_events.specs.State.{State}
 use Rattle.mrp_agent.specs.State.{AgentState}
-use Rattle.mrp_agent.specs.Shows.{Shows}
+use Rattle.mrp_agent.specs.Shows.{ShowsHistory}
 
 -- it sees what its plant sees, which says enough, and shows what was sent, what was taken and what is planned
 pub record ShowsAgent (N : Table) (p : ℕ) (s : State) (agent : AgentState) : Type 0 where
   pub view : agent.view ≡ plant_rows N p
   pub enough : IsView agent.view
-  pub history : Shows agent s.sent s.taken s.planned
+  pub history : ShowsHistory agent s.sent s.taken s.planned

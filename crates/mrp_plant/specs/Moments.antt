@@ -45,8 +45,8 @@ abbrev pub IsOwn : Table → ℕ → ℕ → Type 0
 IsOwn N p x = IsPairAt N p x
 
 -- the plant is at some moment at which it sends the lane, receives it, or has the pair
-abbrev pub Sends : {A : Type 0} → Showing A → A → ℕ → Type 0
-Sends shows plant l = (m : Moment) × (p : ℕ) × IsAt shows m p plant × IsOut m.network p l
+abbrev pub SendsLane : {A : Type 0} → Showing A → A → ℕ → Type 0
+SendsLane shows plant l = (m : Moment) × (p : ℕ) × IsAt shows m p plant × IsOut m.network p l
 
 abbrev pub Receives : {A : Type 0} → Showing A → A → ℕ → Type 0
 Receives shows plant l = (m : Moment) × (p : ℕ) × IsAt shows m p plant × IsIn m.network p l

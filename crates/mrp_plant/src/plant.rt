@@ -29,7 +29,7 @@ pub trait Plant: Drop {
     ghost use Rattle.mrp_events.specs.LoadLaws.{lane_form};
     ghost use Rattle.mrp_events.specs.State.{State, opening_state, CanTake, CanPlan, after_send, after_take, after_plan};
     ghost use Rattle.mrp_plant.specs.Gathering.{HasPlannedAll, own_plans};
-    ghost use Rattle.mrp_plant.specs.Moments.{Moment, IsAt, IsOut, IsIn, IsOwn, IsNext, IsSeen, Sends, Receives, Has, AgreeAt};
+    ghost use Rattle.mrp_plant.specs.Moments.{Moment, IsAt, IsOut, IsIn, IsOwn, IsNext, IsSeen, SendsLane, Receives, Has, AgreeAt};
 
     /// Which states of a network a plant with a number shows.
     ghost shows: { Table → ℕ → State → Self → Type 0 };
@@ -48,13 +48,13 @@ pub trait Plant: Drop {
 
     /// The record that a lane is to be sent next, or `None` where there is none.
     fn next_out(&self, lane: LaneNo) -> Option<Record>
-        requires lane { Sends shows self.now lane.0 }
+        requires lane { SendsLane shows self.now lane.0 }
         ensures next { IfSome result (λ r. (m : Moment) (p : ℕ) → IsAt shows m p self.now → IsOut m.network p lane.0 → IsNext m lane.0 r) }
         ensures none { IfNone result ((m : Moment) (p : ℕ) → IsAt shows m p self.now → IsOut m.network p lane.0 → (r : Record) → ¬ IsNext m lane.0 r) };
 
     /// Sends the next record of a lane, or answers `None` where there is none; then nothing has changed.
     fn send(&mut self, lane: LaneNo) -> Option<Record>
-        requires lane { Sends shows self.old lane.0 }
+        requires lane { SendsLane shows self.old lane.0 }
         ensures next { IfSome result (λ r. (m : Moment) (p : ℕ) → IsAt shows m p self.old → IsOut m.network p lane.0 → IsNext m lane.0 r) }
         ensures sent { IfSome result (λ r. (m : Moment) (p : ℕ) → IsAt shows m p self.old → IsOut m.network p lane.0
             → shows m.network p (after_send m.state lane.0 r) self.new) }

@@ -9,7 +9,7 @@ use Rattle.std.proofs.lemmas.List.Sums.{sum_by-cons, sum_by-set, get_or-le-sum_b
 use Rattle.std.proofs.lemmas.Option.{slice_get_within, get_or_from_slice_get}
 use Rattle.mrp_ready.specs.declared.join.Join.{Join}
 use Rattle.mrp_ready.specs.Progress.{is_planned, times, IsLess}
-use Rattle.mrp_ready.specs.Counts.{Awaited, AreCounts, AreCounted, AreFirstCounts, IsOneEnded, components_of, joins_of, open_blocks, unplanned}
+use Rattle.mrp_ready.specs.Counts.{Awaited, AreCounts, AreCounted, AreFirstCounts, IsOneEnded, components_of, join_count, open_blocks, unplanned}
 use Rattle.mrp_ready.specs.Laws.{ReadyWhereNothingIsOpen, ComponentsWait, EndingOpensFewer, OpenBlocksAreAwaited}
 
 -- a test counts where it passes
@@ -83,7 +83,7 @@ times-le (j ∷ joins) planned x y free =
     omega (arith, was, components, taken-le j planned x y free, times-le joins planned x y free)
 
 -- while nothing is planned, each join counts
-unplanned-none : (joins : List Join) (planned : List Bool) (y : ℕ) → ((x : ℕ) → is_planned planned x ≡ false) → unplanned joins planned y ≡ joins_of joins y
+unplanned-none : (joins : List Join) (planned : List Bool) (y : ℕ) → ((x : ℕ) → is_planned planned x ≡ false) → unplanned joins planned y ≡ join_count joins y
 unplanned-none [] planned y none = refl
 unplanned-none (j ∷ joins) planned y none =
     let was = sum_by-cons (waiting planned y) j joins in

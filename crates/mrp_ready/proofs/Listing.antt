@@ -7,7 +7,7 @@ use Rattle.std.proofs.lemmas.List.Elements.{Contains-push, Contains-push_cases, 
 use Rattle.std.proofs.lemmas.List.Sums.{sum_by-set, sum_by_more, sum_by-take-le}
 use Rattle.std.proofs.lemmas.List.Folds.{sum_by-replicate}
 use Rattle.mrp_rows.specs.declared.numbers.PairNo.{PairNo}
-use Rattle.mrp_ready.specs.Progress.{Progress, is_planned, left_of, times, IsFree, IsListed, Lowers, IsKept}
+use Rattle.mrp_ready.specs.Progress.{Progress, is_planned, left_of, times, IsFree, IsListed, Lowers, IsProgressKept}
 use Rattle.mrp_ready.proofs.Counting.{one_if}
 
 -- ---- a ready pair is planned
@@ -48,7 +48,7 @@ settled-planned gone after planned x within more settled y is =
           get_or-set_other planned x y true false ne ∙ settled y was
     ]
 
-pub IsKept-planned : (progress : Progress) (gone after : List ℕ) (left less : ℕ) (numbers : List PairNo) (later : List ℕ) (x : ℕ) → IsKept progress gone left → Contains progress.ready x → left ≡ less + 1 → after ≡ gone ++ x ∷ [] → numbers ≡ progress.numbers → ((y : ℕ) → Contains later y ↔ (Contains progress.ready y × (y ≡ x → ⊥))) → IsKept (record { numbers = numbers; waits = progress.waits; planned = set progress.planned x true; ready = later }) after less
+pub IsKept-planned : (progress : Progress) (gone after : List ℕ) (left less : ℕ) (numbers : List PairNo) (later : List ℕ) (x : ℕ) → IsProgressKept progress gone left → Contains progress.ready x → left ≡ less + 1 → after ≡ gone ++ x ∷ [] → numbers ≡ progress.numbers → ((y : ℕ) → Contains later y ↔ (Contains progress.ready y × (y ≡ x → ⊥))) → IsProgressKept (record { numbers = numbers; waits = progress.waits; planned = set progress.planned x true; ready = later }) after less
 IsKept-planned progress gone after left less numbers later x kept has one more same others =
     let free = (kept.listed.exact x).0 has in
     let within : x < length progress.planned = omega (arith, kept.marked, free.known) in
@@ -65,14 +65,14 @@ IsKept-planned progress gone after left less numbers later x kept has one more s
     }
 
 -- what is known of the fields where a pair of the value is ready
-pub ready_inside : (inside value : Progress) (gone : List ℕ) (left x : ℕ) → IsKept inside gone left → inside ≡ value → Contains value.ready x → Contains inside.ready x × IsFree inside.waits inside.planned x × (x < length inside.planned) × (left ≡ (left - 1) + 1)
+pub ready_inside : (inside value : Progress) (gone : List ℕ) (left x : ℕ) → IsProgressKept inside gone left → inside ≡ value → Contains value.ready x → Contains inside.ready x × IsFree inside.waits inside.planned x × (x < length inside.planned) × (left ≡ (left - 1) + 1)
 ready_inside inside value gone left x kept shown has =
     let here : Contains inside.ready x = subst (λ (v : Progress). Contains v.ready x) (sym shown) has in
     let free = (kept.listed.exact x).0 here in
     let within : x < length inside.planned = omega (arith, kept.marked, free.known) in
     (here, free, within, omega (arith, kept.left_is, left-planned inside.planned x within free.unplanned))
 
-pub planned_inside : (inside value : Progress) (gone after : List ℕ) (left x : ℕ) (numbers : List PairNo) (later : List ℕ) → IsKept inside gone left → inside ≡ value → Contains value.ready x → after ≡ gone ++ x ∷ [] → numbers ≡ inside.numbers → ((y : ℕ) → Contains later y ↔ (Contains inside.ready y × (y ≡ x → ⊥))) → IsKept (record { numbers = numbers; waits = inside.waits; planned = set inside.planned x true; ready = later }) after (left - 1)
+pub planned_inside : (inside value : Progress) (gone after : List ℕ) (left x : ℕ) (numbers : List PairNo) (later : List ℕ) → IsProgressKept inside gone left → inside ≡ value → Contains value.ready x → after ≡ gone ++ x ∷ [] → numbers ≡ inside.numbers → ((y : ℕ) → Contains later y ↔ (Contains inside.ready y × (y ≡ x → ⊥))) → IsProgressKept (record { numbers = numbers; waits = inside.waits; planned = set inside.planned x true; ready = later }) after (left - 1)
 planned_inside inside value gone after left x numbers later kept shown has more same others =
     let here = ready_inside inside value gone left x kept shown has in
     IsKept-planned inside gone after left (left - 1) numbers later x kept here.0 here.3 more same others
@@ -80,21 +80,21 @@ planned_inside inside value gone after left x numbers later kept shown has more 
 -- ---- a pair waits for one less
 
 -- a pair that waits isn't planned
-waiting_unplanned : (progress : Progress) (gone : List ℕ) (left y : ℕ) → IsKept progress gone left → 0 < get_or progress.waits y 0 → is_planned progress.planned y ≡ false
+waiting_unplanned : (progress : Progress) (gone : List ℕ) (left y : ℕ) → IsProgressKept progress gone left → 0 < get_or progress.waits y 0 → is_planned progress.planned y ≡ false
 waiting_unplanned progress gone left y kept waits =
     false_from_ne_true (is_planned progress.planned y) (λ t. let none = kept.rested y t in omega (arith, none))
 
 -- nor is it gone
-waiting_fresh : (progress : Progress) (gone : List ℕ) (left y : ℕ) → IsKept progress gone left → 0 < get_or progress.waits y 0 → Contains gone y → ⊥
+waiting_fresh : (progress : Progress) (gone : List ℕ) (left y : ℕ) → IsProgressKept progress gone left → 0 < get_or progress.waits y 0 → Contains gone y → ⊥
 waiting_fresh progress gone left y kept waits is =
     both_ways (is_planned progress.planned y) (waiting_unplanned progress gone left y kept waits) (kept.settled y is)
 
 -- as its value shows it
-pub fresh_inside : (inside value : Progress) (gone : List ℕ) (left y : ℕ) → IsKept inside gone left → inside ≡ value → 0 < get_or value.waits y 0 → Contains gone y → ⊥
+pub fresh_inside : (inside value : Progress) (gone : List ℕ) (left y : ℕ) → IsProgressKept inside gone left → inside ≡ value → 0 < get_or value.waits y 0 → Contains gone y → ⊥
 fresh_inside inside value gone left y kept shown waits =
     waiting_fresh inside gone left y kept (subst (λ (v : Progress). 0 < get_or v.waits y 0) (sym shown) waits)
 
-IsListed-lowered : (progress : Progress) (gone : List ℕ) (left : ℕ) (later : List ℕ) (y v : ℕ) → IsKept progress gone left → y < length progress.waits → 0 < get_or progress.waits y 0 → (v ≡ 0 → later ≡ progress.ready ++ y ∷ []) → (0 < v → later ≡ progress.ready) → IsListed (set progress.waits y v) progress.planned later
+IsListed-lowered : (progress : Progress) (gone : List ℕ) (left : ℕ) (later : List ℕ) (y v : ℕ) → IsProgressKept progress gone left → y < length progress.waits → 0 < get_or progress.waits y 0 → (v ≡ 0 → later ≡ progress.ready ++ y ∷ []) → (0 < v → later ≡ progress.ready) → IsListed (set progress.waits y v) progress.planned later
 IsListed-lowered progress gone left later y v kept within some free_then waits_then =
     let waits : List ℕ = progress.waits in
     let size : length (set waits y v) ≡ length waits = length-set waits y v in
@@ -133,7 +133,7 @@ IsListed-lowered progress gone left later y v kept within some free_then waits_t
           }
     ]
 
-pub IsKept-lowered : (progress : Progress) (gone after : List ℕ) (left : ℕ) (numbers : List PairNo) (later : List ℕ) (y v : ℕ) → IsKept progress gone left → y < length progress.waits → 0 < get_or progress.waits y 0 → after ≡ gone → numbers ≡ progress.numbers → (v ≡ 0 → later ≡ progress.ready ++ y ∷ []) → (0 < v → later ≡ progress.ready) → IsKept (record { numbers = numbers; waits = set progress.waits y v; planned = progress.planned; ready = later }) after left
+pub IsKept-lowered : (progress : Progress) (gone after : List ℕ) (left : ℕ) (numbers : List PairNo) (later : List ℕ) (y v : ℕ) → IsProgressKept progress gone left → y < length progress.waits → 0 < get_or progress.waits y 0 → after ≡ gone → numbers ≡ progress.numbers → (v ≡ 0 → later ≡ progress.ready ++ y ∷ []) → (0 < v → later ≡ progress.ready) → IsProgressKept (record { numbers = numbers; waits = set progress.waits y v; planned = progress.planned; ready = later }) after left
 IsKept-lowered progress gone after left numbers later y v kept within some stay same free waits = record {
   numbered = ap length same ∙ kept.numbered ∙ sym (length-set progress.waits y v);
   marked = kept.marked ∙ sym (length-set progress.waits y v);
@@ -155,12 +155,12 @@ lowered_read inside value y was now shown known some read_was read_now =
       read_now ∙ get_or-set_same inside.waits y (was - 1) now within,
     )
 
-pub lowered_free : (inside value : Progress) (gone after : List ℕ) (left : ℕ) (numbers : List PairNo) (later : List ℕ) (y was now : ℕ) → IsKept inside gone left → inside ≡ value → y < length value.waits → 0 < get_or value.waits y 0 → was ≡ get_or inside.waits y was → now ≡ get_or (set inside.waits y (was - 1)) y now → now ≡ 0 → after ≡ gone → numbers ≡ inside.numbers → later ≡ inside.ready ++ y ∷ [] → IsKept (record { numbers = numbers; waits = set inside.waits y (was - 1); planned = inside.planned; ready = later }) after left
+pub lowered_free : (inside value : Progress) (gone after : List ℕ) (left : ℕ) (numbers : List PairNo) (later : List ℕ) (y was now : ℕ) → IsProgressKept inside gone left → inside ≡ value → y < length value.waits → 0 < get_or value.waits y 0 → was ≡ get_or inside.waits y was → now ≡ get_or (set inside.waits y (was - 1)) y now → now ≡ 0 → after ≡ gone → numbers ≡ inside.numbers → later ≡ inside.ready ++ y ∷ [] → IsProgressKept (record { numbers = numbers; waits = set inside.waits y (was - 1); planned = inside.planned; ready = later }) after left
 lowered_free inside value gone after left numbers later y was now kept shown known some read_was read_now none stay same added =
     let reads = lowered_read inside value y was now shown known some read_was read_now in
     IsKept-lowered inside gone after left numbers later y (was - 1) kept reads.0 reads.1 stay same (λ _. added) (λ more. absurd (omega (arith, reads.2)))
 
-pub lowered_waiting : (inside value : Progress) (gone : List ℕ) (left y was now : ℕ) → IsKept inside gone left → inside ≡ value → y < length value.waits → 0 < get_or value.waits y 0 → was ≡ get_or inside.waits y was → now ≡ get_or (set inside.waits y (was - 1)) y now → (now ≡ 0 → ⊥) → IsKept (record { numbers = inside.numbers; waits = set inside.waits y (was - 1); planned = inside.planned; ready = inside.ready }) gone left
+pub lowered_waiting : (inside value : Progress) (gone : List ℕ) (left y was now : ℕ) → IsProgressKept inside gone left → inside ≡ value → y < length value.waits → 0 < get_or value.waits y 0 → was ≡ get_or inside.waits y was → now ≡ get_or (set inside.waits y (was - 1)) y now → (now ≡ 0 → ⊥) → IsProgressKept (record { numbers = inside.numbers; waits = set inside.waits y (was - 1); planned = inside.planned; ready = inside.ready }) gone left
 lowered_waiting inside value gone left y was now kept shown known some read_was read_now ne =
     let reads = lowered_read inside value y was now shown known some read_was read_now in
     IsKept-lowered inside gone gone left inside.numbers inside.ready y (was - 1) kept reads.0 reads.1 refl refl (λ zero. absurd (ne (reads.2 ∙ zero))) (λ _. refl)
@@ -261,7 +261,7 @@ none_gone gone x none is =
     let at : Contains {X = ℕ} [] x = subst (λ (z : List ℕ). Contains z x) none is in
     absurd (omega (arith, at.1))
 
-pub IsKept-first : (numbers : List PairNo) (waits ready gone : List ℕ) (n : ℕ) → length numbers ≡ n → length waits ≡ n → gone ≡ [] → WaitForNone ready waits (length waits) → IsKept (record { numbers = numbers; waits = waits; planned = replicate n false; ready = ready }) gone n
+pub IsKept-first : (numbers : List PairNo) (waits ready gone : List ℕ) (n : ℕ) → length numbers ≡ n → length waits ≡ n → gone ≡ [] → WaitForNone ready waits (length waits) → IsProgressKept (record { numbers = numbers; waits = waits; planned = replicate n false; ready = ready }) gone n
 IsKept-first numbers waits ready gone n numbered size none exact = record {
   numbered = numbered ∙ sym size;
   marked = length-replicate n false ∙ sym size;
@@ -271,10 +271,10 @@ IsKept-first numbers waits ready gone n numbered size none exact = record {
   left_is = omega (arith, sum_by-replicate (λ (p : Bool). cond (not p) 1 0) n false);
 }
 
-pub first_inside : (numbers given : List PairNo) (waits read : List ℕ) (planned : List Bool) (ready gone : List ℕ) → planned ≡ replicate (length given) false → read ≡ waits → length waits ≡ length given → numbers ≡ given → gone ≡ [] → WaitForNone ready read (length read) → IsKept (record { numbers = numbers; waits = waits; planned = planned; ready = ready }) gone (length given)
+pub first_inside : (numbers given : List PairNo) (waits read : List ℕ) (planned : List Bool) (ready gone : List ℕ) → planned ≡ replicate (length given) false → read ≡ waits → length waits ≡ length given → numbers ≡ given → gone ≡ [] → WaitForNone ready read (length read) → IsProgressKept (record { numbers = numbers; waits = waits; planned = planned; ready = ready }) gone (length given)
 first_inside numbers given waits read planned ready gone none same size numbers_are fresh free =
     let wait : WaitForNone ready waits (length waits) = subst (λ (w : List ℕ). WaitForNone ready w (length w)) same free in
-    subst (λ (p : List Bool). IsKept (record { numbers = numbers; waits = waits; planned = p; ready = ready }) gone (length given)) (sym none)
+    subst (λ (p : List Bool). IsProgressKept (record { numbers = numbers; waits = waits; planned = p; ready = ready }) gone (length given)) (sym none)
     (IsKept-first numbers waits ready gone (length given) (ap length numbers_are) size fresh wait)
 
 pub none_planned : (planned : List Bool) (n x : ℕ) → planned ≡ replicate n false → is_planned planned x ≡ false

@@ -7,7 +7,7 @@ use Rattle.std.proofs.lemmas.List.{get_or-set_same, get_or-set_other, get_or-tak
 use Rattle.std.proofs.lemmas.List.Edits.{swapped_from_swap, swap_is, length-swap}
 use Rattle.std.proofs.lemmas.List.FromFn.{get_or-range_with_len, length-range_with_len, fill_by_all}
 use Rattle.mrp_rows.specs.declared.numbers.PairNo.{PairNo}
-use Rattle.mrp_ready.specs.Chosen.{AreApart, ArePlaced, Chosen, chosen, number_at, slots_after}
+use Rattle.mrp_ready.specs.Chosen.{AreApart, AreSlotted, Chosen, chosen, number_at, slots_after}
 
 -- what is read after the exchange
 record IsExchanged (places slots : List ℕ) (i j : ℕ) : Type 0 where
@@ -18,7 +18,7 @@ record IsExchanged (places slots : List ℕ) (i j : ℕ) : Type 0 where
   slot_of_first : get_or (slots_after places slots i j) (get_or places i 0) 0 ≡ j
   other_slots : (x : ℕ) → (x ≡ get_or places i 0 → ⊥) → (x ≡ get_or places j 0 → ⊥) → get_or (slots_after places slots i j) x 0 ≡ get_or slots x 0
 
-exchanged : (numbers : List PairNo) (places slots : List ℕ) (begin end i j : ℕ) → ArePlaced numbers places slots begin end → i < length slots → j < length slots → IsExchanged places slots i j
+exchanged : (numbers : List PairNo) (places slots : List ℕ) (begin end i j : ℕ) → AreSlotted numbers places slots begin end → i < length slots → j < length slots → IsExchanged places slots i j
 exchanged numbers places slots begin end i j are in_i in_j =
     let x : ℕ = get_or places i 0 in
     let y : ℕ = get_or places j 0 in
@@ -40,17 +40,17 @@ exchanged numbers places slots begin end i j are in_i in_j =
     }
 
 -- a place other than those of two slots stands in another slot
-other_slot : (numbers : List PairNo) (places slots : List ℕ) (begin end i x : ℕ) → ArePlaced numbers places slots begin end → x < length slots → (x ≡ get_or places i 0 → ⊥) → get_or slots x 0 ≡ i → ⊥
+other_slot : (numbers : List PairNo) (places slots : List ℕ) (begin end i x : ℕ) → AreSlotted numbers places slots begin end → x < length slots → (x ≡ get_or places i 0 → ⊥) → get_or slots x 0 ≡ i → ⊥
 other_slot numbers places slots begin end i x are within ne e =
     ne (sym (are.place_in x within) ∙ ap (λ (z : ℕ). get_or places z 0) e)
 
 -- and a slot other than those of two places has another place
-other_place : (numbers : List PairNo) (places slots : List ℕ) (begin end i k : ℕ) → ArePlaced numbers places slots begin end → i < length slots → k < length slots → (k ≡ i → ⊥) → get_or places k 0 ≡ get_or places i 0 → ⊥
+other_place : (numbers : List PairNo) (places slots : List ℕ) (begin end i k : ℕ) → AreSlotted numbers places slots begin end → i < length slots → k < length slots → (k ≡ i → ⊥) → get_or places k 0 ≡ get_or places i 0 → ⊥
 other_place numbers places slots begin end i k are in_i in_k ne e =
     ne (sym (are.slot_of k in_k) ∙ ap (λ (z : ℕ). get_or slots z 0) e ∙ are.slot_of i in_i)
 
 -- after an exchange each place stands in one slot, whichever slots are chosen
-pub ArePlaced-exchange : (numbers : List PairNo) (places slots : List ℕ) (begin end i j first last : ℕ) → ArePlaced numbers places slots begin end → i < length slots → j < length slots → first ≤ last → last ≤ length slots → ArePlaced (swap numbers i j) (swap places i j) (slots_after places slots i j) first last
+pub ArePlaced-exchange : (numbers : List PairNo) (places slots : List ℕ) (begin end i j first last : ℕ) → AreSlotted numbers places slots begin end → i < length slots → j < length slots → first ≤ last → last ≤ length slots → AreSlotted (swap numbers i j) (swap places i j) (slots_after places slots i j) first last
 ArePlaced-exchange numbers places slots begin end i j first last are in_i in_j rises few =
     let x : ℕ = get_or places i 0 in
     let y : ℕ = get_or places j 0 in
@@ -114,7 +114,7 @@ goes_along old new olds news z k m n e now moved before =
     ap (λ (w : ℕ). new (get_or news w 0)) e ∙ ap new now ∙ moved ∙ ap old (sym before) ∙ ap (λ (w : ℕ). old (get_or olds w 0)) (sym e)
 
 -- each place keeps its number
-pub numbers-exchange : (numbers : List PairNo) (places slots : List ℕ) (begin end i j : ℕ) → ArePlaced numbers places slots begin end → i < length slots → j < length slots → map (number_at (swap numbers i j)) (slots_after places slots i j) ≡ map (number_at numbers) slots
+pub numbers-exchange : (numbers : List PairNo) (places slots : List ℕ) (begin end i j : ℕ) → AreSlotted numbers places slots begin end → i < length slots → j < length slots → map (number_at (swap numbers i j)) (slots_after places slots i j) ≡ map (number_at numbers) slots
 numbers-exchange numbers places slots begin end i j are in_i in_j =
     let x : ℕ = get_or places i 0 in
     let y : ℕ = get_or places j 0 in
@@ -153,7 +153,7 @@ range_dropped {X} xs a b rises =
 -- ---- the chosen places, and those that are gone
 
 -- the chosen places are those with the slots from `begin` up to `end`
-pub chosen_where : (numbers : List PairNo) (places slots : List ℕ) (begin end : ℕ) → ArePlaced numbers places slots begin end → (y : ℕ) → Contains (slice_range places begin end) y ↔ ((y < length slots) × (begin ≤ get_or slots y 0) × (get_or slots y 0 < end))
+pub chosen_where : (numbers : List PairNo) (places slots : List ℕ) (begin end : ℕ) → AreSlotted numbers places slots begin end → (y : ℕ) → Contains (slice_range places begin end) y ↔ ((y < length slots) × (begin ≤ get_or slots y 0) × (get_or slots y 0 < end))
 chosen_where numbers places slots begin end are y =
     let size : length (slice_range places begin end) ≡ end - begin = length_range places begin end are.rises (omega (arith, are.few, are.filled)) in (
       λ is.
@@ -178,7 +178,7 @@ chosen_where numbers places slots begin end are y =
     )
 
 -- a place with a slot before `begin` is gone
-pub gone_where : (numbers : List PairNo) (places slots : List ℕ) (begin end : ℕ) → ArePlaced numbers places slots begin end → (y : ℕ) → y < length slots → get_or slots y 0 < begin → Contains (take begin places) y
+pub gone_where : (numbers : List PairNo) (places slots : List ℕ) (begin end : ℕ) → AreSlotted numbers places slots begin end → (y : ℕ) → y < length slots → get_or slots y 0 < begin → Contains (take begin places) y
 gone_where numbers places slots begin end are y within before =
     let size : length (take begin places) ≡ begin = length-take-le begin places (omega (arith, are.rises, are.few, are.filled)) in (
       get_or slots y 0,
@@ -196,7 +196,7 @@ before_stays places i j n in_i in_j first second =
     ∙ take-set-le n places i (get_or places j 0) first
 
 -- the pair of a later slot comes behind the first n
-one_more : (numbers : List PairNo) (places slots : List ℕ) (begin end n x : ℕ) → ArePlaced numbers places slots begin end → x < length slots → n ≤ get_or slots x 0 → take (n + 1) (swap places (get_or slots x 0) n) ≡ take n places ++ x ∷ []
+one_more : (numbers : List PairNo) (places slots : List ℕ) (begin end n x : ℕ) → AreSlotted numbers places slots begin end → x < length slots → n ≤ get_or slots x 0 → take (n + 1) (swap places (get_or slots x 0) n) ≡ take n places ++ x ∷ []
 one_more numbers places slots begin end n x are within later =
     let i : ℕ = get_or slots x 0 in
     let in_i : i < length places = omega (arith, are.slot_within x within, are.filled) in
@@ -207,7 +207,7 @@ one_more numbers places slots begin end n x are within later =
     ∙ ap (λ (z : ℕ). take n places ++ z ∷ []) (swaps.1 ∙ are.place_in x within)
 
 -- one more is chosen, behind the others: the pair that stood in a later slot
-pub chosen_more : (numbers : List PairNo) (places slots : List ℕ) (begin end x : ℕ) → ArePlaced numbers places slots begin end → x < length slots → end ≤ get_or slots x 0 → slice_range (swap places (get_or slots x 0) end) begin (end + 1) ≡ slice_range places begin end ++ x ∷ []
+pub chosen_more : (numbers : List PairNo) (places slots : List ℕ) (begin end x : ℕ) → AreSlotted numbers places slots begin end → x < length slots → end ≤ get_or slots x 0 → slice_range (swap places (get_or slots x 0) end) begin (end + 1) ≡ slice_range places begin end ++ x ∷ []
 chosen_more numbers places slots begin end x are within later =
     let size : length (take end places) ≡ end = length-take-le end places (omega (arith, are.few, are.filled)) in
     range_dropped (swap places (get_or slots x 0) end) begin (end + 1) (omega (arith, are.rises))
@@ -216,7 +216,7 @@ chosen_more numbers places slots begin end x are within later =
     ∙ ap (λ (z : List ℕ). z ++ x ∷ []) (sym (range_dropped places begin end are.rises))
 
 -- one fewer is chosen: x changes places with the first of them, and is gone
-pub chosen_fewer : (numbers : List PairNo) (places slots : List ℕ) (begin end x : ℕ) → ArePlaced numbers places slots begin end → Contains (slice_range places begin end) x → (y : ℕ) → Contains (slice_range (swap places (get_or slots x 0) begin) (begin + 1) end) y ↔ (Contains (slice_range places begin end) y × (y ≡ x → ⊥))
+pub chosen_fewer : (numbers : List PairNo) (places slots : List ℕ) (begin end x : ℕ) → AreSlotted numbers places slots begin end → Contains (slice_range places begin end) x → (y : ℕ) → Contains (slice_range (swap places (get_or slots x 0) begin) (begin + 1) end) y ↔ (Contains (slice_range places begin end) y × (y ≡ x → ⊥))
 chosen_fewer numbers places slots begin end x are has y =
     let i : ℕ = get_or slots x 0 in
     let place = (chosen_where numbers places slots begin end are x).0 has in
@@ -257,7 +257,7 @@ chosen_fewer numbers places slots begin end x are has y =
     )
 
 -- the chosen places differ
-pub apart_chosen : (numbers : List PairNo) (places slots : List ℕ) (begin end : ℕ) → ArePlaced numbers places slots begin end → AreApart (slice_range places begin end)
+pub apart_chosen : (numbers : List PairNo) (places slots : List ℕ) (begin end : ℕ) → AreSlotted numbers places slots begin end → AreApart (slice_range places begin end)
 apart_chosen numbers places slots begin end are i j d less within e =
     let size : length (slice_range places begin end) ≡ end - begin = length_range places begin end are.rises (omega (arith, are.few, are.filled)) in
     let first : i < end - begin = omega (arith, size) in
@@ -268,7 +268,7 @@ apart_chosen numbers places slots begin end are i j d less within e =
     omega arith
 
 -- the numbers in the slots of the chosen places are theirs
-pub numbers_chosen : (numbers : List PairNo) (places slots : List ℕ) (begin end : ℕ) → ArePlaced numbers places slots begin end → slice_range numbers begin end ≡ map (number_at (map (number_at numbers) slots)) (slice_range places begin end)
+pub numbers_chosen : (numbers : List PairNo) (places slots : List ℕ) (begin end : ℕ) → AreSlotted numbers places slots begin end → slice_range numbers begin end ≡ map (number_at (map (number_at numbers) slots)) (slice_range places begin end)
 numbers_chosen numbers places slots begin end are =
     let by_place : List PairNo = map (number_at numbers) slots in
     let size : length (slice_range places begin end) ≡ end - begin = length_range places begin end are.rises (omega (arith, are.few, are.filled)) in
@@ -284,7 +284,7 @@ numbers_chosen numbers places slots begin end are =
     ∙ sym (get_or-map (number_at by_place) (slice_range places begin end) k 0 none (omega (arith, size))))
 
 -- at first each place stands in the slot of its own number, and none is chosen
-pub ArePlaced-first : (numbers : List PairNo) (places slots : List ℕ) → places ≡ range_with_len 0 (length numbers) → slots ≡ range_with_len 0 (length numbers) → ArePlaced numbers places slots 0 0
+pub ArePlaced-first : (numbers : List PairNo) (places slots : List ℕ) → places ≡ range_with_len 0 (length numbers) → slots ≡ range_with_len 0 (length numbers) → AreSlotted numbers places slots 0 0
 ArePlaced-first numbers places slots is same =
     let n : ℕ = length numbers in
     let size : length slots ≡ n = ap length same ∙ length-range_with_len 0 n in
@@ -309,7 +309,7 @@ numbers-first numbers slots is =
 -- ---- the changes of the set
 
 -- the places of the set as its value shows them
-pub shown_where : (numbers : List PairNo) (places slots : List ℕ) (begin end : ℕ) (v : Chosen) → ArePlaced numbers places slots begin end → chosen numbers places slots begin end ≡ v → (y : ℕ) → Contains v.places y ↔ ((y < length slots) × (begin ≤ get_or slots y 0) × (get_or slots y 0 < end))
+pub shown_where : (numbers : List PairNo) (places slots : List ℕ) (begin end : ℕ) (v : Chosen) → AreSlotted numbers places slots begin end → chosen numbers places slots begin end ≡ v → (y : ℕ) → Contains v.places y ↔ ((y < length slots) × (begin ≤ get_or slots y 0) × (get_or slots y 0 < end))
 shown_where numbers places slots begin end v are shown y =
     subst (λ (w : Chosen). Contains w.places y ↔ ((y < length slots) × (begin ≤ get_or slots y 0) × (get_or slots y 0 < end))) shown (chosen_where numbers places slots begin end are y)
 
@@ -318,7 +318,7 @@ pub has_slot : (numbers : List PairNo) (places slots : List ℕ) (begin end x : 
 has_slot numbers places slots begin end x v shown known = omega (arith, ap (λ (w : Chosen). length w.numbers) shown, length-map slots (number_at numbers))
 
 -- a pair that isn't chosen and isn't gone stands in a later slot
-pub later_slot : (numbers : List PairNo) (places slots : List ℕ) (begin end x i : ℕ) (v : Chosen) → ArePlaced numbers places slots begin end → chosen numbers places slots begin end ≡ v → i ≡ get_or slots x i → x < length v.numbers → (Contains v.places x → ⊥) → (Contains v.gone x → ⊥) → (x < length slots) × (i ≡ get_or slots x 0) × (end ≤ i) × (i < length slots)
+pub later_slot : (numbers : List PairNo) (places slots : List ℕ) (begin end x i : ℕ) (v : Chosen) → AreSlotted numbers places slots begin end → chosen numbers places slots begin end ≡ v → i ≡ get_or slots x i → x < length v.numbers → (Contains v.places x → ⊥) → (Contains v.gone x → ⊥) → (x < length slots) × (i ≡ get_or slots x 0) × (end ≤ i) × (i < length slots)
 later_slot numbers places slots begin end x i v are shown read known absent fresh =
     let within = has_slot numbers places slots begin end x v shown known in
     let is : i ≡ get_or slots x 0 = get_or_read slots x i within read 0 in
@@ -335,9 +335,9 @@ later_slot numbers places slots begin end x i v are shown read known absent fres
       omega (arith, is, are.slot_within x within),
     )
 
-pub inserted : (numbers : List PairNo) (places slots : List ℕ) (begin end x i : ℕ) (v : Chosen) (later_numbers : List PairNo) (later_places later_slots : List ℕ) → ArePlaced numbers places slots begin end → chosen numbers places slots begin end ≡ v → i ≡ get_or slots x i → x < length v.numbers → (Contains v.places x → ⊥) → (Contains v.gone x → ⊥)
+pub inserted : (numbers : List PairNo) (places slots : List ℕ) (begin end x i : ℕ) (v : Chosen) (later_numbers : List PairNo) (later_places later_slots : List ℕ) → AreSlotted numbers places slots begin end → chosen numbers places slots begin end ≡ v → i ≡ get_or slots x i → x < length v.numbers → (Contains v.places x → ⊥) → (Contains v.gone x → ⊥)
     → later_numbers ≡ swap numbers i end → later_places ≡ swap places i end → later_slots ≡ slots_after places slots i end
-    → ArePlaced later_numbers later_places later_slots begin (end + 1) × (map (number_at later_numbers) later_slots ≡ v.numbers) × (take begin later_places ≡ v.gone) × (slice_range later_places begin (end + 1) ≡ v.places ++ x ∷ [])
+    → AreSlotted later_numbers later_places later_slots begin (end + 1) × (map (number_at later_numbers) later_slots ≡ v.numbers) × (take begin later_places ≡ v.gone) × (slice_range later_places begin (end + 1) ≡ v.places ++ x ∷ [])
 inserted numbers places slots begin end x i v later_numbers later_places later_slots are shown read known absent fresh numbers_are places_are slots_are =
     let late = later_slot numbers places slots begin end x i v are shown read known absent fresh in
     let in_end : end < length slots = omega (arith, late.2, late.3) in
@@ -352,15 +352,15 @@ inserted numbers places slots begin end x i v later_numbers later_places later_s
     )
 
 -- where a pair is chosen, it stands in a slot, and there is a first one
-pub chosen_slot : (numbers : List PairNo) (places slots : List ℕ) (begin end x i : ℕ) (v : Chosen) → ArePlaced numbers places slots begin end → chosen numbers places slots begin end ≡ v → i ≡ get_or slots x i → Contains v.places x → (x < length slots) × (i ≡ get_or slots x 0) × (begin ≤ i) × (i < end)
+pub chosen_slot : (numbers : List PairNo) (places slots : List ℕ) (begin end x i : ℕ) (v : Chosen) → AreSlotted numbers places slots begin end → chosen numbers places slots begin end ≡ v → i ≡ get_or slots x i → Contains v.places x → (x < length slots) × (i ≡ get_or slots x 0) × (begin ≤ i) × (i < end)
 chosen_slot numbers places slots begin end x i v are shown read has =
     let place = (shown_where numbers places slots begin end v are shown x).0 has in
     let is : i ≡ get_or slots x 0 = get_or_read slots x i place.0 read 0 in
     (place.0, is, omega (arith, is, place.1), omega (arith, is, place.2))
 
-pub removed : (numbers : List PairNo) (places slots : List ℕ) (begin end x i : ℕ) (v : Chosen) (later_numbers : List PairNo) (later_places later_slots : List ℕ) → ArePlaced numbers places slots begin end → chosen numbers places slots begin end ≡ v → i ≡ get_or slots x i → Contains v.places x
+pub removed : (numbers : List PairNo) (places slots : List ℕ) (begin end x i : ℕ) (v : Chosen) (later_numbers : List PairNo) (later_places later_slots : List ℕ) → AreSlotted numbers places slots begin end → chosen numbers places slots begin end ≡ v → i ≡ get_or slots x i → Contains v.places x
     → later_numbers ≡ swap numbers i begin → later_places ≡ swap places i begin → later_slots ≡ slots_after places slots i begin
-    → ArePlaced later_numbers later_places later_slots (begin + 1) end × (map (number_at later_numbers) later_slots ≡ v.numbers) × (take (begin + 1) later_places ≡ v.gone ++ x ∷ []) × ((y : ℕ) → Contains (slice_range later_places (begin + 1) end) y ↔ (Contains v.places y × (y ≡ x → ⊥)))
+    → AreSlotted later_numbers later_places later_slots (begin + 1) end × (map (number_at later_numbers) later_slots ≡ v.numbers) × (take (begin + 1) later_places ≡ v.gone ++ x ∷ []) × ((y : ℕ) → Contains (slice_range later_places (begin + 1) end) y ↔ (Contains v.places y × (y ≡ x → ⊥)))
 removed numbers places slots begin end x i v later_numbers later_places later_slots are shown read has numbers_are places_are slots_are =
     let slot = chosen_slot numbers places slots begin end x i v are shown read has in
     let in_i : i < length slots = omega (arith, slot.3, are.few) in
@@ -379,6 +379,6 @@ removed numbers places slots begin end x i v later_numbers later_places later_sl
       fewer,
     )
 
-pub first_set : (numbers given : List PairNo) (places slots : List ℕ) → numbers ≡ given → places ≡ range_with_len 0 (length given) → slots ≡ range_with_len 0 (length given) → ArePlaced numbers places slots 0 0 × (map (number_at numbers) slots ≡ given)
+pub first_set : (numbers given : List PairNo) (places slots : List ℕ) → numbers ≡ given → places ≡ range_with_len 0 (length given) → slots ≡ range_with_len 0 (length given) → AreSlotted numbers places slots 0 0 × (map (number_at numbers) slots ≡ given)
 first_set numbers given places slots same places_are slots_are =
     rw same (ArePlaced-first given places slots places_are slots_are, numbers-first given slots slots_are)

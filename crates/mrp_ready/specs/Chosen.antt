@@ -27,7 +27,7 @@ abbrev pub slots_after : List ℕ → List ℕ → ℕ → ℕ → List ℕ
 slots_after places slots i j = slice_set (slice_set slots (slice_index places i) j) (slice_index places j) i
 
 -- each place stands in one slot, and each slot has one place
-pub record ArePlaced (numbers : List PairNo) (places slots : List ℕ) (begin end : ℕ) : Type 0 where
+pub record AreSlotted (numbers : List PairNo) (places slots : List ℕ) (begin end : ℕ) : Type 0 where
   pub numbered : length numbers ≡ length slots
   pub filled : length places ≡ length slots
   pub rises : begin ≤ end

@@ -13,8 +13,8 @@ abbrev pub components_of : List Join → ℕ → List ℕ
 components_of joins x = map (λ j. j.component) (filter (λ j. j.demander == x) joins)
 
 -- how many joins a pair has
-abbrev pub joins_of : List Join → ℕ → ℕ
-joins_of joins y = count_by (λ j. j.component == y) joins
+abbrev pub join_count : List Join → ℕ → ℕ
+join_count joins y = count_by (λ j. j.component == y) joins
 
 -- how many joins of a pair have a demander that isn't planned
 abbrev pub unplanned : List Join → List Bool → ℕ → ℕ
@@ -35,7 +35,7 @@ pub record IsOneEnded (y : ℕ) (before after : ℕ → ℕ) : Type 0 where
 
 -- before anything is planned: each pair waits for all its joins, and for its blocks
 pub record AreFirstCounts (waits : List ℕ) (joins : List Join) (blocks : ℕ → ℕ) : Type 0 where
-  pub counted : (y : ℕ) → y < length waits → slice_index waits y ≡ joins_of joins y + blocks y
+  pub counted : (y : ℕ) → y < length waits → slice_index waits y ≡ join_count joins y + blocks y
 
 -- each number is greater by the rows that have its place as their key
 pub record AreCounted {X : Type 0} (key : X → ℕ) (old new : List ℕ) (rows : List X) : Type 0 where

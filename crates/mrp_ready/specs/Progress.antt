@@ -50,7 +50,7 @@ pub record Lowers (old new : Progress) (components : List ℕ) : Type 0 where
   pub others : (y : ℕ) → Contains old.ready y → Contains new.ready y
 
 -- what stays true: a planned pair waits for nothing, and those that are gone from the ready ones are planned
-pub record IsKept (progress : Progress) (gone : List ℕ) (left : ℕ) : Type 0 where
+pub record IsProgressKept (progress : Progress) (gone : List ℕ) (left : ℕ) : Type 0 where
   pub numbered : length progress.numbers ≡ length progress.waits
   pub marked : length progress.planned ≡ length progress.waits
   pub listed : IsListed progress.waits progress.planned progress.ready

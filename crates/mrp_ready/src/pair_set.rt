@@ -19,13 +19,13 @@ pub(crate) struct PairSet {
 }
 
 impl Model for PairSet {
-    ghost use Rattle.mrp_ready.specs.Chosen.{Chosen, chosen, ArePlaced};
+    ghost use Rattle.mrp_ready.specs.Chosen.{Chosen, chosen, AreSlotted};
 
     ghost Value = { Chosen };
 
     ghost view = { λ s. chosen s.slots.numbers.items s.slots.places.items s.slots.slots.items s.begin s.end };
 
-    ghost invariant = { λ s. ArePlaced s.slots.numbers.items s.slots.places.items s.slots.slots.items s.begin s.end };
+    ghost invariant = { λ s. AreSlotted s.slots.numbers.items s.slots.places.items s.slots.slots.items s.begin s.end };
 }
 
 impl PairSet {

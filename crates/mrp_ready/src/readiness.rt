@@ -22,13 +22,13 @@ pub struct Readiness {
 }
 
 impl Model for Readiness {
-    ghost use Rattle.mrp_ready.specs.Progress.{Progress, progress_of, IsKept};
+    ghost use Rattle.mrp_ready.specs.Progress.{Progress, progress_of, IsProgressKept};
 
     ghost Value = { Progress };
 
     ghost view = { λ r. progress_of r.waits.items r.planned.items r.ready };
 
-    ghost invariant = { λ r. IsKept (progress_of r.waits.items r.planned.items r.ready) r.ready.gone r.left };
+    ghost invariant = { λ r. IsProgressKept (progress_of r.waits.items r.planned.items r.ready) r.ready.gone r.left };
 }
 
 impl Readiness {

@@ -7,7 +7,7 @@ use Rattle.std.proofs.lemmas.List.Elements.{filter-append}
 use Rattle.std.proofs.lemmas.List.Sums.{sum_by-cons}
 use Rattle.std.proofs.lemmas.List.Sorted.{IsPermutation-refl, sum_by-IsPermutation}
 use Rattle.mrp_record.specs.declared.record.Record.{Record}
-use Rattle.mrp_record.specs.Entries.{Entry, EndOf, Closing, content, contents, number_of, is_of, is_end, entries_of, delivery_of}
+use Rattle.mrp_record.specs.Entries.{Entry, EndOf, Closing, content, contents, number_of, is_of, is_end, entries_of, entry_delivery}
 use Rattle.mrp_record.specs.Laws.{AreLoads, EmptyIsABeginning, FrontsAreBeginnings, FrontsAreNested, NothingFollowsClosing, ClosedIsWhole, TextsHaveOneLength, BeginningsAreNoLonger, EndedBlocksAreWhole, EndedBlocksBringDeliveries, EndedBlocksBringPeriods, EndedBlocksBringTotals, EndedItemsAreDone, quantity_in}
 use Rattle.mrp_record.specs.Text.{Load, body, block, block_length, last_figure, text_of, IsText, IsBeginning, NumberedFrom, total}
 use Rattle.mrp_record.proofs.Fronts.{overlap}
@@ -155,7 +155,7 @@ ended_blocks_are_whole loads once records h load there ended =
 
 pub ended_blocks_bring_deliveries : EndedBlocksBringDeliveries
 ended_blocks_bring_deliveries loads once records h load there ended =
-    ap (λ (z : List Entry). filter_map delivery_of z) (ended_blocks_are_whole loads once records h load there ended) ∙ block_delivers load
+    ap (λ (z : List Entry). filter_map entry_delivery z) (ended_blocks_are_whole loads once records h load there ended) ∙ block_delivers load
 
 pub ended_blocks_bring_periods : EndedBlocksBringPeriods
 ended_blocks_bring_periods loads once records h load there ended period =

@@ -11,7 +11,7 @@ use Rattle.std.proofs.lemmas.List.Sorted.{IsPermutation-map, IsPermutation-sym, 
 use Rattle.mrp_record.specs.declared.record.Record.{Record}
 use Rattle.mrp_record.specs.Entries.{Entry, LineOf, EndOf, ResetOf, Closing, content, contents, is_end, is_closing, is_ended, is_closed}
 use Rattle.mrp_record.specs.Form.{FormItem, LaneForm, EntryFits, Continues, IsInForm}
-use Rattle.mrp_record.specs.Laws.{AreLoads, is_same_item, form_item, is_same_form_item, IsTold, IsBegunBy, ListsInFormAreBeginnings}
+use Rattle.mrp_record.specs.Laws.{AreLoads, is_same_load, form_item, is_same_form_item, IsTold, IsBegunBy, ListsInFormAreBeginnings}
 use Rattle.mrp_record.specs.Text.{Load, block, text_of}
 use Rattle.mrp_record.proofs.Beginnings.{ended_is_whole}
 use Rattle.mrp_record.proofs.FormItems.{found_self}
@@ -30,7 +30,7 @@ abbrev loads_by : List Entry → List FormItem → List Load
 loads_by es items = map (brought es) items
 
 apart : (es : List Entry) (i : FormItem) (items : List FormItem) → AllByRecursion (λ j. is_same_form_item i j ≡ false) items
-    → AllByRecursion (λ load. is_same_item (brought es i) load ≡ false) (loads_by es items)
+    → AllByRecursion (λ load. is_same_load (brought es i) load ≡ false) (loads_by es items)
 apart es i [] h = tt
 apart es i (j ∷ items) h = (h.0, apart es i items h.1)
 

@@ -12,7 +12,7 @@ use Rattle.mrp_qty.specs.declared.quantity.TheConstants.{MOST}
 use Rattle.mrp_record.specs.declared.record.Record.{Record}
 use Rattle.mrp_record.specs.Entries.{Entry, LineOf, EndOf, ResetOf, Closing, number_of, content, contents, is_of, is_line, is_reset, is_end, is_closing, next_after, figure_after, closed_of, entries_of, is_ended, is_open, is_closed, in_force, line_count, cum}
 use Rattle.mrp_record.specs.Form.{FormItem, LaneForm, item_on, is_other_open, LineFits, EndFits, ResetFits, GoesOn, EntryFits}
-use Rattle.mrp_record.specs.Laws.{AreLoads, IsSmall, AreSmall, form_item, form_of, BeginningsAreInForm, HasSmallFigures, FiguresAreSmall, CumsAreSmall}
+use Rattle.mrp_record.specs.Laws.{AreLoads, IsSmall, AreSmall, form_item, loads_form, BeginningsAreInForm, HasSmallFigures, FiguresAreSmall, CumsAreSmall}
 use Rattle.mrp_record.specs.Text.{Load, body, block, last_figure, text_of, IsBeginning}
 use Rattle.mrp_record.proofs.Beginnings.{number_at, contents_parts, fronts_are_beginnings, beginnings_are_no_longer}
 use Rattle.mrp_record.proofs.BlockForm.{block_in_form}
@@ -134,7 +134,7 @@ placed_own loads before load done part h =
     ∙ own_kept load.item part h.own
 
 placed_alone : (rising : Bool) (horizon : ℕ) (loads : List Load) (before : List Entry) (load : Load) (done : List Load) (part : List Entry) → IsPlaced loads before load done part
-    → is_other_open (form_of rising horizon loads) load.item before ≡ false
+    → is_other_open (loads_form rising horizon loads) load.item before ≡ false
 placed_alone rising horizon loads before load done part h =
     none_of_them (λ (other : FormItem). not (other.item == load.item) && is_open other.item before) (map form_item loads)
     (λ other. elim (cases_Bool (other.item == load.item)) [
@@ -179,9 +179,9 @@ record EntryGoesOn (form : LaneForm) (before : List Entry) (e : Entry) : Type 0 
   fits : EntryFits form before e
 
 within_goes_on : (rising : Bool) (horizon : ℕ) (loads : List Load) → AreLoads loads → All (IsSmall rising horizon) loads → (order : List Load) → IsPermutation loads order
-    → (before rest : List Entry) (e : Entry) (w : IsWithin order before (e ∷ rest)) → EntryGoesOn (form_of rising horizon loads) before e
+    → (before rest : List Entry) (e : Entry) (w : IsWithin order before (e ∷ rest)) → EntryGoesOn (loads_form rising horizon loads) before e
 within_goes_on rising horizon loads once small order permuted before rest e w =
-    let form = form_of rising horizon loads in
+    let form = loads_form rising horizon loads in
     let at = placed loads once order permuted before (e ∷ rest) w in
     let next : w.next ≡ e = cc (w.rest_is) in
     let block_is : block w.load ≡ w.part ++ e ∷ w.more = w.block_is ∙ ap (λ (z : Entry). w.part ++ z ∷ w.more) next in
@@ -198,7 +198,7 @@ within_goes_on rising horizon loads once small order permuted before rest e w =
     }
 
 closing_goes_on : (rising : Bool) (horizon : ℕ) (loads : List Load) → AreLoads loads → (order : List Load) → IsPermutation loads order
-    → (before : List Entry) → before ≡ flat_map block order → EntryGoesOn (form_of rising horizon loads) before Closing
+    → (before : List Entry) → before ≡ flat_map block order → EntryGoesOn (loads_form rising horizon loads) before Closing
 closing_goes_on rising horizon loads once order permuted before is =
     let ended : (load : Load) → Contains loads load → is_ended load.item before ≡ true =
     λ load there.
@@ -214,13 +214,13 @@ closing_goes_on rising horizon loads once order permuted before is =
     }
 
 goes_on : (rising : Bool) (horizon : ℕ) (loads : List Load) → AreLoads loads → All (IsSmall rising horizon) loads → (order : List Load) → IsPermutation loads order
-    → (before rest : List Entry) (e : Entry) → before ++ e ∷ rest ≡ text_of order → EntryGoesOn (form_of rising horizon loads) before e
+    → (before rest : List Entry) (e : Entry) → before ++ e ∷ rest ≡ text_of order → EntryGoesOn (loads_form rising horizon loads) before e
 goes_on rising horizon loads once small order permuted before rest e split = elim (stands order before (e ∷ rest) split) [
   | inl w ↦ within_goes_on rising horizon loads once small order permuted before rest e w
   | inr g ↦ elim g [
     | inl c ↦
         let closing : e ≡ Closing = cc (c.rest_is) in
-        subst (EntryGoesOn (form_of rising horizon loads) before) (sym closing) (closing_goes_on rising horizon loads once order permuted before c.is)
+        subst (EntryGoesOn (loads_form rising horizon loads) before) (sym closing) (closing_goes_on rising horizon loads once order permuted before c.is)
     | inr a ↦ absurd (cc (a.rest_is))
   ]
 ]
@@ -307,7 +307,7 @@ figures_are_small rising horizon loads once small records h =
     let begun : IsBeginning loads before = fronts_are_beginnings loads before (r ∷ after) (subst (IsBeginning loads) is h) in
     let few : length (contents before) ≤ MOST = omega (arith, length-map before content, beginnings_are_no_longer loads before begun, small.1) in (
       goes.small,
-      figures_fit (form_of rising horizon loads) (contents before) (content r)
+      figures_fit (loads_form rising horizon loads) (contents before) (content r)
           (λ i item found. in_force_small rising horizon loads once small before begun i (loaded loads loads item i (λ load there. there) found))
           few
           goes.fits,

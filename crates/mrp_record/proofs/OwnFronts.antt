@@ -4,7 +4,7 @@ use Rattle.std.specs.Prelude.{nat_lt, is_some}
 use Rattle.std.specs.List.{filter_map}
 use Rattle.std.proofs.lemmas.Bool.{eq-eqb, eqb-true, both_ways, false≢true, true≢false, leb-false, leb-true, lt-ltb, le-ltb, cond-true, cond-false}
 use Rattle.std.proofs.lemmas.List.Sums.{sum_by-cons}
-use Rattle.mrp_record.specs.Entries.{Entry, LineOf, EndOf, ResetOf, Closing, Delivery, delivery_of}
+use Rattle.mrp_record.specs.Entries.{Entry, LineOf, EndOf, ResetOf, Closing, Delivery, entry_delivery}
 use Rattle.mrp_record.specs.Form.{FormItem, LaneForm}
 use Rattle.mrp_record.specs.Text.{Load, total, running, early, late, block}
 use Rattle.mrp_record.proofs.Own.{AllOf}
@@ -15,7 +15,7 @@ pub record IsFront (own whole : List Entry) : Type 0 where
   pub is : own ++ rest ≡ whole
 
 abbrev pub delivered : List Entry → List Delivery
-delivered own = filter_map delivery_of own
+delivered own = filter_map entry_delivery own
 
 -- ---- single records
 
@@ -70,7 +70,7 @@ plain_front form i t (LineOf item p q c ∷ es) all h none =
 plain_front form i t (EndOf item n c ∷ es) all h none =
     let same : item ≡ i.item = of_item item i.item all.0 in
     let last : es ≡ [] = nothing_after_end form i (after t (EndOf item n c)) es h.1 refl in
-    let lines : delivered es ≡ [] = ap (λ (z : List Entry). filter_map delivery_of z) last in
+    let lines : delivered es ≡ [] = ap (λ (z : List Entry). filter_map entry_delivery z) last in
     let here : EndOf item n c ∷ (es ++ []) ≡ plain i.item t.figure t.lines [] =
     end_on item i.item n (t.lines + 0) c (t.figure + 0) (es ++ []) [] same (omega (arith, h.0.count)) (omega (arith, h.0.figure)) (ap (λ (z : List Entry). z ++ []) last) in
     record { rest = []; is = here ∙ ap (λ (z : List Delivery). plain i.item t.figure t.lines z) (sym lines) }
@@ -115,7 +115,7 @@ late_after form item opening from t (LineOf j p q c ∷ es) h anew =
 late_after form item opening from t (EndOf j n c ∷ es) h anew =
     let i = anew_from item opening from in
     let last : es ≡ [] = nothing_after_end form i (after t (EndOf j n c)) es h.1 refl in
-    let lines : delivered es ≡ [] = ap (λ (z : List Entry). filter_map delivery_of z) last in
+    let lines : delivered es ≡ [] = ap (λ (z : List Entry). filter_map entry_delivery z) last in
     (ap (early from) lines, ap (late from) lines ∙ sym lines)
 late_after form item opening from t (ResetOf j c ∷ es) h anew = absurd (both_ways t.anew h.0.first anew)
 late_after form item opening from t (Closing ∷ es) h anew = absurd h.0

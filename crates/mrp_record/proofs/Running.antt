@@ -5,7 +5,7 @@ use Rattle.std.specs.List.{list_any, sum_by, filter_map}
 use Rattle.std.proofs.lemmas.List.{append-nil}
 use Rattle.std.proofs.lemmas.List.Elements.{filter_map-append}
 use Rattle.std.proofs.lemmas.List.Sums.{sum_by-cons}
-use Rattle.mrp_record.specs.Entries.{Entry, LineOf, EndOf, ResetOf, Closing, Delivery, is_end, delivery_of, quantity_of}
+use Rattle.mrp_record.specs.Entries.{Entry, LineOf, EndOf, ResetOf, Closing, Delivery, is_end, entry_delivery, quantity_of}
 use Rattle.mrp_record.specs.Text.{Load, running, early, late, body, block, block_length, last_figure, total}
 use Rattle.mrp_record.proofs.Own.{list_any-append}
 
@@ -58,33 +58,33 @@ body_unended item opening (Some from) lines =
 
 -- ---- the deliveries of a block
 
-pub running_delivers : (item figure : ℕ) (lines : List Delivery) → filter_map delivery_of (running item figure lines) ≡ lines
+pub running_delivers : (item figure : ℕ) (lines : List Delivery) → filter_map entry_delivery (running item figure lines) ≡ lines
 running_delivers item figure [] = refl
 running_delivers item figure (line ∷ lines) = ap (λ (z : List Delivery). line ∷ z) (running_delivers item (figure + line.quantity) lines)
 
-pub body_delivers : (item opening : ℕ) (reset : Option ℕ) (lines : List Delivery) → filter_map delivery_of (body item opening reset lines) ≡ lines
+pub body_delivers : (item opening : ℕ) (reset : Option ℕ) (lines : List Delivery) → filter_map entry_delivery (body item opening reset lines) ≡ lines
 body_delivers item opening None lines = running_delivers item opening lines
 body_delivers item opening (Some from) lines =
     let before = running item opening (early from lines) in
     let after = running item 0 (late from lines) in
-    let parts : filter_map delivery_of (before ++ ResetOf item (opening + total (early from lines)) ∷ after) ≡ filter_map delivery_of before ++ filter_map delivery_of after =
-    filter_map-append delivery_of before (ResetOf item (opening + total (early from lines)) ∷ after) in
-    let first : filter_map delivery_of before ≡ early from lines = running_delivers item opening (early from lines) in
-    let second : filter_map delivery_of after ≡ late from lines = running_delivers item 0 (late from lines) in
-    parts ∙ ap (λ (z : List Delivery). z ++ filter_map delivery_of after) first ∙ ap (λ (z : List Delivery). early from lines ++ z) second ∙ early-append-late from lines
+    let parts : filter_map entry_delivery (before ++ ResetOf item (opening + total (early from lines)) ∷ after) ≡ filter_map entry_delivery before ++ filter_map entry_delivery after =
+    filter_map-append entry_delivery before (ResetOf item (opening + total (early from lines)) ∷ after) in
+    let first : filter_map entry_delivery before ≡ early from lines = running_delivers item opening (early from lines) in
+    let second : filter_map entry_delivery after ≡ late from lines = running_delivers item 0 (late from lines) in
+    parts ∙ ap (λ (z : List Delivery). z ++ filter_map entry_delivery after) first ∙ ap (λ (z : List Delivery). early from lines ++ z) second ∙ early-append-late from lines
 
-pub block_delivers : (load : Load) → filter_map delivery_of (block load) ≡ load.lines
+pub block_delivers : (load : Load) → filter_map entry_delivery (block load) ≡ load.lines
 block_delivers load =
     let front = body load.item load.opening load.reset load.lines in
     let last = EndOf load.item (length load.lines) (last_figure load.opening load.reset load.lines) ∷ [] in
-    let parts : filter_map delivery_of (front ++ last) ≡ filter_map delivery_of front ++ [] = filter_map-append delivery_of front last in
-    parts ∙ append-nil (filter_map delivery_of front) ∙ body_delivers load.item load.opening load.reset load.lines
+    let parts : filter_map entry_delivery (front ++ last) ≡ filter_map entry_delivery front ++ [] = filter_map-append entry_delivery front last in
+    parts ∙ append-nil (filter_map entry_delivery front) ∙ body_delivers load.item load.opening load.reset load.lines
 
 -- the pieces of the lines are those of their deliveries
-pub moved_is_delivered : (es : List Entry) → sum_by quantity_of es ≡ total (filter_map delivery_of es)
+pub moved_is_delivered : (es : List Entry) → sum_by quantity_of es ≡ total (filter_map entry_delivery es)
 moved_is_delivered [] = refl
 moved_is_delivered (LineOf i p q c ∷ es) =
-    let rest = filter_map delivery_of es in
+    let rest = filter_map entry_delivery es in
     let line : Delivery = record { period = p; quantity = q } in
     omega (arith, sum_by-cons quantity_of (LineOf i p q c) es, sum_by-cons (λ (l : Delivery). l.quantity) line rest, moved_is_delivered es)
 moved_is_delivered (EndOf i n c ∷ es) = omega (arith, sum_by-cons quantity_of (EndOf i n c) es, moved_is_delivered es)

@@ -68,14 +68,14 @@ is_closing (ResetOf item closed) = false
 is_closing Closing = true
 
 -- the deliveries of its lines, in order
-abbrev pub delivery_of : Entry → Option Delivery
-delivery_of (LineOf item period quantity cumulative) = Some (record { period = period; quantity = quantity })
-delivery_of (EndOf item lines cumulative) = None
-delivery_of (ResetOf item closed) = None
-delivery_of Closing = None
+abbrev pub entry_delivery : Entry → Option Delivery
+entry_delivery (LineOf item period quantity cumulative) = Some (record { period = period; quantity = quantity })
+entry_delivery (EndOf item lines cumulative) = None
+entry_delivery (ResetOf item closed) = None
+entry_delivery Closing = None
 
 abbrev pub deliveries : ℕ → List Entry → List Delivery
-deliveries item entries = filter_map delivery_of (entries_of item entries)
+deliveries item entries = filter_map entry_delivery (entries_of item entries)
 
 -- how many lines it has
 abbrev pub line_count : ℕ → List Entry → ℕ

@@ -10,11 +10,11 @@ use Rattle.mrp_record.specs.Form.{FormItem, LaneForm, IsInForm}
 use Rattle.mrp_record.specs.Text.{Load, total, block, IsText, IsWhole, IsBeginning, length_of_text}
 
 -- the loads of a lane: no item has two
-abbrev pub is_same_item : Load → Load → Bool
-is_same_item a b = a.item == b.item
+abbrev pub is_same_load : Load → Load → Bool
+is_same_load a b = a.item == b.item
 
 abbrev pub AreLoads : List Load → Type 0
-AreLoads loads = IsDistinct is_same_item loads
+AreLoads loads = IsDistinct is_same_load loads
 
 -- ---- fronts
 
@@ -118,14 +118,14 @@ AreSmall rising horizon loads = All (IsSmall rising horizon) loads × (length_of
 abbrev pub form_item : Load → FormItem
 form_item load = record { item = load.item; opening = load.opening; reset = load.reset }
 
-abbrev pub form_of : Bool → ℕ → List Load → LaneForm
-form_of rising horizon loads = record { rising = rising; horizon = horizon; items = map form_item loads }
+abbrev pub loads_form : Bool → ℕ → List Load → LaneForm
+loads_form rising horizon loads = record { rising = rising; horizon = horizon; items = map form_item loads }
 
 -- a legal beginning of small loads is in form
 abbrev pub BeginningsAreInForm : Type 0
 BeginningsAreInForm =
     (rising : Bool) (horizon : ℕ) (loads : List Load) → AreLoads loads → AreSmall rising horizon loads
-    → (records : List Record) → IsBeginning loads records → IsInForm (form_of rising horizon loads) records
+    → (records : List Record) → IsBeginning loads records → IsInForm (loads_form rising horizon loads) records
 
 -- no figure of a record is above 10^15
 abbrev pub HasSmallFigures : Entry → Type 0
@@ -161,7 +161,7 @@ pub record IsTold (form : LaneForm) (load : Load) : Type 0 where
 -- the list is a legal beginning of these loads, which are those of a lane of that form
 pub record IsBegunBy (form : LaneForm) (records : List Record) (loads : List Load) : Type 0 where
   pub once : AreLoads loads
-  pub lane : form_of form.rising form.horizon loads ≡ form
+  pub lane : loads_form form.rising form.horizon loads ≡ form
   pub begun : IsBeginning loads records
   pub told : All (IsTold form) loads
 

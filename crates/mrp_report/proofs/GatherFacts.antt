@@ -5,7 +5,7 @@ use Rattle.std.specs.Io.KnownBytes.{Appends}
 use Rattle.std.proofs.lemmas.Grind.{flat_map-append}
 use Rattle.std.proofs.lemmas.List.{take-append-drop}
 use Rattle.csv.proofs.WriteFacts.{appends-more, appends-none}
-use Rattle.mrp_sheet.specs.Sending.{AppendsFront, Sends}
+use Rattle.mrp_sheet.specs.Sending.{AppendsFront, SendsReport}
 use Rattle.mrp_sheet.specs.declared.fault.ReportFault.{ReportFault}
 use Rattle.mrp_sheet.specs.declared.fault.ReportFault.TheVariants.{WriteFault, Memory}
 use Rattle.mrp_sheet.proofs.Fronts.{front-after, front-longer, whole-after}
@@ -64,7 +64,7 @@ gathers-front a b c waits waits' text added front = subst (λ t. AppendsFront a 
 
 -- all that waited was sent, or not
 pub sends-gathered : (sent : Result (Unit {0}) ReportFault) (a b c : Option (List ℕ)) (waits waits' text : List ℕ) → Gathers a b waits waits' text
-    → OnOk sent (Appends b c waits') → OnErr sent (AppendsFront b c waits') → Sends a c sent (waits ++ text)
+    → OnOk sent (Appends b c waits') → OnErr sent (AppendsFront b c waits') → SendsReport a c sent (waits ++ text)
 sends-gathered (Ok _) a b c waits waits' text added whole front = gathers-all a b c waits waits' text added whole
 sends-gathered (Err WriteFault) a b c waits waits' text added whole front = gathers-front a b c waits waits' text added front
 sends-gathered (Err Memory) a b c waits waits' text added whole front = tt

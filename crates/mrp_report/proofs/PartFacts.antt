@@ -4,7 +4,7 @@ use Rattle.std.specs.List.{flat_map, range_with_len}
 use Rattle.mrp_lot.specs.One.{PlanRows}
 use Rattle.mrp_sheet.specs.Rows.{row}
 use Rattle.mrp_report.specs.Parts.{pair_part, parts_row, parts_text, period_at}
-use Rattle.mrp_sheet.specs.DateLists.{date_at}
+use Rattle.mrp_sheet.specs.DateLists.{date_in}
 use Rattle.mrp_report.specs.Report.{pair_text, plan_fields}
 
 -- the row of the parts is the row of the fields
@@ -17,4 +17,4 @@ pub parts_text_is : (plant item : List ℕ) (dates : List (List ℕ)) (rows : Pl
     → parts_text (pair_part plant item) dates rows ≡ pair_text plant item dates rows
 unfolding parts_text pair_text
 parts_text_is plant item dates rows =
-    λ i. flat_map (λ t. parts_row_is plant item (date_at dates t) rows t i) (range_with_len 0 (length dates))
+    λ i. flat_map (λ t. parts_row_is plant item (date_in dates t) rows t i) (range_with_len 0 (length dates))

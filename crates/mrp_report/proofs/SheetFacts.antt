@@ -23,14 +23,14 @@ use Rattle.mrp_plan.specs.declared.terms.PegSource.TheVariants.{Demand, Bill, Pl
 use Rattle.mrp_book.specs.declared.figure.LaneFigure.{LaneFigure}
 use Rattle.mrp_sheet.specs.Dates.{dates_of}
 use Rattle.mrp_report.specs.Headings.{code_names, lane_names, order_names, peg_names, pegs_names}
-use Rattle.mrp_report.specs.Lanes.{figure_fields, figure_row, kind_word, lane_text}
+use Rattle.mrp_report.specs.Lanes.{figure_fields, figure_row, lane_kind_word, lane_text}
 use Rattle.mrp_report.specs.Laws.{CodesAreReadBack, FiguresAreReadBack, LateOrdersAreReadBack, OrdersAreReadBack, PegsAreReadBack, PlanIsReadBack, PlanWithLateOrdersIsReadBack, TermsAreReadBack}
-use Rattle.mrp_report.specs.Orders.{order_fields, order_row, order_text, orders_text, pair_orders_text, supply_at}
+use Rattle.mrp_report.specs.Orders.{order_fields, planned_order_row, order_text, orders_text, pair_orders_text, spelled_supply}
 use Rattle.mrp_report.specs.Pegs.{pair_pegs_text, pegs_fields, pegs_row, pegs_text, period_pegs_text}
 use Rattle.mrp_report.specs.Report.{late_fields, late_text, pair_text, plan_fields, plan_text}
 use Rattle.mrp_report.specs.Codes.{code_fields, code_row, code_text}
 use Rattle.mrp_report.specs.Terms.{peg_fields, peg_row, peg_text, source_word}
-use Rattle.mrp_sheet.specs.DateLists.{date_at}
+use Rattle.mrp_sheet.specs.DateLists.{date_in}
 use Rattle.mrp_sheet.specs.Names.{item_of, pairs_of, plant_of}
 use Rattle.mrp_sheet.specs.Rows.{row}
 use Rattle.mrp_sheet.specs.Sheets.{IsPlain}
@@ -56,7 +56,7 @@ plan_is_row plant item date rows t p i d = record {
 
 pair_is_sheet : (plant item : List ℕ) (dates : List (List ℕ)) (rows : PlanRows) → pair_text plant item dates rows ≡ flat_map row (pair_sheet plant item dates rows)
 unfolding pair_text
-pair_is_sheet plant item dates rows = row_each (λ t. plan_fields plant item (date_at dates t) rows t) (range_with_len 0 (length dates))
+pair_is_sheet plant item dates rows = row_each (λ t. plan_fields plant item (date_in dates t) rows t) (range_with_len 0 (length dates))
 
 plan_is_sheet : (N : Table) (table : List PlanRows) → plan_text N table ≡ flat_map row (plan_sheet N table)
 unfolding plan_text
@@ -68,8 +68,8 @@ plan_is_sheet N table =
 plan_rows_are : (N : Table) → IsTable N → (table : List PlanRows) → All IsRow (plan_sheet N table)
 plan_rows_are N is table =
     all_each (λ x. pair_sheet (plant_of N x) (item_of N x) (dates_of N.calendar) (rows_at table x))
-    (λ x. all_map (λ t. plan_fields (plant_of N x) (item_of N x) (date_at (dates_of N.calendar) t) (rows_at table x) t)
-    (λ t. plan_is_row (plant_of N x) (item_of N x) (date_at (dates_of N.calendar) t) (rows_at table x) t
+    (λ x. all_map (λ t. plan_fields (plant_of N x) (item_of N x) (date_in (dates_of N.calendar) t) (rows_at table x) t)
+    (λ t. plan_is_row (plant_of N x) (item_of N x) (date_in (dates_of N.calendar) t) (rows_at table x) t
     (plant_plain N is (pair_at N x).plant.0) (item_plain N is (pair_at N x).item.0) (dates_plain N.calendar t))
     (range_with_len 0 (length (dates_of N.calendar))))
     (pairs_of N)
@@ -231,7 +231,7 @@ code_is_read N is heading levels =
 
 -- ---- figures of lanes
 
-kind_plain : (kind : LaneKind) → IsPlain (kind_word kind)
+kind_plain : (kind : LaneKind) → IsPlain (lane_kind_word kind)
 kind_plain Despatch = refl
 kind_plain Schedule = refl
 
@@ -270,7 +270,7 @@ lane_is_read N is heading figures =
 -- ---- planned orders
 
 order_is_row : (plant item supply : List ℕ) (dates : List (List ℕ)) (order : PlannedOrder) → IsPlain plant → IsPlain item → IsPlain supply
-    → ((t : ℕ) → IsPlain (date_at dates t)) → IsRow (order_fields plant item supply dates order)
+    → ((t : ℕ) → IsPlain (date_in dates t)) → IsRow (order_fields plant item supply dates order)
 unfolding row strip_bom
 order_is_row plant item supply dates order p i s d = record {
   plain =
@@ -294,16 +294,16 @@ order_names_are_row = record {
 }
 
 planned_are_sheet : (until : Option ℕ) (N : Table) (table : List PlanRows) → orders_text until N table ≡ flat_map row (flat_map (pair_orders_sheet until N table) (pairs_of N))
-unfolding orders_text pair_orders_text order_row
+unfolding orders_text pair_orders_text planned_order_row
 planned_are_sheet until N table =
     rows_each (pair_orders_text until N table) (pair_orders_sheet until N table)
-    (λ x. row_each (order_fields (plant_of N x) (item_of N x) (supply_at N x) (dates_of N.calendar)) (orders_by until N table x)) (pairs_of N)
+    (λ x. row_each (order_fields (plant_of N x) (item_of N x) (spelled_supply N x) (dates_of N.calendar)) (orders_by until N table x)) (pairs_of N)
 
 planned_rows_are : (until : Option ℕ) (N : Table) → IsTable N → (table : List PlanRows) → All IsRow (flat_map (pair_orders_sheet until N table) (pairs_of N))
 planned_rows_are until N is table =
     all_each (pair_orders_sheet until N table)
-    (λ x. all_map (order_fields (plant_of N x) (item_of N x) (supply_at N x) (dates_of N.calendar))
-    (λ order. order_is_row (plant_of N x) (item_of N x) (supply_at N x) (dates_of N.calendar) order (plant_plain N is (pair_at N x).plant.0)
+    (λ x. all_map (order_fields (plant_of N x) (item_of N x) (spelled_supply N x) (dates_of N.calendar))
+    (λ order. order_is_row (plant_of N x) (item_of N x) (spelled_supply N x) (dates_of N.calendar) order (plant_plain N is (pair_at N x).plant.0)
     (item_plain N is (pair_at N x).item.0) (supply_plain N is x) (dates_plain N.calendar))
     (orders_by until N table x))
     (pairs_of N)

@@ -20,7 +20,7 @@ use Rattle.mrp_net.specs.Edges.{bill_edge, edges, source_edge, suppliers}
 use Rattle.mrp_net.specs.Sums.{no_pair, pair_at}
 use Rattle.mrp_net.proofs.Local.{source_pairs_are_there}
 use Rattle.mrp_net.proofs.Routing.{filter-map}
-use Rattle.mrp_report.specs.Orders.{source_part, supply_at}
+use Rattle.mrp_report.specs.Orders.{source_part, spelled_supply}
 use Rattle.mrp_sheet.specs.Names.{plant_of}
 use Rattle.mrp_spell.specs.Supplies.{supply_text}
 use Rattle.mrp_grammar.specs.Written.{plant_name, supply_said}
@@ -273,10 +273,10 @@ next_source N x low before now edge table h from w found = go w.rest w.all w.sha
         (is_next s rest all at (first_begins low s rest shares).1 (in_middle (IsSource N) w.done s rest (subst (All (IsSource N)) all (sources_are N x table))))
 
 written_all : (N : Table) (x low : ℕ) (now : List ℕ) → IsTable N → IsPair N x → (pair_at N x).supply ≡ From → Written N x low (codes "from") now
-    → find (λ e. eqb e.low low) (suppliers N x) ≡ None → now ≡ supply_at N x
+    → find (λ e. eqb e.low low) (suppliers N x) ≡ None → now ≡ spelled_supply N x
 written_all N x low now table h from w none = go w.rest w.all w.shares
   where
-    go : (rest : List SourceRow) → sources_of_pair N x ≡ w.done ++ rest → AreShares low rest → now ≡ supply_at N x
+    go : (rest : List SourceRow) → sources_of_pair N x ≡ w.done ++ rest → AreShares low rest → now ≡ spelled_supply N x
     go [] all shares =
         w.text
         ∙ ap (λ (ss : List SourceRow). codes "from" ++ flat_map (said_part N) ss) (sym (append-nil w.done) ∙ sym all)
@@ -294,6 +294,6 @@ next_read N x low before now read answer edge table h from w are found is =
     next_source N x low before now edge table h from w (ap (find (λ e. eqb e.low low)) (sym are) ∙ sym found ∙ is)
 
 pub all_read : (N : Table) (x low : ℕ) (now : List ℕ) (read : List Edge) (answer : Option Edge) → IsTable N → IsPair N x → (pair_at N x).supply ≡ From
-    → Written N x low (codes "from") now → read ≡ suppliers N x → answer ≡ find (λ e. eqb e.low low) read → answer ≡ None → now ≡ supply_at N x
+    → Written N x low (codes "from") now → read ≡ suppliers N x → answer ≡ find (λ e. eqb e.low low) read → answer ≡ None → now ≡ spelled_supply N x
 all_read N x low now read answer table h from w are found is =
     written_all N x low now table h from w (ap (find (λ e. eqb e.low low)) (sym are) ∙ sym found ∙ is)

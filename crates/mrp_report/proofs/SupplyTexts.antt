@@ -11,7 +11,7 @@ use Rattle.mrp_rows.specs.declared.rows.Supply.TheVariants as supply
 use Rattle.mrp_rows.specs.Table.{AreShares, IsSourceRow, IsTable, sources_of_pair, Table}
 use Rattle.mrp_grammar.specs.Written.{plant_name, source_said, supply_said}
 use Rattle.mrp_net.specs.Sums.{pair_at}
-use Rattle.mrp_report.specs.Orders.{share_part, source_part, supply_at}
+use Rattle.mrp_report.specs.Orders.{share_part, source_part, spelled_supply}
 use Rattle.mrp_sheet.specs.Sheets.{IsPlain}
 use Rattle.mrp_sheet.proofs.PlainFacts.{number_plain, plant_plain}
 
@@ -53,7 +53,7 @@ said_plain N is x supply.Make = refl
 said_plain N is x supply.Buy = refl
 said_plain N is x supply.From = both_plain (codes "from:") (sources_text (map (source_said N) (sources_of_pair N x))) refl (sources_plain N is (sources_of_pair N x))
 
-pub supply_plain : (N : Table) → IsTable N → (x : ℕ) → IsPlain (supply_at N x)
+pub supply_plain : (N : Table) → IsTable N → (x : ℕ) → IsPlain (spelled_supply N x)
 supply_plain N is x = said_plain N is x (pair_at N x).supply
 
 -- ---- source after source

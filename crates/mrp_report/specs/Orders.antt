@@ -13,29 +13,29 @@ use Rattle.mrp_plan.specs.declared.orders.PlannedOrder.{PlannedOrder}
 use Rattle.mrp_sheet.specs.Dates.{dates_of}
 use Rattle.mrp_sheet.specs.Headings.{header_row}
 use Rattle.mrp_report.specs.Headings.{order_names}
-use Rattle.mrp_sheet.specs.DateLists.{date_at}
+use Rattle.mrp_sheet.specs.DateLists.{date_in}
 use Rattle.mrp_sheet.specs.Names.{item_of, pairs_of, plant_of}
 use Rattle.mrp_sheet.specs.Rows.{row}
 
 -- where a pair comes from, spelled as in its row of the table
-abbrev pub supply_at : Table → ℕ → List ℕ
-supply_at N x = supply_text (supply_said N x (pair_at N x).supply)
+abbrev pub spelled_supply : Table → ℕ → List ℕ
+spelled_supply N x = supply_text (supply_said N x (pair_at N x).supply)
 
 -- the fields of the row of an order: what is ordered, when it is released and due, each with the first day of the period,
 -- and how many periods are missing
 abbrev pub order_fields : List ℕ → List ℕ → List ℕ → List (List ℕ) → PlannedOrder → List (List ℕ)
 order_fields plant item supply dates order =
-    text_bytes "order" ∷ plant ∷ item ∷ supply ∷ decimal order.quantity ∷ decimal order.release ∷ date_at dates order.release
-    ∷ decimal order.due ∷ date_at dates order.due ∷ decimal order.late ∷ []
+    text_bytes "order" ∷ plant ∷ item ∷ supply ∷ decimal order.quantity ∷ decimal order.release ∷ date_in dates order.release
+    ∷ decimal order.due ∷ date_in dates order.due ∷ decimal order.late ∷ []
 
 -- that row
-unfoldable pub order_row : List ℕ → List ℕ → List ℕ → List (List ℕ) → PlannedOrder → List ℕ
-order_row plant item supply dates order = row (order_fields plant item supply dates order)
+unfoldable pub planned_order_row : List ℕ → List ℕ → List ℕ → List (List ℕ) → PlannedOrder → List ℕ
+planned_order_row plant item supply dates order = row (order_fields plant item supply dates order)
 
 -- the rows of a pair's orders that are released by then, in rising due period
 unfoldable pub pair_orders_text : Option ℕ → Table → List PlanRows → ℕ → List ℕ
 pair_orders_text until N table x =
-    flat_map (order_row (plant_of N x) (item_of N x) (supply_at N x) (dates_of N.calendar)) (orders_by until N table x)
+    flat_map (planned_order_row (plant_of N x) (item_of N x) (spelled_supply N x) (dates_of N.calendar)) (orders_by until N table x)
 
 -- the orders of each pair, in table order
 unfoldable pub orders_text : Option ℕ → Table → List PlanRows → List ℕ

@@ -5,7 +5,7 @@ use Rattle.mrp_lot.specs.One.{PlanRows}
 use Rattle.mrp_lot.specs.declared.params.Late.{Late}
 use Rattle.mrp_rows.specs.Table.{Table}
 use Rattle.mrp_net.specs.Plan.{rows_at}
-use Rattle.mrp_sheet.specs.DateLists.{date_at}
+use Rattle.mrp_sheet.specs.DateLists.{date_in}
 use Rattle.mrp_sheet.specs.Dates.{dates_of}
 use Rattle.mrp_sheet.specs.Names.{item_of, plant_of}
 use Rattle.mrp_sheet.specs.Rows.{row}
@@ -43,7 +43,7 @@ parts_row pair date period = row (pair ∷ period_part date period ∷ [])
 -- the rows of a pair, one for each date, in rising period
 unfoldable pub parts_text : List ℕ → List (List ℕ) → PlanRows → List ℕ
 parts_text pair dates rows =
-    flat_map (λ t. parts_row pair (date_at dates t) (period_at rows t)) (range_with_len 0 (length dates))
+    flat_map (λ t. parts_row pair (date_in dates t) (period_at rows t)) (range_with_len 0 (length dates))
 
 -- the rows of so many pairs from one on, in table order
 unfoldable pub pairs_text : Table → List PlanRows → ℕ → ℕ → List ℕ

@@ -6,7 +6,7 @@ ghost use Rattle.mrp_loops.specs.Loop.{AreCodes};
 ghost use Rattle.mrp_report.specs.Headings.{code_names};
 ghost use Rattle.mrp_sheet.specs.Headings.{header_row};
 ghost use Rattle.mrp_sheet.specs.Writing.{IsBetweenRows, written};
-ghost use Rattle.mrp_sheet.specs.Sending.{Sends};
+ghost use Rattle.mrp_sheet.specs.Sending.{SendsReport};
 ghost use Rattle.mrp_report.specs.Codes.{code_row, code_text};
 
 use csv::Writer;
@@ -38,7 +38,7 @@ pub fn code_rows<W: Write>(
     out: &mut W,
 ) -> Result<(), ReportFault>
     requires { AreCodes network.now levels.now }
-    ensures text { Sends (W.contents out.old) (W.contents out.new) result (header_row heading code_names ++ code_text network.now levels.now) }
+    ensures text { SendsReport (W.contents out.old) (W.contents out.new) result (header_row heading code_names ++ code_text network.now levels.now) }
     ensures untouched { result ≡ Err ReportFault.Memory → out.new ≡ out.old }
 {
     let text = code_text(alloc, network, levels, heading)?;

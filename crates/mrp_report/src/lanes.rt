@@ -4,9 +4,9 @@ ghost use Rattle.std.specs.Prelude.{◌≡◌, ◌++◌, ◌<◌, Err, OnOk, IfO
 ghost use Rattle.mrp_net.specs.Lanes.{lanes};
 ghost use Rattle.mrp_sheet.specs.Headings.{header_row};
 ghost use Rattle.mrp_report.specs.Headings.{lane_names};
-ghost use Rattle.mrp_report.specs.Lanes.{kind_word, lane_row, lane_text, IsFigure};
+ghost use Rattle.mrp_report.specs.Lanes.{lane_kind_word, lane_row, lane_text, IsFigure};
 ghost use Rattle.mrp_sheet.specs.Writing.{IsBetweenRows, written};
-ghost use Rattle.mrp_sheet.specs.Sending.{Sends};
+ghost use Rattle.mrp_sheet.specs.Sending.{SendsReport};
 
 use csv::Writer;
 use itoa::Buffer;
@@ -41,7 +41,7 @@ pub fn lane_rows<W: Write>(
     out: &mut W,
 ) -> Result<(), ReportFault>
     requires { All (IsFigure network.now) figures.now }
-    ensures text { Sends (W.contents out.old) (W.contents out.new) result (header_row heading lane_names ++ lane_text network.now figures.now) }
+    ensures text { SendsReport (W.contents out.old) (W.contents out.new) result (header_row heading lane_names ++ lane_text network.now figures.now) }
     ensures untouched { result ≡ Err ReportFault.Memory → out.new ≡ out.old }
 {
     let text = lane_text(alloc, network, figures, heading)?;
@@ -93,7 +93,7 @@ fn put_lane_names(rows: &mut Writer<Vec<u8>>, heading: Heading) -> Result<(), Re
 
 /// What a row calls the kind of a lane.
 fn kind_word<'a>(kind: LaneKind) -> &'a [u8]
-    ensures { result.now ≡ kind_word kind }
+    ensures { result.now ≡ lane_kind_word kind }
 {
     match kind {
         LaneKind::Despatch => b"despatch",

@@ -4,7 +4,7 @@ ghost use Rattle.std.specs.Prelude.{◌≡◌, ◌++◌, Err, OnOk, IfOk, IfErr}
 ghost use Rattle.std.specs.List.{flat_map};
 ghost use Rattle.mrp_net.specs.Plan.{Fits};
 ghost use Rattle.mrp_sheet.specs.Writing.{IsBetweenRows, written};
-ghost use Rattle.mrp_sheet.specs.Sending.{Sends};
+ghost use Rattle.mrp_sheet.specs.Sending.{SendsReport};
 ghost use Rattle.mrp_report.specs.Report.{late_text};
 ghost use Rattle.mrp_report.specs.Parts.{late_row};
 
@@ -37,7 +37,7 @@ pub fn late_rows<W: Write>(
     out: &mut W,
 ) -> Result<(), ReportFault>
     requires fits { Fits net.now.network plan.now }
-    ensures text { Sends (W.contents out.old) (W.contents out.new) result (late_text net.now.network plan.now) }
+    ensures text { SendsReport (W.contents out.old) (W.contents out.new) result (late_text net.now.network plan.now) }
     ensures untouched { result ≡ Err ReportFault.Memory → out.new ≡ out.old }
 {
     let text = late_text(alloc, net, plan)?;

@@ -6,10 +6,10 @@ ghost use Rattle.mrp_net.specs.Plan.{Fits};
 ghost use Rattle.mrp_sheet.specs.Dates.{dates_of};
 ghost use Rattle.mrp_sheet.specs.Headings.{header_row};
 ghost use Rattle.mrp_report.specs.Headings.{order_names};
-ghost use Rattle.mrp_report.specs.Orders.{order_text, orders_text, pair_orders_text, supply_at};
-ghost use Rattle.mrp_report.specs.OrderLines.{IsLine, due_text, line_row, line_text};
+ghost use Rattle.mrp_report.specs.Orders.{order_text, orders_text, pair_orders_text, spelled_supply};
+ghost use Rattle.mrp_report.specs.OrderLines.{IsOrderLine, due_text, order_line_row, order_line_text};
 ghost use Rattle.mrp_sheet.specs.Writing.{IsBetweenRows, written};
-ghost use Rattle.mrp_sheet.specs.Sending.{Sends};
+ghost use Rattle.mrp_sheet.specs.Sending.{SendsReport};
 
 use crate::supply::put_supply;
 use csv::Writer;
@@ -72,7 +72,7 @@ pub fn order_rows<W: Write>(
     out: &mut W,
 ) -> Result<(), ReportFault>
     requires fits { Fits net.now.network plan.now }
-    ensures text { Sends (W.contents out.old) (W.contents out.new) result (order_text heading until net.now.network plan.now) }
+    ensures text { SendsReport (W.contents out.old) (W.contents out.new) result (order_text heading until net.now.network plan.now) }
     ensures untouched { result ≡ Err ReportFault.Memory → out.new ≡ out.old }
 {
     let network = net.network();
@@ -162,7 +162,7 @@ fn put_pair_orders(
     requires fits { Fits report.now.network.now report.now.plan.now }
     requires dates { report.now.dates.now ≡ dates_of report.now.network.now.calendar }
     requires pair { IsPair report.now.network.now x.0 }
-    requires supply { supply.now ≡ supply_at report.now.network.now x.0 }
+    requires supply { supply.now ≡ spelled_supply report.now.network.now x.0 }
     ensures rows { OnOk result (written rows.new ≡ written rows.old ++ pair_orders_text report.now.until report.now.network.now report.now.plan.now x.0) }
     ensures between { OnOk result (IsBetweenRows rows.new) }
     ensures fault { IfErr result (λ fault. fault ≡ ReportFault.Memory) }
@@ -175,8 +175,8 @@ fn put_pair_orders(
 fn line_of<'a>(report: &OrderReport<'a>, x: PairNo, supply: &'a [u8]) -> OrderLine<'a>
     requires dates { report.now.dates.now ≡ dates_of report.now.network.now.calendar }
     requires pair { IsPair report.now.network.now x.0 }
-    requires supply { supply.now ≡ supply_at report.now.network.now x.0 }
-    ensures { IsLine report.now.network.now x.0 report.now.until result }
+    requires supply { supply.now ≡ spelled_supply report.now.network.now x.0 }
+    ensures { IsOrderLine report.now.network.now x.0 report.now.until result }
 {
     let (plant, item) = report.network.pair_name(x);
     OrderLine {
@@ -197,7 +197,7 @@ fn put_orders(
 ) -> Result<(), ReportFault>
     requires between { IsBetweenRows rows.old }
     requires periods { length plan.now.order ≡ length line.now.dates.now }
-    ensures rows { OnOk result (written rows.new ≡ written rows.old ++ line_text line.now plan.now) }
+    ensures rows { OnOk result (written rows.new ≡ written rows.old ++ order_line_text line.now plan.now) }
     ensures between { OnOk result (IsBetweenRows rows.new) }
     ensures fault { IfErr result (λ fault. fault ≡ ReportFault.Memory) }
 {
@@ -236,7 +236,7 @@ fn put_order(
     requires between { IsBetweenRows rows.old }
     requires release { order.release < length line.now.dates.now }
     requires due { order.due < length line.now.dates.now }
-    ensures row { OnOk result (written rows.new ≡ written rows.old ++ line_row line.now order) }
+    ensures row { OnOk result (written rows.new ≡ written rows.old ++ order_line_row line.now order) }
     ensures between { OnOk result (IsBetweenRows rows.new) }
     ensures fault { IfErr result (λ fault. fault ≡ ReportFault.Memory) }
 {

@@ -6,7 +6,7 @@ ghost use Rattle.mrp_rows.specs.Table.{IsPair, IsTable, horizon};
 ghost use Rattle.mrp_net.specs.Plan.{Fits};
 ghost use Rattle.mrp_plan.specs.Peg.{IsPeggable};
 ghost use Rattle.mrp_sheet.specs.Headings.{header_row};
-ghost use Rattle.mrp_sheet.specs.Sending.{AppendsFront, Sends};
+ghost use Rattle.mrp_sheet.specs.Sending.{AppendsFront, SendsReport};
 ghost use Rattle.mrp_report.specs.Gathering.{Gathers};
 ghost use Rattle.mrp_report.specs.Headings.{pegs_names};
 ghost use Rattle.mrp_report.specs.Pegs.{pair_pegs_text, pegs_text, period_pegs_text};
@@ -60,7 +60,7 @@ pub fn pegs_rows<W: Write>(
     out: &mut W,
 ) -> Result<(), ReportFault>
     requires fits { Fits net.now.network plan.now }
-    ensures text { Sends (W.contents out.old) (W.contents out.new) result (header_row heading pegs_names ++ pegs_text net.now.network plan.now) }
+    ensures text { SendsReport (W.contents out.old) (W.contents out.new) result (header_row heading pegs_names ++ pegs_text net.now.network plan.now) }
     ensures untouched { result ≡ Err ReportFault.Memory → out.new ≡ out.old }
 {
     let mut room = Room::new(alloc, heading_text(heading))?;
@@ -88,7 +88,7 @@ fn send_pegs<W: Write>(
     out: &mut W,
 ) -> Result<(), ReportFault>
     requires fits { Fits network.now plan.now }
-    ensures text { Sends (W.contents out.old) (W.contents out.new) result (room.old ++ pegs_text network.now plan.now) }
+    ensures text { SendsReport (W.contents out.old) (W.contents out.new) result (room.old ++ pegs_text network.now plan.now) }
     ensures fault { IfErr result (λ fault. fault ≡ ReportFault.WriteFault) }
 {
     put_pegs(room, network, plan, out)?;

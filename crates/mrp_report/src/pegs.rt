@@ -5,7 +5,7 @@ ghost use Rattle.mrp_rows.specs.Table.{IsPair};
 ghost use Rattle.mrp_sheet.specs.Headings.{header_row};
 ghost use Rattle.mrp_report.specs.Headings.{peg_names};
 ghost use Rattle.mrp_sheet.specs.Writing.{IsBetweenRows, written};
-ghost use Rattle.mrp_sheet.specs.Sending.{Sends};
+ghost use Rattle.mrp_sheet.specs.Sending.{SendsReport};
 ghost use Rattle.mrp_report.specs.Terms.{peg_row, peg_text, source_word};
 
 use csv::Writer;
@@ -41,7 +41,7 @@ pub fn peg_rows<W: Write>(
     out: &mut W,
 ) -> Result<(), ReportFault>
     requires { All (λ term. IsPair net.now.network term.pair.0) terms.now }
-    ensures text { Sends (W.contents out.old) (W.contents out.new) result (header_row heading peg_names ++ peg_text net.now.network terms.now) }
+    ensures text { SendsReport (W.contents out.old) (W.contents out.new) result (header_row heading peg_names ++ peg_text net.now.network terms.now) }
     ensures untouched { result ≡ Err ReportFault.Memory → out.new ≡ out.old }
 {
     let text = peg_text(alloc, net.network(), terms, heading)?;

@@ -7,7 +7,7 @@ ghost use Rattle.mrp_rows.specs.Table.{IsTable};
 ghost use Rattle.mrp_net.specs.Plan.{Fits};
 ghost use Rattle.mrp_sheet.specs.Rows.{row};
 ghost use Rattle.std.specs.Io.KnownBytes.{Appends};
-ghost use Rattle.mrp_sheet.specs.Sending.{AppendsFront, Sends};
+ghost use Rattle.mrp_sheet.specs.Sending.{AppendsFront, SendsReport};
 ghost use Rattle.mrp_sheet.specs.Dates.{dates_of};
 ghost use Rattle.mrp_report.specs.Parts.{pair_part, parts_text, period_part};
 ghost use Rattle.mrp_report.specs.Report.{plan_text};
@@ -72,7 +72,7 @@ pub fn plan_rows<W: Write>(
     out: &mut W,
 ) -> Result<(), ReportFault>
     requires fits { Fits net.now.network plan.now }
-    ensures text { Sends (W.contents out.old) (W.contents out.new) result (plan_text net.now.network plan.now) }
+    ensures text { SendsReport (W.contents out.old) (W.contents out.new) result (plan_text net.now.network plan.now) }
     ensures untouched { result ≡ Err ReportFault.Memory → out.new ≡ out.old }
 {
     let network = net.network();
@@ -97,7 +97,7 @@ fn send_pieces<W: Write>(
     requires fits { Fits report.now.network.now report.now.plan.now }
     requires dates { report.now.dates.now ≡ dates_of report.now.network.now.calendar }
     requires room { PAIRS_AT_ONCE * (length report.now.dates.now * LONGEST_ROW) ≤ length room.old }
-    ensures text { Sends (W.contents out.old) (W.contents out.new) result (plan_text report.now.network.now report.now.plan.now) }
+    ensures text { SendsReport (W.contents out.old) (W.contents out.new) result (plan_text report.now.network.now report.now.plan.now) }
     ensures fault { IfErr result (λ fault. fault ≡ ReportFault.WriteFault) }
 {
     let pairs = report.network.pairs();

@@ -6,7 +6,7 @@ ghost use Rattle.mrp_rows.specs.declared.rows.Supply.TheVariants.{From};
 ghost use Rattle.mrp_rows.specs.Table.{IsPair};
 ghost use Rattle.mrp_net.specs.Sums.{pair_at};
 ghost use Rattle.mrp_sheet.specs.Names.{plant_of};
-ghost use Rattle.mrp_report.specs.Orders.{share_part, source_part, supply_at};
+ghost use Rattle.mrp_report.specs.Orders.{share_part, source_part, spelled_supply};
 
 use itoa::Buffer;
 use mrp_net::{Edge, Network, PairNo, Supply};
@@ -20,7 +20,7 @@ pub(crate) fn put_supply(
     x: PairNo,
 ) -> Result<(), ReportFault>
     requires { IsPair network.now x.0 }
-    ensures text { OnOk result (text.new.items ≡ supply_at network.now x.0) }
+    ensures text { OnOk result (text.new.items ≡ spelled_supply network.now x.0) }
     ensures fault { IfErr result (λ fault. fault ≡ ReportFault.Memory) }
 {
     text.clear();
@@ -37,7 +37,7 @@ fn put_sources(text: &mut Vec<u8>, network: &Network, x: PairNo) -> Result<(), R
     requires pair { IsPair network.now x.0 }
     requires from { (pair_at network.now x.0).supply ≡ From }
     requires empty { text.old.items ≡ [] }
-    ensures text { OnOk result (text.new.items ≡ supply_at network.now x.0) }
+    ensures text { OnOk result (text.new.items ≡ spelled_supply network.now x.0) }
     ensures fault { IfErr result (λ fault. fault ≡ ReportFault.Memory) }
 {
     let edges = network.suppliers(x);

@@ -14,7 +14,7 @@ use Rattle.mrp_events.proofs.Keeping.{changed_by}
 use Rattle.mrp_history.specs.Stamps.{IsExplained, Passage}
 use Rattle.mrp_history.proofs.Passing.{taken_is_explained}
 use Rattle.mrp_lane.specs.Ends.{End, Name, HasLegalList, IsStampedOnce}
-use Rattle.mrp_agent.specs.Shows.{Shows, BooksShow, form_of}
+use Rattle.mrp_agent.specs.Shows.{ShowsHistory, BooksShow, form_of}
 use Rattle.mrp_agent.specs.State.{AgentState, incoming_at, incoming_place}
 use Rattle.mrp_agent.proofs.Formed.{legal_in_form}
 use Rattle.mrp_agent.proofs.Placed.{in_placed}
@@ -78,7 +78,7 @@ module _ (A : AgentState) (s t : List End) (k l : ℕ) (x y e : End) (r : Record
       (taken_is_explained N p (state_of w.sent w.taken w.planned) (passages s) (passages t) w.explained k (passage x) (passage e) r stamp more was)
 
   pub booked_kept : IsStampedOnce y.stamps e.stamps → (B : AgentState) → B.view ≡ A.view
-      → ((sent taken : ℕ → List Record) (planned : ℕ → Bool) → Shows A sent taken planned → Shows B sent (changed taken l (taken l ++ r ∷ [])) planned)
+      → ((sent taken : ℕ → List Record) (planned : ℕ → Bool) → ShowsHistory A sent taken planned → ShowsHistory B sent (changed taken l (taken l ++ r ∷ [])) planned)
       → Kept A s t B s (set t k e)
   booked_kept stamped B view booked = record {
     view = view;
@@ -95,7 +95,7 @@ module _ (A : AgentState) (s t : List End) (k l : ℕ) (x y e : End) (r : Record
             changed_by (λ (z : List Record). IsBeginning (loads N (lane_at N n)) z) w.taken e.name.lane (w.taken e.name.lane ++ r ∷ []) n
             (λ here. subst (λ (j : ℕ). IsBeginning (loads N (lane_at N j)) (w.taken e.name.lane ++ r ∷ [])) (sym here) (legal_there N p w))
             (w.works.legal n there receiver);
-        shows = subst (λ (n : ℕ). Shows B w.sent (changed w.taken n (w.taken n ++ r ∷ [])) w.planned) (sym of_lane) (booked w.sent w.taken w.planned w.works.shows);
+        shows = subst (λ (n : ℕ). ShowsHistory B w.sent (changed w.taken n (w.taken n ++ r ∷ [])) w.planned) (sym of_lane) (booked w.sent w.taken w.planned w.works.shows);
       };
       sends_are = w.sends_are;
       takes_are = one_more N (lanes_to N p) (lanes_rise N (comes_to N p)) w.taken t w.takes_are k x e r within name list;

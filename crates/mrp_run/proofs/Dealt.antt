@@ -10,7 +10,7 @@ use Rattle.mrp_net.specs.Lanes.{lane_at}
 use Rattle.mrp_net.specs.Texts.{longest_text}
 use Rattle.mrp_lane.specs.Ends.{End, Name}
 use Rattle.mrp_run.specs.declared.plant.Plant.{Plant}
-use Rattle.mrp_run.specs.Ends.{AreNames, EachAt, is_from, is_to, IsEmpty, IsIdle, AreIdle, HasRoom, HaveFirst}
+use Rattle.mrp_run.specs.Ends.{AreNames, EachAt, is_from, is_to, IsEmpty, IsIdle, AreIdle, HasMailboxRoom, HaveFirst}
 use Rattle.mrp_run.specs.Plant.{names}
 use Rattle.mrp_run.proofs.DealtLists.{each_push, each_set, kept_last, dropped_last}
 
@@ -111,17 +111,17 @@ takes_dealt N ns ts plants at P e new within is grown owner empty idle = record 
 
 -- ---- both ends of the next lane
 
-pub have_next : (N : Table) (capacity l : ℕ) (ns : List Name) (n m : Name) (plants : List Plant) → AreNames N l ns → All (HasRoom N capacity) ns → n.lane ≡ l → n.network ≡ N → n ≡ m
+pub have_next : (N : Table) (capacity l : ℕ) (ns : List Name) (n m : Name) (plants : List Plant) → AreNames N l ns → All (HasMailboxRoom N capacity) ns → n.lane ≡ l → n.network ≡ N → n ≡ m
     → n.room ≡ min capacity (longest_text N (lane_at N l)) → AreIdle N (ns ++ n ∷ []) (ns ++ m ∷ []) plants → HaveFirst N capacity (l + 1) plants
 have_next N capacity l ns n m plants first rooms lane network same room idle = record {
   names = ns ++ n ∷ [];
   first_lanes = subst (λ (k : ℕ). AreNames N k (ns ++ n ∷ [])) (sym (add-one l)) (ns, n, refl, lane, network, first);
-  rooms = All-push (HasRoom N capacity) ns n rooms (room ∙ ap (λ (k : ℕ). min capacity (longest_text N (lane_at N k))) (sym lane));
+  rooms = All-push (HasMailboxRoom N capacity) ns n rooms (room ∙ ap (λ (k : ℕ). min capacity (longest_text N (lane_at N k))) (sym lane));
   idle = subst (λ (x : Name). AreIdle N (ns ++ n ∷ []) (ns ++ x ∷ []) plants) (sym same) idle;
 }
 
 pub have_none : (N : Table) (capacity : ℕ) (plants : List Plant) → AreIdle N [] [] plants → HaveFirst N capacity 0 plants
-have_none N capacity plants idle = record { names = []; first_lanes = refl; rooms = All-nil (HasRoom N capacity); idle = idle }
+have_none N capacity plants idle = record { names = []; first_lanes = refl; rooms = All-nil (HasMailboxRoom N capacity); idle = idle }
 
 -- the plants in place
 pub in_place : (old new : List Plant) (len : ℕ) → len ≡ length old → length new ≡ length old → take len (new ++ drop (length new) old) ≡ new

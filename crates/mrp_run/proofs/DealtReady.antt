@@ -15,7 +15,7 @@ use Rattle.mrp_events.specs.State.{opening_state}
 use Rattle.mrp_history.proofs.Passing.{IsUnused, opening_is_explained}
 use Rattle.mrp_lane.specs.Ends.{End, Name}
 use Rattle.mrp_run.specs.declared.plant.Plant.{Plant}
-use Rattle.mrp_run.specs.Ends.{AreNames, is_from, is_to, IsEmpty, IsDealt, IsIdle, HasRoom, HasRooms, HaveFirst, IsReady, AreReady}
+use Rattle.mrp_run.specs.Ends.{AreNames, is_from, is_to, IsEmpty, IsDealt, IsIdle, HasMailboxRoom, HaveMailboxRoom, HaveFirst, IsReadyPlant, AreReady}
 use Rattle.mrp_run.specs.Plant.{AreEnds, names, passage, passages}
 use Rattle.mrp_run.proofs.DealtLists.{all_before_map, filter_through}
 
@@ -54,7 +54,7 @@ are_unused ends empty =
 
 -- ---- the plants
 
-is_ready : (N : Table) (ns : List Name) (p : ℕ) (P : Plant) → IsSized N → AreNames N (length (lanes N)) ns → IsIdle N ns ns p P → IsReady N ns p P
+is_ready : (N : Table) (ns : List Name) (p : ℕ) (P : Plant) → IsSized N → AreNames N (length (lanes N)) ns → IsIdle N ns ns p P → IsReadyPlant N ns p P
 is_ready N ns p P sized all idle = record {
   dealt = idle.dealt;
   works = record {
@@ -84,11 +84,11 @@ are_ready N capacity count plants sized is first =
     }
 
 -- the ends of a plant are some of all
-dealt_rooms : (N : Table) (capacity : ℕ) (ns : List Name) (p : ℕ) (P : Plant) → All (HasRoom N capacity) ns → IsDealt N ns ns p P → HasRooms N capacity P
+dealt_rooms : (N : Table) (capacity : ℕ) (ns : List Name) (p : ℕ) (P : Plant) → All (HasMailboxRoom N capacity) ns → IsDealt N ns ns p P → HaveMailboxRoom N capacity P
 dealt_rooms N capacity ns p P rooms dealt = record {
-  sends = All-same (HasRoom N capacity) (names P.sends.items) (filter (is_from N p) ns) dealt.sends_are (All-filter (is_from N p) (HasRoom N capacity) ns rooms);
-  takes = All-same (HasRoom N capacity) (names P.takes.items) (filter (is_to N p) ns) dealt.takes_are (All-filter (is_to N p) (HasRoom N capacity) ns rooms);
+  sends = All-same (HasMailboxRoom N capacity) (names P.sends.items) (filter (is_from N p) ns) dealt.sends_are (All-filter (is_from N p) (HasMailboxRoom N capacity) ns rooms);
+  takes = All-same (HasMailboxRoom N capacity) (names P.takes.items) (filter (is_to N p) ns) dealt.takes_are (All-filter (is_to N p) (HasMailboxRoom N capacity) ns rooms);
 }
 
-pub have_rooms : (N : Table) (capacity count : ℕ) (plants : List Plant) → HaveFirst N capacity count plants → All (HasRooms N capacity) plants
+pub have_rooms : (N : Table) (capacity count : ℕ) (plants : List Plant) → HaveFirst N capacity count plants → All (HaveMailboxRoom N capacity) plants
 have_rooms N capacity count plants first = λ k d h. dealt_rooms N capacity first.names k _ first.rooms (first.idle.each k d h).dealt

@@ -9,14 +9,14 @@ use Rattle.mrp_record.specs.Entries.{contents, is_closed}
 use Rattle.mrp_local.proofs.Seeing.{sees_pair}
 use Rattle.mrp_lane.specs.Ends.{End}
 use Rattle.mrp_agent.specs.Reading.{HasDone}
-use Rattle.mrp_agent.specs.Shows.{Shows, is_done}
+use Rattle.mrp_agent.specs.Shows.{ShowsHistory, is_done}
 use Rattle.mrp_agent.specs.State.{AgentState}
 use Rattle.mrp_agent.proofs.Network.{planned_pairs_have_the_plan}
-use Rattle.mrp_run.specs.Plant.{AtWork, HasFinished, IsFinished, Kept, lanes_from, lanes_to}
+use Rattle.mrp_run.specs.Plant.{AtWork, HasFinished, AgentIsDone, Kept, lanes_from, lanes_to}
 use Rattle.mrp_run.proofs.Held.{lane_there}
 use Rattle.mrp_run.proofs.Placed.{in_there, out_there}
 
-done_there : (N : Table) (p : ℕ) (A : AgentState) (s t : List End) → (w : AtWork N p A s t) → is_done A ≡ true → ((v : AtWork N p A s t) → HasDone A.view v.sent v.taken v.planned) → IsFinished N p A s t
+done_there : (N : Table) (p : ℕ) (A : AgentState) (s t : List End) → (w : AtWork N p A s t) → is_done A ≡ true → ((v : AtWork N p A s t) → HasDone A.view v.sent v.taken v.planned) → AgentIsDone N p A s t
 done_there N p A s t w done each =
     let all = each w in
     record {
@@ -43,7 +43,7 @@ done_there N p A s t w done each =
 
 -- what was kept and is done has finished
 pub has_finished : (A : AgentState) (s t : List End) (B : AgentState) (s2 t2 : List End) → Kept A s t B s2 t2 → (b : Bool) → b ≡ true → b ≡ is_done B
-    → ((sent taken : ℕ → List Record) (planned : ℕ → Bool) → Shows B sent taken planned → (IsTrue b ↔ HasDone B.view sent taken planned))
+    → ((sent taken : ℕ → List Record) (planned : ℕ → Bool) → ShowsHistory B sent taken planned → (IsTrue b ↔ HasDone B.view sent taken planned))
     → HasFinished A s t B s2 t2
 has_finished A s t B s2 t2 kept b holds is all N p work =
     let w : AtWork N p B s2 t2 = kept.works N p work in

@@ -12,7 +12,7 @@ use Rattle.mrp_view.proofs.Seeing.{numbers_stand_once}
 use Rattle.mrp_loops.specs.Within.{plan_at}
 use Rattle.mrp_local.specs.Laws.{IsPairAt}
 use Rattle.mrp_local.proofs.Seeing.{pairs_are_at}
-use Rattle.mrp_agent.specs.State.{AgentState, no_pair, no_plan, pair_place}
+use Rattle.mrp_agent.specs.State.{AgentState, no_plant_pair, no_plan, pair_place}
 use Rattle.mrp_agent.proofs.Looking.{place_is_only}
 use Rattle.mrp_run.specs.declared.plant.Plant.{Plant}
 use Rattle.mrp_run.specs.Ends.{EachAt, HasPlans, HavePlans}
@@ -21,13 +21,13 @@ use Rattle.mrp_gather.specs.Given.{plans_below}
 -- ---- what an agent gives
 
 -- the plan at a place is the network's plan of the pair there
-plan_given : (N : Table) (p : ℕ) (A : AgentState) → HasPlans N p A → (k : ℕ) → k < length A.view.pairs → get_or A.plans k no_plan ≡ plan_at N (get_or A.view.pairs k no_pair).number.0
+plan_given : (N : Table) (p : ℕ) (A : AgentState) → HasPlans N p A → (k : ℕ) → k < length A.view.pairs → get_or A.plans k no_plan ≡ plan_at N (get_or A.view.pairs k no_plant_pair).number.0
 plan_given N p A has k within =
-    let x : ℕ = (get_or A.view.pairs k no_pair).number.0 in
+    let x : ℕ = (get_or A.view.pairs k no_plant_pair).number.0 in
     let own : All (λ q. IsPairAt N p q.number.0) A.view.pairs = subst (λ (V : PlantRows). All (λ q. IsPairAt N p q.number.0) V.pairs) (sym has.view) (pairs_are_at N p) in
     let once : pairs_of_number x A.view.pairs ≤ 1 = subst (λ (V : PlantRows). pairs_of_number x V.pairs ≤ 1) (sym has.view) (numbers_stand_once N p x) in
-    let place : pair_place A.view x ≡ k = place_is_only (λ (q : PlantPair). q.number.0 == x) A.view.pairs k no_pair once within (eq-eqb x x refl) in
-    sym (ap (λ (n : ℕ). get_or A.plans n no_plan) place) ∙ has.plans x (own k no_pair within)
+    let place : pair_place A.view x ≡ k = place_is_only (λ (q : PlantPair). q.number.0 == x) A.view.pairs k no_plant_pair once within (eq-eqb x x refl) in
+    sym (ap (λ (n : ℕ). get_or A.plans n no_plan) place) ∙ has.plans x (own k no_plant_pair within)
 
 pub gives : (N : Table) (p : ℕ) (A : AgentState) → HasPlans N p A → length A.plans ≡ length A.view.pairs → A.plans ≡ plans_below N p (length N.pairs)
 gives N p A has all =
@@ -38,8 +38,8 @@ gives N p A has all =
     (λ k within.
     let low : k < length A.view.pairs = omega (arith, within, all) in
     let there : k < length xs = omega (arith, low, size) in
-    let number : (get_or A.view.pairs k no_pair).number.0 ≡ get_or xs k 0 =
-    ap (λ (z : List PlantPair). (get_or z k no_pair).number.0) pairs ∙ ap (λ (q : PlantPair). q.number.0) (get_or-map (plant_pair N) xs k 0 no_pair there) in
+    let number : (get_or A.view.pairs k no_plant_pair).number.0 ≡ get_or xs k 0 =
+    ap (λ (z : List PlantPair). (get_or z k no_plant_pair).number.0) pairs ∙ ap (λ (q : PlantPair). q.number.0) (get_or-map (plant_pair N) xs k 0 no_plant_pair there) in
     plan_given N p A has k low ∙ ap (plan_at N) number ∙ sym (get_or-map (plan_at N) xs k 0 no_plan there))
 
 -- one plant more has given its plans

@@ -31,7 +31,7 @@ use Rattle.mrp_local.specs.Laws.{HasGoods, IsPairAt}
 use Rattle.mrp_local.proofs.Planned.{own}
 use Rattle.mrp_local.proofs.Seeing.{ready_over_network}
 use Rattle.mrp_agent.specs.Laws.{WorksIn}
-use Rattle.mrp_agent.specs.Sending.{Continues, goods_at}
+use Rattle.mrp_agent.specs.Sending.{ContinuesSent, goods_at}
 use Rattle.mrp_agent.specs.State.{AgentState, outgoing_at, out_at, plans_of, no_outgoing}
 use Rattle.mrp_agent.proofs.Left.{lanes_are_seen}
 use Rattle.mrp_agent.proofs.Network.{agrees_at, has_goods, works}
@@ -63,14 +63,14 @@ module _ (N : Table) (table : IsTable N) (planned : ℕ → Bool) (l : ℕ) (goo
       let there : Contains items own_item = Contains-get_or items q.place item within in
       let load : Load = load_of N lane own_item in
       let read : get_or (loads N lane) q.place load ≡ load = get_or-map (load_of N lane) items q.place item load within in
-      let some : Some load ≡ Some (cursor.load_of (goods q.place)) =
+      let some : Some load ≡ Some (cursor.goods_load (goods q.place)) =
       ap (λ (z : Load). Some z) (sym read) ∙ sym (slice_get-get_or (loads N lane) q.place load (omega (arith, within, length-map items (load_of N lane)))) ∙ has.each q.place sendable in
-      let loaded : load ≡ cursor.load_of (goods q.place) = cc some in
+      let loaded : load ≡ cursor.goods_load (goods q.place) = cc some in
       let same : own_item.0 ≡ item.0 = ap (λ (z : Load). z.item) loaded ∙ q.is in
       let seen : view.load_at (outgoing_lane N l).items q.place ≡ outgoing_item N lane own_item = get_or-map (outgoing_item N lane) items q.place item view.no_load within in
       let source = items_have_sources N table lane own_item there in
       let customer : (view.call_of (view.load_at (outgoing_lane N l).items q.place)).customer.0 ≡ pair_on N lane own_item =
-      ap (λ (i : view.Load). (view.call_of i).customer.0) seen ∙ ap (λ (c : Call). c.customer.0) (call_seen N lane own_item kind) ∙ source.taker in
+      ap (λ (i : view.OutgoingLoad). (view.call_of i).customer.0) seen ∙ ap (λ (c : Call). c.customer.0) (call_seen N lane own_item kind) ∙ source.taker in
       subst (λ (z : ℕ). planned (pair_on N lane (record { 0 = z })) ≡ true) same (ap planned (sym customer) ∙ sendable.decided kind)
 
   pub given_may_be_decided : (e : Entry) → MaySend goods o e → IsDecided N planned lane e
@@ -78,7 +78,7 @@ module _ (N : Table) (table : IsTable N) (planned : ℕ → Bool) (l : ℕ) (goo
 
 -- what an agent gives to send on a lane is of an item that may be sent
 pub given_is_decided : (N : Table) → IsSized N → (plant : ℕ) (A : AgentState) (sent taken : ℕ → List Record) (planned : ℕ → Bool) → WorksIn N plant A sent taken planned
-    → (k : ℕ) → k < length A.view.outgoing → (r : Record) → Continues A sent taken k r → IsDecided N planned (lane_at N (outgoing_at A.view k).number.0) (content r)
+    → (k : ℕ) → k < length A.view.outgoing → (r : Record) → ContinuesSent A sent taken k r → IsDecided N planned (lane_at N (outgoing_at A.view k).number.0) (content r)
 given_is_decided N sized plant A sent taken planned w k within r continues =
     let lane : OutgoingLane = outgoing_at A.view k in
     let l : ℕ = lane.number.0 in

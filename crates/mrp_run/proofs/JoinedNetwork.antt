@@ -3,10 +3,10 @@ use Rattle.std.proofs.Common.{◌≡◌, List, length, get_or, ◌∙◌, arith}
 use Rattle.std.specs.List.{All}
 use Rattle.mrp_rows.specs.Table.{Table}
 use Rattle.mrp_run.specs.declared.plant.Plant.{Plant}
-use Rattle.mrp_run.specs.Ends.{AreReady, AreThrough, EachAt, HaveEnded, IsReady}
-use Rattle.mrp_run.specs.Steps.{Finishes, IsAtWork}
+use Rattle.mrp_run.specs.Ends.{AreReady, AreThrough, EachAt, HaveEnded, IsReadyPlant}
+use Rattle.mrp_run.specs.Steps.{Finishes, PlantIsAtWork}
 
-pub ready_work : (N : Table) (plants : List Plant) → AreReady N plants → All IsAtWork plants
+pub ready_work : (N : Table) (plants : List Plant) → AreReady N plants → All PlantIsAtWork plants
 ready_work N plants ready = λ k d within. (N, k, (ready.each k d within).works)
 
 pub are_through : (N : Table) (before after : List Plant) → AreReady N before → length after ≡ length before → EachAt (λ p P. Finishes (get_or before p P) P) after → AreThrough N after
@@ -18,7 +18,7 @@ are_through N before after ready size each = record {
       let Q : Plant = get_or after k d in
       let P : Plant = get_or before k Q in
       let done : Finishes P Q = each k d within in
-      let was : IsReady N ready.names k P = ready.each k Q (omega (arith, within, size)) in record {
+      let was : IsReadyPlant N ready.names k P = ready.each k Q (omega (arith, within, size)) in record {
         dealt = record { sends_are = done.kept.sends ∙ was.dealt.sends_are; takes_are = done.kept.takes ∙ was.dealt.takes_are };
         works = done.kept.works N k was.works;
         finished = done.finished N k was.works;

@@ -11,7 +11,7 @@ use Rattle.mrp_run.specs.declared.fault.RunFault.TheVariants.{ThreadRefused}
 use Rattle.mrp_run.specs.declared.plant.Plant.{Plant}
 use Rattle.mrp_run.specs.declared.results.Duty.{Duty}
 use Rattle.mrp_run.specs.Ends.{EachAt}
-use Rattle.mrp_run.specs.Joined.{AreByRule, Back, Finished, faults_in, started}
+use Rattle.mrp_run.specs.Joined.{AreByRule, Back, Finished, faults_in, started_plants}
 use Rattle.mrp_run.specs.Steps.{Finishes}
 use Rattle.mrp_run.specs.Worst.{IsWorst}
 
@@ -67,7 +67,7 @@ none_left before rest all whole none = sym (append-nil before) ∙ ap (λ z. bef
 
 -- ---- one thread more
 
-pub started_more : {G S : Type 0} (threads : List (Running G S)) (thread : Running G S) → started (threads ++ thread ∷ []) ≡ started threads ++ thread.promise.plant.value ∷ []
+pub started_more : {G S : Type 0} (threads : List (Running G S)) (thread : Running G S) → started_plants (threads ++ thread ∷ []) ≡ started_plants threads ++ thread.promise.plant.value ∷ []
 started_more {G} {S} threads thread = map-append (λ (t : Running G S). t.promise.plant.value) threads (thread ∷ [])
 
 -- ---- all of them
@@ -92,7 +92,7 @@ worst_by_rule Rule before backs fault first each worst =
 
 -- ---- what the threads of all plants come to
 
--- of the plants some front was started, and all of them unless one was refused
+-- of the plants some front was started_plants, and all of them unless one was refused
 pub record AreStarted (plants front : List Plant) (refused : Option RunFault) : Type 0 where
   pub rest : List Plant
   pub parts : plants ≡ front ++ rest

@@ -12,7 +12,7 @@ use Rattle.mrp_run.specs.declared.moving.Lanes.{Lanes}
 use Rattle.mrp_run.specs.declared.moving.Lanes.TheVariants.{Incoming, Outgoing}
 use Rattle.mrp_run.specs.declared.plant.Plant.{Plant}
 use Rattle.mrp_run.specs.Plant.{IsAtWork, Kept, passages, state_of}
-use Rattle.mrp_run.specs.Steps.{Keeps, lane_count}
+use Rattle.mrp_run.specs.Steps.{KeepsPlant, lane_count}
 use Rattle.mrp_run.specs.Steps as steps
 use Rattle.mrp_run.proofs.Given.{planned_is_ready}
 use Rattle.mrp_run.proofs.Held.{same_length}
@@ -34,14 +34,14 @@ pub still_works : (A : AgentState) (s t : List End) (B : AgentState) (s2 t2 : Li
 still_works A s t B s2 t2 kept (N, p, work) = (N, p, kept.works N p work)
 
 -- the same in the words of a plant of the code
-pub keeps_on : (P Q R : Plant) → Keeps P Q → Keeps Q R → Keeps P R
+pub keeps_on : (P Q R : Plant) → KeepsPlant P Q → KeepsPlant Q R → KeepsPlant P R
 keeps_on P Q R = one_after_another P.agent P.sends.items P.takes.items Q.agent Q.sends.items Q.takes.items R.agent R.sends.items R.takes.items
 
-pub works_on : (P Q : Plant) → Keeps P Q → steps.IsAtWork P → steps.IsAtWork Q
+pub works_on : (P Q : Plant) → KeepsPlant P Q → steps.PlantIsAtWork P → steps.PlantIsAtWork Q
 works_on P Q = still_works P.agent P.sends.items P.takes.items Q.agent Q.sends.items Q.takes.items
 
 -- with as many lanes
-pub same_lanes : (lanes : Lanes) (P Q : Plant) → Keeps P Q → lane_count lanes Q ≡ lane_count lanes P
+pub same_lanes : (lanes : Lanes) (P Q : Plant) → KeepsPlant P Q → lane_count lanes Q ≡ lane_count lanes P
 same_lanes Incoming P Q kept = same_length Q.takes.items P.takes.items kept.takes
 same_lanes Outgoing P Q kept = same_length Q.sends.items P.sends.items kept.sends
 

@@ -11,7 +11,7 @@ use Rattle.mrp_loops.specs.Sized.{IsSized}
 use Rattle.mrp_record.specs.declared.record.Record.{Record}
 use Rattle.mrp_record.specs.Entries.{contents, is_closed}
 use Rattle.mrp_events.specs.State.{State, opening_state, IsFinished, IsReached}
-use Rattle.mrp_history.specs.History.{HasRoom, HaveFinished, IsMerged, sent_by, taken_by}
+use Rattle.mrp_history.specs.History.{HasRoom, HaveFinished, IsMerged, sent_by, taken_in}
 use Rattle.mrp_history.specs.Stamps.{AreExplained, IsExplained, IsJoined}
 use Rattle.mrp_history.proofs.Explained.{explained_states_merge, finished_states_merge}
 use Rattle.mrp_history.proofs.Owners.{sender_is_there, receiver_is_there, owner_is_there}
@@ -21,7 +21,7 @@ use Rattle.mrp_lane.specs.Ends.{End}
 use Rattle.mrp_agent.specs.Laws.{WorksIn}
 use Rattle.mrp_agent.specs.State.{AgentState}
 use Rattle.mrp_run.specs.Moments.{IsInOrder, IsShown, MomentsAreReached}
-use Rattle.mrp_run.specs.Plant.{AreEnds, AtWork, IsClosed, IsFinished as HasFinishedAt, lanes_from, lanes_to, passage, passages, state_of}
+use Rattle.mrp_run.specs.Plant.{AreEnds, AtWork, IsClosed, AgentIsDone as HasFinishedAt, lanes_from, lanes_to, passage, passages, state_of}
 use Rattle.mrp_run.proofs.Held.{lane_there}
 
 -- ---- the lanes of ends
@@ -81,7 +81,7 @@ module _ (N : Table) (sized : IsSized N) (agents : ℕ → AgentState) (sends ta
       let p : ℕ = (lane_at N l).sender.0 in
       All-contains (λ (z : End). z.list ≡ (states p).sent z.name.lane) (sends p) e (stands p (sender_is_there N l within)).sends_are.lists there ∙ ap (states p).sent lane
 
-  taken_there : (l : ℕ) → l < length (lanes N) → (e : End) → Contains (takes (lane_at N l).receiver.0) e → e.name.lane ≡ l → e.list ≡ taken_by N states l
+  taken_there : (l : ℕ) → l < length (lanes N) → (e : End) → Contains (takes (lane_at N l).receiver.0) e → e.name.lane ≡ l → e.list ≡ taken_in N states l
   taken_there l within e there lane =
       let p : ℕ = (lane_at N l).receiver.0 in
       All-contains (λ (z : End). z.list ≡ (states p).taken z.name.lane) (takes p) e (stands p (receiver_is_there N l within)).takes_are.lists there ∙ ap (states p).taken lane

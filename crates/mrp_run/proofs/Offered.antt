@@ -12,10 +12,10 @@ use Rattle.mrp_events.specs.Loads.{loads}
 use Rattle.mrp_events.specs.State.{IsDecided, changed}
 use Rattle.mrp_history.specs.Stamps.{IsExplained, Passage}
 use Rattle.mrp_history.proofs.Passing.{sent_is_explained}
-use Rattle.mrp_lane.specs.Ends.{End, Name, IsNext}
-use Rattle.mrp_agent.specs.Sending.{Continues, IsWithin64}
+use Rattle.mrp_lane.specs.Ends.{End, Name, IsNextRecord}
+use Rattle.mrp_agent.specs.Sending.{ContinuesSent, IsWithin64}
 use Rattle.mrp_agent.specs.Sent.{GivenIsLegal, IsAppended}
-use Rattle.mrp_agent.specs.Shows.{Shows}
+use Rattle.mrp_agent.specs.Shows.{ShowsHistory}
 use Rattle.mrp_agent.specs.State.{AgentState, outgoing_at, outgoing_place}
 use Rattle.mrp_agent.proofs.Network.{sent_is_legal, sent_is_within_64}
 use Rattle.mrp_agent.proofs.Placed.{IsPlaced, out_placed}
@@ -44,7 +44,7 @@ module _ (A : AgentState) (s t : List End) (k l : ℕ) (x y : End) (r : Record) 
   of_lane = ap (λ (z : End). z.name.lane) (sym at_x) ∙ sym lane
 
   -- the record that the agent has next continues what went through the end
-  pub given_is_next : IsAtWork A s t → GivenIsLegal A (outgoing_place A.view l) r → IsNext y r
+  pub given_is_next : IsAtWork A s t → GivenIsLegal A (outgoing_place A.view l) r → IsNextRecord y r
   given_is_next (N, p, w) given =
       let e : End = get_or s k x in
       let n : ℕ = e.name.lane in
@@ -52,14 +52,14 @@ module _ (A : AgentState) (s t : List End) (k l : ℕ) (x y : End) (r : Record) 
       let place = placed A s t N p w k x within in
       let here : GivenIsLegal A j r = subst (λ (z : ℕ). GivenIsLegal A (outgoing_place A.view z) r) (sym of_lane) given in
       let bounded : IsWithin64 A w.taken j = sent_is_within_64 N w.sized p A w.sent w.taken w.planned w.works j place.within in
-      let continues : Continues A w.sent w.taken j r = here w.sent w.taken w.planned w.works.shows bounded in
+      let continues : ContinuesSent A w.sent w.taken j r = here w.sent w.taken w.planned w.works.shows bounded in
       let begins : IsBeginning (loads N (lane_at N (outgoing_at A.view j).number.0)) (w.sent (outgoing_at A.view j).number.0 ++ r ∷ []) =
       sent_is_legal N w.sized p A w.sent w.taken w.planned w.works j place.within r continues in
       let on_lane : IsBeginning (loads N (lane_at N n)) (w.sent n ++ r ∷ []) = subst (λ (z : ℕ). IsBeginning (loads N (lane_at N z)) (w.sent z ++ r ∷ [])) place.number begins in
-      let next : IsNext e r =
+      let next : IsNextRecord e r =
       subst (λ (M : Table). IsBeginning (loads M (lane_at M n)) (e.list ++ r ∷ [])) (sym (w.sends_are.network k x within))
       (subst (λ (z : List Record). IsBeginning (loads N (lane_at N n)) (z ++ r ∷ [])) (sym (w.sends_are.lists k x within)) on_lane) in
-      subst (λ (z : End). IsNext z r) (sym same) next
+      subst (λ (z : End). IsNextRecord z r) (sym same) next
 
   -- it is of an item that may be sent
   decided : (N : Table) (p : ℕ) (w : AtWork N p A s t) → GivenIsLegal A (outgoing_place A.view l) r → IsDecided N w.planned (lane_at N (get_or s k x).name.lane) (content r)
@@ -101,8 +101,8 @@ module _ (A : AgentState) (s t : List End) (k l : ℕ) (x y : End) (r : Record) 
         works = λ N p w.
             let place = placed A s t N p w k x within in
             let bounded : IsWithin64 A w.taken (outgoing_place A.view n) = sent_is_within_64 N w.sized p A w.sent w.taken w.planned w.works (outgoing_place A.view n) place.within in
-            let shows : Shows B (changed w.sent n (w.sent n ++ r ∷ [])) w.taken w.planned =
-            subst (λ (z : ℕ). Shows B (changed w.sent z (w.sent z ++ r ∷ [])) w.taken w.planned) place.number (here w.sent w.taken w.planned w.works.shows bounded) in
+            let shows : ShowsHistory B (changed w.sent n (w.sent n ++ r ∷ [])) w.taken w.planned =
+            subst (λ (z : ℕ). ShowsHistory B (changed w.sent z (w.sent z ++ r ∷ [])) w.taken w.planned) place.number (here w.sent w.taken w.planned w.works.shows bounded) in
             record {
               sized = w.sized;
               sent = changed w.sent e.name.lane (w.sent e.name.lane ++ r ∷ []);
@@ -111,7 +111,7 @@ module _ (A : AgentState) (s t : List End) (k l : ℕ) (x y : End) (r : Record) 
               works = record {
                 view = view ∙ w.works.view;
                 legal = w.works.legal;
-                shows = subst (λ (z : ℕ). Shows B (changed w.sent z (w.sent z ++ r ∷ [])) w.taken w.planned) (sym (ap (λ (n : Name). n.lane) name)) shows;
+                shows = subst (λ (z : ℕ). ShowsHistory B (changed w.sent z (w.sent z ++ r ∷ [])) w.taken w.planned) (sym (ap (λ (n : Name). n.lane) name)) shows;
               };
               sends_are = one_more N (lanes_from N p) (lanes_rise N (goes_from N p)) w.sent s w.sends_are k x e r within name list;
               takes_are = w.takes_are;

@@ -12,11 +12,11 @@ use Rattle.mrp_history.specs.History.{IsPrefix}
 use Rattle.mrp_lane.specs.Ends.{End, Name}
 use Rattle.mrp_lane.specs.Reconciled.{Carried}
 use Rattle.mrp_lane.specs.Views.{IsLegal}
-use Rattle.mrp_agent.specs.Shows.{Shows}
+use Rattle.mrp_agent.specs.Shows.{ShowsHistory}
 use Rattle.mrp_agent.specs.State.{AgentState, plans_of}
 use Rattle.mrp_run.specs.declared.plant.Plant.{Plant}
 use Rattle.mrp_run.specs.Plant.{IsClosed, names}
-use Rattle.mrp_run.specs.Steps.{AtWork, IsFinished}
+use Rattle.mrp_run.specs.Steps.{PlantWorks, PlantIsDone}
 
 -- what holds of each element and its place
 abbrev pub EachAt : {X : Type 0} → (ℕ → X → Type 0) → List X → Type 0
@@ -52,7 +52,7 @@ pub record IsDealt (N : Table) (sends takes : List Name) (p : ℕ) (P : Plant) :
 pub record IsIdle (N : Table) (sends takes : List Name) (p : ℕ) (P : Plant) : Type 0 where
   pub dealt : IsDealt N sends takes p P
   pub view : P.agent.view ≡ plant_rows N p
-  pub opens : Shows P.agent opening_state.sent opening_state.taken opening_state.planned
+  pub opens : ShowsHistory P.agent opening_state.sent opening_state.taken opening_state.planned
   pub sent : All IsEmpty P.sends.items
   pub taken : All IsEmpty P.takes.items
 
@@ -61,14 +61,14 @@ pub record AreIdle (N : Table) (sends takes : List Name) (plants : List Plant) :
   pub each : EachAt (IsIdle N sends takes) plants
 
 -- a mailbox has room for so many records, or for the longest text of its lane where that is less
-abbrev pub HasRoom : Table → ℕ → Name → Type 0
-HasRoom N capacity n = n.room ≡ min capacity (longest_text N (lane_at N n.lane))
+abbrev pub HasMailboxRoom : Table → ℕ → Name → Type 0
+HasMailboxRoom N capacity n = n.room ≡ min capacity (longest_text N (lane_at N n.lane))
 
 -- both ends of the first lanes are dealt
 pub record HaveFirst (N : Table) (capacity count : ℕ) (plants : List Plant) : Type 0 where
   pub names : List Name
   pub first_lanes : AreNames N count names
-  pub rooms : All (HasRoom N capacity) names
+  pub rooms : All (HasMailboxRoom N capacity) names
   pub idle : AreIdle N names names plants
 
 -- ---- all plants of a network
@@ -81,23 +81,23 @@ pub record AreEach (Is : List Name → ℕ → Plant → Type 0) (N : Table) (pl
   pub each : EachAt (Is names) plants
 
 -- before the first turn: the ends of all lanes are dealt, and each plant is at work
-pub record IsReady (N : Table) (ns : List Name) (p : ℕ) (P : Plant) : Type 0 where
+pub record IsReadyPlant (N : Table) (ns : List Name) (p : ℕ) (P : Plant) : Type 0 where
   pub dealt : IsDealt N ns ns p P
-  pub works : AtWork N p P
+  pub works : PlantWorks N p P
 
 abbrev pub AreReady : Table → List Plant → Type 0
-AreReady N plants = AreEach (IsReady N) N plants
+AreReady N plants = AreEach (IsReadyPlant N) N plants
 
 -- the mailboxes of a plant's lanes have their rooms
-pub record HasRooms (N : Table) (capacity : ℕ) (P : Plant) : Type 0 where
-  pub sends : All (HasRoom N capacity) (names P.sends.items)
-  pub takes : All (HasRoom N capacity) (names P.takes.items)
+pub record HaveMailboxRoom (N : Table) (capacity : ℕ) (P : Plant) : Type 0 where
+  pub sends : All (HasMailboxRoom N capacity) (names P.sends.items)
+  pub takes : All (HasMailboxRoom N capacity) (names P.takes.items)
 
 -- after the joins: the plants have the same ends, and each has finished
 pub record IsThrough (N : Table) (ns : List Name) (p : ℕ) (P : Plant) : Type 0 where
   pub dealt : IsDealt N ns ns p P
-  pub works : AtWork N p P
-  pub finished : IsFinished N p P
+  pub works : PlantWorks N p P
+  pub finished : PlantIsDone N p P
 
 abbrev pub AreThrough : Table → List Plant → Type 0
 AreThrough N plants = AreEach (IsThrough N) N plants

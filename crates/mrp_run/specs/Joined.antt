@@ -22,22 +22,22 @@ Finished before back = IfOk back (Finishes before)
 
 -- what the thread of a duty brings back: its plant, which took some of its turns and is finished, or a fault by the
 -- rule of the run's stop
-pub record Fulfils {G S : Type 0} (Open : ℕ → ℕ → Type 0) (Rule : RunFault → Type 0) (duty : Duty G S) (back : Back) : Type 0 where
+pub record FulfilsDuty {G S : Type 0} (Open : ℕ → ℕ → Type 0) (Rule : RunFault → Type 0) (duty : Duty G S) (back : Back) : Type 0 where
   pub finished : Finished duty.plant.value back
   pub turned : OnOk back (HasTurned Open duty.turns duty.number.0)
   pub fault : IfErr back Rule
 
--- it is what the thread was started for
+-- it is what the thread was started_plants for
 abbrev pub HasKept : {G S : Type 0} → (ℕ → ℕ → Type 0) → (RunFault → Type 0) → PromisedHandle Back (Duty G S) → Back → Type 0
-HasKept Open Rule thread back = Fulfils Open Rule thread.promise back
+HasKept Open Rule thread back = FulfilsDuty Open Rule thread.promise back
 
--- the plants that threads were started for
-abbrev pub started : {G S : Type 0} → List (PromisedHandle Back (Duty G S)) → List Plant
-started threads = map (λ thread. thread.promise.plant.value) threads
+-- the plants that threads were started_plants for
+abbrev pub started_plants : {G S : Type 0} → List (PromisedHandle Back (Duty G S)) → List Plant
+started_plants threads = map (λ thread. thread.promise.plant.value) threads
 
 -- each thread has its plant's number, and the plant has so many turns
-abbrev pub AreNumbered : {G S : Type 0} → ℕ → List (PromisedHandle Back (Duty G S)) → Type 0
-AreNumbered turns threads = EachAt (λ number thread. (thread.promise.number.0 ≡ number) × (thread.promise.turns ≡ turns)) threads
+abbrev pub AreNumberedThreads : {G S : Type 0} → ℕ → List (PromisedHandle Back (Duty G S)) → Type 0
+AreNumberedThreads turns threads = EachAt (λ number thread. (thread.promise.number.0 ≡ number) × (thread.promise.turns ≡ turns)) threads
 
 -- ---- faults
 
@@ -45,13 +45,13 @@ AreNumbered turns threads = EachAt (λ number thread. (thread.promise.number.0 �
 abbrev pub AreByRule : (RunFault → Type 0) → List Back → Type 0
 AreByRule Rule backs = All (λ back. IfErr back Rule) backs
 
-abbrev pub fault_in : Back → Option RunFault
-fault_in (Ok plant) = None
-fault_in (Err fault) = Some fault
+abbrev pub fault_back : Back → Option RunFault
+fault_back (Ok plant) = None
+fault_back (Err fault) = Some fault
 
 -- all faults that were brought back
 abbrev pub faults_in : List Back → List RunFault
-faults_in backs = filter_map fault_in backs
+faults_in backs = filter_map fault_back backs
 
 -- ---- rooms
 

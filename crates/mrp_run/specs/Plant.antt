@@ -68,7 +68,7 @@ IsClosed e = is_closed (contents e.list) ≡ true
 
 -- the agent is done, all its lanes are closed, each of its pairs is planned, by whatever history it is at work, and has
 -- the plan of the network
-pub record IsFinished (N : Table) (p : ℕ) (A : AgentState) (sends takes : List End) : Type 0 where
+pub record AgentIsDone (N : Table) (p : ℕ) (A : AgentState) (sends takes : List End) : Type 0 where
   pub done : is_done A ≡ true
   pub sent : All IsClosed sends
   pub taken : All IsClosed takes
@@ -90,4 +90,4 @@ pub record Kept (A : AgentState) (sends_then takes_then : List End) (B : AgentSt
 -- and wherever it was at work it has finished
 abbrev pub HasFinished : AgentState → List End → List End → AgentState → List End → List End → Type 0
 HasFinished A sends takes B sends_now takes_now =
-    (N : Table) (p : ℕ) → AtWork N p A sends takes → IsFinished N p B sends_now takes_now
+    (N : Table) (p : ℕ) → AtWork N p A sends takes → AgentIsDone N p B sends_now takes_now

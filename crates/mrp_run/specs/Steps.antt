@@ -7,17 +7,17 @@ use Rattle.mrp_run.specs.declared.moving.Lanes.TheVariants.{Incoming, Outgoing}
 use Rattle.mrp_run.specs.declared.plant.Plant.{Plant}
 use Rattle.mrp_run.specs.Plant as plant
 
-abbrev pub AtWork : Table → ℕ → Plant → Type 0
-AtWork N p P = plant.AtWork N p P.agent P.sends.items P.takes.items
+abbrev pub PlantWorks : Table → ℕ → Plant → Type 0
+PlantWorks N p P = plant.AtWork N p P.agent P.sends.items P.takes.items
 
-abbrev pub IsAtWork : Plant → Type 0
-IsAtWork P = plant.IsAtWork P.agent P.sends.items P.takes.items
+abbrev pub PlantIsAtWork : Plant → Type 0
+PlantIsAtWork P = plant.IsAtWork P.agent P.sends.items P.takes.items
 
-abbrev pub IsFinished : Table → ℕ → Plant → Type 0
-IsFinished N p P = plant.IsFinished N p P.agent P.sends.items P.takes.items
+abbrev pub PlantIsDone : Table → ℕ → Plant → Type 0
+PlantIsDone N p P = plant.AgentIsDone N p P.agent P.sends.items P.takes.items
 
-abbrev pub Keeps : Plant → Plant → Type 0
-Keeps P Q = plant.Kept P.agent P.sends.items P.takes.items Q.agent Q.sends.items Q.takes.items
+abbrev pub KeepsPlant : Plant → Plant → Type 0
+KeepsPlant P Q = plant.Kept P.agent P.sends.items P.takes.items Q.agent Q.sends.items Q.takes.items
 
 -- its clock
 abbrev pub clock : Plant → ℕ
@@ -30,7 +30,7 @@ lane_count Outgoing P = length P.sends.items
 
 -- its work is kept and done
 pub record Finishes (P Q : Plant) : Type 0 where
-  pub kept : Keeps P Q
+  pub kept : KeepsPlant P Q
   pub finished : plant.HasFinished P.agent P.sends.items P.takes.items Q.agent Q.sends.items Q.takes.items
 
 -- it has taken no turn, or isn't done after those that it took

@@ -5,22 +5,22 @@ use Rattle.mrp_run.specs.declared.fault.RunFault.{RunFault}
 use Rattle.mrp_run.specs.declared.fault.RunFault.TheVariants.{Memory, ThreadRefused, GateShut, Stopped}
 
 -- the number of a fault
-abbrev pub number_of : RunFault → ℕ
-number_of Memory = 1
-number_of ThreadRefused = 2
-number_of (GateShut plant) = 3
-number_of Stopped = 4
+abbrev pub run_fault_number : RunFault → ℕ
+run_fault_number Memory = 1
+run_fault_number ThreadRefused = 2
+run_fault_number (GateShut plant) = 3
+run_fault_number Stopped = 4
 
 -- the plant whose gate was shut
-abbrev pub plant_of : RunFault → ℕ
-plant_of Memory = 0
-plant_of ThreadRefused = 0
-plant_of (GateShut plant) = plant.0
-plant_of Stopped = 0
+abbrev pub plant_in_fault : RunFault → ℕ
+plant_in_fault Memory = 0
+plant_in_fault ThreadRefused = 0
+plant_in_fault (GateShut plant) = plant.0
+plant_in_fault Stopped = 0
 
 -- its number is lower; or the numbers are the same, and of shut gates it is that of the lower plant
 abbrev pub IsBefore : RunFault → RunFault → Type 0
-IsBefore a b = (number_of a < number_of b) ⊎ ((number_of a ≡ number_of b) × (plant_of a ≤ plant_of b))
+IsBefore a b = (run_fault_number a < run_fault_number b) ⊎ ((run_fault_number a ≡ run_fault_number b) × (plant_in_fault a ≤ plant_in_fault b))
 
 -- one of these faults, and none of them is before it
 pub record IsWorst (fault : RunFault) (faults : List RunFault) : Type 0 where

@@ -1,15 +1,15 @@
 //! How a plant books the records that come to it.
 ghost use Rattle.std.specs.Prelude.{◌<◌, length};
-ghost use Rattle.mrp_run.specs.Steps.{IsAtWork, Keeps};
+ghost use Rattle.mrp_run.specs.Steps.{PlantIsAtWork, KeepsPlant};
 
 use crate::plant::Plant;
 use std::sync::Wait;
 
 /// Books the next record of a lane that comes in, and answers whether there was one.
 pub(crate) fn book_next<R: Wait>(rt: &R, plant: &mut Plant, k: usize) -> bool
-    requires work { IsAtWork plant.old }
+    requires work { PlantIsAtWork plant.old }
     requires lane { k < length plant.old.takes.items }
-    ensures kept { Keeps plant.old plant.new }
+    ensures kept { KeepsPlant plant.old plant.new }
 {
     let end = &mut plant.takes[k];
     let lane = end.lane();

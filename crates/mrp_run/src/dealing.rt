@@ -5,7 +5,7 @@ ghost use Rattle.mrp_net.specs.Lanes.{lanes, lane_at};
 ghost use Rattle.mrp_loops.specs.Sized.{IsSized};
 ghost use Rattle.mrp_qty.specs.declared.limits.TheConstants.{MOST_ROOM};
 ghost use Rattle.mrp_lane.specs.Ends.{Name};
-ghost use Rattle.mrp_run.specs.Ends.{AreIdle, AreReady, HasRooms, HaveFirst, IsEmpty, IsIdle};
+ghost use Rattle.mrp_run.specs.Ends.{AreIdle, AreReady, HaveMailboxRoom, HaveFirst, IsEmpty, IsIdle};
 
 use crate::plant::Plant;
 use mrp_agent::Agent;
@@ -29,7 +29,7 @@ pub(crate) fn ready_plants(
 ) -> Result<Vec<Plant>, Memory>
     requires capacity { (1 ≤ capacity) × (capacity ≤ MOST_ROOM) }
     ensures ready { IfOk result (λ plants. AreReady net.now.network plants.items) }
-    ensures rooms { IfOk result (λ plants. All (HasRooms net.now.network capacity) plants.items) }
+    ensures rooms { IfOk result (λ plants. All (HaveMailboxRoom net.now.network capacity) plants.items) }
 {
     let network = net.network();
     let mut plants = idle_plants(alloc, network)?;

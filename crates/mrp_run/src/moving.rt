@@ -1,6 +1,6 @@
 //! How a plant moves records over its lanes, one after the other until none can be moved.
 ghost use Rattle.std.specs.Prelude.{◌≡◌, ◌<◌};
-ghost use Rattle.mrp_run.specs.Steps.{IsAtWork, Keeps, lane_count};
+ghost use Rattle.mrp_run.specs.Steps.{PlantIsAtWork, KeepsPlant, lane_count};
 
 use crate::booking::book_next;
 use crate::offering::offer_next;
@@ -16,8 +16,8 @@ pub(crate) enum Lanes {
 
 /// Moves over each of the lanes what can be moved, and answers whether any record was.
 pub(crate) fn move_all<R: Wait>(rt: &R, plant: &mut Plant, lanes: Lanes) -> bool
-    requires work { IsAtWork plant.old }
-    ensures kept { Keeps plant.old plant.new }
+    requires work { PlantIsAtWork plant.old }
+    ensures kept { KeepsPlant plant.old plant.new }
 {
     let mut any = false;
     for k in 0..lane_count(plant, lanes) {
@@ -38,9 +38,9 @@ fn lane_count(plant: &Plant, lanes: Lanes) -> usize
 
 /// Moves over a lane what can be moved, and answers whether any record was.
 fn move_lane<R: Wait>(rt: &R, plant: &mut Plant, lanes: Lanes, k: usize) -> bool
-    requires work { IsAtWork plant.old }
+    requires work { PlantIsAtWork plant.old }
     requires lane { k < lane_count lanes plant.old }
-    ensures kept { Keeps plant.old plant.new }
+    ensures kept { KeepsPlant plant.old plant.new }
 {
     let mut any = false;
     for _ in rt.forever() {
@@ -54,9 +54,9 @@ fn move_lane<R: Wait>(rt: &R, plant: &mut Plant, lanes: Lanes, k: usize) -> bool
 
 /// Moves a record over a lane, and answers whether there was one that could be moved.
 fn move_next<R: Wait>(rt: &R, plant: &mut Plant, lanes: Lanes, k: usize) -> bool
-    requires work { IsAtWork plant.old }
+    requires work { PlantIsAtWork plant.old }
     requires lane { k < lane_count lanes plant.old }
-    ensures kept { Keeps plant.old plant.new }
+    ensures kept { KeepsPlant plant.old plant.new }
 {
     match lanes {
         Lanes::Incoming => book_next(rt, plant, k),

@@ -1,7 +1,7 @@
 //! How a plant offers the records that it has to send.
 ghost use Rattle.std.specs.Prelude.{◌≡◌, ◌<◌, [], ◌∷◌, ◌++◌, length, IfErr, OnOk};
-ghost use Rattle.mrp_lane.specs.Ends.{IsNext};
-ghost use Rattle.mrp_run.specs.Steps.{IsAtWork, Keeps, clock};
+ghost use Rattle.mrp_lane.specs.Ends.{IsNextRecord};
+ghost use Rattle.mrp_run.specs.Steps.{PlantIsAtWork, KeepsPlant, clock};
 
 use crate::plant::Plant;
 use mrp_lane::{Record, SendEnd, Stamp};
@@ -12,9 +12,9 @@ use std::sync::Wait;
 /// Offers the next record of a lane, and answers whether there was one and there was room for it. A record
 /// that is refused stays the next one.
 pub(crate) fn offer_next<R: Wait>(rt: &R, plant: &mut Plant, k: usize) -> bool
-    requires work { IsAtWork plant.old }
+    requires work { PlantIsAtWork plant.old }
     requires lane { k < length plant.old.sends.items }
-    ensures kept { Keeps plant.old plant.new }
+    ensures kept { KeepsPlant plant.old plant.new }
 {
     let lane = plant.sends[k].lane();
     let Some(entry) = plant.agent.next_out(lane) else {
@@ -36,7 +36,7 @@ fn offer_at<S: Stamp, R: Wait>(
     entry: Record,
 ) -> Result<(), Record>
     requires stamp { S.stamp ≡ clock _plant.value }
-    requires legal { IsNext end.old entry }
+    requires legal { IsNextRecord end.old entry }
     ensures name { end.new.name ≡ end.old.name }
     ensures sent { OnOk result (end.new.list ≡ end.old.list ++ entry ∷ []) }
     ensures stamped { OnOk result (end.new.stamps ≡ end.old.stamps ++ clock _plant.value ∷ []) }

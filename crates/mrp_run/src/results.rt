@@ -39,9 +39,9 @@ impl<G, S> Drop for Duty<G, S> {
 }
 
 impl<G: Gate, S: StopRule> Promise<Back> for Duty<G, S> {
-    ghost use Rattle.mrp_run.specs.Joined.{Fulfils};
+    ghost use Rattle.mrp_run.specs.Joined.{FulfilsDuty};
 
-    ghost kept_by = { λ duty back. Fulfils G.turn_open S.holds duty back };
+    ghost kept_by = { λ duty back. FulfilsDuty G.turn_open S.holds duty back };
 }
 
 /// The plants of all threads, where each brought one back and no fault was met before.

@@ -2,10 +2,10 @@
 ghost use Rattle.std.specs.Prelude.{◌≡◌, ◌≤◌, Err, IfErr, IfOk, OnOk};
 ghost use Rattle.mrp_crew.specs.declared.fault.CrewFault.{CrewFault};
 ghost use Rattle.mrp_run.specs.Faults as faults;
-ghost use Rattle.mrp_crew.specs.Shut.{WasShut as WasWorkerShut};
+ghost use Rattle.mrp_crew.specs.Shut.{WasShutToWorker as WasWorkerShut};
 ghost use Rattle.mrp_run.specs.Faults.{AllowsOf, HasTurned, IsOf, IsToldOrOf, WasShut, WasSpent, never_spent};
 ghost use Rattle.mrp_run.specs.Plant as at;
-ghost use Rattle.mrp_run.specs.Steps.{IsAtWork, IsUnfinished, Keeps, Finishes};
+ghost use Rattle.mrp_run.specs.Steps.{PlantIsAtWork, IsUnfinished, KeepsPlant, Finishes};
 ghost use Rattle.mrp_run.specs.declared.fault.RunFault.{RunFault};
 
 use crate::fault::RunFault;
@@ -89,7 +89,7 @@ pub(crate) fn run_owned<R: Threads + Wait + Sync, G: Gate, S: StopRule>(
     stop: &Stop<S>,
     turns: u64,
 ) -> Result<Plant, RunFault>
-    requires work { IsAtWork plant }
+    requires work { PlantIsAtWork plant }
     requires horizon { crew.old.horizon ≡ plant.agent.view.horizon }
     requires rule { AllowsOf S.holds (WasShut G.turn_open G.turn_shut G.worker_shut crew.old.workers turns) (WasSpent G.turn_open turns) number }
     ensures crew { crew.new ≡ crew.old }
@@ -123,7 +123,7 @@ fn work<R: Threads + Wait + Sync, G: Gate, S: StopRule>(
     stop: &Stop<S>,
     turns: u64,
 ) -> Result<(), RunFault>
-    requires work { IsAtWork plant.old }
+    requires work { PlantIsAtWork plant.old }
     requires horizon { crew.old.horizon ≡ plant.old.agent.view.horizon }
     ensures crew { crew.new ≡ crew.old }
     ensures finishes { OnOk result (Finishes plant.old plant.new) }
@@ -173,10 +173,10 @@ fn take_turn<R: Threads + Wait + Sync, G: Gate>(
     crew: &mut Crew,
     gate: &G,
 ) -> Result<bool, RunFault>
-    requires work { IsAtWork plant.old }
+    requires work { PlantIsAtWork plant.old }
     requires horizon { crew.old.horizon ≡ plant.old.agent.view.horizon }
     ensures crew { crew.new ≡ crew.old }
-    ensures kept { Keeps plant.old plant.new }
+    ensures kept { KeepsPlant plant.old plant.new }
     ensures fault { IfErr result (IsOf (WasWorkerShut G.worker_shut crew.old.workers) never_spent number) }
 {
     let came = move_all(rt, plant, Lanes::Incoming);
@@ -194,10 +194,10 @@ fn plan_all<R: Threads + Wait + Sync, G: Gate>(
     crew: &mut Crew,
     gate: &G,
 ) -> Result<bool, RunFault>
-    requires work { IsAtWork plant.old }
+    requires work { PlantIsAtWork plant.old }
     requires horizon { crew.old.horizon ≡ plant.old.agent.view.horizon }
     ensures crew { crew.new ≡ crew.old }
-    ensures kept { Keeps plant.old plant.new }
+    ensures kept { KeepsPlant plant.old plant.new }
     ensures fault { IfErr result (IsOf (WasWorkerShut G.worker_shut crew.old.workers) never_spent number) }
     ensures by_crew { IfErr result (λ fault. (why : CrewFault) × (fault ≡ faults.of_crew number why)) }
 {

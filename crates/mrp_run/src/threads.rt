@@ -6,8 +6,8 @@ ghost use Rattle.mrp_run.specs.declared.fault.RunFault.{RunFault};
 ghost use Rattle.mrp_run.specs.declared.plant.Plant.{Plant};
 ghost use Rattle.mrp_run.specs.Ends.{EachAt};
 ghost use Rattle.mrp_run.specs.Faults.{AllTurned, AllowsOf, HasTurned, WasShut, WasSpent};
-ghost use Rattle.mrp_run.specs.Joined.{AreNumbered, AreRooms, Finished, HasKept, started};
-ghost use Rattle.mrp_run.specs.Steps.{Finishes, IsAtWork};
+ghost use Rattle.mrp_run.specs.Joined.{AreNumberedThreads, AreRooms, Finished, HasKept, started_plants};
+ghost use Rattle.mrp_run.specs.Steps.{Finishes, PlantIsAtWork};
 ghost use Rattle.mrp_run.specs.Worst.{AllowsOfFirst};
 
 use crate::fault::RunFault;
@@ -50,7 +50,7 @@ pub(crate) fn run_plants<R: Threads + Wait + Sync, G: Gate, S: StopRule + Send +
     gate: &G,
     turns: u64,
 ) -> Result<Vec<Plant>, RunFault>
-    requires work { All IsAtWork plants.items }
+    requires work { All PlantIsAtWork plants.items }
     requires workers { (1 ≤ workers) × (workers ≤ MOST_WORKERS) }
     requires rule { AllowsOfFirst S.holds (WasShut G.turn_open G.turn_shut G.worker_shut workers turns) (WasSpent G.turn_open turns) (length plants.items) }
     ensures all { IfOk result (λ after. length after.items ≡ length plants.items) }
@@ -72,7 +72,7 @@ fn run_until<R: Threads + Wait + Sync, G: Gate, S: StopRule + Send + Sync>(
     stop: &Stop<S>,
     turns: u64,
 ) -> Result<Vec<Plant>, RunFault>
-    requires work { All IsAtWork plants.items }
+    requires work { All PlantIsAtWork plants.items }
     requires workers { (1 ≤ workers) × (workers ≤ MOST_WORKERS) }
     requires rule { AllowsOfFirst S.holds (WasShut G.turn_open G.turn_shut G.worker_shut workers turns) (WasSpent G.turn_open turns) (length plants.items) }
     ensures each { IfOk result (λ after. AllZip Finishes plants.items after.items) }
@@ -83,7 +83,7 @@ fn run_until<R: Threads + Wait + Sync, G: Gate, S: StopRule + Send + Sync>(
         thread::scope_env(),
         rt,
         move |scope| -> Result<Vec<Plant>, RunFault>
-            requires work { All IsAtWork plants.items }
+            requires work { All PlantIsAtWork plants.items }
             requires workers { (1 ≤ workers) × (workers ≤ MOST_WORKERS) }
             requires rule { AllowsOfFirst S.holds (WasShut G.turn_open G.turn_shut G.worker_shut workers turns) (WasSpent G.turn_open turns) (length plants.items) }
             ensures each { IfOk result (λ after. AllZip Finishes plants.items after.items) }
@@ -124,7 +124,7 @@ fn run_beside<'s, E, R: Threads + Wait + Sync, G: Gate, S: StopRule + Send + Syn
     stop: &'s Stop<S>,
     turns: u64,
 ) -> Result<Vec<Plant>, RunFault>
-    requires work { All IsAtWork plants.items }
+    requires work { All PlantIsAtWork plants.items }
     requires workers { (1 ≤ workers) × (workers ≤ MOST_WORKERS) }
     requires rule { AllowsOfFirst S.holds (WasShut G.turn_open G.turn_shut G.worker_shut workers turns) (WasSpent G.turn_open turns) (length plants.items) }
     ensures each { IfOk result (λ after. AllZip Finishes plants.items after.items) }
@@ -169,12 +169,12 @@ fn start_all<'s, E, R: Threads + Wait + Sync, G: Gate, S: StopRule + Send + Sync
     turns: u64,
     threads: &mut Vec<Running<G, S>>,
 ) -> Result<(), RunFault>
-    requires work { All IsAtWork plants.items }
+    requires work { All PlantIsAtWork plants.items }
     requires workers { (1 ≤ workers) × (workers ≤ MOST_WORKERS) }
     requires rule { AllowsOfFirst S.holds (WasShut G.turn_open G.turn_shut G.worker_shut workers turns) (WasSpent G.turn_open turns) (length plants.items) }
     requires room { (threads.old.items ≡ []) × (length plants.items ≤ vec_capacity threads.old) }
-    ensures started { (rest : List Plant) × (plants.items ≡ started threads.new.items ++ rest) × OnOk result (rest ≡ []) }
-    ensures numbered { AreNumbered turns threads.new.items }
+    ensures started { (rest : List Plant) × (plants.items ≡ started_plants threads.new.items ++ rest) × OnOk result (rest ≡ []) }
+    ensures numbered { AreNumberedThreads turns threads.new.items }
     ensures refused { IfErr result (λ fault. fault ≡ RunFault.ThreadRefused) }
 {
     for plant in plants {
@@ -200,7 +200,7 @@ fn start<'s, E, R: Threads + Wait + Sync, G: Gate, S: StopRule + Send + Sync>(
     stop: &'s Stop<S>,
     turns: u64,
 ) -> Option<Running<G, S>>
-    requires work { IsAtWork plant }
+    requires work { PlantIsAtWork plant }
     requires workers { (1 ≤ workers) × (workers ≤ MOST_WORKERS) }
     requires rule { AllowsOf S.holds (WasShut G.turn_open G.turn_shut G.worker_shut workers turns) (WasSpent G.turn_open turns) number }
     ensures plant { IfSome result (λ thread. thread.promise.plant.value ≡ plant) }
@@ -217,7 +217,7 @@ fn start<'s, E, R: Threads + Wait + Sync, G: Gate, S: StopRule + Send + Sync>(
     let started = scope.spawn_with(
         duty,
         move || -> Back
-            requires work { IsAtWork plant }
+            requires work { PlantIsAtWork plant }
             requires workers { (1 ≤ workers) × (workers ≤ MOST_WORKERS) }
             requires rule { AllowsOf S.holds (WasShut G.turn_open G.turn_shut G.worker_shut workers turns) (WasSpent G.turn_open turns) number }
         { run_alone(rt, alloc, number, plant, workers, gate, stop, turns) },
@@ -236,7 +236,7 @@ fn run_alone<R: Threads + Wait + Sync, G: Gate, S: StopRule>(
     stop: &Stop<S>,
     turns: u64,
 ) -> Back
-    requires work { IsAtWork plant }
+    requires work { PlantIsAtWork plant }
     requires workers { (1 ≤ workers) × (workers ≤ MOST_WORKERS) }
     requires rule { AllowsOf S.holds (WasShut G.turn_open G.turn_shut G.worker_shut workers turns) (WasSpent G.turn_open turns) number }
     ensures plant { Finished plant result }

@@ -28,16 +28,16 @@ use Rattle.mrp_events.proofs.Small.{load_is_small}
 use Rattle.mrp_cursor.specs.Cursor as cursor
 use Rattle.mrp_cursor.specs.Cursor.{OutFigures, Goods}
 use Rattle.mrp_cursor.specs.declared.remainder.Remainder.{Remainder}
-use Rattle.mrp_cursor.specs.Laws.{Agrees, IsBounded, IsSmall}
-use Rattle.mrp_cursor.specs.Next.{IsLeft, next_record, stepped}
+use Rattle.mrp_cursor.specs.Laws.{Agrees, IsBounded, IsSmallGoods}
+use Rattle.mrp_cursor.specs.Next.{IsWhatIsLeft, next_record, stepped}
 use Rattle.mrp_cursor.specs.Shows.{ShowsSent}
 use Rattle.mrp_cursor.proofs.Lists.{drop_there, contains_there, range_below}
 use Rattle.mrp_cursor.proofs.Steps.{steps_show, steps_keep_places, given_continues}
 use Rattle.mrp_cursor.proofs.Texts.{shown_begin}
-use Rattle.mrp_lane.specs.Ends.{End, IsNext}
+use Rattle.mrp_lane.specs.Ends.{End, IsNextRecord}
 use Rattle.mrp_lane.specs.Views.{IsLegal}
 use Rattle.mrp_lane.proofs.Counting.{length_fits}
-use Rattle.mrp_run_cases.specs.Feeding.{amounts_from, lines_from, item_goods, item_at, goods, IsOver, Feeds}
+use Rattle.mrp_run_cases.specs.Feeding.{amounts_from, lines_from, item_goods, lane_item_at, goods, IsOver, Feeds}
 
 -- ---- lines
 
@@ -94,7 +94,7 @@ whole_lines : (kind : LaneKind) (N : Table) (lane : Lane) (item : ItemNo) → li
 whole_lines Despatch N lane item = refl
 whole_lines Schedule N lane item = let whole : horizon N ≡ horizon N - 0 = omega arith in ap (amounts (called_in N (source_on N lane item)) 0) whole
 
-same_load : (N : Table) (lane : Lane) (item : ItemNo) → load_of N lane item ≡ cursor.load_of (item_goods N lane item)
+same_load : (N : Table) (lane : Lane) (item : ItemNo) → load_of N lane item ≡ cursor.goods_load (item_goods N lane item)
 same_load N lane item = let lines = whole_lines lane.kind N lane item in λ j. record (load_of N lane item) { lines = lines j }
 
 module _ (N : Table) (l : ℕ) where
@@ -112,17 +112,17 @@ module _ (N : Table) (l : ℕ) where
         queued = λ place there.
             let within : place < length items = there_at o place over there in
             slice_get-get_or (loads N lane) place d (omega (arith, within, length-map items (load_of N lane)))
-            ∙ ap (λ (z : Load). Some z) (get_or-map (load_of N lane) items place none d within ∙ same_load N lane (item_at N l place));
+            ∙ ap (λ (z : Load). Some z) (get_or-map (load_of N lane) items place none d within ∙ same_load N lane (lane_item_at N l place));
       }
 
   shown_is_legal : (o : OutFigures) (sent : List Record) → IsOver N l o → ShowsSent (goods N l) o sent → IsLegal N l sent
   shown_is_legal o sent over shows = shown_begin (goods N l) o sent shows (loads N (lane_at N l)) (agrees o over)
 
-  small : (place : ℕ) → IsSized N → place < length (lane_items N (lane_at N l)) → IsSmall (goods N l place)
+  small : (place : ℕ) → IsSized N → place < length (lane_items N (lane_at N l)) → IsSmallGoods (goods N l place)
   small place sized within =
       let lane : Lane = lane_at N l in
       let none : ItemNo = record { 0 = 0 } in
-      let item : ItemNo = item_at N l place in
+      let item : ItemNo = lane_item_at N l place in
       let fits = load_is_small N sized lane item (Contains-get_or (lane_items N lane) place none within) in
       let lines = ap (λ (d : Load). length d.lines) (same_load N lane item) in
       let pieces = ap (λ (d : Load). total d.lines) (same_load N lane item) in
@@ -137,9 +137,9 @@ module _ (N : Table) (l : ℕ) where
     head = λ place at. small place sized (there_at o place over (contains_there o.queue o.head place at));
   }
 
-module _ (N : Table) (o : OutFigures) (end : End) (left : Option Remainder) (r : Record) (feeds : Feeds N o end) (is : IsLeft (goods N end.name.lane) o left) (next : next_record o left ≡ Some r) where
+module _ (N : Table) (o : OutFigures) (end : End) (left : Option Remainder) (r : Record) (feeds : Feeds N o end) (is : IsWhatIsLeft (goods N end.name.lane) o left) (next : next_record o left ≡ Some r) where
   -- the record that the cursor gives may be offered
-  pub may_be_offered : IsNext end r
+  pub may_be_offered : IsNextRecord end r
   may_be_offered =
       let l : ℕ = end.name.lane in
       subst (λ (M : Table). IsLegal M l (end.list ++ r ∷ [])) (sym feeds.network)

@@ -39,11 +39,11 @@ item_goods N lane item = record {
 }
 
 -- the places are those of the lane's items
-abbrev pub item_at : Table → ℕ → ℕ → ItemNo
-item_at N l place = slice_index_or (lane_items N (lane_at N l)) place (record { 0 = 0 })
+abbrev pub lane_item_at : Table → ℕ → ℕ → ItemNo
+lane_item_at N l place = slice_index_or (lane_items N (lane_at N l)) place (record { 0 = 0 })
 
 abbrev pub goods : Table → ℕ → ℕ → Goods
-goods N l place = item_goods N (lane_at N l) (item_at N l place)
+goods N l place = item_goods N (lane_at N l) (lane_item_at N l place)
 
 -- the cursor has a place for each item of the lane, and all may be sent
 pub record IsOver (N : Table) (l : ℕ) (cursor : OutFigures) : Type 0 where

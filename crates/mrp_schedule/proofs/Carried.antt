@@ -8,7 +8,7 @@ use Rattle.mrp_rows.specs.Table.{Table, IsTable}
 use Rattle.mrp_net.specs.declared.lane.Lane.{Lane}
 use Rattle.mrp_net.specs.Lanes.{lane_at, lane_items, opening, reset}
 use Rattle.mrp_record.specs.declared.record.Record.{Record}
-use Rattle.mrp_record.specs.Entries.{Delivery, Entry, LineOf, EndOf, ResetOf, Closing, contents, delivery_of, entries_of, quantity_of}
+use Rattle.mrp_record.specs.Entries.{Delivery, Entry, LineOf, EndOf, ResetOf, Closing, contents, entry_delivery, entries_of, quantity_of}
 use Rattle.mrp_record.specs.Text.{block, total, IsBeginning, IsText, IsWhole}
 use Rattle.mrp_record.proofs.Beginnings.{own_block}
 use Rattle.mrp_record.proofs.Figures.{cum_is_opening_and_moved}
@@ -16,7 +16,7 @@ use Rattle.mrp_record.proofs.Running.{block_delivers}
 use Rattle.mrp_events.specs.Loads.{load_of, loads}
 use Rattle.mrp_events.proofs.Small.{loads_stand_once, load_is_there}
 use Rattle.mrp_schedule.specs.declared.line.ScheduleLine.TheVariants.{Opening, Call, Reset}
-use Rattle.mrp_schedule.specs.Laws.{TextsCarrySchedules, FiguresAddUp, called_for, pieces_of}
+use Rattle.mrp_schedule.specs.Laws.{TextsCarrySchedules, FiguresAddUp, called_pieces, pieces_of}
 use Rattle.mrp_schedule.specs.Schedule.{in_transit, line_of, schedule_of}
 
 whole_text : (N : Table) (lane : Lane) (records : List Record) → IsWhole (loads N lane) records → IsText (loads N lane) (contents records ++ [])
@@ -38,7 +38,7 @@ texts_carry_schedules N table lane records h item there =
     ap (λ (z : List Entry). first ∷ filter_map (line_of (reset N lane item)) z) (sym (whole_block N table lane records h item there))
 
 -- the pieces of a list of records are those of its lines
-pieces_carried : (from : Option ℕ) (es : List Entry) → sum_by quantity_of es ≡ called_for (filter_map (line_of from) es)
+pieces_carried : (from : Option ℕ) (es : List Entry) → sum_by quantity_of es ≡ called_pieces (filter_map (line_of from) es)
 pieces_carried from [] = refl
 pieces_carried from (LineOf i p q c ∷ es) =
     omega (arith, sum_by-cons quantity_of (LineOf i p q c) es, sum_by-cons pieces_of (Call p q c) (filter_map (line_of from) es), pieces_carried from es)
@@ -63,14 +63,14 @@ figures_add_up N table l records h item there =
 
 -- ---- what a schedule calls for is what its lane carries
 
-pieces_delivered : (from : Option ℕ) (es : List Entry) → called_for (filter_map (line_of from) es) ≡ total (filter_map delivery_of es)
+pieces_delivered : (from : Option ℕ) (es : List Entry) → called_pieces (filter_map (line_of from) es) ≡ total (filter_map entry_delivery es)
 pieces_delivered from [] = refl
 pieces_delivered from (LineOf i p q c ∷ es) =
     let line : Delivery = record { period = p; quantity = q } in
     omega (
       arith,
       sum_by-cons pieces_of (Call p q c) (filter_map (line_of from) es),
-      sum_by-cons (λ (d : Delivery). d.quantity) line (filter_map delivery_of es),
+      sum_by-cons (λ (d : Delivery). d.quantity) line (filter_map entry_delivery es),
       pieces_delivered from es,
     )
 pieces_delivered from (EndOf i n c ∷ es) = pieces_delivered from es
@@ -79,7 +79,7 @@ pieces_delivered (Some from) (ResetOf i c ∷ es) =
     omega (arith, sum_by-cons pieces_of (Reset from c) (filter_map (line_of (Some from)) es), pieces_delivered (Some from) es)
 pieces_delivered from (Closing ∷ es) = pieces_delivered from es
 
-pub called_is_carried : (N : Table) (lane : Lane) (item : ItemNo) → called_for (schedule_of N lane item) ≡ total (load_of N lane item).lines
+pub called_is_carried : (N : Table) (lane : Lane) (item : ItemNo) → called_pieces (schedule_of N lane item) ≡ total (load_of N lane item).lines
 called_is_carried N lane item =
     let from = reset N lane item in
     let entries = block (load_of N lane item) in

@@ -12,11 +12,11 @@ use Rattle.mrp_rows.specs.Table.{Table, IsTable, IsPair, IsSourceRow, horizon, s
 use Rattle.mrp_net.specs.declared.edge.Edge.{Edge}
 use Rattle.mrp_net.specs.Edges.{part, source_edge}
 use Rattle.mrp_net.specs.LaneLaws.{HasBothLanes, schedule_lane}
-use Rattle.mrp_net.specs.Lanes.{item_of, opening, reset}
+use Rattle.mrp_net.specs.Lanes.{item_of_source, opening, reset}
 use Rattle.mrp_net.specs.Plan.{no_rows, pair_plan, plan_of, rounds, rows_at}
-use Rattle.mrp_net.specs.PlanLaws.{released}
+use Rattle.mrp_net.specs.PlanLaws.{release_at}
 use Rattle.mrp_net.specs.Sources.{source_on}
-use Rattle.mrp_record.specs.Entries.{Entry, LineOf, EndOf, ResetOf, Closing, Delivery, delivery_of}
+use Rattle.mrp_record.specs.Entries.{Entry, LineOf, EndOf, ResetOf, Closing, Delivery, entry_delivery}
 use Rattle.mrp_record.specs.Laws.{quantity_in}
 use Rattle.mrp_record.specs.Text.{block}
 use Rattle.mrp_record.proofs.Running.{block_delivers}
@@ -27,7 +27,7 @@ use Rattle.mrp_net.proofs.Sharing.{pairs_are_found, parts_are_whole}
 use Rattle.mrp_net.proofs.Twos.{sources_have_lanes}
 use Rattle.mrp_plan.proofs.Planning.{pair_plan-release}
 use Rattle.mrp_schedule.specs.declared.line.ScheduleLine.TheVariants.{Opening, Call, Reset}
-use Rattle.mrp_schedule.specs.Laws.{CallsAreReleased, called_for_in, pieces_in, schedule_by}
+use Rattle.mrp_schedule.specs.Laws.{CallsAreReleased, called_for_in, line_pieces_in, schedule_by}
 use Rattle.mrp_schedule.specs.Schedule.{in_transit, line_of}
 use Rattle.mrp_schedule.proofs.Amounts.{earlier_has_none, has_amount}
 
@@ -58,45 +58,45 @@ same_source (q ∷ rows) once r s h g plant pair =
     ]
 
 -- the schedule lane of a source calls by that source
-source_of_schedule : (N : Table) → IsTable N → (s : SourceRow) → In N.sources s → source_on N (schedule_lane N s) (item_of N s) ≡ s
+source_of_schedule : (N : Table) → IsTable N → (s : SourceRow) → In N.sources s → source_on N (schedule_lane N s) (item_of_source N s) ≡ s
 source_of_schedule N table s there =
     let lane = schedule_lane N s in
     let both = All-in (HasBothLanes N) N.sources s (sources_have_lanes N table) there in
-    let has = items_have_sources N table lane (item_of N s) both.scheduled in
+    let has = items_have_sources N table lane (item_of_source N s) both.scheduled in
     let row : IsSourceRow N s = All-in (IsSourceRow N) N.sources s table.read.sources there in
-    same_source N.sources table.once.sources (source_on N lane (item_of N s)) s (In-from_contains N.sources (source_on N lane (item_of N s)) has.source) there has.plant
+    same_source N.sources table.once.sources (source_on N lane (item_of_source N s)) s (In-from_contains N.sources (source_on N lane (item_of_source N s)) has.source) there has.plant
     (has.taker ∙ pairs_are_found N table s.pair.0 row.pair)
 
 -- ---- what a schedule calls for in a period
 
-pieces_called : (from : Option ℕ) (t : ℕ) (es : List Entry) → called_for_in t (filter_map (line_of from) es) ≡ quantity_in t (filter_map delivery_of es)
+pieces_called : (from : Option ℕ) (t : ℕ) (es : List Entry) → called_for_in t (filter_map (line_of from) es) ≡ quantity_in t (filter_map entry_delivery es)
 pieces_called from t [] = refl
 pieces_called from t (LineOf i p q c ∷ es) =
     let line : Delivery = record { period = p; quantity = q } in
     omega (
       arith,
-      sum_by-cons (pieces_in t) (Call p q c) (filter_map (line_of from) es),
-      sum_by-cons (λ (d : Delivery). cond (d.period == t) d.quantity 0) line (filter_map delivery_of es),
+      sum_by-cons (line_pieces_in t) (Call p q c) (filter_map (line_of from) es),
+      sum_by-cons (λ (d : Delivery). cond (d.period == t) d.quantity 0) line (filter_map entry_delivery es),
       pieces_called from t es,
     )
 pieces_called from t (EndOf i n c ∷ es) = pieces_called from t es
 pieces_called None t (ResetOf i c ∷ es) = pieces_called None t es
 pieces_called (Some from) t (ResetOf i c ∷ es) =
-    omega (arith, sum_by-cons (pieces_in t) (Reset from c) (filter_map (line_of (Some from)) es), pieces_called (Some from) t es)
+    omega (arith, sum_by-cons (line_pieces_in t) (Reset from c) (filter_map (line_of (Some from)) es), pieces_called (Some from) t es)
 pieces_called from t (Closing ∷ es) = pieces_called from t es
 
 schedule_calls : (N : Table) → IsTable N → (s : SourceRow) → In N.sources s → (t : ℕ) → called_for_in t (schedule_by N s) ≡ quantity_in t (by_period (called_in N s) (horizon N))
 schedule_calls N table s there t =
     let lane = schedule_lane N s in
-    let item = item_of N s in
+    let item = item_of_source N s in
     let from = reset N lane item in
     let load = load_of N lane item in
     let first : called_for_in t (schedule_by N s) ≡ called_for_in t (filter_map (line_of from) (block load)) =
-    omega (arith, sum_by-cons (pieces_in t) (Opening (in_transit N lane item) (opening N lane item)) (filter_map (line_of from) (block load))) in
+    omega (arith, sum_by-cons (line_pieces_in t) (Opening (in_transit N lane item) (opening N lane item)) (filter_map (line_of from) (block load))) in
     first ∙ pieces_called from t (block load) ∙ ap (quantity_in t) (block_delivers load)
     ∙ ap (λ (r : SourceRow). quantity_in t (by_period (called_in N r) (horizon N))) (source_of_schedule N table s there)
 
--- ---- past the last period nothing is released
+-- ---- past the last period nothing is release_at
 
 rounds_length : (N : Table) (k x : ℕ) → IsPair N x → length (rows_at (rounds N (suc k)) x).release ≡ horizon N
 rounds_length N k x pair =
@@ -108,7 +108,7 @@ planned_length N x pair =
     let some : length N.pairs ≡ suc (length N.pairs - 1) = omega (arith, pair) in
     ap (λ (k : ℕ). length (rows_at (rounds N k) x).release) some ∙ rounds_length N (length N.pairs - 1) x pair
 
-nothing_released : (N : Table) (x t : ℕ) → IsPair N x → horizon N ≤ t → released (plan_of N) x t ≡ 0
+nothing_released : (N : Table) (x t : ℕ) → IsPair N x → horizon N ≤ t → release_at (plan_of N) x t ≡ 0
 nothing_released N x t pair past = get_or_past (rows_at (plan_of N) x).release t 0 (omega (arith, planned_length N x pair))
 
 no_part : (e : Edge) → part e 0 ≡ 0
@@ -134,8 +134,8 @@ sum_in f g (s ∷ rows) same =
 
 pub calls_are_released : CallsAreReleased
 calls_are_released N table x pair from t =
-    sum_in (λ s. called_for_in t (schedule_by N s)) (λ s. part (source_edge N s) (released (plan_of N) x t)) (sources_of_pair N x)
+    sum_in (λ s. called_for_in t (schedule_by N s)) (λ s. part (source_edge N s) (release_at (plan_of N) x t)) (sources_of_pair N x)
     (λ s h.
     let own = filter_only (λ (r : SourceRow). r.pair.0 == x) N.sources s h in
-    schedule_in N table s own.0 t ∙ ap (λ (y : ℕ). part (source_edge N s) (released (plan_of N) y t)) (eqb-true s.pair.0 x own.1))
-    ∙ parts_are_whole N table x pair from (released (plan_of N) x t)
+    schedule_in N table s own.0 t ∙ ap (λ (y : ℕ). part (source_edge N s) (release_at (plan_of N) y t)) (eqb-true s.pair.0 x own.1))
+    ∙ parts_are_whole N table x pair from (release_at (plan_of N) x t)

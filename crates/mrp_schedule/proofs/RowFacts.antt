@@ -15,55 +15,55 @@ use Rattle.mrp_net.specs.Lanes.{lane_items, opening, pair_on, reset}
 use Rattle.mrp_net.specs.Sources.{source_on}
 use Rattle.mrp_net.specs.Sums.{no_pair}
 use Rattle.mrp_net.proofs.Behind.{items_have_sources}
-use Rattle.mrp_record.specs.Entries.{Closing, Delivery, EndOf, Entry, LineOf, ResetOf, delivery_of}
+use Rattle.mrp_record.specs.Entries.{Closing, Delivery, EndOf, Entry, LineOf, ResetOf, entry_delivery}
 use Rattle.mrp_record.specs.Text.{block}
 use Rattle.mrp_record.proofs.Running.{block_delivers}
 use Rattle.mrp_events.specs.Loads.{called_in, lines_by, load_of}
 use Rattle.mrp_events.proofs.Delivered.{by_period_inside}
 use Rattle.mrp_sheet.specs.Dates.{dates_of, period_date}
-use Rattle.mrp_sheet.specs.Names.{item_name}
+use Rattle.mrp_sheet.specs.Names.{name_of_item}
 use Rattle.mrp_schedule.specs.declared.line.ScheduleLine.{ScheduleLine}
 use Rattle.mrp_schedule.specs.declared.line.ScheduleLine.TheVariants.{Call, Opening, Reset}
 use Rattle.mrp_schedule.specs.declared.rows.ItemRows.{ItemRows}
-use Rattle.mrp_schedule.specs.ItemRows.{AreOfItem, IsWithin, asked_text, item_row}
-use Rattle.mrp_schedule.specs.Rows.{customer_name, is_between, item_text, lane_text, line_row, supplier_name}
+use Rattle.mrp_schedule.specs.ItemRows.{AreOfItem, IsLineWithin, asked_text, item_row}
+use Rattle.mrp_schedule.specs.Rows.{customer_name, is_between, item_text, lane_schedule_text, schedule_line_row, supplier_name}
 use Rattle.mrp_schedule.specs.Schedule.{in_transit, line_of, schedule_of}
 use Rattle.mrp_schedule.proofs.Planned.{reset_before}
 
 -- ---- periods
 
 -- where the deliveries of records stand, and the reset, there stand their lines
-lines_within : (n : ℕ) (from : Option ℕ) → IfSome from (λ t. t < n) → (es : List Entry) → All (λ d. d.period < n) (filter_map delivery_of es)
-    → All (IsWithin n) (filter_map (line_of from) es)
-lines_within n from before [] inside = All-nil (IsWithin n)
+lines_within : (n : ℕ) (from : Option ℕ) → IfSome from (λ t. t < n) → (es : List Entry) → All (λ d. d.period < n) (filter_map entry_delivery es)
+    → All (IsLineWithin n) (filter_map (line_of from) es)
+lines_within n from before [] inside = All-nil (IsLineWithin n)
 lines_within n from before (LineOf i p q c ∷ es) inside =
     let line : Delivery = record { period = p; quantity = q } in
-    let rest = filter_map delivery_of es in
-    All-cons (IsWithin n) (Call p q c) (filter_map (line_of from) es) (All-head (λ (d : Delivery). d.period < n) line rest inside)
+    let rest = filter_map entry_delivery es in
+    All-cons (IsLineWithin n) (Call p q c) (filter_map (line_of from) es) (All-head (λ (d : Delivery). d.period < n) line rest inside)
     (lines_within n from before es (All-tail (λ (d : Delivery). d.period < n) line rest inside))
 lines_within n from before (EndOf i k c ∷ es) inside = lines_within n from before es inside
 lines_within n None before (ResetOf i c ∷ es) inside = lines_within n None before es inside
 lines_within n (Some from) before (ResetOf i c ∷ es) inside =
-    All-cons (IsWithin n) (Reset from c) (filter_map (line_of (Some from)) es) before (lines_within n (Some from) before es inside)
+    All-cons (IsLineWithin n) (Reset from c) (filter_map (line_of (Some from)) es) before (lines_within n (Some from) before es inside)
 lines_within n from before (Closing ∷ es) inside = lines_within n from before es inside
 
 -- those of a schedule stand within the horizon
-pub schedule_within : (N : Table) → IsTable N → (lane : Lane) (item : ItemNo) → lane.kind ≡ Schedule → All (IsWithin (horizon N)) (schedule_of N lane item)
+pub schedule_within : (N : Table) → IsTable N → (lane : Lane) (item : ItemNo) → lane.kind ≡ Schedule → All (IsLineWithin (horizon N)) (schedule_of N lane item)
 schedule_within N table lane item schedule =
     let n = horizon N in
     let entries = block (load_of N lane item) in
     let delivered = block_delivers (load_of N lane item) ∙ ap (λ (k : LaneKind). lines_by N k lane item) schedule in
-    All-cons (IsWithin n) (Opening (in_transit N lane item) (opening N lane item)) (filter_map (line_of (reset N lane item)) entries) tt
+    All-cons (IsLineWithin n) (Opening (in_transit N lane item) (opening N lane item)) (filter_map (line_of (reset N lane item)) entries) tt
     (lines_within n (reset N lane item) (reset_before N table lane item) entries
     (subst (λ (ds : List Delivery). All (λ d. d.period < n) ds) (sym delivered) (by_period_inside (called_in N (source_on N lane item)) n)))
 
 -- so there is a date for each of them
 pub schedule_dated : (N : Table) → IsTable N → (lane : Lane) (item : ItemNo) → lane.kind ≡ Schedule → (lines : List ScheduleLine) (dates : List (List ℕ))
-    → lines ≡ schedule_of N lane item → dates ≡ dates_of N.calendar → All (IsWithin (length dates)) lines
+    → lines ≡ schedule_of N lane item → dates ≡ dates_of N.calendar → All (IsLineWithin (length dates)) lines
 schedule_dated N table lane item schedule lines dates same are =
     let size : length dates ≡ horizon N = ap (λ (l : List (List ℕ)). length l) are ∙ length-map-range_with_len (period_date N.calendar) 0 (horizon N) in
-    subst (λ (n : ℕ). All (IsWithin n) lines) (sym size)
-    (subst (λ (ls : List ScheduleLine). All (IsWithin (horizon N)) ls) (sym same) (schedule_within N table lane item schedule))
+    subst (λ (n : ℕ). All (IsLineWithin n) lines) (sym size)
+    (subst (λ (ls : List ScheduleLine). All (IsLineWithin (horizon N)) ls) (sym same) (schedule_within N table lane item schedule))
 
 -- ---- rows
 
@@ -80,10 +80,10 @@ unfolding item_text
 rows_are_of_item N lane item rows lines same are =
     let schedule = schedule_of N lane item in
     ap (flat_map (item_row rows)) same
-    ∙ ap (λ (s : List ℕ). flat_map (line_row s rows.customer.now rows.item.now rows.dates.now) schedule) are.supplier
-    ∙ ap (λ (c : List ℕ). flat_map (line_row (supplier_name N lane) c rows.item.now rows.dates.now) schedule) are.customer
-    ∙ ap (λ (i : List ℕ). flat_map (line_row (supplier_name N lane) (customer_name N lane) i rows.dates.now) schedule) are.of_item
-    ∙ ap (λ (d : List (List ℕ)). flat_map (line_row (supplier_name N lane) (customer_name N lane) (item_name N item) d) schedule) are.dates
+    ∙ ap (λ (s : List ℕ). flat_map (schedule_line_row s rows.customer.now rows.item.now rows.dates.now) schedule) are.supplier
+    ∙ ap (λ (c : List ℕ). flat_map (schedule_line_row (supplier_name N lane) c rows.item.now rows.dates.now) schedule) are.customer
+    ∙ ap (λ (i : List ℕ). flat_map (schedule_line_row (supplier_name N lane) (customer_name N lane) i rows.dates.now) schedule) are.of_item
+    ∙ ap (λ (d : List (List ℕ)). flat_map (schedule_line_row (supplier_name N lane) (customer_name N lane) (name_of_item N item) d) schedule) are.dates
 
 kept : {X : Type 0} (text : X → List ℕ) (test : X → Bool) (xs : List X) → flat_map (λ x. cond (test x) (text x) []) xs ≡ flat_map text (filter test xs)
 kept text test [] = refl
@@ -96,5 +96,5 @@ kept text test (x ∷ xs) =
 
 -- the rows of the lanes that are asked for are those of the lanes that pass the test
 pub asked_are_kept : (from to : Option PlantNo) (N : Table) (ls : List Lane)
-    → flat_map (asked_text from to N) ls ≡ flat_map (lane_text N) (filter (is_between from to) ls)
-asked_are_kept from to N ls = kept (lane_text N) (is_between from to) ls
+    → flat_map (asked_text from to N) ls ≡ flat_map (lane_schedule_text N) (filter (is_between from to) ls)
+asked_are_kept from to N ls = kept (lane_schedule_text N) (is_between from to) ls

@@ -9,8 +9,8 @@ use Rattle.mrp_rows.specs.Table.{IsTable, Table}
 use Rattle.mrp_net.specs.declared.lane.Lane.{Lane}
 use Rattle.mrp_net.specs.Lanes.{customer_of, lane_items, lanes, supplier_of}
 use Rattle.mrp_sheet.specs.Dates.{dates_of}
-use Rattle.mrp_sheet.specs.DateLists.{date_at}
-use Rattle.mrp_sheet.specs.Names.{item_name}
+use Rattle.mrp_sheet.specs.DateLists.{date_in}
+use Rattle.mrp_sheet.specs.Names.{name_of_item}
 use Rattle.mrp_sheet.specs.Rows.{row}
 use Rattle.mrp_sheet.specs.Sheets.{IsPlain}
 use Rattle.mrp_sheet.proofs.FieldFacts.{ArePlain, headed_read, more, none, number}
@@ -18,13 +18,13 @@ use Rattle.mrp_sheet.proofs.PlainFacts.{dates_plain, item_plain, plant_plain}
 use Rattle.mrp_sheet.proofs.ReadBack.{IsRow, all_each, all_map, row_each, rows_each}
 use Rattle.mrp_schedule.specs.declared.line.ScheduleLine.{ScheduleLine}
 use Rattle.mrp_schedule.specs.declared.line.ScheduleLine.TheVariants.{Call, Opening, Reset}
-use Rattle.mrp_schedule.specs.Rows.{customer_name, is_between, item_text, lane_text, lanes_text, line_fields, line_row, schedule_names, schedule_text, supplier_name}
+use Rattle.mrp_schedule.specs.Rows.{customer_name, is_between, item_text, lane_schedule_text, lanes_text, schedule_line_fields, schedule_line_row, schedule_names, schedule_text, supplier_name}
 use Rattle.mrp_schedule.specs.Schedule.{schedule_of}
 use Rattle.mrp_schedule.specs.Sheets.{SchedulesAreReadBack, item_sheet, lanes_sheet}
 
 -- an empty field is plain too
 line_plain : (supplier customer item : List ℕ) (dates : List (List ℕ)) → IsPlain supplier → IsPlain customer → IsPlain item
-    → ((t : ℕ) → IsPlain (date_at dates t)) → (line : ScheduleLine) → ArePlain (line_fields supplier customer item dates line)
+    → ((t : ℕ) → IsPlain (date_in dates t)) → (line : ScheduleLine) → ArePlain (schedule_line_fields supplier customer item dates line)
 line_plain supplier customer item dates s c i d (Opening transit figure) =
     more refl (more refl (more s (more c (more i (more refl (more refl (number transit (number figure none))))))))
 line_plain supplier customer item dates s c i d (Call period quantity cumulative) =
@@ -33,7 +33,7 @@ line_plain supplier customer item dates s c i d (Reset period closed) =
     more refl (more refl (more s (more c (more i (number period (more (d period) (more refl (number closed none))))))))
 
 line_is_row : (supplier customer item : List ℕ) (dates : List (List ℕ)) (line : ScheduleLine)
-    → ArePlain (line_fields supplier customer item dates line) → IsRow (line_fields supplier customer item dates line)
+    → ArePlain (schedule_line_fields supplier customer item dates line) → IsRow (schedule_line_fields supplier customer item dates line)
 unfolding row strip_bom
 line_is_row supplier customer item dates (Opening transit figure) are = record { plain = are.all; many = omega arith; front = λ rest. refl }
 line_is_row supplier customer item dates (Call period quantity cumulative) are = record { plain = are.all; many = omega arith; front = λ rest. refl }
@@ -51,26 +51,26 @@ names_are_row = record {
 }
 
 item_is_sheet : (N : Table) (lane : Lane) (item : ItemNo) → item_text N lane item ≡ flat_map row (item_sheet N lane item)
-unfolding item_text line_row
+unfolding item_text schedule_line_row
 item_is_sheet N lane item =
-    row_each (line_fields (supplier_name N lane) (customer_name N lane) (item_name N item) (dates_of N.calendar)) (schedule_of N lane item)
+    row_each (schedule_line_fields (supplier_name N lane) (customer_name N lane) (name_of_item N item) (dates_of N.calendar)) (schedule_of N lane item)
 
-lane_is_sheet : (N : Table) (lane : Lane) → lane_text N lane ≡ flat_map row (flat_map (item_sheet N lane) (lane_items N lane))
-unfolding lane_text
+lane_is_sheet : (N : Table) (lane : Lane) → lane_schedule_text N lane ≡ flat_map row (flat_map (item_sheet N lane) (lane_items N lane))
+unfolding lane_schedule_text
 lane_is_sheet N lane = rows_each (item_text N lane) (item_sheet N lane) (item_is_sheet N lane) (lane_items N lane)
 
 lanes_are_sheet : (from to : Option PlantNo) (N : Table) → lanes_text from to N ≡ flat_map row (lanes_sheet from to N)
 unfolding lanes_text
 lanes_are_sheet from to N =
-    rows_each (lane_text N) (λ lane. flat_map (item_sheet N lane) (lane_items N lane)) (lane_is_sheet N) (filter (is_between from to) (lanes N))
+    rows_each (lane_schedule_text N) (λ lane. flat_map (item_sheet N lane) (lane_items N lane)) (lane_is_sheet N) (filter (is_between from to) (lanes N))
 
 item_rows_are : (N : Table) → IsTable N → (lane : Lane) (item : ItemNo) → All IsRow (item_sheet N lane item)
 item_rows_are N is lane item =
     let supplier = supplier_name N lane in
     let customer = customer_name N lane in
-    let name = item_name N item in
+    let name = name_of_item N item in
     let dates = dates_of N.calendar in
-    all_map (line_fields supplier customer name dates)
+    all_map (schedule_line_fields supplier customer name dates)
     (λ line. line_is_row supplier customer name dates line
     (line_plain supplier customer name dates (plant_plain N is (supplier_of lane)) (plant_plain N is (customer_of lane)) (item_plain N is item.0)
     (dates_plain N.calendar) line))

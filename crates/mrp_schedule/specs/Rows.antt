@@ -10,9 +10,9 @@ use Rattle.mrp_net.specs.declared.lane.LaneKind.{LaneKind}
 use Rattle.mrp_net.specs.declared.lane.LaneKind.TheVariants.{Despatch, Schedule}
 use Rattle.mrp_net.specs.Lanes.{customer_of, lane_items, lanes, supplier_of}
 use Rattle.mrp_sheet.specs.Dates.{dates_of}
-use Rattle.mrp_sheet.specs.DateLists.{date_at}
+use Rattle.mrp_sheet.specs.DateLists.{date_in}
 use Rattle.mrp_sheet.specs.Headings.{header_row}
-use Rattle.mrp_sheet.specs.Names.{item_name}
+use Rattle.mrp_sheet.specs.Names.{name_of_item}
 use Rattle.mrp_sheet.specs.Rows.{row}
 use Rattle.mrp_schedule.specs.declared.line.ScheduleLine.{ScheduleLine}
 use Rattle.mrp_schedule.specs.declared.line.ScheduleLine.TheVariants.{Opening, Call, Reset}
@@ -27,18 +27,18 @@ schedule_names =
 -- ---- the rows of an item
 
 -- the fields of a line between two plants: the opening stands in no period, and a reset has no pieces
-abbrev pub line_fields : List ℕ → List ℕ → List ℕ → List (List ℕ) → ScheduleLine → List (List ℕ)
-line_fields supplier customer item dates (Opening transit figure) =
+abbrev pub schedule_line_fields : List ℕ → List ℕ → List ℕ → List (List ℕ) → ScheduleLine → List (List ℕ)
+schedule_line_fields supplier customer item dates (Opening transit figure) =
     text_bytes "schedule" ∷ text_bytes "opening" ∷ supplier ∷ customer ∷ item ∷ [] ∷ [] ∷ decimal transit ∷ decimal figure ∷ []
-line_fields supplier customer item dates (Call period quantity cumulative) =
-    text_bytes "schedule" ∷ text_bytes "call" ∷ supplier ∷ customer ∷ item ∷ decimal period ∷ date_at dates period ∷ decimal quantity
+schedule_line_fields supplier customer item dates (Call period quantity cumulative) =
+    text_bytes "schedule" ∷ text_bytes "call" ∷ supplier ∷ customer ∷ item ∷ decimal period ∷ date_in dates period ∷ decimal quantity
     ∷ decimal cumulative ∷ []
-line_fields supplier customer item dates (Reset period closed) =
-    text_bytes "schedule" ∷ text_bytes "reset" ∷ supplier ∷ customer ∷ item ∷ decimal period ∷ date_at dates period ∷ [] ∷ decimal closed ∷ []
+schedule_line_fields supplier customer item dates (Reset period closed) =
+    text_bytes "schedule" ∷ text_bytes "reset" ∷ supplier ∷ customer ∷ item ∷ decimal period ∷ date_in dates period ∷ [] ∷ decimal closed ∷ []
 
 -- that row
-unfoldable pub line_row : List ℕ → List ℕ → List ℕ → List (List ℕ) → ScheduleLine → List ℕ
-line_row supplier customer item dates line = row (line_fields supplier customer item dates line)
+unfoldable pub schedule_line_row : List ℕ → List ℕ → List ℕ → List (List ℕ) → ScheduleLine → List ℕ
+schedule_line_row supplier customer item dates line = row (schedule_line_fields supplier customer item dates line)
 
 -- the names of the two plants of a lane
 abbrev pub supplier_name : Table → Lane → List ℕ
@@ -50,13 +50,13 @@ customer_name N lane = slice_index_or N.plants (customer_of lane) []
 -- the rows of the schedule of an item of a lane
 unfoldable pub item_text : Table → Lane → ItemNo → List ℕ
 item_text N lane item =
-    flat_map (line_row (supplier_name N lane) (customer_name N lane) (item_name N item) (dates_of N.calendar)) (schedule_of N lane item)
+    flat_map (schedule_line_row (supplier_name N lane) (customer_name N lane) (name_of_item N item) (dates_of N.calendar)) (schedule_of N lane item)
 
 -- ---- the report
 
 -- the items of a lane, in its order
-unfoldable pub lane_text : Table → Lane → List ℕ
-lane_text N lane = flat_map (item_text N lane) (lane_items N lane)
+unfoldable pub lane_schedule_text : Table → Lane → List ℕ
+lane_schedule_text N lane = flat_map (item_text N lane) (lane_items N lane)
 
 -- schedules go over schedule lanes
 abbrev pub is_schedule : LaneKind → Bool
@@ -64,17 +64,17 @@ is_schedule Despatch = false
 is_schedule Schedule = true
 
 -- it is the plant that is asked for; where none is asked for every plant is
-abbrev pub is_asked : Option PlantNo → ℕ → Bool
-is_asked None plant = true
-is_asked (Some asked) plant = asked.0 == plant
+abbrev pub is_asked_for : Option PlantNo → ℕ → Bool
+is_asked_for None plant = true
+is_asked_for (Some asked) plant = asked.0 == plant
 
 -- the schedules of the lane are asked for: those that go to the one supplier and come from the one customer
 abbrev pub is_between : Option PlantNo → Option PlantNo → Lane → Bool
-is_between from to lane = is_schedule lane.kind && is_asked from (supplier_of lane) && is_asked to (customer_of lane)
+is_between from to lane = is_schedule lane.kind && is_asked_for from (supplier_of lane) && is_asked_for to (customer_of lane)
 
 -- the lanes whose schedules are asked for, in lane order
 unfoldable pub lanes_text : Option PlantNo → Option PlantNo → Table → List ℕ
-lanes_text from to N = flat_map (lane_text N) (filter (is_between from to) (lanes N))
+lanes_text from to N = flat_map (lane_schedule_text N) (filter (is_between from to) (lanes N))
 
 -- the report: the names of its columns, where they are asked for, and the schedules
 unfoldable pub schedule_text : Heading → Option PlantNo → Option PlantNo → Table → List ℕ

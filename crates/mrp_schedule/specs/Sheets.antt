@@ -8,15 +8,15 @@ use Rattle.mrp_choice.specs.declared.choice.Heading.{Heading}
 use Rattle.mrp_net.specs.declared.lane.Lane.{Lane}
 use Rattle.mrp_net.specs.Lanes.{lane_items, lanes}
 use Rattle.mrp_sheet.specs.Dates.{dates_of}
-use Rattle.mrp_sheet.specs.Names.{item_name}
+use Rattle.mrp_sheet.specs.Names.{name_of_item}
 use Rattle.mrp_sheet.specs.Sheets.{IsReadAs, Sheet, header_sheet}
-use Rattle.mrp_schedule.specs.Rows.{customer_name, is_between, line_fields, schedule_names, schedule_text, supplier_name}
+use Rattle.mrp_schedule.specs.Rows.{customer_name, is_between, schedule_line_fields, schedule_names, schedule_text, supplier_name}
 use Rattle.mrp_schedule.specs.Schedule.{schedule_of}
 
 -- the lines of each item
 abbrev pub item_sheet : Table → Lane → ItemNo → Sheet
 item_sheet N lane item =
-    map (line_fields (supplier_name N lane) (customer_name N lane) (item_name N item) (dates_of N.calendar)) (schedule_of N lane item)
+    map (schedule_line_fields (supplier_name N lane) (customer_name N lane) (name_of_item N item) (dates_of N.calendar)) (schedule_of N lane item)
 
 -- of each lane whose schedules are asked for
 abbrev pub lanes_sheet : Option PlantNo → Option PlantNo → Table → Sheet

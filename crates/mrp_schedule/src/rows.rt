@@ -9,10 +9,10 @@ ghost use Rattle.mrp_net.specs.Routes.{IsLane};
 ghost use Rattle.mrp_sheet.specs.Dates.{dates_of};
 ghost use Rattle.mrp_sheet.specs.Headings.{header_row};
 ghost use Rattle.mrp_sheet.specs.Writing.{IsBetweenRows, written};
-ghost use Rattle.mrp_sheet.specs.Sending.{Sends};
+ghost use Rattle.mrp_sheet.specs.Sending.{SendsReport};
 ghost use Rattle.mrp_schedule.specs.declared.line.ScheduleLine.TheVariants.{Opening, Call, Reset};
-ghost use Rattle.mrp_schedule.specs.Rows.{is_asked, is_between, item_text, lane_text, lanes_text, schedule_names, schedule_text};
-ghost use Rattle.mrp_schedule.specs.ItemRows.{AreOfItem, IsWithin, asked_text, item_row};
+ghost use Rattle.mrp_schedule.specs.Rows.{is_asked_for, is_between, item_text, lane_schedule_text, lanes_text, schedule_names, schedule_text};
+ghost use Rattle.mrp_schedule.specs.ItemRows.{AreOfItem, IsLineWithin, asked_text, item_row};
 
 use crate::{ScheduleLine, add_schedule};
 use csv::Writer;
@@ -78,7 +78,7 @@ pub fn schedule_rows<W: Write>(
     out: &mut W,
 ) -> Result<(), ReportFault>
     requires fits { Fits net.now.network plan.now }
-    ensures text { Sends (W.contents out.old) (W.contents out.new) result (schedule_text heading from to net.now.network) }
+    ensures text { SendsReport (W.contents out.old) (W.contents out.new) result (schedule_text heading from to net.now.network) }
     ensures untouched { result ≡ Err ReportFault.Memory → out.new ≡ out.old }
 {
     let dates = date_texts(alloc, net.network().calendar())?;
@@ -191,7 +191,7 @@ fn is_between(from: Option<PlantNo>, to: Option<PlantNo>, lane: Lane) -> bool
 
 /// Whether it is the plant that is asked for. Where none is asked for every plant is.
 fn is_asked(asked: Option<PlantNo>, plant: PlantNo) -> bool
-    ensures { result ≡ is_asked asked plant.0 }
+    ensures { result ≡ is_asked_for asked plant.0 }
 {
     match asked {
         None => true,
@@ -212,7 +212,7 @@ fn put_items(
     requires lane { lane.0 < length (lanes report.now.net.now.network) }
     requires schedule { (lane_at report.now.net.now.network lane.0).kind ≡ Schedule }
     ensures rows { OnOk result (written rows.new ≡ written rows.old
-        ++ lane_text report.now.net.now.network (lane_at report.now.net.now.network lane.0)) }
+        ++ lane_schedule_text report.now.net.now.network (lane_at report.now.net.now.network lane.0)) }
     ensures between { OnOk result (IsBetweenRows rows.new) }
     ensures fault { IfErr result (λ fault. fault ≡ ReportFault.Memory) }
 {
@@ -278,7 +278,7 @@ fn put_lines(
     lines: &[ScheduleLine],
 ) -> Result<(), ReportFault>
     requires between { IsBetweenRows rows.old }
-    requires periods { All (IsWithin (length common.now.dates.now)) lines.now }
+    requires periods { All (IsLineWithin (length common.now.dates.now)) lines.now }
     ensures rows { OnOk result (written rows.new ≡ written rows.old ++ flat_map (item_row common.now) lines.now) }
     ensures between { OnOk result (IsBetweenRows rows.new) }
     ensures fault { IfErr result (λ fault. fault ≡ ReportFault.Memory) }
@@ -296,7 +296,7 @@ fn put_line(
     line: ScheduleLine,
 ) -> Result<(), ReportFault>
     requires between { IsBetweenRows rows.old }
-    requires period { IsWithin (length common.now.dates.now) line }
+    requires period { IsLineWithin (length common.now.dates.now) line }
     ensures row { OnOk result (written rows.new ≡ written rows.old ++ item_row common.now line) }
     ensures between { OnOk result (IsBetweenRows rows.new) }
     ensures fault { IfErr result (λ fault. fault ≡ ReportFault.Memory) }

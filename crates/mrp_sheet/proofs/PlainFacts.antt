@@ -13,7 +13,7 @@ use Rattle.mrp_cal.specs.Days.{date_at as day_parts}
 use Rattle.mrp_spell.specs.Spelling.{is_name_byte}
 use Rattle.mrp_rows.specs.Table.{IsName, IsTable, Table}
 use Rattle.mrp_sheet.specs.Dates.{dates_of, period_date}
-use Rattle.mrp_sheet.specs.DateLists.{date_at}
+use Rattle.mrp_sheet.specs.DateLists.{date_in}
 use Rattle.mrp_sheet.specs.Sheets.{IsPlain}
 
 pub both_true : (a b : Bool) → (a && b) ≡ true → (a ≡ true) × (b ≡ true)
@@ -94,5 +94,5 @@ period_plain : (calendar : CalendarTerms) (t : ℕ) → IsPlain (period_date cal
 unfolding period_date
 period_plain calendar t = let p = day_parts (unsigned_abs (first_day calendar t)) in date_plain p.year p.month p.day
 
-pub dates_plain : (calendar : CalendarTerms) (t : ℕ) → IsPlain (date_at (dates_of calendar) t)
+pub dates_plain : (calendar : CalendarTerms) (t : ℕ) → IsPlain (date_in (dates_of calendar) t)
 dates_plain calendar t = plain_at (dates_of calendar) t (All-map IsPlain (period_date calendar) (range_with_len 0 calendar.periods) (λ k d lt. period_plain calendar (get_or (range_with_len 0 calendar.periods) k d)))

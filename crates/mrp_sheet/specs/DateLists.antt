@@ -9,5 +9,5 @@ abbrev pub first_dates : CalendarTerms → ℕ → List (List ℕ)
 first_dates calendar count = map (period_date calendar) (range_with_len 0 count)
 
 -- the date of a period, of a list of dates
-abbrev pub date_at : List (List ℕ) → ℕ → List ℕ
-date_at dates t = slice_index_or dates t []
+abbrev pub date_in : List (List ℕ) → ℕ → List ℕ
+date_in dates t = slice_index_or dates t []

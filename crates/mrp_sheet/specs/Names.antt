@@ -7,11 +7,11 @@ use Rattle.mrp_rows.specs.Table.{Table}
 use Rattle.mrp_net.specs.Sums.{pair_at}
 
 -- the names of a plant and of an item
-abbrev pub plant_name : Table → PlantNo → List ℕ
-plant_name N plant = slice_index_or N.plants plant.0 []
+abbrev pub name_of_plant : Table → PlantNo → List ℕ
+name_of_plant N plant = slice_index_or N.plants plant.0 []
 
-abbrev pub item_name : Table → ItemNo → List ℕ
-item_name N item = slice_index_or N.items item.0 []
+abbrev pub name_of_item : Table → ItemNo → List ℕ
+name_of_item N item = slice_index_or N.items item.0 []
 
 -- the names of a pair's plant and item
 abbrev pub plant_of : Table → ℕ → List ℕ

@@ -14,7 +14,7 @@ AppendsFront old new text = (n : ℕ) × (n < length text) × Appends old new (t
 
 -- the whole text was written, or a front of it that lacks something at a failed write. Of want of memory it says nothing:
 -- the writer is then as it was
-abbrev pub Sends : {U : Type 0} → Option (List ℕ) → Option (List ℕ) → Result U ReportFault → List ℕ → Type 0
-Sends old new (Ok _) text = Appends old new text
-Sends old new (Err WriteFault) text = AppendsFront old new text
-Sends old new (Err Memory) text = Unit {0}
+abbrev pub SendsReport : {U : Type 0} → Option (List ℕ) → Option (List ℕ) → Result U ReportFault → List ℕ → Type 0
+SendsReport old new (Ok _) text = Appends old new text
+SendsReport old new (Err WriteFault) text = AppendsFront old new text
+SendsReport old new (Err Memory) text = Unit {0}

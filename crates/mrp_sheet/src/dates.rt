@@ -2,7 +2,7 @@
 
 ghost use Rattle.std.specs.Prelude.{◌≡◌, ◌<◌, IfOk, IfErr, length};
 ghost use Rattle.mrp_sheet.specs.Dates.{dates_of};
-ghost use Rattle.mrp_sheet.specs.DateLists.{date_at};
+ghost use Rattle.mrp_sheet.specs.DateLists.{date_in};
 
 use crate::ReportFault;
 use mrp_cal::Calendar;
@@ -28,7 +28,7 @@ pub fn date_texts(alloc: Global, calendar: &Calendar) -> Result<Vec<[u8; 10]>, R
 /// The text of the date of period `t`.
 pub fn date_of<'a>(dates: &'a [[u8; 10]], t: usize) -> &'a [u8]
     requires { t < length dates.now }
-    ensures { result.now ≡ date_at dates.now t }
+    ensures { result.now ≡ date_in dates.now t }
 {
     &dates[t]
 }

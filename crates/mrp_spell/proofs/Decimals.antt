@@ -7,7 +7,7 @@ use Rattle.std.proofs.lemmas.Bool.{and_parts, eqb-true, ne_eqb}
 use Rattle.std.proofs.lemmas.Bool.Decides.{nat_tests}
 use Rattle.std.proofs.lemmas.Fmt.{decimal-digits_value, decimal_digit, decimal_nonempty, digits_decimal, digits_value-decimal, first_decimal, length-decimal-le}
 use Rattle.std.proofs.lemmas.Str.Parse.{digits_value_short, IsNumeralModel, numerals_by_fold}
-use Rattle.mrp_spell.specs.Spelling.{is_number, number_of, read_on}
+use Rattle.mrp_spell.specs.Spelling.{is_number, spelled_number, read_on}
 
 own : IsNumeralModel (λ ds. list_all is_ascii_digit ds ≡ true) (read_on 0)
 own = numerals_by_fold _ (search rules) read_on (search rules)
@@ -37,8 +37,8 @@ parts_of text is =
     }
 
 -- what is read as a number is the text of that number
-pub number-spelled : (text : List ℕ) (n : ℕ) → number_of text ≡ Some n → (text ≡ decimal n) × (n < 10 ^ 16)
-unfolding number_of
+pub number-spelled : (text : List ℕ) (n : ℕ) → spelled_number text ≡ Some n → (text ≡ decimal n) × (n < 10 ^ 16)
+unfolding spelled_number
 number-spelled text n is = by (is_number text) refl is
   where
     by : (b : Bool) → is_number text ≡ b → ◌≡◌ {A = Option ℕ} (if b then Some (read_on 0 text) else None) (Some n) → (text ≡ decimal n) × (n < 10 ^ 16)
@@ -64,8 +64,8 @@ pub decimal_digits : (n : ℕ) → n < 2 ^ 64 → list_all is_ascii_digit (decim
 decimal_digits n fits = digits_decimal own n fits
 
 -- the text of a number is read as it
-pub number-written : (n : ℕ) → n < 10 ^ 16 → number_of (decimal n) ≡ Some n
-unfolding number_of
+pub number-written : (n : ℕ) → n < 10 ^ 16 → spelled_number (decimal n) ≡ Some n
+unfolding spelled_number
 number-written n small =
     let fits : n < 2 ^ 64 = omega (arith, small) in
     let some : 0 < length (decimal n) = decimal_nonempty n fits in
@@ -76,6 +76,6 @@ number-written n small =
     rw is (ap (λ (m : ℕ). Some m) (digits_value-decimal own n fits))
 
 -- the answer of a reader of numbers says whose text it was
-pub number-exact : (text : List ℕ) (o : Option ℕ) → number_of text ≡ o → MatchOption o ((n : ℕ) → n < 10 ^ 16 → text ≢ decimal n) (λ n. (text ≡ decimal n) × (n < 10 ^ 16))
-number-exact text None e = λ n small same. let read = ap number_of same ∙ number-written n small in absurd (cc)
+pub number-exact : (text : List ℕ) (o : Option ℕ) → spelled_number text ≡ o → MatchOption o ((n : ℕ) → n < 10 ^ 16 → text ≢ decimal n) (λ n. (text ≡ decimal n) × (n < 10 ^ 16))
+number-exact text None e = λ n small same. let read = ap spelled_number same ∙ number-written n small in absurd (cc)
 number-exact text (Some n) e = number-spelled text n e

@@ -10,7 +10,7 @@ use Rattle.mrp_lot.specs.declared.rule.Rule.{Rule}
 use Rattle.mrp_lot.specs.declared.rule.Rule.TheVariants.{LotForLot, Fixed, Periods, MinMultiple}
 use Rattle.mrp_lot.specs.declared.rule.TheConstants.{MOST_IN_RULE}
 use Rattle.mrp_lot.specs.Lot.{IsRule}
-use Rattle.mrp_spell.specs.Spelling.{cut, kept_within, min_rule, min_rule_of, number_of, number_within, numbered_rule, rule_in, rule_of}
+use Rattle.mrp_spell.specs.Spelling.{cut, kept_within, min_rule, min_rule_of, spelled_number, number_within, numbered_rule, rule_in, rule_of}
 use Rattle.mrp_spell.proofs.Decimals.{number-spelled, number-written}
 
 pub same_Some : {A : Type 0} (x y : A) → ◌≡◌ {A = Option A} (Some x) (Some y) → x ≡ y
@@ -31,7 +31,7 @@ kept_range low high (Some m) n e = by (leb low m) (leb m high) refl refl e
 -- a number that was read within bounds is within them
 pub within_range : (text : List ℕ) (low high n : ℕ) → number_within text low high ≡ Some n → (low ≤ n) × (n ≤ high)
 unfolding number_within
-within_range text low high n e = kept_range low high (number_of text) n e
+within_range text low high n e = kept_range low high (spelled_number text) n e
 
 kept_same : (low high : ℕ) (o : Option ℕ) (n : ℕ) → kept_within low high o ≡ Some n → o ≡ Some n
 kept_same low high None n e = absurd (cc)
@@ -44,7 +44,7 @@ kept_same low high (Some m) n e = by (leb low m && leb m high) e
 -- and its text is the number's
 pub number_is : (text : List ℕ) (low high n : ℕ) → number_within text low high ≡ Some n → text ≡ decimal n
 unfolding number_within
-number_is text low high n e = (number-spelled text n (kept_same low high (number_of text) n e)).0
+number_is text low high n e = (number-spelled text n (kept_same low high (spelled_number text) n e)).0
 
 -- the text of a number within bounds is read as it
 pub number_written : (low high n : ℕ) → low ≤ n → n ≤ high → n < 10 ^ 16 → number_within (decimal n) low high ≡ Some n

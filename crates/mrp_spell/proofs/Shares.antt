@@ -12,7 +12,7 @@ use Rattle.std.proofs.lemmas.List.Sums.{fails_before_first, sum_by-cons}
 use Rattle.std.proofs.lemmas.Option.{some_pair_parts}
 use Rattle.mrp_qty.specs.declared.limits.TheConstants.{MOST_SHARE, MOST_SOURCES_OF_PAIR}
 use Rattle.mrp_spell.specs.Spelling.{cut, is_colon, is_name, number_within}
-use Rattle.mrp_spell.specs.Steps.{may_come, share_in, share_of, shared_in, shared_source, sources_with, with_later}
+use Rattle.mrp_spell.specs.Steps.{may_come, share_in, share_step, shared_in, shared_source, sources_with, with_later}
 use Rattle.mrp_spell.proofs.Ranges.{same_Some, within_range}
 use Rattle.mrp_spell.specs.Supplies.{are_different, are_whole, in_a_row, names_plant, plant_shares, PlantShare, share_before, sources_of, SourceTerms, split_sources, whole_in_a_row}
 
@@ -56,7 +56,7 @@ record IsRead (text : List ℕ) (low : ℕ) (s : SourceTerms) (later : Option (L
   source : made plant low share ≡ s
 
 read_made : (text : List ℕ) (low : ℕ) (plant : List ℕ) (o : Option ℕ) (now later : Option (List ℕ)) (s : SourceTerms) → plant_shares (slice_split is_colon text) ≡ share_before plant o (plant_shares (fields_of now))
-    → share_of plant low o now ≡ Some (s, later) → IsRead text low s later
+    → share_step plant low o now ≡ Some (s, later) → IsRead text low s later
 read_made text low plant None now later s f e = absurd (cc)
 read_made text low plant (Some share) now later s f e = by (is_name plant) (leb (low + share) MOST_SHARE) refl e
   where
@@ -139,7 +139,7 @@ bad_sum n before low s ss over =
     and_right (leb 1 (length (s ∷ ss)) && leb (length (s ∷ ss)) n && list_all (λ x. is_name x.plant && not (names_plant before x.plant)) (s ∷ ss) && are_different (s ∷ ss)) (low + sum_by (λ x. x.share) (s ∷ ss) == MOST_SHARE)
     (too_much low s ss over)
 
-stopped : (n : ℕ) (before : List SourceTerms) (low : ℕ) (plant : List ℕ) (o : Option ℕ) (now : Option (List ℕ)) (r : Option (List PlantShare)) → share_of plant low o now ≡ None
+stopped : (n : ℕ) (before : List SourceTerms) (low : ℕ) (plant : List ℕ) (o : Option ℕ) (now : Option (List ℕ)) (r : Option (List PlantShare)) → share_step plant low o now ≡ None
     → with_later n before low (share_before plant o r) ≡ None
 stopped n before low plant None now r e = refl
 stopped n before low plant (Some share) now None e = refl

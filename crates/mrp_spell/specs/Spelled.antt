@@ -16,14 +16,14 @@ pub record IsSource (s : SpelledSource) : Type 0 where
   pub rises : s.low < s.high
   pub ends : s.high ≤ MOST_SHARE
 
-abbrev pub is_same_plant : SpelledSource → SpelledSource → Bool
-is_same_plant s t = bytes_eq s.plant.now t.plant.now
+abbrev pub is_same_spelled_plant : SpelledSource → SpelledSource → Bool
+is_same_spelled_plant s t = bytes_eq s.plant.now t.plant.now
 
 -- the sources of one pair
 pub record AreSources (sources : List SpelledSource) : Type 0 where
   pub few : length sources ≤ MOST_SOURCES_OF_PAIR
   pub each : All IsSource sources
-  pub apart : IsDistinct is_same_plant sources
+  pub apart : IsDistinct is_same_spelled_plant sources
 
 abbrev pub HasSources : SpelledSupply → Type 0
 HasSources Make = Unit {0}

@@ -35,8 +35,8 @@ read_on n [] = n
 read_on n (c ∷ cs) = read_on (10 * n + (c - 48)) cs
 
 -- the number that a text spells
-unfoldable pub number_of : List ℕ → Option ℕ
-number_of text = if is_number text then Some (read_on 0 text) else None
+unfoldable pub spelled_number : List ℕ → Option ℕ
+spelled_number text = if is_number text then Some (read_on 0 text) else None
 
 abbrev pub kept_within : ℕ → ℕ → Option ℕ → Option ℕ
 kept_within low high None = None
@@ -44,7 +44,7 @@ kept_within low high (Some n) = if nat_le low n && nat_le n high then Some n els
 
 -- the number that a text spells, where it is low to high
 unfoldable pub number_within : List ℕ → ℕ → ℕ → Option ℕ
-number_within text low high = kept_within low high (number_of text)
+number_within text low high = kept_within low high (spelled_number text)
 
 abbrev pub is_colon : ℕ → Bool
 is_colon b = b == 58

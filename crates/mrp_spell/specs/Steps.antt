@@ -6,14 +6,14 @@ use Rattle.mrp_spell.specs.Spelling.{cut, is_colon, is_name, number_within}
 use Rattle.mrp_spell.specs.Supplies.{are_different, in_a_row, names_plant, plant_shares, PlantShare, SourceTerms}
 
 -- a plant with its share, which begins at low, and what is spelled after them
-abbrev pub share_of : List ℕ → ℕ → Option ℕ → Option (List ℕ) → Option (SourceTerms × Option (List ℕ))
-share_of plant low None later = None
-share_of plant low (Some share) later =
+abbrev pub share_step : List ℕ → ℕ → Option ℕ → Option (List ℕ) → Option (SourceTerms × Option (List ℕ))
+share_step plant low None later = None
+share_step plant low (Some share) later =
     if is_name plant && nat_le (low + share) MOST_SHARE then Some (record { plant = plant; low = low; high = low + share }, later) else None
 
 abbrev pub share_in : List ℕ → ℕ → List ℕ → Option (List ℕ × List ℕ) → Option (SourceTerms × Option (List ℕ))
-share_in plant low rest None = share_of plant low (number_within rest 1 (MOST_SHARE - 1)) None
-share_in plant low rest (Some q) = share_of plant low (number_within q.0 1 (MOST_SHARE - 1)) (Some q.1)
+share_in plant low rest None = share_step plant low (number_within rest 1 (MOST_SHARE - 1)) None
+share_in plant low rest (Some q) = share_step plant low (number_within q.0 1 (MOST_SHARE - 1)) (Some q.1)
 
 abbrev pub shared_in : ℕ → Option (List ℕ × List ℕ) → Option (SourceTerms × Option (List ℕ))
 shared_in low None = None

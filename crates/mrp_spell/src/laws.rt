@@ -2,7 +2,7 @@
 ghost use Rattle.std.specs.Prelude.{◌≡◌, ℕ, List, Some};
 ghost use Rattle.mrp_lot.specs.declared.rule.Rule.{Rule};
 ghost use Rattle.mrp_lot.specs.Lot.{IsRule};
-ghost use Rattle.mrp_spell.specs.Spelling.{IsShort, number_of, number_text, rule_of, rule_text};
+ghost use Rattle.mrp_spell.specs.Spelling.{IsShort, spelled_number, number_text, rule_of, rule_text};
 ghost use Rattle.mrp_spell.specs.Supplies.{IsWholeSupply, supply_of, supply_text, SupplyTerms};
 
 /// What is spelled after `from:` is at most four plants, all different, each with a share, and their
@@ -27,6 +27,6 @@ pub fn rules_have_one_text()
 
 /// A number has one text, and that text is read as it.
 pub fn numbers_have_one_text()
-    ensures read { (n : ℕ) → IsShort n → number_of (number_text n) ≡ Some n }
-    ensures text { (text : List ℕ) (n : ℕ) → number_of text ≡ Some n → (text ≡ number_text n) × IsShort n }
+    ensures read { (n : ℕ) → IsShort n → spelled_number (number_text n) ≡ Some n }
+    ensures text { (text : List ℕ) (n : ℕ) → spelled_number text ≡ Some n → (text ≡ number_text n) × IsShort n }
 {}

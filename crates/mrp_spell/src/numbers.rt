@@ -2,7 +2,7 @@
 
 ghost use Rattle.std.specs.Prelude.{◌≡◌, ◌≢◌, ◌≤◌, ℕ, length, IfSome, MatchOption};
 ghost use Rattle.mrp_spell.specs.Digits.{digits_of};
-ghost use Rattle.mrp_spell.specs.Spelling.{IsShort, number_of, number_text, number_within};
+ghost use Rattle.mrp_spell.specs.Spelling.{IsShort, spelled_number, number_text, number_within};
 
 /// The number that digits spell, where each byte is one.
 fn digits_value(text: &[u8]) -> Option<u64>
@@ -22,7 +22,7 @@ fn digits_value(text: &[u8]) -> Option<u64>
 /// The number that a text spells.
 #[tactic(auto, unfolding(crate::specs::Spelling::number_of))]
 fn read(text: &str) -> Option<u64>
-    ensures { result ≡ number_of text.now }
+    ensures { result ≡ spelled_number text.now }
 {
     let bytes = text.as_bytes();
     if bytes.is_empty() || bytes.len() > 16 || (bytes[0] == b'0' && bytes.len() > 1) {
@@ -34,7 +34,7 @@ fn read(text: &str) -> Option<u64>
 /// The number that a text spells: `0`, or 1 to 16 digits of which the first is not `0`. Each number
 /// below 10^16 has just one such text.
 pub fn number(text: &str) -> Option<u64>
-    ensures value { result ≡ number_of text.now }
+    ensures value { result ≡ spelled_number text.now }
     ensures spelled { MatchOption result ((n : ℕ) → IsShort n → text.now ≢ number_text n) (λ n. (text.now ≡ number_text n) × IsShort n) }
 {
     read(text)

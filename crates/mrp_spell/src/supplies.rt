@@ -5,7 +5,7 @@ ghost use Rattle.std.specs.List.{list_any};
 ghost use Rattle.std.specs.Str.{bytes_eq};
 ghost use Rattle.mrp_spell.specs.Spelled.{share_view, source_view, supply_view, AreSources, HasSources, IsSource, TellsSpelled, TellsWritten};
 ghost use Rattle.mrp_spell.specs.Spelling.{number_within};
-ghost use Rattle.mrp_spell.specs.Steps.{share_of, shared_source, sources_with};
+ghost use Rattle.mrp_spell.specs.Steps.{share_step, shared_source, sources_with};
 ghost use Rattle.mrp_spell.specs.Supplies.{BeginsFrom, names_plant, sources_of, supply_of};
 ghost use Rattle.mrp_qty.specs.declared.limits.TheConstants.{MOST_SHARE};
 ghost use Rattle.mrp_spell.specs.declared.supplies.SupplyFault.TheVariants.{Memory};
@@ -188,7 +188,7 @@ fn share_of<'r>(
     later: Option<&'r str>,
 ) -> Option<(SpelledSource<'r>, Option<&'r str>)>
     requires within { low ≤ 1000 }
-    ensures exact { share_view result ≡ share_of plant.now low (number_within share.now 1 (MOST_SHARE - 1)) (option_map (λ t. t.now) later.entry) }
+    ensures exact { share_view result ≡ share_step plant.now low (number_within share.now 1 (MOST_SHARE - 1)) (option_map (λ t. t.now) later.entry) }
     ensures source { IfSome result (λ found. IsSource found.0) }
 {
     let share = number_within(share, 1, MOST_SHARE - 1)?;

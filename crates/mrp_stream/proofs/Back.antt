@@ -10,7 +10,7 @@ use Rattle.mrp_stream.specs.declared.fault.RecordFaultKind.TheVariants as fault
 use Rattle.mrp_stream.specs.Rows.{HasRow, record_fields, records_text}
 use Rattle.mrp_stream.specs.Grammar.{record_of}
 use Rattle.mrp_stream.specs.Reading.{AreRowsOf, HasFault, StartsWithFault, StopsAfter}
-use Rattle.mrp_stream.specs.Laws.{rows_of}
+use Rattle.mrp_stream.specs.Laws.{rows_of_text}
 use Rattle.mrp_stream.proofs.Texts.{record_read, written_rows}
 
 -- two records of one row are one
@@ -30,7 +30,7 @@ same_records N (r ∷ rs) (s ∷ ss) is hr hs same =
     let others = same_records N rs ss is (All-tail (HasRow N) r rs hr) (All-tail (HasRow N) s ss hs) rest in
     ap (λ x. x ∷ rs) first ∙ ap (λ xs. s ∷ xs) others
 
-pub reads_back : (N : Table) → IsTable N → (written : List Record) → All (HasRow N) written → (read : List Record) → AreRowsOf N (rows_of (records_text N written)) read → read ≡ written
+pub reads_back : (N : Table) → IsTable N → (written : List Record) → All (HasRow N) written → (read : List Record) → AreRowsOf N (rows_of_text (records_text N written)) read → read ≡ written
 reads_back N is written have read are = same_records N read written is are.have_rows have (sym are.rows_are ∙ written_rows N written is have)
 
 -- a row among those of records is one of theirs
@@ -56,7 +56,7 @@ fault_is N count rows fault.ReadFault stops none = inl refl
 fault_is N count rows fault.Memory stops none = inr refl
 fault_is N count rows k stops none = absurd (none stops.1)
 
-pub has_no_fault : (N : Table) → IsTable N → (written : List Record) → All (HasRow N) written → (e : RecordFault) → HasFault N (rows_of (records_text N written)) e
+pub has_no_fault : (N : Table) → IsTable N → (written : List Record) → All (HasRow N) written → (e : RecordFault) → HasFault N (rows_of_text (records_text N written)) e
     → (e.kind ≡ fault.ReadFault) ⊎ (e.kind ≡ fault.Memory)
 has_no_fault N is written have e has =
     fault_is N (length has.before) has.rest e.kind has.stops

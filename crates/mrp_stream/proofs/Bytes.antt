@@ -8,7 +8,7 @@ use Rattle.std.proofs.lemmas.Bool.Decides.{nat_tests}
 use Rattle.std.proofs.lemmas.Str.{IsUtf8-from_ascii, is_utf8-from_IsUtf8}
 use Rattle.std.proofs.lemmas.Str.Ascii.{IsAscii-nil}
 use Rattle.csv.specs.Writing.{default_writer, needs_byte}
-use Rattle.mrp_spell.specs.Spelling.{IsShort, is_name, is_name_byte, is_number, number_of, number_text, read_on}
+use Rattle.mrp_spell.specs.Spelling.{IsShort, is_name, is_name_byte, is_number, spelled_number, number_text, read_on}
 use Rattle.mrp_spell.proofs.Decimals.{number-written}
 
 pub both_true : (a b : Bool) → (a && b) ≡ true → (a ≡ true) × (b ≡ true)
@@ -54,8 +54,8 @@ digits_plain (b ∷ bs) e =
     rw (digit_is_name_byte b p.0) (digits_plain bs p.1)
 
 -- the text of a number
-number_plain : (text : List ℕ) (n : ℕ) → number_of text ≡ Some n → IsPlain text
-unfolding number_of
+number_plain : (text : List ℕ) (n : ℕ) → spelled_number text ≡ Some n → IsPlain text
+unfolding spelled_number
 number_plain text n e = by (is_number text) refl e
   where
     by : (t : Bool) → is_number text ≡ t → (if t then Some (read_on 0 text) else None) ≡ Some n → IsPlain text

@@ -2,7 +2,7 @@
 use Rattle.std.proofs.Common.{◌≡◌, ℕ, ◌==◌, List, length, Result, Ok, Err, IfErr, refl, ◌∙◌, arith}
 use Rattle.std.specs.List.{Contains, list_all}
 use Rattle.std.specs.Str.{is_utf8}
-use Rattle.mrp_spell.specs.Spelling.{number_of}
+use Rattle.mrp_spell.specs.Spelling.{spelled_number}
 use Rattle.mrp_rows.specs.Table.{Table}
 use Rattle.mrp_record.specs.declared.record.Record.{Record}
 use Rattle.mrp_grammar.specs.Grammar.{field}
@@ -11,31 +11,31 @@ use Rattle.mrp_stream.specs.declared.fault.RecordFaultKind.{RecordFaultKind}
 use Rattle.mrp_stream.specs.declared.fault.RecordFaultKind.TheVariants as fault
 use Rattle.mrp_stream.specs.declared.kind.Kind.{Kind}
 use Rattle.mrp_stream.specs.declared.kind.Kind.TheVariants as kind
-use Rattle.mrp_stream.specs.Grammar.{close_of, end_of, is_empty_from, item_at, item_named, kind_of, line_of, number_at, of_kind, record_of, reset_of, row_kind, spelled_record, used}
+use Rattle.mrp_stream.specs.Grammar.{spelled_close, spelled_end, record_is_empty_from, item_field, item_named, record_kind_of, spelled_line, number_field, of_kind, record_of, spelled_reset, record_row_kind, spelled_record, record_fields_used}
 use Rattle.mrp_stream.specs.Laws.{row_faults}
 
 module _ (P : RecordFaultKind → Type 0) where
-  number : (row : List (List ℕ)) (i : ℕ) → P fault.BadNumber → IfErr (number_at row i) P
-  number row i n = found P (number_of (field row i)) fault.BadNumber n
+  number : (row : List (List ℕ)) (i : ℕ) → P fault.BadNumber → IfErr (number_field row i) P
+  number row i n = found P (spelled_number (field row i)) fault.BadNumber n
 
-  item : (N : Table) (row : List (List ℕ)) → P fault.UnknownItem → IfErr (item_at N row) P
+  item : (N : Table) (row : List (List ℕ)) → P fault.UnknownItem → IfErr (item_field N row) P
   item N row u = found P (item_named N (field row 2)) fault.UnknownItem u
 
-  line-of : (N : Table) (row : List (List ℕ)) → P fault.BadNumber → P fault.UnknownItem → IfErr (line_of N row) P
-  unfolding line_of
+  line-of : (N : Table) (row : List (List ℕ)) → P fault.BadNumber → P fault.UnknownItem → IfErr (spelled_line N row) P
+  unfolding spelled_line
   line-of N row n u =
       steps P _ _ (number row 1 n) (λ first. steps P _ _ (number row 3 n) (λ period. steps P _ _ (number row 4 n) (λ quantity. steps P _ _ (number row 5 n) (λ cumulative. steps P _ _ (item N row u) (λ item. tt)))))
 
-  end-of : (N : Table) (row : List (List ℕ)) → P fault.BadNumber → P fault.UnknownItem → IfErr (end_of N row) P
-  unfolding end_of
+  end-of : (N : Table) (row : List (List ℕ)) → P fault.BadNumber → P fault.UnknownItem → IfErr (spelled_end N row) P
+  unfolding spelled_end
   end-of N row n u = steps P _ _ (number row 1 n) (λ first. steps P _ _ (number row 3 n) (λ lines. steps P _ _ (number row 4 n) (λ cumulative. steps P _ _ (item N row u) (λ item. tt))))
 
-  reset-of : (N : Table) (row : List (List ℕ)) → P fault.BadNumber → P fault.UnknownItem → IfErr (reset_of N row) P
-  unfolding reset_of
+  reset-of : (N : Table) (row : List (List ℕ)) → P fault.BadNumber → P fault.UnknownItem → IfErr (spelled_reset N row) P
+  unfolding spelled_reset
   reset-of N row n u = steps P _ _ (number row 1 n) (λ first. steps P _ _ (number row 3 n) (λ closed. steps P _ _ (item N row u) (λ item. tt)))
 
-  close-of : (row : List (List ℕ)) → P fault.BadNumber → IfErr (close_of row) P
-  unfolding close_of
+  close-of : (row : List (List ℕ)) → P fault.BadNumber → IfErr (spelled_close row) P
+  unfolding spelled_close
   close-of row n = steps P _ _ (number row 1 n) (λ first. tt)
 
   of-kind : (N : Table) (row : List (List ℕ)) (k : Kind) → P fault.BadNumber → P fault.UnknownItem → IfErr (of_kind N row k) P
@@ -44,9 +44,9 @@ module _ (P : RecordFaultKind → Type 0) where
   of-kind N row kind.Reset n u = reset-of N row n u
   of-kind N row kind.Close n u = close-of row n
 
-  row-kind : (row : List (List ℕ)) → P fault.FieldCount → P fault.UnknownKind → IfErr (row_kind row) P
-  unfolding row_kind
-  row-kind row c k = steps P _ _ (tested P (length row == 6) _ c) (λ six. steps P _ _ (found P (kind_of (field row 0)) _ k) (λ x. chosen P (is_empty_from row (used x)) x fault.FieldCount c))
+  row-kind : (row : List (List ℕ)) → P fault.FieldCount → P fault.UnknownKind → IfErr (record_row_kind row) P
+  unfolding record_row_kind
+  row-kind row c k = steps P _ _ (tested P (length row == 6) _ c) (λ six. steps P _ _ (found P (record_kind_of (field row 0)) _ k) (λ x. chosen P (record_is_empty_from row (record_fields_used x)) x fault.FieldCount c))
 
   spelled-record : (N : Table) (row : List (List ℕ)) → P fault.FieldCount → P fault.UnknownKind → P fault.BadNumber → P fault.UnknownItem → IfErr (spelled_record N row) P
   unfolding spelled_record

@@ -15,7 +15,7 @@ use Rattle.mrp_stream.specs.Rows.{HasRow, record_fields}
 use Rattle.mrp_stream.specs.Grammar.{record_of, spelled_record}
 use Rattle.mrp_stream.proofs.Spelling.{spelled_is}
 use Rattle.mrp_stream.specs.Reading.{AreRowsOf, HasFault, StartsWithFault, StopsAfter}
-use Rattle.mrp_stream.specs.Left.{AddsRecord, AreRead, is_of_row, StopsReading, TellsBad, TellsFault, TellsNext, TellsTaken}
+use Rattle.mrp_stream.specs.Left.{AddsRecord, AreRead, is_of_row, StopsReading, TellsBad, TellsRecordFault, TellsNextRecord, TellsTakenRecord}
 
 -- ---- what one turn answers
 
@@ -31,7 +31,7 @@ room_for count len answer same room row = by (nat_le MOST_RECORDS len) refl
     by false e = let lt = room_left len e in omega (arith, same)
 
 -- a row that isn't text
-pub bad_told : (N : Table) (before : Option (List (List (List ℕ)))) (count : ℕ) (k : RecordFaultKind) → (is_of_row (Err k) ≡ true → count < MOST_RECORDS) → TellsBad N before k → TellsFault N before count k
+pub bad_told : (N : Table) (before : Option (List (List (List ℕ)))) (count : ℕ) (k : RecordFaultKind) → (is_of_row (Err k) ≡ true → count < MOST_RECORDS) → TellsBad N before k → TellsRecordFault N before count k
 bad_told N before count fault.ReadFault room bad = tt
 bad_told N before count fault.Memory room bad = tt
 bad_told N before count k room bad = (room refl, bad)
@@ -43,17 +43,17 @@ starts_with N (Some rows) None row k takes e = absurd takes
 starts_with N (Some rows) (Some rest) row k takes e = (row, rest, takes, e)
 
 pub fault_told : (N : Table) (before after : Option (List (List (List ℕ)))) (row : List (List ℕ)) (count : ℕ) (k : RecordFaultKind) → count < MOST_RECORDS → TakesRow before after row → record_of N row ≡ Err k
-    → TellsFault N before count k
+    → TellsRecordFault N before count k
 fault_told N before after row count fault.ReadFault room takes e = tt
 fault_told N before after row count fault.Memory room takes e = tt
 fault_told N before after row count k room takes e = (room, starts_with N before after row k takes e)
 
 -- a row or none
-pub none_there : (N : Table) (found : Bool) (before after : Option (List (List (List ℕ)))) (row : List (List ℕ)) → found ≡ false → TellsTaken N before after row (Ok found) → OfLeft before (λ rows. rows ≡ [])
+pub none_there : (N : Table) (found : Bool) (before after : Option (List (List (List ℕ)))) (row : List (List ℕ)) → found ≡ false → TellsTakenRecord N before after row (Ok found) → OfLeft before (λ rows. rows ≡ [])
 none_there N true before after row e taken = absurd (true≢false e)
 none_there N false before after row e taken = taken
 
-pub some_there : (N : Table) (found : Bool) (before after : Option (List (List (List ℕ)))) (row : List (List ℕ)) → found ≡ true → TellsTaken N before after row (Ok found) → TakesRow before after row
+pub some_there : (N : Table) (found : Bool) (before after : Option (List (List (List ℕ)))) (row : List (List ℕ)) → found ≡ true → TellsTakenRecord N before after row (Ok found) → TakesRow before after row
 some_there N true before after row e taken = taken
 some_there N false before after row e taken = absurd (true≢false (sym e))
 
@@ -86,12 +86,12 @@ stops_full kind failed count len left same stops is = by (stops is)
     by (inr more) = inr (all_read more.0, more.1)
 
 -- the two good answers
-pub told_none : (N : Table) (found : Bool) (before after : Option (List (List (List ℕ)))) (old new : List Record) → found ≡ false → TellsNext N before after old new (Ok found)
+pub told_none : (N : Table) (found : Bool) (before after : Option (List (List (List ℕ)))) (old new : List Record) → found ≡ false → TellsNextRecord N before after old new (Ok found)
     → (new ≡ old) × OfLeft before (λ rows. rows ≡ [])
 told_none N true before after old new e told = absurd (true≢false e)
 told_none N false before after old new e told = told
 
-pub told_record : (N : Table) (found : Bool) (before after : Option (List (List (List ℕ)))) (old new : List Record) → found ≡ true → TellsNext N before after old new (Ok found)
+pub told_record : (N : Table) (found : Bool) (before after : Option (List (List (List ℕ)))) (old new : List Record) → found ≡ true → TellsNextRecord N before after old new (Ok found)
     → AddsRecord N before after old new
 told_record N true before after old new e told = told
 told_record N false before after old new e told = absurd (true≢false (sym e))
@@ -152,13 +152,13 @@ ended N all left old new so_far few ends =
     subst (λ records. OfLeft all (λ rows. AreRowsOf N rows records)) (sym ends.0) (whole N all left old so_far ends.1 few)
 
 -- at a fault
-stops_there : (N : Table) (rows : List (List (List ℕ))) (count : ℕ) (k : RecordFaultKind) → TellsFault N (Some rows) count k → StopsAfter count N rows k
+stops_there : (N : Table) (rows : List (List (List ℕ))) (count : ℕ) (k : RecordFaultKind) → TellsRecordFault N (Some rows) count k → StopsAfter count N rows k
 stops_there N rows count fault.ReadFault told = tt
 stops_there N rows count fault.Memory told = tt
 stops_there N rows count k told = told
 
 pub stopped : (N : Table) (all left : Option (List (List (List ℕ)))) (records : List Record) (number : ℕ) (k : RecordFaultKind) → IsReadSoFar N all left records → number ≡ length records + 1
-    → length records ≤ MOST_RECORDS → TellsFault N left (length records) k → OfLeft all (λ rows. HasFault N rows (record { row = number; kind = k }))
+    → length records ≤ MOST_RECORDS → TellsRecordFault N left (length records) k → OfLeft all (λ rows. HasFault N rows (record { row = number; kind = k }))
 stopped N None left records number k so_far count few told = tt
 stopped N (Some rows) None records number k so_far count few told = absurd so_far.rows
 stopped N (Some rows) (Some left) records number k so_far count few told = record {

@@ -8,7 +8,7 @@ use Rattle.std.proofs.lemmas.Option.{same_Some}
 use Rattle.std.proofs.lemmas.Slice.Eq.{bytes_eq-Decides}
 use Rattle.std.proofs.lemmas.Str.{is_utf8-from_IsUtf8}
 use Rattle.csv.specs.Records.{AllText, field_at}
-use Rattle.mrp_spell.specs.Spelling.{IsShort, number_of, number_text}
+use Rattle.mrp_spell.specs.Spelling.{IsShort, spelled_number, number_text}
 use Rattle.mrp_spell.proofs.Decimals.{number-spelled}
 use Rattle.mrp_rows.specs.declared.numbers.ItemNo.{ItemNo}
 use Rattle.mrp_rows.specs.Table.{Table}
@@ -19,8 +19,8 @@ use Rattle.mrp_stream.specs.declared.fault.RecordFaultKind.{RecordFaultKind}
 use Rattle.mrp_stream.specs.declared.fault.RecordFaultKind.TheVariants as fault
 use Rattle.mrp_stream.specs.declared.kind.Kind.{Kind}
 use Rattle.mrp_stream.specs.declared.kind.Kind.TheVariants as kind
-use Rattle.mrp_stream.specs.Rows.{HasRow, item_name, record_fields}
-use Rattle.mrp_stream.specs.Grammar.{close_of, end_of, is_empty_from, item_at, item_named, kind_of, line_of, number_at, of_kind, record_of, reset_of, row_kind, spelled_record, used, with_fields}
+use Rattle.mrp_stream.specs.Rows.{HasRow, record_item_name, record_fields}
+use Rattle.mrp_stream.specs.Grammar.{spelled_close, spelled_end, record_is_empty_from, item_field, item_named, record_kind_of, spelled_line, number_field, of_kind, record_of, spelled_reset, record_row_kind, spelled_record, record_fields_used, with_record_fields}
 use Rattle.mrp_stream.proofs.Bytes.{both_true}
 use Rattle.mrp_stream.proofs.Names.{name_of_item}
 
@@ -35,7 +35,7 @@ word_of kind.Close = codes "close"
 found_word : (word : List ℕ) (k l : Kind) → bytes_eq word (word_of l) ≡ true → Some l ≡ Some k → word ≡ word_of k
 found_word word k l test e = (bytes_eq-Decides word (word_of l)).0 test ∙ ap word_of (same_Some l k e)
 
-kind_word : (word : List ℕ) (k : Kind) → kind_of word ≡ Some k → word ≡ word_of k
+kind_word : (word : List ℕ) (k : Kind) → record_kind_of word ≡ Some k → word ≡ word_of k
 kind_word word k e = by (bytes_eq word (codes "line")) (bytes_eq word (codes "end")) (bytes_eq word (codes "reset")) (bytes_eq word (codes "close")) refl refl refl refl e
   where
     by : (a b c d : Bool) → bytes_eq word (codes "line") ≡ a → bytes_eq word (codes "end") ≡ b → bytes_eq word (codes "reset") ≡ c → bytes_eq word (codes "close") ≡ d
@@ -50,20 +50,20 @@ kind_word word k e = by (bytes_eq word (codes "line")) (bytes_eq word (codes "en
 pub record IsOfKind (row : List (List ℕ)) (k : Kind) : Type 0 where
   pub six : (length row == 6) ≡ true
   pub word : field row 0 ≡ word_of k
-  pub free : is_empty_from row (used k) ≡ true
+  pub free : record_is_empty_from row (record_fields_used k) ≡ true
 
-free_kind : (row : List (List ℕ)) (k l : Kind) → with_fields row l ≡ Ok k → (is_empty_from row (used k) ≡ true) × (l ≡ k)
-free_kind row k l e = by (is_empty_from row (used l)) refl e
+free_kind : (row : List (List ℕ)) (k l : Kind) → with_record_fields row l ≡ Ok k → (record_is_empty_from row (record_fields_used k) ≡ true) × (l ≡ k)
+free_kind row k l e = by (record_is_empty_from row (record_fields_used l)) refl e
   where
-    by : (b : Bool) → is_empty_from row (used l) ≡ b → (if b then Ok l else Err fault.FieldCount) ≡ Ok k → (is_empty_from row (used k) ≡ true) × (l ≡ k)
-    by true free e = let same : l ≡ k = cc in (subst (λ m. is_empty_from row (used m) ≡ true) same free, same)
+    by : (b : Bool) → record_is_empty_from row (record_fields_used l) ≡ b → (if b then Ok l else Err fault.FieldCount) ≡ Ok k → (record_is_empty_from row (record_fields_used k) ≡ true) × (l ≡ k)
+    by true free e = let same : l ≡ k = cc in (subst (λ m. record_is_empty_from row (record_fields_used m) ≡ true) same free, same)
     by false free e = absurd (cc)
 
-kind_is : (row : List (List ℕ)) (k : Kind) → row_kind row ≡ Ok k → IsOfKind row k
-unfolding row_kind
+kind_is : (row : List (List ℕ)) (k : Kind) → record_row_kind row ≡ Ok k → IsOfKind row k
+unfolding record_row_kind
 kind_is row k e =
     let counted = after_check (length row == 6) _ _ k e in
-    let named = after_some (kind_of (field row 0)) _ _ k counted.1 in
+    let named = after_some (record_kind_of (field row 0)) _ _ k counted.1 in
     let free = free_kind row k named.0 named.2 in
     record {
       six = counted.0;
@@ -99,25 +99,25 @@ record NumberRead (row : List (List ℕ)) (i : ℕ) (made : ℕ → Result Recor
   short : IsShort number
   rest : made number ≡ Ok r
 
-number_read : (row : List (List ℕ)) (i : ℕ) (made : ℕ → Result Record RecordFaultKind) (r : Record) → (number_at row i >>= made) ≡ Ok r → NumberRead row i made r
+number_read : (row : List (List ℕ)) (i : ℕ) (made : ℕ → Result Record RecordFaultKind) (r : Record) → (number_field row i >>= made) ≡ Ok r → NumberRead row i made r
 number_read row i made r e =
-    let n = after_some (number_of (field row i)) _ made r e in
+    let n = after_some (spelled_number (field row i)) _ made r e in
     let is = number-spelled (field row i) n.0 n.1 in
     record { number = n.0; field_is = is.0; short = is.1; rest = n.2 }
 
 -- the two numbers of each record on an item
-two_read : (row : List (List ℕ)) (made : ℕ → ℕ → Result Record RecordFaultKind) (r : Record) → (number_at row 1 >>= λ n. number_at row 3 >>= λ m. made n m) ≡ Ok r
-    → (n : NumberRead row 1 (λ n. number_at row 3 >>= λ m. made n m) r) × NumberRead row 3 (made n.number) r
-two_read row made r e = let n = number_read row 1 (λ n. number_at row 3 >>= λ m. made n m) r e in (n, number_read row 3 (made n.number) r n.rest)
+two_read : (row : List (List ℕ)) (made : ℕ → ℕ → Result Record RecordFaultKind) (r : Record) → (number_field row 1 >>= λ n. number_field row 3 >>= λ m. made n m) ≡ Ok r
+    → (n : NumberRead row 1 (λ n. number_field row 3 >>= λ m. made n m) r) × NumberRead row 3 (made n.number) r
+two_read row made r e = let n = number_read row 1 (λ n. number_field row 3 >>= λ m. made n m) r e in (n, number_read row 3 (made n.number) r n.rest)
 
 -- the item of a row, and the record that is made with it
 record ItemRead (N : Table) (row : List (List ℕ)) (made : ItemNo → Record) (r : Record) : Type 0 where
   item : ItemNo
   there : item.0 < length N.items
-  field_is : field row 2 ≡ item_name N item
+  field_is : field row 2 ≡ record_item_name N item
   is_made : made item ≡ r
 
-item_read : (N : Table) (row : List (List ℕ)) (made : ItemNo → Record) (r : Record) → (item_at N row >>= λ item. Ok (made item)) ≡ Ok r → ItemRead N row made r
+item_read : (N : Table) (row : List (List ℕ)) (made : ItemNo → Record) (r : Record) → (item_field N row >>= λ item. Ok (made item)) ≡ Ok r → ItemRead N row made r
 item_read N row made r e =
     let i = after_some (item_named N (field row 2)) _ _ r e in
     let is = name_of_item N (field row 2) i.0 i.1 in
@@ -141,8 +141,8 @@ short_four a b c d sa sb sc sd = All-cons IsShort a (b ∷ c ∷ d ∷ []) sa (s
 abbrev Spells : Table → List (List ℕ) → Record → Type 0
 Spells N row r = HasRow N r × (row ≡ record_fields N r)
 
-line_is : (N : Table) (row : List (List ℕ)) (r : Record) → IsOfKind row kind.Line → line_of N row ≡ Ok r → Spells N row r
-unfolding line_of
+line_is : (N : Table) (row : List (List ℕ)) (r : Record) → IsOfKind row kind.Line → spelled_line N row ≡ Ok r → Spells N row r
+unfolding spelled_line
 line_is N row r k e =
     let two = two_read row _ r e in
     let q = number_read row 4 _ r two.1.rest in
@@ -153,8 +153,8 @@ line_is N row r k e =
       row_is row _ _ _ _ _ _ k.six k.word two.0.field_is i.field_is two.1.field_is q.field_is c.field_is,
     )
 
-end_is : (N : Table) (row : List (List ℕ)) (r : Record) → IsOfKind row kind.ItemEnd → end_of N row ≡ Ok r → Spells N row r
-unfolding end_of
+end_is : (N : Table) (row : List (List ℕ)) (r : Record) → IsOfKind row kind.ItemEnd → spelled_end N row ≡ Ok r → Spells N row r
+unfolding spelled_end
 end_is N row r k e =
     let two = two_read row _ r e in
     let c = number_read row 4 _ r two.1.rest in
@@ -164,8 +164,8 @@ end_is N row r k e =
       row_is row _ _ _ _ _ _ k.six k.word two.0.field_is i.field_is two.1.field_is c.field_is (empty_is (field row 5) k.free),
     )
 
-reset_is : (N : Table) (row : List (List ℕ)) (r : Record) → IsOfKind row kind.Reset → reset_of N row ≡ Ok r → Spells N row r
-unfolding reset_of
+reset_is : (N : Table) (row : List (List ℕ)) (r : Record) → IsOfKind row kind.Reset → spelled_reset N row ≡ Ok r → Spells N row r
+unfolding spelled_reset
 reset_is N row r k e =
     let two = two_read row _ r e in
     let i = item_read N row _ r two.1.rest in
@@ -175,8 +175,8 @@ reset_is N row r k e =
       row_is row _ _ _ _ _ _ k.six k.word two.0.field_is i.field_is two.1.field_is (empty_is (field row 4) free.0) (empty_is (field row 5) free.1),
     )
 
-close_is : (N : Table) (row : List (List ℕ)) (r : Record) → IsOfKind row kind.Close → close_of row ≡ Ok r → Spells N row r
-unfolding close_of
+close_is : (N : Table) (row : List (List ℕ)) (r : Record) → IsOfKind row kind.Close → spelled_close row ≡ Ok r → Spells N row r
+unfolding spelled_close
 close_is N row r k e =
     let n = number_read row 1 _ r e in
     let five = both_true _ (is_empty (field row 5)) k.free in
@@ -196,7 +196,7 @@ of_kind_is N row r kind.Close k e = close_is N row r k e
 -- what is read as a record is its row
 pub spelled_is : (N : Table) (row : List (List ℕ)) (r : Record) → spelled_record N row ≡ Ok r → HasRow N r × (row ≡ record_fields N r)
 unfolding spelled_record
-spelled_is N row r e = let k = after (row_kind row) (of_kind N row) r e in of_kind_is N row r k.0 (kind_is row k.0 k.1) k.2
+spelled_is N row r e = let k = after (record_row_kind row) (of_kind N row) r e in of_kind_is N row r k.0 (kind_is row k.0 k.1) k.2
 
 pub record_is : (N : Table) (row : List (List ℕ)) (r : Record) → record_of N row ≡ Ok r → HasRow N r × (row ≡ record_fields N r)
 unfolding record_of

@@ -10,18 +10,18 @@ use Rattle.csv.specs.declared.reader.Reader.{Reader}
 use Rattle.csv.specs.declared.reader.Trim.TheVariants as trim
 use Rattle.mrp_rows.specs.Table.{Table, empty_table}
 use Rattle.mrp_grammar.specs.declared.fault.TableFaultKind.TheVariants as table_fault
-use Rattle.mrp_grammar.specs.Left.{GivesAll, left_of, OfLeft, StartsBadly, TakesRow}
+use Rattle.mrp_grammar.specs.Left.{GivesAll, rows_left, OfLeft, StartsBadly, TakesRow}
 use Rattle.mrp_grammar.proofs.Taken.{ends_rows, explains, takes_row}
 use Rattle.mrp_grammar.proofs.Loop.{of_left_from}
 use Rattle.mrp_stream.specs.declared.fault.RecordFaultKind.{RecordFaultKind}
 use Rattle.mrp_stream.specs.declared.fault.RecordFaultKind.TheVariants as fault
 use Rattle.mrp_stream.specs.Grammar.{record_of}
 use Rattle.mrp_stream.specs.Reading.{StartsWithFault}
-use Rattle.mrp_stream.specs.Left.{fault_of, is_of_row, StopsReading, TellsBad, TellsTaken}
+use Rattle.mrp_stream.specs.Left.{record_fault_of, is_of_row, StopsReading, TellsBad, TellsTakenRecord}
 
 -- a read that found a row or none
 pub found_or_not : {R : Type 0} (rem : R → Option (List ℕ)) (old new : Reader R) (row : List (List ℕ)) (found : Bool) → GivesAll old → ReadRecord rem old new found row
-    → (N : Table) → TellsTaken N (left_of rem old) (left_of rem new) row (Ok found)
+    → (N : Table) → TellsTakenRecord N (rows_left rem old) (rows_left rem new) row (Ok found)
 found_or_not rem old new row true gives r N = takes_row rem old new row gives r
 found_or_not rem old new row false gives r N = ends_rows rem old new row gives r
 
@@ -35,17 +35,17 @@ bad_row N rows bad = (bad.row, bad.rest, bad.rows_are, no_text_first N bad.row b
 
 -- why a read failed
 explains-bad : {R : Type 0} (rem : R → Option (List ℕ)) (old new : Reader R) (why : ErrorKind) → GivesAll old → ExplainsRead rem old new true why
-    → (N : Table) → TellsBad N (left_of rem old) (fault_of why)
+    → (N : Table) → TellsBad N (rows_left rem old) (record_fault_of why)
 explains-bad rem old new (error.Io e) gives r N = tt
-explains-bad rem old new (error.Utf8 pos e) gives r N = of_left_from (left_of rem old) _ _ (bad_row N) (explains rem old new 1 (error.Utf8 pos e) gives r)
+explains-bad rem old new (error.Utf8 pos e) gives r N = of_left_from (rows_left rem old) _ _ (bad_row N) (explains rem old new 1 (error.Utf8 pos e) gives r)
 explains-bad rem old new (error.UnequalLengths pos expected len) gives r N = tt
 explains-bad rem old new (error.Serialize text) gives r N = tt
 explains-bad rem old new (error.Deserialize pos e) gives r N = tt
 explains-bad rem old new error.OutOfMemory gives r N = tt
 
 pub explains_as_kind : {R : Type 0} (rem : R → Option (List ℕ)) (old new : Reader R) (why kind : ErrorKind) (told : RecordFaultKind) → GivesAll old → (reader_trim old ≡ trim.None → Ready old → ExplainsRead rem old new true why)
-    → kind ≡ why → told ≡ fault_of kind → (N : Table) → TellsBad N (left_of rem old) told
-explains_as_kind rem old new why kind told gives explained same is N = rw (is ∙ ap fault_of same) (explains-bad rem old new why gives (explained gives.1 gives.2) N)
+    → kind ≡ why → told ≡ record_fault_of kind → (N : Table) → TellsBad N (rows_left rem old) told
+explains_as_kind rem old new why kind told gives explained same is N = rw (is ∙ ap record_fault_of same) (explains-bad rem old new why gives (explained gives.1 gives.2) N)
 
 -- ---- a row more than may be read
 
@@ -61,7 +61,7 @@ row_taken (Some rows) (Some rest) row takes = some_row rows rest row takes
 row_bad : (N : Table) (before : Option (List (List (List ℕ)))) (k : RecordFaultKind) → OfLeft before (λ rows. StartsWithFault N rows k) → OfLeft before (λ rows. 0 < length rows)
 row_bad N before k bad = of_left_from before (λ rows. StartsWithFault N rows k) (λ rows. 0 < length rows) (λ rows s. some_row rows s.1 s.0 s.2) bad
 
-row_there : (N : Table) (before after : Option (List (List (List ℕ)))) (row : List (List ℕ)) (answer : Result Bool RecordFaultKind) → is_of_row answer ≡ true → TellsTaken N before after row answer
+row_there : (N : Table) (before after : Option (List (List (List ℕ)))) (row : List (List ℕ)) (answer : Result Bool RecordFaultKind) → is_of_row answer ≡ true → TellsTakenRecord N before after row answer
     → OfLeft before (λ rows. 0 < length rows)
 row_there N before after row (Ok true) own taken = row_taken before after row taken
 row_there N before after row (Ok false) own taken = absurd (false≢true own)
@@ -71,7 +71,7 @@ row_there N before after row (Err k) own taken = row_bad N before k taken
 
 -- a row more than may be read
 pub one_more : (before after : Option (List (List (List ℕ)))) (row : List (List ℕ)) (answer : Result Bool RecordFaultKind) (kind : RecordFaultKind) (failed full : Bool) → full ≡ true → is_of_row answer ≡ true
-    → ((N : Table) → TellsTaken N before after row answer) → StopsReading kind failed (full ≡ true) 0 before
+    → ((N : Table) → TellsTakenRecord N before after row answer) → StopsReading kind failed (full ≡ true) 0 before
 one_more before after row answer kind failed full is own taken same = inr (is, row_there none before after row answer own (taken none))
   where
     none : Table

@@ -1,4 +1,4 @@
--- The row of a record, read back.
+-- The record_line of a record, read back.
 use Rattle.std.proofs.Common.{◌≡◌, ◌<◌, ℕ, true, List, [], ◌∷◌, ◌++◌, length, map, codes, Some, Ok, refl, sym, ap, ◌∙◌, append-nil}
 use Rattle.std.specs.List.{All, join_with_byte, list_all}
 use Rattle.std.specs.Str.{is_utf8}
@@ -9,19 +9,19 @@ use Rattle.csv.specs.Records.{field_at}
 use Rattle.csv.specs.Writing.{comma, default_writer, fields_text, is_blank, row_text}
 use Rattle.csv.specs.declared.parser.State.TheVariants.{StartRecord}
 use Rattle.csv.proofs.RoundTrip.{read-write-many}
-use Rattle.mrp_spell.specs.Spelling.{IsShort, number_of}
+use Rattle.mrp_spell.specs.Spelling.{IsShort, spelled_number}
 use Rattle.mrp_spell.proofs.Decimals.{number-written}
 use Rattle.mrp_rows.specs.declared.numbers.ItemNo.{ItemNo}
 use Rattle.mrp_rows.specs.Table.{IsName, IsTable, Table}
 use Rattle.mrp_record.specs.declared.record.Record.{Record}
 use Rattle.mrp_record.specs.declared.record.Record.TheVariants.{Line, ItemEnd, Reset, Close}
 use Rattle.mrp_grammar.proofs.Records.{none_left, one_left}
-use Rattle.mrp_stream.specs.Rows.{HasRow, item_name, record_fields, record_text, records_text, row}
-use Rattle.mrp_stream.specs.Grammar.{close_of, end_of, item_named, line_of, record_of, reset_of, row_kind, spelled_record}
+use Rattle.mrp_stream.specs.Rows.{HasRow, record_item_name, record_fields, record_text, records_text, record_line}
+use Rattle.mrp_stream.specs.Grammar.{spelled_close, spelled_end, item_named, spelled_line, record_of, spelled_reset, record_row_kind, spelled_record}
 use Rattle.mrp_stream.proofs.Bytes.{IsPlain, name_plain, number_text_plain, plain_unquoted, plain_utf8}
 use Rattle.mrp_stream.proofs.Names.{item_of_name}
 
--- ---- the record of its own row
+-- ---- the record of its own record_line
 
 -- each field has bytes of names alone
 abbrev pub AllPlain : List (List ℕ) → Type 0
@@ -41,8 +41,8 @@ three_short a b c h = let t = two_short b c (All-tail IsShort a (b ∷ c ∷ [])
 four_short : (a b c d : ℕ) → All IsShort (a ∷ b ∷ c ∷ d ∷ []) → IsShort a × IsShort b × IsShort c × IsShort d
 four_short a b c d h = let t = three_short b c d (All-tail IsShort a (b ∷ c ∷ d ∷ []) h) in (All-head IsShort a (b ∷ c ∷ d ∷ []) h, t.0, t.1, t.2)
 
-item_plain : (N : Table) (item : ItemNo) → IsTable N → item.0 < length N.items → IsPlain (item_name N item)
-item_plain N item is within = name_plain (item_name N item) (All-get_or IsName N.items item.0 [] within is.read.items)
+item_plain : (N : Table) (item : ItemNo) → IsTable N → item.0 < length N.items → IsPlain (record_item_name N item)
+item_plain N item is within = name_plain (record_item_name N item) (All-get_or IsName N.items item.0 [] within is.read.items)
 
 pub record_plain : (N : Table) (r : Record) → IsTable N → HasRow N r → AllPlain (record_fields N r)
 record_plain N (Line number item period quantity cumulative) is has =
@@ -57,23 +57,23 @@ record_plain N (Reset number item closed) is has =
 record_plain N (Close number) is has =
     (refl, (number_text_plain number (All-head IsShort number [] has.numbers), (refl, (refl, (refl, (refl, tt))))))
 
-line_read : (N : Table) (a b c d e : List ℕ) (number : ℕ) (item : ItemNo) (period quantity cumulative : ℕ) → number_of a ≡ Some number → item_named N b ≡ Some item → number_of c ≡ Some period
-    → number_of d ≡ Some quantity → number_of e ≡ Some cumulative → spelled_record N (codes "line" ∷ a ∷ b ∷ c ∷ d ∷ e ∷ []) ≡ Ok (Line number item period quantity cumulative)
-unfolding spelled_record row_kind line_of field_at
+line_read : (N : Table) (a b c d e : List ℕ) (number : ℕ) (item : ItemNo) (period quantity cumulative : ℕ) → spelled_number a ≡ Some number → item_named N b ≡ Some item → spelled_number c ≡ Some period
+    → spelled_number d ≡ Some quantity → spelled_number e ≡ Some cumulative → spelled_record N (codes "line" ∷ a ∷ b ∷ c ∷ d ∷ e ∷ []) ≡ Ok (Line number item period quantity cumulative)
+unfolding spelled_record record_row_kind spelled_line field_at
 line_read N a b c d e number item period quantity cumulative ha hb hc hd he = rw (ha, hc, hd, he, hb) refl
 
-end_read : (N : Table) (a b c d : List ℕ) (number : ℕ) (item : ItemNo) (lines cumulative : ℕ) → number_of a ≡ Some number → item_named N b ≡ Some item → number_of c ≡ Some lines
-    → number_of d ≡ Some cumulative → spelled_record N (codes "end" ∷ a ∷ b ∷ c ∷ d ∷ [] ∷ []) ≡ Ok (ItemEnd number item lines cumulative)
-unfolding spelled_record row_kind end_of field_at
+end_read : (N : Table) (a b c d : List ℕ) (number : ℕ) (item : ItemNo) (lines cumulative : ℕ) → spelled_number a ≡ Some number → item_named N b ≡ Some item → spelled_number c ≡ Some lines
+    → spelled_number d ≡ Some cumulative → spelled_record N (codes "end" ∷ a ∷ b ∷ c ∷ d ∷ [] ∷ []) ≡ Ok (ItemEnd number item lines cumulative)
+unfolding spelled_record record_row_kind spelled_end field_at
 end_read N a b c d number item lines cumulative ha hb hc hd = rw (ha, hc, hd, hb) refl
 
-reset_read : (N : Table) (a b c : List ℕ) (number : ℕ) (item : ItemNo) (closed : ℕ) → number_of a ≡ Some number → item_named N b ≡ Some item → number_of c ≡ Some closed
+reset_read : (N : Table) (a b c : List ℕ) (number : ℕ) (item : ItemNo) (closed : ℕ) → spelled_number a ≡ Some number → item_named N b ≡ Some item → spelled_number c ≡ Some closed
     → spelled_record N (codes "reset" ∷ a ∷ b ∷ c ∷ [] ∷ [] ∷ []) ≡ Ok (Reset number item closed)
-unfolding spelled_record row_kind reset_of field_at
+unfolding spelled_record record_row_kind spelled_reset field_at
 reset_read N a b c number item closed ha hb hc = rw (ha, hc, hb) refl
 
-close_read : (N : Table) (a : List ℕ) (number : ℕ) → number_of a ≡ Some number → spelled_record N (codes "close" ∷ a ∷ [] ∷ [] ∷ [] ∷ [] ∷ []) ≡ Ok (Close number)
-unfolding spelled_record row_kind close_of field_at
+close_read : (N : Table) (a : List ℕ) (number : ℕ) → spelled_number a ≡ Some number → spelled_record N (codes "close" ∷ a ∷ [] ∷ [] ∷ [] ∷ [] ∷ []) ≡ Ok (Close number)
+unfolding spelled_record record_row_kind spelled_close field_at
 close_read N a number ha = rw ha refl
 
 spelled_read : (N : Table) (r : Record) → IsTable N → HasRow N r → spelled_record N (record_fields N r) ≡ Ok r
@@ -92,19 +92,19 @@ pub record_read : (N : Table) (r : Record) → IsTable N → HasRow N r → reco
 unfolding record_of
 record_read N r is has = rw (plain_text (record_fields N r) (record_plain N r is has)) (spelled_read N r is has)
 
--- ---- the row as csv writes it
+-- ---- the record_line as csv writes it
 
 fields_plain : (first : List ℕ) (fields : List (List ℕ)) → AllPlain fields → first ++ fields_text default_writer fields ≡ join_with_byte comma (first ∷ fields)
 unfolding fields_text
 fields_plain first [] plain = append-nil first
 fields_plain first (f ∷ fs) plain = rw (plain_unquoted f plain.0) (ap (λ t. first ++ comma ∷ t) (fields_plain f fs plain.1))
 
-row_plain : (x y : List ℕ) (ys : List (List ℕ)) → AllPlain (x ∷ y ∷ ys) → row_text default_writer (x ∷ y ∷ ys) ≡ row (x ∷ y ∷ ys)
-unfolding row is_blank
+row_plain : (x y : List ℕ) (ys : List (List ℕ)) → AllPlain (x ∷ y ∷ ys) → row_text default_writer (x ∷ y ∷ ys) ≡ record_line (x ∷ y ∷ ys)
+unfolding record_line is_blank
 row_plain x y ys plain = rw (plain_unquoted x plain.0) (ap (λ t. t ++ line_feed ∷ []) (fields_plain x (y ∷ ys) plain.1))
 
 row_next : (x y : List ℕ) (ys : List (List ℕ)) (tail : List ℕ) → AllPlain (x ∷ y ∷ ys)
-    → next_record default_config StartRecord [] [] (row (x ∷ y ∷ ys) ++ tail) ≡ Some (x ∷ y ∷ ys, StartRecord, tail)
+    → next_record default_config StartRecord [] [] (record_line (x ∷ y ∷ ys) ++ tail) ≡ Some (x ∷ y ∷ ys, StartRecord, tail)
 row_next x y ys tail plain = ap (λ t. next_record default_config StartRecord [] [] (t ++ tail)) (sym (row_plain x y ys plain)) ∙ read-write-many x y ys tail
 
 pub record_next : (N : Table) (r : Record) (tail : List ℕ) → IsTable N → HasRow N r → next_record default_config StartRecord [] [] (record_text N r ++ tail) ≡ Some (record_fields N r, StartRecord, tail)
@@ -127,7 +127,7 @@ rows_read N (r ∷ rs) is have =
 
 -- no text of records begins with a byte order mark
 no_mark : (N : Table) (written : List Record) → strip_bom (records_text N written) ≡ records_text N written
-unfolding strip_bom row
+unfolding strip_bom record_line
 no_mark N [] = refl
 no_mark N (Line number item period quantity cumulative ∷ rs) = refl
 no_mark N (ItemEnd number item lines cumulative ∷ rs) = refl

@@ -26,21 +26,21 @@ abbrev pub RowsHaveListedFaults : Type 0
 RowsHaveListedFaults = (N : Table) (row : List (List ℕ)) → IfErr (record_of N row) (Contains row_faults)
 
 -- the rows of a text that was written are those of its records
-abbrev pub rows_of : List ℕ → List (List (List ℕ))
-rows_of text = records default_config (strip_bom text)
+abbrev pub rows_of_text : List ℕ → List (List (List ℕ))
+rows_of_text text = records default_config (strip_bom text)
 
 abbrev pub WrittenRowsAreRead : Type 0
 WrittenRowsAreRead =
     (N : Table) → IsTable N → (written : List Record) → All (HasRow N) written
-    → rows_of (records_text N written) ≡ map (record_fields N) written
+    → rows_of_text (records_text N written) ≡ map (record_fields N) written
 
 -- what was written reads back: no other records are read of it, and no row has a fault
 abbrev pub WrittenReadsBack : Type 0
 WrittenReadsBack =
     (N : Table) → IsTable N → (written : List Record) → All (HasRow N) written
-    → (read : List Record) → AreRowsOf N (rows_of (records_text N written)) read → read ≡ written
+    → (read : List Record) → AreRowsOf N (rows_of_text (records_text N written)) read → read ≡ written
 
 abbrev pub WrittenHasNoFault : Type 0
 WrittenHasNoFault =
     (N : Table) → IsTable N → (written : List Record) → All (HasRow N) written
-    → (e : RecordFault) → HasFault N (rows_of (records_text N written)) e → (e.kind ≡ fault.ReadFault) ⊎ (e.kind ≡ fault.Memory)
+    → (e : RecordFault) → HasFault N (rows_of_text (records_text N written)) e → (e.kind ≡ fault.ReadFault) ⊎ (e.kind ≡ fault.Memory)

@@ -12,13 +12,13 @@ use Rattle.mrp_stream.specs.Rows.{HasRow, record_fields}
 use Rattle.mrp_stream.specs.Reading.{StartsWithFault}
 
 -- what an error of the reading is called; those that can't come have any name
-abbrev pub fault_of : ErrorKind → RecordFaultKind
-fault_of (error.Io e) = fault.ReadFault
-fault_of (error.Utf8 pos e) = fault.NotUtf8
-fault_of (error.UnequalLengths pos expected len) = fault.ReadFault
-fault_of (error.Serialize text) = fault.ReadFault
-fault_of (error.Deserialize pos e) = fault.ReadFault
-fault_of error.OutOfMemory = fault.Memory
+abbrev pub record_fault_of : ErrorKind → RecordFaultKind
+record_fault_of (error.Io e) = fault.ReadFault
+record_fault_of (error.Utf8 pos e) = fault.NotUtf8
+record_fault_of (error.UnequalLengths pos expected len) = fault.ReadFault
+record_fault_of (error.Serialize text) = fault.ReadFault
+record_fault_of (error.Deserialize pos e) = fault.ReadFault
+record_fault_of error.OutOfMemory = fault.Memory
 
 -- a fault is ReadFault only where the reader has failed, or where all rows that may be read were read, and there are more than so many
 abbrev pub StopsReading : RecordFaultKind → Bool → Type 0 → ℕ → Option (List (List (List ℕ))) → Type 0
@@ -31,10 +31,10 @@ TellsBad N before fault.Memory = Unit {0}
 TellsBad N before k = OfLeft before (λ rows. StartsWithFault N rows k)
 
 -- what taking a row answers
-abbrev pub TellsTaken : Table → Option (List (List (List ℕ))) → Option (List (List (List ℕ))) → List (List ℕ) → Result Bool RecordFaultKind → Type 0
-TellsTaken N before after row (Ok true) = TakesRow before after row
-TellsTaken N before after row (Ok false) = OfLeft before (λ rows. rows ≡ [])
-TellsTaken N before after row (Err k) = TellsBad N before k
+abbrev pub TellsTakenRecord : Table → Option (List (List (List ℕ))) → Option (List (List (List ℕ))) → List (List ℕ) → Result Bool RecordFaultKind → Type 0
+TellsTakenRecord N before after row (Ok true) = TakesRow before after row
+TellsTakenRecord N before after row (Ok false) = OfLeft before (λ rows. rows ≡ [])
+TellsTakenRecord N before after row (Err k) = TellsBad N before k
 
 -- the answer is of a row, good or bad
 abbrev pub is_of_row : Result Bool RecordFaultKind → Bool
@@ -52,15 +52,15 @@ pub record AddsRecord (N : Table) (before after : Option (List (List (List ℕ))
   pub room : length old < MOST_RECORDS
 
 -- after so many records, what reading one more answers
-abbrev pub TellsFault : Table → Option (List (List (List ℕ))) → ℕ → RecordFaultKind → Type 0
-TellsFault N before count fault.ReadFault = Unit {0}
-TellsFault N before count fault.Memory = Unit {0}
-TellsFault N before count k = (count < MOST_RECORDS) × OfLeft before (λ rows. StartsWithFault N rows k)
+abbrev pub TellsRecordFault : Table → Option (List (List (List ℕ))) → ℕ → RecordFaultKind → Type 0
+TellsRecordFault N before count fault.ReadFault = Unit {0}
+TellsRecordFault N before count fault.Memory = Unit {0}
+TellsRecordFault N before count k = (count < MOST_RECORDS) × OfLeft before (λ rows. StartsWithFault N rows k)
 
-abbrev pub TellsNext : Table → Option (List (List (List ℕ))) → Option (List (List (List ℕ))) → List Record → List Record → Result Bool RecordFaultKind → Type 0
-TellsNext N before after old new (Ok true) = AddsRecord N before after old new
-TellsNext N before after old new (Ok false) = (new ≡ old) × OfLeft before (λ rows. rows ≡ [])
-TellsNext N before after old new (Err k) = TellsFault N before (length old) k
+abbrev pub TellsNextRecord : Table → Option (List (List (List ℕ))) → Option (List (List (List ℕ))) → List Record → List Record → Result Bool RecordFaultKind → Type 0
+TellsNextRecord N before after old new (Ok true) = AddsRecord N before after old new
+TellsNextRecord N before after old new (Ok false) = (new ≡ old) × OfLeft before (λ rows. rows ≡ [])
+TellsNextRecord N before after old new (Err k) = TellsRecordFault N before (length old) k
 
 -- the rows of the records read so far, and the rows left, are all the rows
 abbrev pub AreRead : Table → Option (List (List (List ℕ))) → Option (List (List (List ℕ))) → List Record → Type 0

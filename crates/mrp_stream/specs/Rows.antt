@@ -1,4 +1,4 @@
--- The row of a record: its fields, and its bytes.
+-- The record_line of a record: its fields, and its bytes.
 use Rattle.std.specs.Prelude.{◌≡◌, ℕ, ◌<◌, List, [], ◌∷◌, ◌++◌, length, slice_index_or, codes, All, Option, Some, None, IfSome}
 use Rattle.std.specs.List.{flat_map, join_with_byte}
 use Rattle.csv.specs.Machine.{line_feed}
@@ -10,8 +10,8 @@ use Rattle.mrp_record.specs.declared.record.Record.{Record}
 use Rattle.mrp_record.specs.declared.record.Record.TheVariants.{Line, ItemEnd, Reset, Close}
 
 -- the name of an item
-abbrev pub item_name : Table → ItemNo → List ℕ
-item_name N item = slice_index_or N.items item.0 []
+abbrev pub record_item_name : Table → ItemNo → List ℕ
+record_item_name N item = slice_index_or N.items item.0 []
 
 -- the six fields of each kind of record; those that it doesn't use are empty
 abbrev pub line_fields : ℕ → List ℕ → ℕ → ℕ → ℕ → List (List ℕ)
@@ -22,28 +22,28 @@ abbrev pub end_fields : ℕ → List ℕ → ℕ → ℕ → List (List ℕ)
 end_fields number name lines cumulative =
     codes "end" ∷ number_text number ∷ name ∷ number_text lines ∷ number_text cumulative ∷ [] ∷ []
 
-abbrev pub reset_fields : ℕ → List ℕ → ℕ → List (List ℕ)
-reset_fields number name closed = codes "reset" ∷ number_text number ∷ name ∷ number_text closed ∷ [] ∷ [] ∷ []
+abbrev pub reset_record_fields : ℕ → List ℕ → ℕ → List (List ℕ)
+reset_record_fields number name closed = codes "reset" ∷ number_text number ∷ name ∷ number_text closed ∷ [] ∷ [] ∷ []
 
 abbrev pub close_fields : ℕ → List (List ℕ)
 close_fields number = codes "close" ∷ number_text number ∷ [] ∷ [] ∷ [] ∷ [] ∷ []
 
 -- the fields of a record
 abbrev pub record_fields : Table → Record → List (List ℕ)
-record_fields N (Line number item period quantity cumulative) = line_fields number (item_name N item) period quantity cumulative
-record_fields N (ItemEnd number item lines cumulative) = end_fields number (item_name N item) lines cumulative
-record_fields N (Reset number item closed) = reset_fields number (item_name N item) closed
+record_fields N (Line number item period quantity cumulative) = line_fields number (record_item_name N item) period quantity cumulative
+record_fields N (ItemEnd number item lines cumulative) = end_fields number (record_item_name N item) lines cumulative
+record_fields N (Reset number item closed) = reset_record_fields number (record_item_name N item) closed
 record_fields N (Close number) = close_fields number
 
--- a row: fields with commas between them, and a line feed at the end
-unfoldable pub row : List (List ℕ) → List ℕ
-row fields = join_with_byte comma fields ++ line_feed ∷ []
+-- a record_line: fields with commas between them, and a line feed at the end
+unfoldable pub record_line : List (List ℕ) → List ℕ
+record_line fields = join_with_byte comma fields ++ line_feed ∷ []
 
--- the row of a record
+-- the record_line of a record
 abbrev pub record_text : Table → Record → List ℕ
-record_text N r = row (record_fields N r)
+record_text N r = record_line (record_fields N r)
 
--- the text of records, a row each
+-- the text of records, a record_line each
 abbrev pub records_text : Table → List Record → List ℕ
 records_text N records = flat_map (record_text N) records
 
@@ -55,16 +55,16 @@ numbers_of (Reset number item closed) = number ∷ closed ∷ []
 numbers_of (Close number) = number ∷ []
 
 -- its item; a closing record has none
-abbrev pub item_of : Record → Option ItemNo
-item_of (Line number item period quantity cumulative) = Some item
-item_of (ItemEnd number item lines cumulative) = Some item
-item_of (Reset number item closed) = Some item
-item_of (Close number) = None
+abbrev pub item_in_record : Record → Option ItemNo
+item_in_record (Line number item period quantity cumulative) = Some item
+item_in_record (ItemEnd number item lines cumulative) = Some item
+item_in_record (Reset number item closed) = Some item
+item_in_record (Close number) = None
 
--- a record that has a row: each number is below 10^16, and its item is one of the network
+-- a record that has a record_line: each number is below 10^16, and its item is one of the network
 pub record HasRow (N : Table) (r : Record) : Type 0 where
   pub numbers : All IsShort (numbers_of r)
-  pub item : IfSome (item_of r) (λ item. item.0 < length N.items)
+  pub item : IfSome (item_in_record r) (λ item. item.0 < length N.items)
 
 -- bytes were added at the end
 abbrev pub Grows : List ℕ → List ℕ → Type 0

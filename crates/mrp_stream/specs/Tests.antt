@@ -3,14 +3,14 @@
 use Rattle.std.specs.Prelude.{◌≡◌, ℕ, ◌==◌, ◌&&◌, not, Bool, true, false, List, [], ◌∷◌, length, find, Option, Some, None, is_some, Result, Ok, Err}
 use Rattle.std.specs.List.{list_all}
 use Rattle.std.specs.Str.{is_utf8}
-use Rattle.mrp_spell.specs.Spelling.{number_of}
+use Rattle.mrp_spell.specs.Spelling.{spelled_number}
 use Rattle.mrp_rows.specs.Table.{Table}
 use Rattle.mrp_grammar.specs.Grammar.{field}
 use Rattle.mrp_stream.specs.declared.fault.RecordFaultKind.{RecordFaultKind}
 use Rattle.mrp_stream.specs.declared.fault.RecordFaultKind.TheVariants as fault
 use Rattle.mrp_stream.specs.declared.kind.Kind.{Kind}
 use Rattle.mrp_stream.specs.declared.kind.Kind.TheVariants as kind
-use Rattle.mrp_stream.specs.Grammar.{is_empty_from, item_named, kind_of, record_of, used}
+use Rattle.mrp_stream.specs.Grammar.{record_is_empty_from, item_named, record_kind_of, record_of, record_fields_used}
 use Rattle.mrp_stream.specs.Laws.{row_faults}
 
 -- the fields that are numbers
@@ -21,7 +21,7 @@ number_places kind.Reset = 1 ∷ 3 ∷ []
 number_places kind.Close = 1 ∷ []
 
 abbrev pub is_number_at : List (List ℕ) → ℕ → Bool
-is_number_at row place = is_some (number_of (field row place))
+is_number_at row place = is_some (spelled_number (field row place))
 
 -- a closing record has no item
 abbrev pub has_item : Kind → Bool
@@ -36,9 +36,9 @@ knows_item N row false = true
 
 -- ---- what is asked of a row of a kind, and of one of none
 
-abbrev pub fits_kind : List (List ℕ) → Option Kind → Bool
-fits_kind row None = true
-fits_kind row (Some k) = is_empty_from row (used k)
+abbrev pub record_fits_kind : List (List ℕ) → Option Kind → Bool
+record_fits_kind row None = true
+record_fits_kind row (Some k) = record_is_empty_from row (record_fields_used k)
 
 abbrev pub has_numbers : List (List ℕ) → Option Kind → Bool
 has_numbers row None = true
@@ -50,18 +50,18 @@ has_known_item N row (Some k) = knows_item N row (has_item k)
 
 -- ---- the tests
 
-abbrev pub passes : Table → List (List ℕ) → RecordFaultKind → Bool
-passes N row fault.NotUtf8 = list_all is_utf8 row
-passes N row fault.FieldCount = (length row == 6) && fits_kind row (kind_of (field row 0))
-passes N row fault.UnknownKind = is_some (kind_of (field row 0))
-passes N row fault.BadNumber = has_numbers row (kind_of (field row 0))
-passes N row fault.UnknownItem = has_known_item N row (kind_of (field row 0))
-passes N row e = true
+abbrev pub record_passes : Table → List (List ℕ) → RecordFaultKind → Bool
+record_passes N row fault.NotUtf8 = list_all is_utf8 row
+record_passes N row fault.FieldCount = (length row == 6) && record_fits_kind row (record_kind_of (field row 0))
+record_passes N row fault.UnknownKind = is_some (record_kind_of (field row 0))
+record_passes N row fault.BadNumber = has_numbers row (record_kind_of (field row 0))
+record_passes N row fault.UnknownItem = has_known_item N row (record_kind_of (field row 0))
+record_passes N row e = true
 
-abbrev pub refusal : {A : Type 0} → Result A RecordFaultKind → Option RecordFaultKind
-refusal (Ok r) = None
-refusal (Err e) = Some e
+abbrev pub record_refusal : {A : Type 0} → Result A RecordFaultKind → Option RecordFaultKind
+record_refusal (Ok r) = None
+record_refusal (Err e) = Some e
 
--- a row is refused for the first fault of the list whose test it fails, and taken where it passes all of them
+-- a row is refused for the first fault of the list whose test it fails, and taken where it record_passes all of them
 abbrev pub RowsHaveTheirFirstFault : Type 0
-RowsHaveTheirFirstFault = (N : Table) (row : List (List ℕ)) → refusal (record_of N row) ≡ find (λ e. not (passes N row e)) row_faults
+RowsHaveTheirFirstFault = (N : Table) (row : List (List ℕ)) → record_refusal (record_of N row) ≡ find (λ e. not (record_passes N row e)) row_faults

@@ -15,11 +15,11 @@ pub enum Kind {
 
 impl Kind {
     ghost use Rattle.std.specs.Prelude.{◌≡◌};
-    ghost use Rattle.mrp_stream.specs.Grammar.{kind_of, used};
+    ghost use Rattle.mrp_stream.specs.Grammar.{record_kind_of, record_fields_used};
 
     /// The kind that a first field names.
     pub(crate) fn of(word: &str) -> Option<Kind>
-        ensures { result ≡ kind_of word.now }
+        ensures { result ≡ record_kind_of word.now }
     {
         if word == "line" {
             Some(Kind::Line)
@@ -36,7 +36,7 @@ impl Kind {
 
     /// How many of the six fields a record of this kind uses.
     pub(crate) fn used(self) -> usize
-        ensures { result ≡ used self }
+        ensures { result ≡ record_fields_used self }
     {
         match self {
             Kind::Line => 6,

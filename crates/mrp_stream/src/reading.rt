@@ -3,9 +3,9 @@
 ghost use Rattle.std.specs.Prelude.{true, false, ◌≡◌, ◌+◌, ◌≤◌, [], length, IfOk, IfErr, OnOk, OnErr, option_map};
 ghost use Rattle.csv.specs.Reading.{has_failed, strip_bom};
 ghost use Rattle.csv.specs.Records.{AllText, fields_of};
-ghost use Rattle.mrp_grammar.specs.Left.{GivesAll, MayCome, OfLeft, left_of};
+ghost use Rattle.mrp_grammar.specs.Left.{GivesAll, MayCome, OfLeft, rows_left};
 ghost use Rattle.mrp_grammar.specs.Reading.{OfRecords};
-ghost use Rattle.mrp_stream.specs.Left.{fault_of, is_of_row, StopsReading, TellsNext, TellsTaken};
+ghost use Rattle.mrp_stream.specs.Left.{record_fault_of, is_of_row, StopsReading, TellsNextRecord, TellsTakenRecord};
 ghost use Rattle.mrp_rows.specs.Table.{Table};
 ghost use Rattle.mrp_stream.specs.Reading.{AreRowsOf, HasFault};
 
@@ -54,10 +54,10 @@ fn read_rows<R: Read>(
 ) -> Result<(), RecordFault>
     requires gives { GivesAll rows.old }
     requires none { records.old.items ≡ [] }
-    ensures records { OnOk result (OfLeft (left_of R.remaining rows.old) (λ rows. AreRowsOf network.now rows records.new.items)) }
-    ensures fault { IfErr result (λ fault. OfLeft (left_of R.remaining rows.old) (λ rows. HasFault network.now rows fault)) }
+    ensures records { OnOk result (OfLeft (rows_left R.remaining rows.old) (λ rows. AreRowsOf network.now rows records.new.items)) }
+    ensures fault { IfErr result (λ fault. OfLeft (rows_left R.remaining rows.old) (λ rows. HasFault network.now rows fault)) }
     ensures row { IfErr result (λ fault. fault.row ≡ length records.new.items + 1) }
-    ensures failed { IfErr result (λ e. StopsReading e.kind (has_failed rows.new) (e.row ≡ MOST_RECORDS + 1) MOST_RECORDS (left_of R.remaining rows.old)) }
+    ensures failed { IfErr result (λ e. StopsReading e.kind (has_failed rows.new) (e.row ≡ MOST_RECORDS + 1) MOST_RECORDS (rows_left R.remaining rows.old)) }
     ensures few { OnOk result (length records.new.items ≤ MOST_RECORDS) }
 {
     let mut row = StringRecord::new(alloc);
@@ -80,9 +80,9 @@ fn read_next<R: Read>(
 ) -> Result<bool, RecordFaultKind>
     requires gives { GivesAll rows.old }
     ensures gives { OnOk result (GivesAll rows.new) }
-    ensures exact { TellsNext network.now (left_of R.remaining rows.old) (left_of R.remaining rows.new) records.old.items records.new.items result }
+    ensures exact { TellsNextRecord network.now (rows_left R.remaining rows.old) (rows_left R.remaining rows.new) records.old.items records.new.items result }
     ensures kept { OnErr result (records.new.items ≡ records.old.items) }
-    ensures failed { IfErr result (λ kind. StopsReading kind (has_failed rows.new) (MOST_RECORDS ≤ length records.old.items) 0 (left_of R.remaining rows.old)) }
+    ensures failed { IfErr result (λ kind. StopsReading kind (has_failed rows.new) (MOST_RECORDS ≤ length records.old.items) 0 (rows_left R.remaining rows.old)) }
 {
     let full = MOST_RECORDS <= records.len() as u64;
     if !next_row(rows, row, full)? {
@@ -101,8 +101,8 @@ fn next_row<R: Read>(
     requires gives { GivesAll rows.old }
     ensures gives { OnOk result (GivesAll rows.new) }
     ensures text { OnOk result (AllText (fields_of row.new)) }
-    ensures exact { (N : Table) → TellsTaken N (left_of R.remaining rows.old) (left_of R.remaining rows.new) (fields_of row.new) result }
-    ensures failed { IfErr result (λ kind. StopsReading kind (has_failed rows.new) (full ≡ true) 0 (left_of R.remaining rows.old)) }
+    ensures exact { (N : Table) → TellsTakenRecord N (rows_left R.remaining rows.old) (rows_left R.remaining rows.new) (fields_of row.new) result }
+    ensures failed { IfErr result (λ kind. StopsReading kind (has_failed rows.new) (full ≡ true) 0 (rows_left R.remaining rows.old)) }
     ensures room { full ≡ true → is_of_row result ≡ false }
 {
     let answer = take_row(rows, row);
@@ -128,7 +128,7 @@ fn take_row<R: Read>(rows: &mut Reader<R>, row: &mut StringRecord) -> Result<boo
     requires gives { GivesAll rows.old }
     ensures gives { OnOk result (GivesAll rows.new) }
     ensures text { OnOk result (AllText (fields_of row.new)) }
-    ensures exact { (N : Table) → TellsTaken N (left_of R.remaining rows.old) (left_of R.remaining rows.new) (fields_of row.new) result }
+    ensures exact { (N : Table) → TellsTakenRecord N (rows_left R.remaining rows.old) (rows_left R.remaining rows.new) (fields_of row.new) result }
     ensures failed { IfErr result (λ kind. kind ≡ RecordFaultKind.ReadFault → has_failed rows.new ≡ true) }
 {
     match rows.read_record(row) {
@@ -140,7 +140,7 @@ fn take_row<R: Read>(rows: &mut Reader<R>, row: &mut StringRecord) -> Result<boo
 /// What an error of the reading is called. A row of a wrong length is none: rows come as they are.
 fn read_fault(error: &ErrorKind) -> RecordFaultKind
     requires comes { MayCome error.now }
-    ensures value { result ≡ fault_of error.now }
+    ensures value { result ≡ record_fault_of error.now }
 {
     match error {
         ErrorKind::Utf8 { .. } => RecordFaultKind::NotUtf8,

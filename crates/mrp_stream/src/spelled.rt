@@ -3,7 +3,7 @@
 ghost use Rattle.std.specs.Prelude.{◌≡◌, IfOk};
 ghost use Rattle.csv.specs.Records.{fields_of};
 ghost use Rattle.mrp_grammar.specs.Grammar.{field, is_free};
-ghost use Rattle.mrp_stream.specs.Grammar.{close_of, end_of, is_empty_from, item_at, item_named, line_of, number_at, reset_of, row_kind, spelled_record};
+ghost use Rattle.mrp_stream.specs.Grammar.{spelled_close, spelled_end, record_is_empty_from, item_field, item_named, spelled_line, number_field, spelled_reset, record_row_kind, spelled_record};
 
 use crate::RecordFaultKind;
 use crate::kind::Kind;
@@ -31,7 +31,7 @@ fn is_free(row: &StringRecord, used: usize, i: usize) -> bool
 
 /// Whether the fields from `used` on are empty; two and more are used.
 fn is_empty_from(row: &StringRecord, used: usize) -> bool
-    ensures { result ≡ is_empty_from (fields_of row.now) used }
+    ensures { result ≡ record_is_empty_from (fields_of row.now) used }
 {
     is_free(row, used, 2) && is_free(row, used, 3) && is_free(row, used, 4) && is_free(row, used, 5)
 }
@@ -39,7 +39,7 @@ fn is_empty_from(row: &StringRecord, used: usize) -> bool
 /// The kind of a row that has the fields of its kind.
 #[tactic(auto, unfolding(crate::specs::Grammar::row_kind))]
 fn row_kind(row: &StringRecord) -> Result<Kind, RecordFaultKind>
-    ensures { result ≡ row_kind (fields_of row.now) }
+    ensures { result ≡ record_row_kind (fields_of row.now) }
 {
     if row.len() != FIELDS {
         return Err(RecordFaultKind::FieldCount);
@@ -54,7 +54,7 @@ fn row_kind(row: &StringRecord) -> Result<Kind, RecordFaultKind>
 
 /// The number in a field.
 fn number_at(row: &StringRecord, i: usize) -> Result<u64, RecordFaultKind>
-    ensures { result ≡ number_at (fields_of row.now) i }
+    ensures { result ≡ number_field (fields_of row.now) i }
 {
     number(field(row, i)).ok_or(RecordFaultKind::BadNumber)
 }
@@ -69,7 +69,7 @@ fn item_named(network: &Network, name: &str) -> Option<ItemNo>
 
 /// The item of a row.
 fn item_at(network: &Network, row: &StringRecord) -> Result<ItemNo, RecordFaultKind>
-    ensures { result ≡ item_at network.now (fields_of row.now) }
+    ensures { result ≡ item_field network.now (fields_of row.now) }
 {
     item_named(network, field(row, 2)).ok_or(RecordFaultKind::UnknownItem)
 }
@@ -77,7 +77,7 @@ fn item_at(network: &Network, row: &StringRecord) -> Result<ItemNo, RecordFaultK
 /// The line of a row.
 #[tactic(auto, unfolding(crate::specs::Grammar::line_of))]
 fn line_of(network: &Network, row: &StringRecord) -> Result<Record, RecordFaultKind>
-    ensures { result ≡ line_of network.now (fields_of row.now) }
+    ensures { result ≡ spelled_line network.now (fields_of row.now) }
 {
     let number = number_at(row, 1)?;
     let period = number_at(row, 3)?;
@@ -96,7 +96,7 @@ fn line_of(network: &Network, row: &StringRecord) -> Result<Record, RecordFaultK
 /// The item end of a row.
 #[tactic(auto, unfolding(crate::specs::Grammar::end_of))]
 fn end_of(network: &Network, row: &StringRecord) -> Result<Record, RecordFaultKind>
-    ensures { result ≡ end_of network.now (fields_of row.now) }
+    ensures { result ≡ spelled_end network.now (fields_of row.now) }
 {
     let number = number_at(row, 1)?;
     let lines = number_at(row, 3)?;
@@ -113,7 +113,7 @@ fn end_of(network: &Network, row: &StringRecord) -> Result<Record, RecordFaultKi
 /// The reset of a row.
 #[tactic(auto, unfolding(crate::specs::Grammar::reset_of))]
 fn reset_of(network: &Network, row: &StringRecord) -> Result<Record, RecordFaultKind>
-    ensures { result ≡ reset_of network.now (fields_of row.now) }
+    ensures { result ≡ spelled_reset network.now (fields_of row.now) }
 {
     let number = number_at(row, 1)?;
     let closed = number_at(row, 3)?;
@@ -128,7 +128,7 @@ fn reset_of(network: &Network, row: &StringRecord) -> Result<Record, RecordFault
 /// The closing record of a row.
 #[tactic(auto, unfolding(crate::specs::Grammar::close_of))]
 fn close_of(row: &StringRecord) -> Result<Record, RecordFaultKind>
-    ensures { result ≡ close_of (fields_of row.now) }
+    ensures { result ≡ spelled_close (fields_of row.now) }
 {
     let number = number_at(row, 1)?;
     Ok(Record::Close { number })

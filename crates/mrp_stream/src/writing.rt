@@ -1,7 +1,7 @@
 //! Records written as csv rows.
 
 ghost use Rattle.std.specs.Prelude.{◌≡◌, ◌++◌, ◌∷◌, map, OnOk, OnErr};
-ghost use Rattle.mrp_stream.specs.Rows.{close_fields, end_fields, Grows, HasRow, line_fields, record_text, reset_fields, row};
+ghost use Rattle.mrp_stream.specs.Rows.{close_fields, end_fields, Grows, HasRow, line_fields, record_text, reset_record_fields, record_line};
 
 use itoa::Buffer;
 use mrp_net::Network;
@@ -68,7 +68,7 @@ fn put_line(
     cumulative: u64,
     out: &mut Vec<u8>,
 ) -> Result<(), Memory>
-    ensures written { OnOk result (out.new.items ≡ out.old.items ++ row (line_fields number item.now period quantity cumulative)) }
+    ensures written { OnOk result (out.new.items ≡ out.old.items ++ record_line (line_fields number item.now period quantity cumulative)) }
     ensures kept { OnErr result (Grows out.old.items out.new.items) }
 {
     let mut place = Buffer::new();
@@ -96,7 +96,7 @@ fn put_end(
     cumulative: u64,
     out: &mut Vec<u8>,
 ) -> Result<(), Memory>
-    ensures written { OnOk result (out.new.items ≡ out.old.items ++ row (end_fields number item.now lines cumulative)) }
+    ensures written { OnOk result (out.new.items ≡ out.old.items ++ record_line (end_fields number item.now lines cumulative)) }
     ensures kept { OnErr result (Grows out.old.items out.new.items) }
 {
     let mut place = Buffer::new();
@@ -117,7 +117,7 @@ fn put_end(
 
 /// Puts the row of a reset behind a text, or a front of it.
 fn put_reset(number: u64, item: &str, closed: u64, out: &mut Vec<u8>) -> Result<(), Memory>
-    ensures written { OnOk result (out.new.items ≡ out.old.items ++ row (reset_fields number item.now closed)) }
+    ensures written { OnOk result (out.new.items ≡ out.old.items ++ record_line (reset_record_fields number item.now closed)) }
     ensures kept { OnErr result (Grows out.old.items out.new.items) }
 {
     let mut place = Buffer::new();
@@ -137,7 +137,7 @@ fn put_reset(number: u64, item: &str, closed: u64, out: &mut Vec<u8>) -> Result<
 
 /// Puts the row of a closing record behind a text, or a front of it.
 fn put_close(number: u64, out: &mut Vec<u8>) -> Result<(), Memory>
-    ensures written { OnOk result (out.new.items ≡ out.old.items ++ row (close_fields number)) }
+    ensures written { OnOk result (out.new.items ≡ out.old.items ++ record_line (close_fields number)) }
     ensures kept { OnErr result (Grows out.old.items out.new.items) }
 {
     let mut place = Buffer::new();
@@ -150,7 +150,7 @@ fn put_close(number: u64, out: &mut Vec<u8>) -> Result<(), Memory>
 
 /// Puts a row behind a text, or a front of it: a word and the fields after it.
 fn put_row(word: &[u8], fields: &[&[u8]], out: &mut Vec<u8>) -> Result<(), Memory>
-    ensures written { OnOk result (out.new.items ≡ out.old.items ++ row (word.now ∷ map (λ field. field.now) fields.now)) }
+    ensures written { OnOk result (out.new.items ≡ out.old.items ++ record_line (word.now ∷ map (λ field. field.now) fields.now)) }
     ensures kept { OnErr result (Grows out.old.items out.new.items) }
 {
     out.extend_from_slice(word)?;

@@ -1,6 +1,6 @@
 -- A row that was added to the draft, and one that was refused.
 use Rattle.std.proofs.Common.{◌≡◌, ℕ, List, Option, Result, Ok, Err, MatchResult, sym, ap, ◌∙◌}
-use Rattle.mrp_tables.specs.Drafts.{state_of, TellsAdded}
+use Rattle.mrp_tables.specs.Drafts.{draft_state, TellsAdded}
 use Rattle.mrp_tables.specs.declared.draft.Draft.{Draft}
 use Rattle.mrp_grammar.specs.declared.fault.TableFault.{TableFault}
 use Rattle.mrp_grammar.specs.declared.fault.TableFaultKind.{TableFaultKind}
@@ -15,7 +15,7 @@ use Rattle.mrp_grammar.proofs.Loop.{stops_row}
 -- a row that was added, and one with a fault
 pub added : (old new : Draft) (number : ℕ) (row : List (List ℕ)) (answer : Result (Unit {0}) TableFaultKind) (r : Result (Unit {0}) TableFault) (u : Unit {0})
     → MatchResult answer (λ value. r ≡ Ok value) (λ kind. r ≡ Err (record { row = number; kind = kind })) → r ≡ Ok u → TellsAdded old new answer row
-    → row_after (state_of old) row ≡ Ok (state_of new)
+    → row_after (draft_state old) row ≡ Ok (draft_state new)
 added old new number row (Ok v) r u same e tells = tells
 added old new number row (Err k) r u same e tells = absurd (cc)
 
@@ -25,11 +25,11 @@ refused_as before number s e f same says = rw same says
 
 pub refused : (before after : Option (List (List (List ℕ)))) (old new : Draft) (number : ℕ) (row : List (List ℕ)) (answer : Result (Unit {0}) TableFaultKind) (r : Result (Unit {0}) TableFault) (e : TableFault)
     → MatchResult answer (λ value. r ≡ Ok value) (λ kind. r ≡ Err (record { row = number; kind = kind })) → r ≡ Err e → TellsAdded old new answer row
-    → TakesRow before after row → OfRows e.kind (Unit {0}) (OfLeft before (λ rows. rows_after number (state_of old) rows ≡ Err e))
+    → TakesRow before after row → OfRows e.kind (Unit {0}) (OfLeft before (λ rows. rows_after number (draft_state old) rows ≡ Err e))
 refused before after old new number row (Ok v) r e same is tells takes = absurd (cc)
 refused before after old new number row (Err k) r e same is tells takes =
     let f : e ≡ record { row = number; kind = k } = cc in
-    refused_as before number (state_of old) (record { row = number; kind = k }) e f (stops_row before after number (state_of old) k row takes tells)
+    refused_as before number (draft_state old) (record { row = number; kind = k }) e f (stops_row before after number (draft_state old) k row takes tells)
 
 -- a fault of a row is never a failed read
 pub refused_own : (old new : Draft) (number : ℕ) (row : List (List ℕ)) (answer : Result (Unit {0}) TableFaultKind) (r : Result (Unit {0}) TableFault) (e : TableFault)
@@ -37,7 +37,7 @@ pub refused_own : (old new : Draft) (number : ℕ) (row : List (List ℕ)) (answ
 refused_own old new number row (Ok v) r e same is tells failed = absurd (cc)
 refused_own old new number row (Err k) r e same is tells failed =
     let f : e ≡ record { row = number; kind = k } = cc in
-    later_no_read_fault (state_of old) row k tells (sym (ap (λ (x : TableFault). x.kind) f) ∙ failed)
+    later_no_read_fault (draft_state old) row k tells (sym (ap (λ (x : TableFault). x.kind) f) ∙ failed)
 
 pub refused_at : (number : ℕ) (answer : Result (Unit {0}) TableFaultKind) (r : Result (Unit {0}) TableFault) (e : TableFault)
     → MatchResult answer (λ value. r ≡ Ok value) (λ kind. r ≡ Err (record { row = number; kind = kind })) → r ≡ Err e → e.row ≡ number

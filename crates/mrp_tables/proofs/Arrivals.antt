@@ -18,7 +18,7 @@ use Rattle.mrp_rows.specs.declared.numbers.PlantNo.{PlantNo}
 use Rattle.mrp_rows.specs.declared.rows.ShipRow.{ShipRow}
 use Rattle.mrp_rows.specs.declared.rows.SourceRow.{SourceRow}
 use Rattle.mrp_rows.specs.Table.{Table}
-use Rattle.mrp_tables.specs.Lists.{after_ship, AreLanes, Fits, has_lane, is_same_lane, lane_of, lane_state, last_from, state_of}
+use Rattle.mrp_tables.specs.Lists.{after_ship, AreLanes, FitsRows, has_lane, is_same_lane, lane_of, lane_state, last_from, arrivals_state}
 use Rattle.mrp_rows.specs.Table.{arrivals_of, rises_from}
 use Rattle.mrp_rows.specs.Growing.{with_source}
 use Rattle.mrp_tables.proofs.Keys.{any_source}
@@ -97,7 +97,7 @@ falls_more true l n = grind (arith, nat_tests)
 falls_more false l n = refl
 
 -- what the periods say after one more
-pub state_push : (ns : List ℕ) (n : ℕ) → state_of (ns ++ n ∷ []) ≡ after_ship (state_of ns) n
+pub state_push : (ns : List ℕ) (n : ℕ) → arrivals_state (ns ++ n ∷ []) ≡ after_ship (arrivals_state ns) n
 state_push ns n =
     ap (λ last. let r : Lane = record { last = last; falls = not (rises_from 0 (ns ++ n ∷ [])) } in r) (last_push 0 ns n)
     ∙ ap (λ falls. let r : Lane = record { last = n; falls = falls } in r) (ap not (rises_push 0 ns n) ∙ falls_more (rises_from 0 ns) (last_from 0 ns) n)
@@ -119,7 +119,7 @@ module _ (ships : List ShipRow) (y : ShipRow) (s : SourceRow) where
       let test : p y ≡ true = rw (same_test y.from.0 s.plant.0, same_test y.pair.0 s.pair.0) same in
       let kept = filter-append p ships (y ∷ []) ∙ ap (λ more. filter p ships ++ more) (filter_one p y test) in
       let all : arrivals_of (ships ++ y ∷ []) s.plant.0 s.pair.0 ≡ arrivals_of ships s.plant.0 s.pair.0 ++ y.period ∷ [] = ap (map (λ (r : ShipRow). r.period)) kept ∙ map-append (λ (r : ShipRow). r.period) (filter p ships) (y ∷ []) in
-      ap state_of all ∙ state_push (arrivals_of ships s.plant.0 s.pair.0) y.period
+      ap arrivals_state all ∙ state_push (arrivals_of ships s.plant.0 s.pair.0) y.period
 
   miss : is_same_lane (lane_of s) (key y.from y.pair) ≡ false → lane_state (ships ++ y ∷ []) s ≡ lane_state ships s
   unfolding lane_state
@@ -127,7 +127,7 @@ module _ (ships : List ShipRow) (y : ShipRow) (s : SourceRow) where
       let p = ships_on s.plant s.pair in
       let test : p y ≡ false = rw (same_test y.from.0 s.plant.0, same_test y.pair.0 s.pair.0) other in
       let kept = filter-append p ships (y ∷ []) ∙ ap (λ more. filter p ships ++ more) (filter_nil p y test) ∙ append-nil (filter p ships) in
-      ap (λ (rs : List ShipRow). state_of (map (λ (r : ShipRow). r.period) rs)) kept
+      ap (λ (rs : List ShipRow). arrivals_state (map (λ (r : ShipRow). r.period) rs)) kept
 
 -- what is known of each source after one shipment more
 pub states_ship : (ships : List ShipRow) (y : ShipRow) (keys : List LaneKey) (sources : List SourceRow) (states : List Lane) (k : ℕ) (d : SourceRow) (l : Lane)
@@ -163,12 +163,12 @@ states_ship ships y keys sources states k d l is apart each at there =
 
 -- what is known of the source of a plant and a pair
 pub state_there : (ships : List ShipRow) (f : PlantNo) (x : PairNo) (sources : List SourceRow) (states : List Lane) (k : ℕ) (l : Lane) (d : SourceRow)
-    → states ≡ map (lane_state ships) sources → position (λ s. (s.plant.0 == f.0) && (s.pair.0 == x.0)) sources ≡ Some k → l ≡ get_or states k l → l ≡ state_of (arrivals_of ships f.0 x.0)
+    → states ≡ map (lane_state ships) sources → position (λ s. (s.plant.0 == f.0) && (s.pair.0 == x.0)) sources ≡ Some k → l ≡ get_or states k l → l ≡ arrivals_state (arrivals_of ships f.0 x.0)
 unfolding lane_state
 state_there ships f x sources states k l d each at there =
     let p = source_there f x sources k d at in
     there ∙ ap (λ (ls : List Lane). get_or ls k l) each ∙ read-map (lane_state ships) sources k d l p.0
-    ∙ ap (λ (m : LaneKey). state_of (arrivals_of ships m.from.0 m.pair.0)) p.1
+    ∙ ap (λ (m : LaneKey). arrivals_state (arrivals_of ships m.from.0 m.pair.0)) p.1
 
 -- a pair that no shipment names has none
 no_arrivals : (f : PlantNo) (x : PairNo) (ships : List ShipRow) → All (λ s. s.pair.0 < x.0) ships → arrivals_of ships f.0 x.0 ≡ []
@@ -184,7 +184,7 @@ no_arrivals f x (s ∷ ships) below =
 -- a source of such a pair
 pub new_state : (ships : List ShipRow) (s : SourceRow) → All (λ r. r.pair.0 < s.pair.0) ships → lane_state ships s ≡ record { last = 0; falls = false }
 unfolding lane_state
-new_state ships s below = ap state_of (no_arrivals s.plant s.pair ships below)
+new_state ships s below = ap arrivals_state (no_arrivals s.plant s.pair ships below)
 
 -- a source that is found is among the keys
 pub found_lane : (f : PlantNo) (x : PairNo) (keys : List LaneKey) (sources : List SourceRow) (o : Option ℕ) (d : SourceRow) → keys ≡ map lane_of sources → position (λ s. (s.plant.0 == f.0) && (s.pair.0 == x.0)) sources ≡ o → IsSome o
@@ -225,13 +225,13 @@ lanes_more keys (q ∷ qs) k all =
 
 -- what is known of the sources with one more, of a pair that no shipment names
 pub source_fit : (N M : Table) (s : SourceRow) (keys more : List LaneKey) (states made : List Lane) → M ≡ with_source N s → more ≡ keys ++ lane_of s ∷ [] → IsDistinct is_same_lane more → made ≡ states ++ record { last = 0; falls = false } ∷ []
-    → Fits N keys states → All (λ r. r.pair.0 < s.pair.0) N.ships → length N.sources < 4 * length N.pairs → Fits M more made
+    → FitsRows N keys states → All (λ r. r.pair.0 < s.pair.0) N.ships → length N.sources < 4 * length N.pairs → FitsRows M more made
 source_fit N M s keys more states made is grown apart pushed fits below room =
     let longer = length_push N.sources s in
     let blank : Lane = record { last = 0; falls = false } in
     let n = length_push states blank in
     let m = ap length pushed in
-    let all : Fits (with_source N s) more made = record {
+    let all : FitsRows (with_source N s) more made = record {
       lane_keys = grown ∙ ap (λ (ks : List LaneKey). ks ++ lane_of s ∷ []) fits.lane_keys ∙ sym (map-append lane_of N.sources (s ∷ []));
       apart = apart;
       each = pushed ∙ ap (λ (ls : List Lane). ls ++ blank ∷ []) fits.each
@@ -240,7 +240,7 @@ source_fit N M s keys more states made is grown apart pushed fits below room =
       sources = omega (arith, longer, room);
       items = fits.items;
     } in
-    subst (λ (T : Table). Fits T more made) (sym is) all
+    subst (λ (T : Table). FitsRows T more made) (sym is) all
 
 pub no_lanes : (keys some : List LaneKey) → length some ≡ 0 → AreLanes keys some
 no_lanes keys [] none = refl

@@ -10,7 +10,7 @@ use Rattle.mrp_grammar.specs.declared.fault.TableFaultKind.{TableFaultKind}
 use Rattle.mrp_grammar.specs.declared.fault.TableFaultKind.TheVariants as fault
 use Rattle.mrp_tables.specs.declared.lanes.KnownLane.{KnownLane}
 use Rattle.mrp_tables.specs.declared.lanes.NamedLane.{NamedLane}
-use Rattle.mrp_grammar.specs.Grammar.{cum_between, cum_of, cum_terms, has_cum, has_reset, known_lane, LaneTerms, reset_between, reset_of, reset_terms, seen, ship_of, ship_terms}
+use Rattle.mrp_grammar.specs.Grammar.{cum_between, cum_of, cum_terms, has_cum, has_reset, known_lane, LaneTerms, reset_between, reset_in_row, reset_terms, seen, ship_of, ship_terms}
 use Rattle.mrp_tables.specs.Lists.{Finds, known_found, source_at, source_named}
 use Rattle.mrp_rows.proofs.Keys.{any-from_no_position, any-from_position}
 
@@ -76,8 +76,8 @@ reset_fresh N t l f h =
     sym (h ∙ ap (λ (o : Option ℕ). reset_between N o (option_map (λ x. x.0) l.pair)) f.from ∙ ap (λ (o : Option ℕ). reset_between N (plant_no N t.from) o) f.pair)
 
 pub reset_unknown : (N : Table) (row : List (List ℕ)) (periods : ℕ) (t : LaneTerms × ℕ) (l : NamedLane) (e : TableFaultKind) → Ok t ≡ reset_terms row periods → periods ≡ horizon N → Finds N t.0 l
-    → false ≡ reset_between N (option_map (λ p. p.0) l.from) (option_map (λ x. x.0) l.pair) → Err e ≡ known_found l → Err e ≡ reset_of N row
-unfolding reset_of
+    → false ≡ reset_between N (option_map (λ p. p.0) l.from) (option_map (λ x. x.0) l.pair) → Err e ≡ known_found l → Err e ≡ reset_in_row N row
+unfolding reset_in_row
 reset_unknown N row periods t l e spelled same finds new is =
     let terms = spelled ∙ ap (reset_terms row) same in
     rw (← terms, reset_fresh N t.0 l finds new, known_err N t.0 l e finds is) refl
@@ -108,16 +108,16 @@ cum_known N row t l k spelled finds new is room = rw (← spelled, cum_fresh N t
 
 pub reset_known : (N : Table) (row : List (List ℕ)) (periods : ℕ) (t : LaneTerms × ℕ) (l : NamedLane) (k : KnownLane) → Ok t ≡ reset_terms row periods → periods ≡ horizon N → Finds N t.0 l
     → false ≡ reset_between N (option_map (λ p. p.0) l.from) (option_map (λ x. x.0) l.pair) → Ok k ≡ known_found l → rises_from 0 (arrivals N k.from.0 k.pair.0) ≡ true
-    → Ok (record { from = k.from; pair = k.pair; period = t.1 }) ≡ reset_of N row
-unfolding reset_of
+    → Ok (record { from = k.from; pair = k.pair; period = t.1 }) ≡ reset_in_row N row
+unfolding reset_in_row
 reset_known N row periods t l k spelled same finds new is rises =
     let terms = spelled ∙ ap (reset_terms row) same in
     rw (← terms, reset_fresh N t.0 l finds new, known_ok N t.0 l k finds is, rises) refl
 
 pub reset_falls : (N : Table) (row : List (List ℕ)) (periods : ℕ) (t : LaneTerms × ℕ) (l : NamedLane) (k : KnownLane) → Ok t ≡ reset_terms row periods → periods ≡ horizon N → Finds N t.0 l
     → false ≡ reset_between N (option_map (λ p. p.0) l.from) (option_map (λ x. x.0) l.pair) → Ok k ≡ known_found l → rises_from 0 (arrivals N k.from.0 k.pair.0) ≡ false
-    → Err fault.ResetOrder ≡ reset_of N row
-unfolding reset_of
+    → Err fault.ResetOrder ≡ reset_in_row N row
+unfolding reset_in_row
 reset_falls N row periods t l k spelled same finds new is falls =
     let terms = spelled ∙ ap (reset_terms row) same in
     rw (← terms, reset_fresh N t.0 l finds new, known_ok N t.0 l k finds is, falls) refl

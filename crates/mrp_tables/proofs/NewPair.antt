@@ -17,11 +17,11 @@ use Rattle.mrp_rows.specs.declared.numbers.PlantNo.{PlantNo}
 use Rattle.mrp_rows.specs.declared.rows.PairRow.{PairRow}
 use Rattle.mrp_rows.specs.declared.rows.SourceRow.{SourceRow}
 use Rattle.mrp_tables.specs.Drafts.{IsNewPair, with_sources}
-use Rattle.mrp_rows.specs.Names.{has_plant, pair_named, pair_of, plant_no}
+use Rattle.mrp_rows.specs.Names.{has_plant, pair_named, pair_of_item, plant_no}
 use Rattle.mrp_grammar.specs.Grammar.{knows_sources, pair_with, PairTerms, source_row, with_pair_terms}
 use Rattle.mrp_spell.specs.Supplies.{named_sources}
 use Rattle.mrp_rows.specs.Growing.{add_item, with_item, with_pair, with_source}
-use Rattle.mrp_tables.specs.Lists.{Fits}
+use Rattle.mrp_tables.specs.Lists.{FitsRows}
 use Rattle.mrp_spell.specs.Supplies.{SourceTerms}
 use Rattle.mrp_rows.specs.Table.{IsRead, is_taken_from, Table}
 use Rattle.mrp_rows.proofs.Grow.{length-add_item-le}
@@ -140,7 +140,7 @@ fresh_pair N plant name item read lacks is = by (list_any (bytes_eq name) N.item
     by true e q =
         let known = known_place name N.items (position (bytes_eq name) N.items) refl e in
         let here : item ≡ unwrap_or (position (bytes_eq name) N.items) 0 = is ∙ q ∙ ap (λ b. unwrap_or (position (bytes_eq name) (if b then N.items else N.items ++ name ∷ [])) 0) e in
-        let none : position (at_key plant (unwrap_or (position (bytes_eq name) N.items) 0)) N.pairs ≡ None = sym (ap (pair_of N plant) known.0) ∙ lacks in
+        let none : position (at_key plant (unwrap_or (position (bytes_eq name) N.items) 0)) N.pairs ≡ None = sym (ap (pair_of_item N plant) known.0) ∙ lacks in
         subst (λ k. list_any (at_key plant k) N.pairs ≡ false) (sym here) (none_position None (at_key plant (unwrap_or (position (bytes_eq name) N.items) 0)) N.pairs none refl)
     by false e q =
         let here : item ≡ length N.items = is ∙ q ∙ ap (λ b. unwrap_or (position (bytes_eq name) (if b then N.items else N.items ++ name ∷ [])) 0) e ∙ ap (λ (o : Option ℕ). unwrap_or o 0) (new_place N.items name e) in
@@ -158,11 +158,11 @@ pair_table N N1 N2 N3 p t row x ss e1 e2 e3 at same is =
     ∙ ap (λ (l : List SourceTerms). with_sources (with_pair (with_item N t.item) (pair_with (add_item N.items t.item) p t)) (length N.pairs) l) same
 
 -- what is known of the sources stays when a pair and its item are added
-pub pair_fit : (N N1 N2 : Table) (name : List ℕ) (row : PairRow) (keys : List LaneKey) (states : List Lane) → N1 ≡ with_item N name → N2 ≡ with_pair N1 row → Fits N keys states → Fits N2 keys states
+pub pair_fit : (N N1 N2 : Table) (name : List ℕ) (row : PairRow) (keys : List LaneKey) (states : List Lane) → N1 ≡ with_item N name → N2 ≡ with_pair N1 row → FitsRows N keys states → FitsRows N2 keys states
 pair_fit N N1 N2 name row keys states e1 e2 fits =
     let longer : length (N.pairs ++ row ∷ []) ≡ length N.pairs + 1 = length_push N.pairs row in
     let bounds = length-add_item-le N.items name in
-    let made : Fits (with_pair (with_item N name) row) keys states = record {
+    let made : FitsRows (with_pair (with_item N name) row) keys states = record {
       lane_keys = fits.lane_keys;
       apart = fits.apart;
       each = fits.each;
@@ -170,7 +170,7 @@ pair_fit N N1 N2 name row keys states e1 e2 fits =
       sources = omega (arith, longer, fits.sources);
       items = omega (arith, longer, bounds.1, fits.items);
     } in
-    subst (λ (T : Table). Fits T keys states) (sym (e2 ∙ ap (λ (T : Table). with_pair T row) e1)) made
+    subst (λ (T : Table). FitsRows T keys states) (sym (e2 ∙ ap (λ (T : Table). with_pair T row) e1)) made
 
 -- the pair after the last is new
 pub pair_new : (N N1 N2 : Table) (name : List ℕ) (row : PairRow) (x : ℕ) → N1 ≡ with_item N name → N2 ≡ with_pair N1 row → x ≡ length N.pairs → IsRead N → IsNewPair N2 x

@@ -52,9 +52,9 @@ TellsFirstAt (Ok d) row = Starts row (Ok d.lists) × (d.last ≡ kind.Run)
 TellsFirstAt (Err e) row = UnlessMemory e.kind (Starts row (Err e.kind)) × (e.row ≡ 1)
 
 -- the table so far and the kind of its last row
-abbrev pub state_of : Draft → Table × Kind
-state_of d = (d.lists, d.last)
+abbrev pub draft_state : Draft → Table × Kind
+draft_state d = (d.lists, d.last)
 
 -- what the rows read so far say of the state of the reading
-abbrev pub IsKept : Draft → Type 0
-IsKept d = IsReadSoFar d.lists d.last
+abbrev pub IsDraftKept : Draft → Type 0
+IsDraftKept d = IsReadSoFar d.lists d.last

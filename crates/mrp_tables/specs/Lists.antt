@@ -32,12 +32,12 @@ last_from last [] = last
 last_from last (n ∷ ns) = last_from n ns
 
 -- what the periods of arrival say
-abbrev pub state_of : List ℕ → Lane
-state_of periods = record { last = last_from 0 periods; falls = not (rises_from 0 periods) }
+abbrev pub arrivals_state : List ℕ → Lane
+arrivals_state periods = record { last = last_from 0 periods; falls = not (rises_from 0 periods) }
 
 -- what the shipments say of a source
 unfoldable pub lane_state : List ShipRow → SourceRow → Lane
-lane_state ships s = state_of (arrivals_of ships s.plant.0 s.pair.0)
+lane_state ships s = arrivals_state (arrivals_of ships s.plant.0 s.pair.0)
 
 -- the same after one shipment more
 abbrev pub after_ship : Lane → ℕ → Lane
@@ -51,7 +51,7 @@ abbrev pub has_lane : List LaneKey → LaneKey → Bool
 has_lane keys k = list_any (is_same_lane k) keys
 
 -- what is known of the sources fits the rows read so far
-pub record Fits (N : Table) (keys : List LaneKey) (states : List Lane) : Type 0 where
+pub record FitsRows (N : Table) (keys : List LaneKey) (states : List Lane) : Type 0 where
   pub lane_keys : keys ≡ map lane_of N.sources
   pub apart : IsDistinct is_same_lane keys
   pub each : states ≡ map (lane_state N.ships) N.sources
@@ -79,7 +79,7 @@ pub record HoldsRows (d : Draft) : Type 0 where
   pub cum_keys : d.cum_keys.keys ≡ map cum_key_of d.lists.cums
   pub reset_keys : d.reset_keys.keys ≡ map reset_key_of d.lists.resets
   pub resets : AreLanes d.lane_keys.keys d.reset_keys.keys
-  pub fits : Fits d.lists d.lane_keys.keys d.lanes.items
+  pub fits : FitsRows d.lists d.lane_keys.keys d.lanes.items
 
 -- the state of the reading fits the rows read so far
 pub record IsDraft (d : Draft) : Type 0 where
@@ -95,7 +95,7 @@ pub record AddsRow (old new : Draft) : Type 0 where
 -- so many sources more of the pair that was added last
 pub record AddsSources (old new : Draft) (count : ℕ) : Type 0 where
   pub rows : IsRead new.lists
-  pub fits : Fits new.lists new.lane_keys.keys new.lanes.items
+  pub fits : FitsRows new.lists new.lane_keys.keys new.lanes.items
   pub same : (row_count new.lists ≡ row_count old.lists) × (new.rows ≡ old.rows)
   pub bills : (new.bill_keys.keys ≡ old.bill_keys.keys) × (new.lists.bills ≡ old.lists.bills)
   pub cums : (new.cum_keys.keys ≡ old.cum_keys.keys) × (new.lists.cums ≡ old.lists.cums)

@@ -14,7 +14,7 @@ impl Draft {
     ghost use Rattle.csv.specs.Records.{fields_of};
     ghost use Rattle.mrp_qty.specs.declared.limits.TheConstants.{MOST_BILLS, MOST_OF_A_KIND, MOST_PER};
     ghost use Rattle.mrp_grammar.specs.Grammar.{bill_fits, bill_of, bill_row, demand_of, demand_row, has_bill};
-    ghost use Rattle.mrp_grammar.specs.Grammar.{is_made, known_pair, receipt_of, receipt_row, seen, Tells};
+    ghost use Rattle.mrp_grammar.specs.Grammar.{is_made, known_pair, receipt_of, receipt_row, seen, TellsMade};
     ghost use Rattle.mrp_rows.specs.Names.{plant_no};
     ghost use Rattle.mrp_tables.specs.Spelled.{bill_view};
     ghost use Rattle.mrp_rows.specs.Table.{IsBillRow, IsDemandRow, IsReceiptRow};
@@ -32,7 +32,7 @@ impl Draft {
     /// Adds a bill row.
     pub(crate) fn add_bill(&mut self, row: &StringRecord) -> Result<(), TableFaultKind>
         requires draft { IsDraft self.old }
-        ensures exact { Tells result (bill_row self.old.lists (fields_of row.now)) self.new.lists }
+        ensures exact { TellsMade result (bill_row self.old.lists (fields_of row.now)) self.new.lists }
         ensures adds { OnOk result (AddsRow self.old self.new) }
     {
         let bill = self.bill_of(row)?;
@@ -131,7 +131,7 @@ impl Draft {
     /// Adds a demand row.
     pub(crate) fn add_demand(&mut self, row: &StringRecord) -> Result<(), TableFaultKind>
         requires draft { IsDraft self.old }
-        ensures exact { Tells result (demand_row self.old.lists (fields_of row.now)) self.new.lists }
+        ensures exact { TellsMade result (demand_row self.old.lists (fields_of row.now)) self.new.lists }
         ensures adds { OnOk result (AddsRow self.old self.new) }
     {
         let (demand, plant) = self.demand_of(row)?;
@@ -164,7 +164,7 @@ impl Draft {
     /// Adds a receipt row.
     pub(crate) fn add_receipt(&mut self, row: &StringRecord) -> Result<(), TableFaultKind>
         requires draft { IsDraft self.old }
-        ensures exact { Tells result (receipt_row self.old.lists (fields_of row.now)) self.new.lists }
+        ensures exact { TellsMade result (receipt_row self.old.lists (fields_of row.now)) self.new.lists }
         ensures adds { OnOk result (AddsRow self.old self.new) }
     {
         let (receipt, plant) = self.receipt_of(row)?;

@@ -57,8 +57,8 @@ impl Draft {
     ghost use Rattle.std.specs.Prelude.{false, not, IsSome, Some};
     ghost use Rattle.csv.specs.Records.{fields_of};
     ghost use Rattle.mrp_rows.specs.Table.{arrivals, rises_from};
-    ghost use Rattle.mrp_grammar.specs.Grammar.{cum_between, cum_of, cum_row, reset_between, reset_of};
-    ghost use Rattle.mrp_grammar.specs.Grammar.{reset_row, seen, ship_of, ship_row, Tells};
+    ghost use Rattle.mrp_grammar.specs.Grammar.{cum_between, cum_of, cum_row, reset_between, reset_in_row};
+    ghost use Rattle.mrp_grammar.specs.Grammar.{reset_row, seen, ship_of, ship_row, TellsMade};
     ghost use Rattle.mrp_tables.specs.Spelled.{lane_view};
     ghost use Rattle.mrp_tables.specs.Lists.{AddsRow, Finds, IsDraft, IsNamedLane, source_at, source_named};
     ghost use Rattle.mrp_rows.specs.Table.{IsRead};
@@ -96,7 +96,7 @@ impl Draft {
     /// Adds a ship row.
     pub(crate) fn add_ship(&mut self, row: &StringRecord) -> Result<(), TableFaultKind>
         requires draft { IsDraft self.old }
-        ensures exact { Tells result (ship_row self.old.lists (fields_of row.now)) self.new.lists }
+        ensures exact { TellsMade result (ship_row self.old.lists (fields_of row.now)) self.new.lists }
         ensures adds { OnOk result (AddsRow self.old self.new) }
     {
         let (ship, place) = self.ship_of(row)?;
@@ -133,7 +133,7 @@ impl Draft {
     /// Adds a cum row.
     pub(crate) fn add_cum(&mut self, row: &StringRecord) -> Result<(), TableFaultKind>
         requires draft { IsDraft self.old }
-        ensures exact { Tells result (cum_row self.old.lists (fields_of row.now)) self.new.lists }
+        ensures exact { TellsMade result (cum_row self.old.lists (fields_of row.now)) self.new.lists }
         ensures adds { OnOk result (AddsRow self.old self.new) }
     {
         let cum = self.cum_of(row)?;
@@ -187,7 +187,7 @@ impl Draft {
     /// Adds a reset row.
     pub(crate) fn add_reset(&mut self, row: &StringRecord) -> Result<(), TableFaultKind>
         requires draft { IsDraft self.old }
-        ensures exact { Tells result (reset_row self.old.lists (fields_of row.now)) self.new.lists }
+        ensures exact { TellsMade result (reset_row self.old.lists (fields_of row.now)) self.new.lists }
         ensures adds { OnOk result (AddsRow self.old self.new) }
     {
         let reset = self.reset_of(row)?;
@@ -206,7 +206,7 @@ impl Draft {
     #[tactic(auto, using(crate::proofs::Finding::known_err, crate::proofs::Finding::known_ok), unfolding(mrp_grammar::specs::Grammar::reset_of))]
     fn reset_of(&self, row: &StringRecord) -> Result<ResetRow, TableFaultKind>
         requires draft { IsDraft self.now }
-        ensures exact { result ≡ reset_of self.now.lists (fields_of row.now) }
+        ensures exact { result ≡ reset_in_row self.now.lists (fields_of row.now) }
         ensures row { IfOk result (IsResetRow self.now.lists) }
         ensures fresh { IfOk result (λ r. reset_between self.now.lists (Some r.from.0) (Some r.pair.0) ≡ false) }
         ensures source { IfOk result (λ r. IsSome (source_at self.now.lists r.from.0 r.pair.0)) }

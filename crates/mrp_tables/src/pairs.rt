@@ -23,8 +23,8 @@ impl Draft {
     ghost use Rattle.mrp_qty.specs.declared.limits.TheConstants.{MOST_SOURCES_OF_PAIR};
     ghost use Rattle.mrp_tables.specs.Drafts.{FitsPair, IsNewPair, with_sources};
     ghost use Rattle.mrp_rows.specs.Names.{has_plant};
-    ghost use Rattle.mrp_grammar.specs.Grammar.{knows_sources, pair_fits, pair_row, plant_of, plant_row, seen, source_row, Tells, with_pair_terms};
-    ghost use Rattle.mrp_tables.specs.Lists.{IsDraft, AddsRow, Fits, AddsSources};
+    ghost use Rattle.mrp_grammar.specs.Grammar.{knows_sources, pair_fits, pair_row, plant_in_row, plant_row, seen, source_row, TellsMade, with_pair_terms};
+    ghost use Rattle.mrp_tables.specs.Lists.{IsDraft, AddsRow, FitsRows, AddsSources};
     ghost use Rattle.mrp_rows.specs.Table.{IsRead};
     ghost use Rattle.mrp_rows.specs.Growing.{with_source};
     ghost use Rattle.mrp_tables.specs.Spelled.{pair_view, IsSpelledPair};
@@ -38,7 +38,7 @@ impl Draft {
         row: &StringRecord,
     ) -> Result<(), TableFaultKind>
         requires draft { IsDraft self.old }
-        ensures exact { Tells result (plant_row self.old.lists (fields_of row.now)) self.new.lists }
+        ensures exact { TellsMade result (plant_row self.old.lists (fields_of row.now)) self.new.lists }
         ensures adds { OnOk result (AddsRow self.old self.new) }
     {
         let name = self.plant_of(row)?;
@@ -49,7 +49,7 @@ impl Draft {
     /// The name of the plant that a plant row adds.
     #[tactic(auto, unfolding(mrp_grammar::specs::Grammar::plant_of))]
     fn plant_of<'r>(&self, row: &'r StringRecord) -> Result<&'r str, TableFaultKind>
-        ensures exact { seen (λ name. name.now) result ≡ plant_of self.now.lists (fields_of row.now) }
+        ensures exact { seen (λ name. name.now) result ≡ plant_in_row self.now.lists (fields_of row.now) }
         ensures named { IfOk result (λ name. IsName name.now) }
         ensures fresh { IfOk result (λ name. has_plant self.now.lists name.now ≡ false) }
         ensures room { OnOk result (length self.now.lists.plants < MOST_PLANTS) }
@@ -71,7 +71,7 @@ impl Draft {
         row: &StringRecord,
     ) -> Result<(), TableFaultKind>
         requires draft { IsDraft self.old }
-        ensures exact { Tells result (pair_row self.old.lists (fields_of row.now)) self.new.lists }
+        ensures exact { TellsMade result (pair_row self.old.lists (fields_of row.now)) self.new.lists }
         ensures adds { OnOk result (AddsRow self.old self.new) }
     {
         let spelled = spelled_pair(alloc, row)?;
@@ -158,7 +158,7 @@ impl Draft {
         requires pair { pair.0 < length self.old.lists.pairs }
         requires sources { AreSources sources.now }
         requires known { knows_sources self.old.lists (map source_view sources.now) ≡ true }
-        requires fits { Fits self.old.lists self.old.lane_keys.keys self.old.lanes.items }
+        requires fits { FitsRows self.old.lists self.old.lane_keys.keys self.old.lanes.items }
         requires fresh { IsNewPair self.old.lists pair.0 }
         requires room { length self.old.lists.sources + MOST_SOURCES_OF_PAIR ≤ MOST_SOURCES_OF_PAIR * length self.old.lists.pairs }
         ensures memory { IfErr result (λ fault. fault ≡ Memory) }
@@ -178,7 +178,7 @@ impl Draft {
         requires source { IsSource source.now }
         requires known { has_plant self.old.lists source.now.plant.now ≡ true }
         requires fresh { is_taken_from self.old.lists pair.0 (source_row self.old.lists pair.0 (source_view source.now)).plant.0 ≡ false }
-        requires fits { Fits self.old.lists self.old.lane_keys.keys self.old.lanes.items }
+        requires fits { FitsRows self.old.lists self.old.lane_keys.keys self.old.lanes.items }
         requires ships { All (λ s. s.pair.0 < pair.0) self.old.lists.ships }
         requires room { length self.old.lists.sources < MOST_SOURCES_OF_PAIR * length self.old.lists.pairs }
         ensures memory { IfErr result (λ fault. fault ≡ Memory) }

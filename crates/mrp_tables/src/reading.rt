@@ -7,8 +7,8 @@ ghost use Rattle.mrp_tables.specs.Lists.{IsDraft};
 ghost use Rattle.mrp_grammar.specs.Reading.{OfRecords, TellsRows, waiting};
 ghost use Rattle.mrp_tables.specs.Steps.{StepsTo, UnlessMissing};
 ghost use Rattle.mrp_rows.specs.Turns.{row_count};
-ghost use Rattle.mrp_grammar.specs.Left.{fault_of, GivesAll, MayCome, OfLeft, TellsNext, TellsRest, TellsTaken, left_of};
-ghost use Rattle.mrp_tables.specs.Drafts.{IsKept, TellsFirstAt, state_of};
+ghost use Rattle.mrp_grammar.specs.Left.{fault_of, GivesAll, MayCome, OfLeft, TellsNext, TellsRest, TellsTaken, rows_left};
+ghost use Rattle.mrp_tables.specs.Drafts.{IsDraftKept, TellsFirstAt, draft_state};
 
 use crate::Steps;
 use crate::draft::Draft;
@@ -78,11 +78,11 @@ fn read_rows<R: Read, L: Ledger>(
     steps: &mut Steps<L>,
 ) -> Result<Tables, TableFault>
     requires gives { GivesAll rows.old }
-    ensures table { OfLeft (left_of R.remaining rows.old) (TellsRows result) }
+    ensures table { OfLeft (rows_left R.remaining rows.old) (TellsRows result) }
     ensures failed { IfErr result (λ fault. fault.kind ≡ TableFaultKind.ReadFault → has_failed rows.new ≡ true) }
     ensures counted { IfOk result (λ tables. steps.new ≡ steps.old + row_count tables + 1) }
     ensures named { IfErr result (λ fault. UnlessMissing fault.kind (steps.new ≡ steps.old + max 1 fault.row)) }
-    ensures ends { IfErr result (λ fault. OfLeft (left_of R.remaining rows.old) (StepsTo steps.old steps.new fault.row)) }
+    ensures ends { IfErr result (λ fault. OfLeft (rows_left R.remaining rows.old) (StepsTo steps.old steps.new fault.row)) }
     ensures least { IfErr result (λ fault. steps.old + max 1 fault.row ≤ steps.new) }
     ensures turns { steps.new ≤ steps.old + MAX_TURNS }
 {
@@ -107,7 +107,7 @@ fn read_rows<R: Read, L: Ledger>(
 /// The table of all rows read, where each pair that a pair is taken from has a row.
 fn accept(draft: Draft) -> Result<Tables, TableFault>
     requires draft { IsDraft draft }
-    requires kept { IsKept draft }
+    requires kept { IsDraftKept draft }
     ensures exact { MatchResult result (λ tables. waiting draft.lists ≡ Ok tables) (λ e. waiting draft.lists ≡ Err e) }
     ensures same { IfOk result (λ tables. tables ≡ draft.lists) }
     ensures above { IfErr result (λ fault. fault.row ≤ row_count draft.lists) }
@@ -130,7 +130,7 @@ fn accept(draft: Draft) -> Result<Tables, TableFault>
 fn first_draft(alloc: Global, row: &StringRecord) -> Result<Draft, TableFault>
     requires text { AllText (fields_of row.now) }
     ensures exact { TellsFirstAt result (fields_of row.now) }
-    ensures kept { IfOk result IsKept }
+    ensures kept { IfOk result IsDraftKept }
     ensures draft { IfOk result IsDraft }
     ensures rows { IfOk result (λ draft. draft.rows ≡ 1) }
 {
@@ -150,14 +150,14 @@ fn read_rest<R: Read, L: Ledger>(
 ) -> Result<(), TableFault>
     requires gives { GivesAll rows.old }
     requires draft { IsDraft draft.old }
-    requires kept { IsKept draft.old }
+    requires kept { IsDraftKept draft.old }
     requires first { draft.old.rows ≡ 1 }
-    ensures exact { TellsRest (left_of R.remaining rows.old) 2 (state_of draft.old) (state_of draft.new) result }
+    ensures exact { TellsRest (rows_left R.remaining rows.old) 2 (draft_state draft.old) (draft_state draft.new) result }
     ensures failed { IfErr result (λ fault. fault.kind ≡ TableFaultKind.ReadFault → has_failed rows.new ≡ true) }
     ensures draft { OnOk result (IsDraft draft.new) }
-    ensures kept { OnOk result (IsKept draft.new) }
+    ensures kept { OnOk result (IsDraftKept draft.new) }
     ensures counted { OnOk result (steps.new ≡ steps.old + draft.new.rows) }
-    ensures all { OnOk result (OfLeft (left_of R.remaining rows.old) (λ rows. steps.new ≡ steps.old + length rows + 1)) }
+    ensures all { OnOk result (OfLeft (rows_left R.remaining rows.old) (λ rows. steps.new ≡ steps.old + length rows + 1)) }
     ensures later { IfErr result (λ fault. 2 ≤ fault.row) }
     ensures least { IfErr result (λ fault. steps.new + 1 ≡ steps.old + fault.row) }
     ensures turns { steps.new + 1 ≤ steps.old + MAX_TURNS }
@@ -181,15 +181,15 @@ fn read_next<R: Read>(
 ) -> Result<bool, TableFault>
     requires gives { GivesAll rows.old }
     requires draft { IsDraft draft.old }
-    requires kept { IsKept draft.old }
+    requires kept { IsDraftKept draft.old }
     requires room { draft.old.rows < 5000000 }
     ensures gives { OnOk result (GivesAll rows.new) }
-    ensures exact { TellsNext (left_of R.remaining rows.old) (left_of R.remaining rows.new) number (state_of draft.old) (state_of draft.new) result }
-    ensures last { IfOk result (λ found. found ≡ false → OfLeft (left_of R.remaining rows.old) (λ rows. rows ≡ [])) }
+    ensures exact { TellsNext (rows_left R.remaining rows.old) (rows_left R.remaining rows.new) number (draft_state draft.old) (draft_state draft.new) result }
+    ensures last { IfOk result (λ found. found ≡ false → OfLeft (rows_left R.remaining rows.old) (λ rows. rows ≡ [])) }
     ensures number { IfErr result (λ fault. fault.row ≡ number) }
     ensures failed { IfErr result (λ fault. fault.kind ≡ TableFaultKind.ReadFault → has_failed rows.new ≡ true) }
     ensures draft { OnOk result (IsDraft draft.new) }
-    ensures kept { OnOk result (IsKept draft.new) }
+    ensures kept { OnOk result (IsDraftKept draft.new) }
     ensures rows { IfOk result (λ found. found ≡ true → draft.new.rows ≡ draft.old.rows + 1) }
     ensures ended { IfOk result (λ found. found ≡ false → draft.new.rows ≡ draft.old.rows) }
 {
@@ -219,7 +219,7 @@ fn next_row<R: Read>(
     requires gives { GivesAll rows.old }
     ensures gives { OnOk result (GivesAll rows.new) }
     ensures text { OnOk result (AllText (fields_of row.new)) }
-    ensures exact { TellsTaken (left_of R.remaining rows.old) (left_of R.remaining rows.new) number (fields_of row.new) result }
+    ensures exact { TellsTaken (rows_left R.remaining rows.old) (rows_left R.remaining rows.new) number (fields_of row.new) result }
     ensures number { IfErr result (λ fault. fault.row ≡ number) }
     ensures failed { IfErr result (λ fault. fault.kind ≡ TableFaultKind.ReadFault → has_failed rows.new ≡ true) }
 {

@@ -2,14 +2,14 @@
 
 ghost use Rattle.std.specs.Prelude.{◌≡◌, ◌≤◌, IfOk};
 ghost use Rattle.mrp_rows.specs.Table.{IsName};
-ghost use Rattle.mrp_grammar.specs.Grammar.{name_of, ranged, seen};
+ghost use Rattle.mrp_grammar.specs.Grammar.{name_field, ranged, seen};
 
 use mrp_grammar::TableFaultKind;
 use mrp_spell::{is_name, number_within};
 
 /// The text itself, where it is a name.
 pub(crate) fn name(text: &str) -> Result<&str, TableFaultKind>
-    ensures exact { seen (λ found. found.now) result ≡ name_of text.now }
+    ensures exact { seen (λ found. found.now) result ≡ name_field text.now }
     ensures named { IfOk result (λ found. IsName found.now) }
 {
     if is_name(text) {

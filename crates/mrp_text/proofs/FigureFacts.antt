@@ -5,14 +5,14 @@ use Rattle.std.proofs.lemmas.List.Elements.{All-append, All-map, All-nil}
 use Rattle.mrp_rows.specs.declared.numbers.ItemNo.{ItemNo}
 use Rattle.mrp_rows.specs.Table.{Table}
 use Rattle.mrp_net.specs.Lanes.{lane_at, lane_items, lanes, opening}
-use Rattle.mrp_world.specs.Figures.{last_figure, last_figures, last_on}
+use Rattle.mrp_world.specs.Figures.{settled_figure, last_figures, last_on}
 use Rattle.mrp_schedule.proofs.Carried.{called_is_carried}
 use Rattle.mrp_text.specs.FigureLaws.{FiguresAreCalledFor, IsCalledFor}
 
 called_on : (N : Table) (l : ℕ) → All (IsCalledFor N) (last_on N l)
 called_on N l =
     let items : List ItemNo = lane_items N (lane_at N l) in
-    All-map (IsCalledFor N) (last_figure N l) items
+    All-map (IsCalledFor N) (settled_figure N l) items
     (λ k d lt _. ap (λ n. opening N (lane_at N l) (get_or items k d) + n) (sym (called_is_carried N (lane_at N l) (get_or items k d))))
 
 called_over : (N : Table) (ls : List ℕ) → All (IsCalledFor N) (flat_map (last_on N) ls)

@@ -6,22 +6,22 @@ use Rattle.mrp_lot.specs.One.{balance_before, greatest_need, one, order_at}
 use Rattle.mrp_sheet.specs.Dates.{period_date}
 use Rattle.mrp_sheet.specs.Rows.{row}
 use Rattle.mrp_report.specs.Lanes as lanes
-use Rattle.mrp_report.specs.Orders.{order_row, order_text, orders_text, pair_orders_text}
-use Rattle.mrp_schedule.specs.Rows.{item_text, lane_text, lanes_text, line_row, schedule_text}
-use Rattle.mrp_advice.specs.Rows.{advice_row, advice_text, messages_text, pair_text}
+use Rattle.mrp_report.specs.Orders.{planned_order_row, order_text, orders_text, pair_orders_text}
+use Rattle.mrp_schedule.specs.Rows.{item_text, lane_schedule_text, lanes_text, schedule_line_row, schedule_text}
+use Rattle.mrp_advice.specs.Rows.{advice_row, advice_text, messages_text, pair_advice_text}
 use Rattle.mrp_world.specs.Figures.{last_figures}
 use Rattle.mrp_text.specs.PumpsReports.{PumpsAreAdvised, PumpsAreCounted, PumpsAreOrdered, PumpsAreScheduled}
 
 pub pumps_are_ordered : PumpsAreOrdered
-unfolding digits date_at greatest_need balance_before order_at one period_date row order_row pair_orders_text orders_text order_text
+unfolding digits date_at greatest_need balance_before order_at one period_date row planned_order_row pair_orders_text orders_text order_text
 pumps_are_ordered = refl
 
 pub pumps_are_scheduled : PumpsAreScheduled
-unfolding digits date_at greatest_need balance_before order_at one period_date row line_row item_text lane_text lanes_text schedule_text
+unfolding digits date_at greatest_need balance_before order_at one period_date row schedule_line_row item_text lane_schedule_text lanes_text schedule_text
 pumps_are_scheduled = refl
 
 pub pumps_are_advised : PumpsAreAdvised
-unfolding digits date_at greatest_need balance_before order_at one period_date row advice_row pair_text messages_text advice_text
+unfolding digits date_at greatest_need balance_before order_at one period_date row advice_row pair_advice_text messages_text advice_text
 pumps_are_advised = refl
 
 pub pumps_are_counted : PumpsAreCounted

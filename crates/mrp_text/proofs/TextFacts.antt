@@ -3,7 +3,7 @@ use Rattle.std.proofs.Common.{◌≡◌, ℕ, List, ◌++◌, Option, None, Some
 use Rattle.std.specs.Io.KnownBytes.{Appends, Keeps}
 use Rattle.mrp_rows.specs.Table.{Table}
 use Rattle.mrp_grammar.specs.declared.fault.TableFault.{TableFault}
-use Rattle.mrp_sheet.specs.Sending.{Sends}
+use Rattle.mrp_sheet.specs.Sending.{SendsReport}
 use Rattle.mrp_sheet.specs.declared.fault.ReportFault.{ReportFault}
 use Rattle.mrp_sheet.specs.declared.fault.ReportFault.TheVariants as report
 use Rattle.mrp_sheet.proofs.Fronts.{front-after, front-longer, some-longer}
@@ -41,7 +41,7 @@ keeps-all (Some xs) = refl
 
 -- a text was not sent whole
 pub report-fails : (a b : Option (List ℕ)) (text : List ℕ) (f : ReportFault) (e : TextFault) (P : List ℕ → Type 0)
-    → P text → Sends {U = Unit {0}} a b (Err f) text → (f ≡ report.Memory → b ≡ a) → IsOfReport f e → Writes {U = Unit {0}} a b (Err e) P
+    → P text → SendsReport {U = Unit {0}} a b (Err f) text → (f ≡ report.Memory → b ≡ a) → IsOfReport f e → Writes {U = Unit {0}} a b (Err e) P
 report-fails a b text report.WriteFault e P is sent kept of =
     let Q : TextFault → Type 0 = λ e. Writes {U = Unit {0}} a b (Err e) P in
     subst Q (sym of) (text, is, sent)
@@ -50,18 +50,18 @@ report-fails a b text report.Memory e P is sent kept of =
     let K : Option (List ℕ) → Type 0 = λ c. Keeps a c in
     subst Q (sym of) (inl (subst K (sym (kept refl)) (keeps-all a)))
 
-sends-longer : (a b : Option (List ℕ)) (first rest : List ℕ) (f : ReportFault) → Sends {U = Unit {0}} a b (Err f) first → Sends {U = Unit {0}} a b (Err f) (first ++ rest)
+sends-longer : (a b : Option (List ℕ)) (first rest : List ℕ) (f : ReportFault) → SendsReport {U = Unit {0}} a b (Err f) first → SendsReport {U = Unit {0}} a b (Err f) (first ++ rest)
 sends-longer a b first rest report.WriteFault sent = front-longer a b first rest sent
 sends-longer a b first rest report.Memory sent = tt
 
 -- the first part of a text was not sent whole
 pub first-fails : (a b : Option (List ℕ)) (first rest : List ℕ) (f : ReportFault) (e : TextFault) (P : List ℕ → Type 0)
-    → P (first ++ rest) → Sends {U = Unit {0}} a b (Err f) first → (f ≡ report.Memory → b ≡ a) → IsOfReport f e → Writes {U = Unit {0}} a b (Err e) P
+    → P (first ++ rest) → SendsReport {U = Unit {0}} a b (Err f) first → (f ≡ report.Memory → b ≡ a) → IsOfReport f e → Writes {U = Unit {0}} a b (Err e) P
 first-fails a b first rest f e P is sent kept of = report-fails a b (first ++ rest) f e P is (sends-longer a b first rest f sent) kept of
 
 -- the first part of a text was sent, and the rest not whole
 pub rest-fails : (a b c : Option (List ℕ)) (first rest : List ℕ) (f : ReportFault) (e : TextFault) (P : List ℕ → Type 0)
-    → P (first ++ rest) → Appends a b first → Sends {U = Unit {0}} b c (Err f) rest → (f ≡ report.Memory → c ≡ b) → IsOfReport f e → Writes {U = Unit {0}} a c (Err e) P
+    → P (first ++ rest) → Appends a b first → SendsReport {U = Unit {0}} b c (Err f) rest → (f ≡ report.Memory → c ≡ b) → IsOfReport f e → Writes {U = Unit {0}} a c (Err e) P
 rest-fails a b c first rest report.WriteFault e P is whole sent kept of =
     let Q : TextFault → Type 0 = λ e. Writes {U = Unit {0}} a c (Err e) P in
     subst Q (sym of) (first ++ rest, is, front-after a b c first rest whole sent)

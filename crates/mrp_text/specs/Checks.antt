@@ -7,7 +7,7 @@ use Rattle.mrp_loops.specs.declared.sized.BoundFault.{BoundFault}
 use Rattle.mrp_loops.specs.declared.sized.BoundFault.TheVariants as bound
 use Rattle.mrp_text.specs.declared.fault.TextFault.{TextFault}
 use Rattle.mrp_text.specs.declared.fault.TextFault.TheVariants as fault
-use Rattle.mrp_text.specs.Refusals.{AreCalled, IsCalled}
+use Rattle.mrp_text.specs.Refusals.{AreCalled, IsPairName}
 
 -- a loop is of pairs of the network
 abbrev pub AreLoopPairs : Table → LoopFault → Type 0
@@ -28,7 +28,7 @@ IsBoundPair N bound.Memory = Unit {0}
 
 -- the same fault, by the names of its pair
 abbrev pub IsOfBound : Table → BoundFault → TextFault → Type 0
-IsOfBound N (bound.SupplyTooLarge x) (fault.SupplyTooLarge name) = IsCalled N x.0 name
-IsOfBound N (bound.NeedTooLarge x) (fault.NeedTooLarge name) = IsCalled N x.0 name
+IsOfBound N (bound.SupplyTooLarge x) (fault.SupplyTooLarge name) = IsPairName N x.0 name
+IsOfBound N (bound.NeedTooLarge x) (fault.NeedTooLarge name) = IsPairName N x.0 name
 IsOfBound N bound.Memory fault.Memory = Unit {0}
 IsOfBound N _ _ = ⊥

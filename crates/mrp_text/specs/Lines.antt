@@ -18,8 +18,8 @@ abbrev pub SendsText : {U E : Type 0} → Option (List ℕ) → Option (List ℕ
 SendsText old new result text = MatchResult result (λ _. Appends old new text) (λ _. AppendsFront old new text)
 
 -- pieces of text one after the other
-abbrev pub joined : List (List ℕ) → List ℕ
-joined pieces = flat_map (λ piece. piece) pieces
+abbrev pub in_one : List (List ℕ) → List ℕ
+in_one pieces = flat_map (λ piece. piece) pieces
 
 -- what a fault of the calendar is called
 abbrev pub calendar_word : CalFault → List ℕ
@@ -28,30 +28,30 @@ calendar_word DaysOutOfRange = codes "CalendarFault DaysOutOfRange"
 calendar_word PastEnd = codes "CalendarFault PastEnd"
 
 -- what a fault of the table is called
-abbrev pub kind_word : TableFaultKind → List ℕ
-kind_word kind.ReadFault = codes "ReadFault"
-kind_word kind.NotUtf8 = codes "NotUtf8"
-kind_word kind.FieldCount = codes "FieldCount"
-kind_word kind.UnknownKind = codes "UnknownKind"
-kind_word kind.KindOrder = codes "KindOrder"
-kind_word kind.BadName = codes "BadName"
-kind_word kind.BadNumber = codes "BadNumber"
-kind_word kind.BadRule = codes "BadRule"
-kind_word kind.BadSupply = codes "BadSupply"
-kind_word (kind.CalendarFault fault) = calendar_word fault
-kind_word kind.Repeated = codes "Repeated"
-kind_word kind.UnknownPlant = codes "UnknownPlant"
-kind_word kind.UnknownPair = codes "UnknownPair"
-kind_word kind.NotMade = codes "NotMade"
-kind_word kind.NotSourced = codes "NotSourced"
-kind_word kind.SelfSource = codes "SelfSource"
-kind_word kind.TooMany = codes "TooMany"
-kind_word kind.Empty = codes "Empty"
-kind_word kind.Memory = codes "Memory"
-kind_word kind.ResetOrder = codes "ResetOrder"
+abbrev pub table_fault_word : TableFaultKind → List ℕ
+table_fault_word kind.ReadFault = codes "ReadFault"
+table_fault_word kind.NotUtf8 = codes "NotUtf8"
+table_fault_word kind.FieldCount = codes "FieldCount"
+table_fault_word kind.UnknownKind = codes "UnknownKind"
+table_fault_word kind.KindOrder = codes "KindOrder"
+table_fault_word kind.BadName = codes "BadName"
+table_fault_word kind.BadNumber = codes "BadNumber"
+table_fault_word kind.BadRule = codes "BadRule"
+table_fault_word kind.BadSupply = codes "BadSupply"
+table_fault_word (kind.CalendarFault fault) = calendar_word fault
+table_fault_word kind.Repeated = codes "Repeated"
+table_fault_word kind.UnknownPlant = codes "UnknownPlant"
+table_fault_word kind.UnknownPair = codes "UnknownPair"
+table_fault_word kind.NotMade = codes "NotMade"
+table_fault_word kind.NotSourced = codes "NotSourced"
+table_fault_word kind.SelfSource = codes "SelfSource"
+table_fault_word kind.TooMany = codes "TooMany"
+table_fault_word kind.Empty = codes "Empty"
+table_fault_word kind.Memory = codes "Memory"
+table_fault_word kind.ResetOrder = codes "ResetOrder"
 
 unfoldable pub row_line : TableFault → List ℕ
-row_line fault = joined (codes "mrp: row " ∷ decimal fault.row ∷ codes ": " ∷ kind_word fault.kind ∷ codes "\n" ∷ [])
+row_line fault = in_one (codes "mrp: row " ∷ decimal fault.row ∷ codes ": " ∷ table_fault_word fault.kind ∷ codes "\n" ∷ [])
 
 -- the line of a fault of the table: want of memory has no row
 abbrev pub table_line_of : TableFault → TableFaultKind → List ℕ
@@ -63,18 +63,18 @@ table_line fault = table_line_of fault fault.kind
 
 -- a fault that names a pair
 unfoldable pub pair_line : List ℕ → PairName → List ℕ
-pair_line words pair = joined (words ∷ string_bytes pair.plant ∷ codes "/" ∷ string_bytes pair.item ∷ codes "\n" ∷ [])
+pair_line words pair = in_one (words ∷ string_bytes pair.plant ∷ codes "/" ∷ string_bytes pair.item ∷ codes "\n" ∷ [])
 
 -- a pair of a loop
 unfoldable pub loop_word : PairName → List ℕ
-loop_word pair = joined (codes " " ∷ string_bytes pair.plant ∷ codes "/" ∷ string_bytes pair.item ∷ [])
+loop_word pair = in_one (codes " " ∷ string_bytes pair.plant ∷ codes "/" ∷ string_bytes pair.item ∷ [])
 
 unfoldable pub loop_line : List PairName → List ℕ
 loop_line pairs = codes "mrp: loop" ++ (flat_map loop_word pairs ++ codes "\n")
 
 -- the line of a gate that was shut for a plant
 unfoldable pub gate_line : List ℕ → List ℕ
-gate_line plant = joined (codes "mrp: GateShut " ∷ plant ∷ codes "\n" ∷ [])
+gate_line plant = in_one (codes "mrp: GateShut " ∷ plant ∷ codes "\n" ∷ [])
 
 -- the line of each fault
 abbrev pub fault_line : TextFault → List ℕ

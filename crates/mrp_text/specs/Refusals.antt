@@ -14,15 +14,15 @@ use Rattle.mrp_text.specs.declared.fault.TextFault.TheVariants as fault
 use Rattle.mrp_text.specs.Text.{OfTable}
 
 -- the names of the pair
-abbrev pub IsCalled : Table → ℕ → PairName → Type 0
-IsCalled N x name = IsNamed N x (string_bytes name.plant) (string_bytes name.item)
+abbrev pub IsPairName : Table → ℕ → PairName → Type 0
+IsPairName N x name = IsNamed N x (string_bytes name.plant) (string_bytes name.item)
 
 -- the names of the pairs, in their order
 abbrev pub AreCalled : Table → List ℕ → List PairName → Type 0
 AreCalled N [] [] = Unit {0}
 AreCalled N [] (name ∷ names) = ⊥
 AreCalled N (x ∷ xs) [] = ⊥
-AreCalled N (x ∷ xs) (name ∷ names) = IsCalled N x name × AreCalled N xs names
+AreCalled N (x ∷ xs) (name ∷ names) = IsPairName N x name × AreCalled N xs names
 
 -- the loop of the network that is answered, by the names of its pairs
 abbrev pub IsLoopNamed : Table → List PairName → Type 0
@@ -30,12 +30,12 @@ IsLoopNamed N names = (pairs : List ℕ) × IsLoopAnswered N pairs × AreCalled 
 
 -- the first pair in the table whose supply is above the bound
 abbrev pub IsSupplyNamed : Table → PairName → Type 0
-IsSupplyNamed N name = (x : ℕ) × IsSupplyTooLarge N x × IsCalled N x name
+IsSupplyNamed N name = (x : ℕ) × IsSupplyTooLarge N x × IsPairName N x name
 
 -- the first pair, by its code and then in the table, whose supply and need are above the bound,
 -- where no supply is by itself
 abbrev pub IsNeedNamed : Table → List ℕ → PairName → Type 0
-IsNeedNamed N codes name = (x : ℕ) × IsNeedTooLarge N codes x × IsCalled N x name
+IsNeedNamed N codes name = (x : ℕ) × IsNeedTooLarge N codes x × IsPairName N x name
 
 -- what a refusal of the loop check says
 abbrev pub IsLoopRefusal : Table → TextFault → Type 0

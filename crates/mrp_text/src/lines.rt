@@ -3,7 +3,7 @@
 ghost use Rattle.std.specs.Prelude.{◌≡◌, IfErr};
 ghost use Rattle.std.specs.List.{flat_map};
 ghost use Rattle.mrp_sheet.specs.Sending.{AppendsSome};
-ghost use Rattle.mrp_text.specs.Lines.{fault_line, gate_line, SendsText, kind_word, calendar_word, loop_line, loop_word, pair_line, row_line, table_line};
+ghost use Rattle.mrp_text.specs.Lines.{fault_line, gate_line, SendsText, table_fault_word, calendar_word, loop_line, loop_word, pair_line, row_line, table_line};
 
 use crate::fault::{PairName, TextFault};
 use itoa::Buffer;
@@ -159,7 +159,7 @@ fn send_gate_line<W: Write>(plant: &str, writer: &mut W) -> Result<(), ReportFau
 
 /// What a fault of the table is called.
 fn kind_word<'a>(kind: TableFaultKind) -> &'a [u8]
-    ensures { result.now ≡ kind_word kind }
+    ensures { result.now ≡ table_fault_word kind }
 {
     match kind {
         TableFaultKind::ReadFault => b"ReadFault",

@@ -7,7 +7,7 @@ ghost use Rattle.mrp_rows.specs.Table.{IsPair};
 ghost use Rattle.mrp_grammar.specs.Reading.{OfRecords, TellsRows};
 ghost use Rattle.mrp_loops.specs.Loop.{AreCodes, IsLoopFree};
 ghost use Rattle.mrp_text.specs.Text.{IsTableOf};
-ghost use Rattle.mrp_text.specs.Refusals.{IsCalled, AreCalled};
+ghost use Rattle.mrp_text.specs.Refusals.{IsPairName, AreCalled};
 ghost use Rattle.mrp_text.specs.Refusals.{IsLoopRefusal, IsBoundRefusal, IsTableRefusal, IsReadRefusal};
 ghost use Rattle.mrp_text.specs.Checks.{AreLoopPairs, IsOfLoop, IsBoundPair, IsOfBound};
 
@@ -126,7 +126,7 @@ fn names_of(alloc: Global, network: &Network, pairs: &[PairNo]) -> Result<Vec<Pa
 /// The names of a pair.
 fn name_of(alloc: Global, network: &Network, x: PairNo) -> Result<PairName, AllocError>
     requires { IsPair network.now x.0 }
-    ensures { IfOk result (IsCalled network.now x.0) }
+    ensures { IfOk result (IsPairName network.now x.0) }
 {
     let (plant, item) = network.pair_name(x);
     let plant = String::from_str(alloc, plant)?;

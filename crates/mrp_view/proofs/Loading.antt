@@ -6,7 +6,7 @@ use Rattle.std.proofs.lemmas.Slice.{between_is}
 use Rattle.std.proofs.Math.Seq.{drop-append_seam}
 use Rattle.mrp_net.specs.declared.lane.Shipment.{Shipment}
 use Rattle.mrp_view.specs.declared.view.OutgoingRow.{OutgoingRow}
-use Rattle.mrp_view.specs.Loads.{Load, load, load_of, loads_of, IsPart, AreParts}
+use Rattle.mrp_view.specs.Loads.{OutgoingLoad, load, row_load, loads_of, IsShipmentRange, AreParts}
 
 part_stays : {X : Type 0} (xs ys : List X) (i j : ℕ) → j ≤ length xs → slice_range (xs ++ ys) i j ≡ slice_range xs i j
 part_stays xs ys i j h = between_is (xs ++ ys) i j ∙ ap (drop i) (take-append-le j xs ys h) ∙ sym (between_is xs i j)
@@ -21,20 +21,20 @@ last_part {X} xs ys i j begin end =
 loads_stay : (rows : List OutgoingRow) (ships more : List Shipment) → AreParts rows ships → loads_of rows (ships ++ more) ≡ loads_of rows ships
 loads_stay [] ships more h = refl
 loads_stay (r ∷ rows) ships more h =
-    ap (λ (z : List Shipment). load r.item z ∷ loads_of rows (ships ++ more)) (part_stays ships more r.begin r.end (All-head (IsPart ships) r rows h).within)
-    ∙ ap (λ (z : List Load). load_of ships r ∷ z) (loads_stay rows ships more (All-tail (IsPart ships) r rows h))
+    ap (λ (z : List Shipment). load r.item z ∷ loads_of rows (ships ++ more)) (part_stays ships more r.begin r.end (All-head (IsShipmentRange ships) r rows h).within)
+    ∙ ap (λ (z : List OutgoingLoad). row_load ships r ∷ z) (loads_stay rows ships more (All-tail (IsShipmentRange ships) r rows h))
 
 pub parts_stay : (rows : List OutgoingRow) (ships more : List Shipment) → AreParts rows ships → AreParts rows (ships ++ more)
 parts_stay rows ships more h =
-    All-weaker (IsPart ships) (IsPart (ships ++ more)) (λ r p. record { rises = p.rises; within = omega (arith, p.within, length-append ships more) }) rows h
+    All-weaker (IsShipmentRange ships) (IsShipmentRange (ships ++ more)) (λ r p. record { rises = p.rises; within = omega (arith, p.within, length-append ships more) }) rows h
 
 -- one item more, whose shipments go to the end
 pub loads_push : (rows : List OutgoingRow) (ships more : List Shipment) (row : OutgoingRow) → AreParts rows ships → row.begin ≡ length ships → row.end ≡ length ships + length more → loads_of (rows ++ row ∷ []) (ships ++ more) ≡ loads_of rows ships ++ load row.item more ∷ []
 loads_push rows ships more row h begin end =
-    map-append (load_of (ships ++ more)) rows (row ∷ [])
-    ∙ ap (λ (z : List Load). z ++ load_of (ships ++ more) row ∷ []) (loads_stay rows ships more h)
+    map-append (row_load (ships ++ more)) rows (row ∷ [])
+    ∙ ap (λ (z : List OutgoingLoad). z ++ row_load (ships ++ more) row ∷ []) (loads_stay rows ships more h)
     ∙ ap (λ (z : List Shipment). loads_of rows ships ++ load row.item z ∷ []) (last_part ships more row.begin row.end begin end)
 
 pub parts_push : (rows : List OutgoingRow) (ships more : List Shipment) (row : OutgoingRow) → AreParts rows ships → row.begin ≡ length ships → row.end ≡ length ships + length more → AreParts (rows ++ row ∷ []) (ships ++ more)
 parts_push rows ships more row h begin end =
-    All-push (IsPart (ships ++ more)) rows row (parts_stay rows ships more h) (record { rises = omega arith; within = omega (arith, length-append ships more) })
+    All-push (IsShipmentRange (ships ++ more)) rows row (parts_stay rows ships more h) (record { rises = omega arith; within = omega (arith, length-append ships more) })

@@ -16,7 +16,7 @@ use Rattle.mrp_view.specs.declared.view.PlantEdge.{PlantEdge}
 use Rattle.mrp_view.specs.declared.view.PlantPair.{PlantPair}
 use Rattle.mrp_net.specs.Edges.{bill_edge, source_edge, edges, demanders}
 use Rattle.mrp_net.specs.EdgeLaws.{is_local}
-use Rattle.mrp_net.specs.PlanLaws.{released, asked_by_bill}
+use Rattle.mrp_net.specs.PlanLaws.{release_at, asked_by_bill}
 use Rattle.mrp_net.specs.Sums.{pair_at}
 use Rattle.mrp_view.specs.View.{NumbersRise, is_of_plant, plant_pair, plant_pairs, plant_edge, edges_to, plant_edges}
 use Rattle.mrp_view.specs.Laws.{asked_by_parent, ViewsHaveParents, ViewsHaveBills}
@@ -128,7 +128,7 @@ views_have_parents N plant x pair of_plant =
 
 -- what a parent within the plant asks by an edge
 abbrev asks : List PlanRows → ℕ → Edge → ℕ
-asks table t e = e.per * released table e.demander.0 t
+asks table t e = e.per * release_at table e.demander.0 t
 
 abbrev asks_within : Table → List PlanRows → ℕ → Edge → ℕ
 asks_within N table t e = cond (is_local N e) (asks table t e) 0
@@ -152,7 +152,7 @@ views_have_bills N is plant x pair of_plant table t =
     (λ k d h. let b : BillRow = get_or N.bills k d in
     let row = is.read.bills k d h in
     let local : is_local N (bill_edge b) ≡ true = bill_edge_is_local N b row.parent row.component (is.sourced.plants k d h) in
-    ap (λ (z : Bool). cond (eqb b.component.0 x) (cond z (b.per * released table b.parent.0 t) 0) 0) local) in
+    ap (λ (z : Bool). cond (eqb b.component.0 x) (cond z (b.per * release_at table b.parent.0 t) 0) 0) local) in
     let sources : sum_by (asks_of N table x t) (map (source_edge N) N.sources) ≡ 0 =
     sum_zero (asks_of N table x t) (map (source_edge N) N.sources)
     (λ k d h. let e : Edge = get_or (map (source_edge N) N.sources) k d in

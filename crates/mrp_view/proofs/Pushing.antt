@@ -8,7 +8,7 @@ use Rattle.std.proofs.lemmas.List.Elements.{Contains-get_or, filter-append, filt
 use Rattle.mrp_rows.specs.Table.{Table, horizon}
 use Rattle.mrp_net.specs.declared.lane.Lane.{Lane}
 use Rattle.mrp_net.specs.Lanes.{lane_at, lane_items}
-use Rattle.mrp_view.specs.Loads.{Load}
+use Rattle.mrp_view.specs.Loads.{OutgoingLoad}
 use Rattle.mrp_view.specs.declared.view.IncomingItem.{IncomingItem}
 use Rattle.mrp_view.specs.declared.view.IncomingLane.{IncomingLane}
 use Rattle.mrp_view.specs.declared.view.OutgoingLane.{OutgoingLane}
@@ -86,7 +86,7 @@ pub is_incoming : (N : Table) (l : ℕ) (lane : Lane) (items : List IncomingItem
     → ◌≡◌ {A = IncomingLane} (record { number = record { 0 = l }; kind = lane.kind; items = items }) (incoming_lane N l)
 is_incoming N l lane items same its = rw (same, its) refl
 
-pub is_outgoing : (N : Table) (l : ℕ) (lane : Lane) (items : List Load) → lane ≡ lane_at N l → items ≡ map (outgoing_item N (lane_at N l)) (lane_items N (lane_at N l))
+pub is_outgoing : (N : Table) (l : ℕ) (lane : Lane) (items : List OutgoingLoad) → lane ≡ lane_at N l → items ≡ map (outgoing_item N (lane_at N l)) (lane_items N (lane_at N l))
     → ◌≡◌ {A = OutgoingLane} (record { number = record { 0 = l }; kind = lane.kind; items = items }) (outgoing_lane N l)
 is_outgoing N l lane items same its = rw (same, its) refl
 

@@ -14,7 +14,7 @@ use Rattle.mrp_net.specs.declared.edge.Edge.{Edge}
 use Rattle.mrp_view.specs.declared.view.PlantPair.{PlantPair}
 use Rattle.mrp_net.specs.Edges.{demanders, edges, IsEdge}
 use Rattle.mrp_net.specs.EdgeLaws.{is_local}
-use Rattle.mrp_view.specs.Seen.{IsOwn, IsOwnOf, IsPlantPair, IsPlantEdge, pairs_of_number, pairs_of_item}
+use Rattle.mrp_view.specs.Seen.{IsOwnPair, IsOwnOf, IsPlantPair, IsPlantEdge, pairs_of_number, pairs_of_item}
 use Rattle.mrp_net.specs.Sums.{pair_at, no_pair, row_of}
 use Rattle.mrp_view.specs.View.{is_of_plant, plant_pair, plant_pairs, plant_edge, edges_to, plant_edges, plant_amounts, plant_rows}
 use Rattle.mrp_net.proofs.Joining.{edges_join, demanders_join}
@@ -90,7 +90,7 @@ own_pair N plant x pair e =
     Contains-from_in (plant_pairs N plant) (plant_pair N x)
     (In-map (plant_pair N) (own N plant) x (owned_there (length N.pairs) (λ y. (pair_at N y).plant.0) plant x pair e))
 
-pub is_own : (N : Table) (plant : ℕ) (x : PairNo) → IsPair N x.0 → (pair_at N x.0).plant.0 ≡ plant → IsOwn (plant_rows N plant) x
+pub is_own : (N : Table) (plant : ℕ) (x : PairNo) → IsPair N x.0 → (pair_at N x.0).plant.0 ≡ plant → IsOwnPair (plant_rows N plant) x
 is_own N plant x pair e = (plant_pair N x.0, own_pair N plant x.0 pair e, refl)
 
 pub is_own_of : (N : Table) (plant : ℕ) (x : PairNo) (item : ItemNo) → IsPair N x.0 → (pair_at N x.0).plant.0 ≡ plant → (pair_at N x.0).item ≡ item → IsOwnOf (plant_rows N plant) x item

@@ -18,8 +18,8 @@ use Rattle.mrp_view.specs.declared.view.IncomingItem.{IncomingItem}
 use Rattle.mrp_view.specs.declared.view.IncomingLane.{IncomingLane}
 use Rattle.mrp_view.specs.declared.view.OutgoingLane.{OutgoingLane}
 use Rattle.mrp_net.specs.Lanes.{lanes, lane_at, lane_items, figure, shipments, shipment_of, ships_from, is_reset_of, anew_in, reset, pair_on, supplier_of}
-use Rattle.mrp_view.specs.Loads.{Load, call_of}
-use Rattle.mrp_view.specs.Seen.{IsOwnOf, IsIncomingItem, IsIncomingLane, IsShipment, IsOutgoingItem, IsOutgoingLane, CallsForNothing, IsCalled, IsScheduleLane, despatched, lane_before}
+use Rattle.mrp_view.specs.Loads.{OutgoingLoad, call_of}
+use Rattle.mrp_view.specs.Seen.{IsOwnOf, IsIncomingItem, IsIncomingLane, IsShipment, IsOutgoingItem, IsOutgoingLane, CallsForNothing, HasCall, IsScheduleLane, despatched_item, lane_before}
 use Rattle.mrp_net.specs.Sources.{source_no, source_on, no_source}
 use Rattle.mrp_net.specs.Sums.{pair_at}
 use Rattle.mrp_view.specs.View.{comes_to, goes_from, lane_numbers, incoming_item, incoming_lane, incoming_lanes, sent_on, outgoing_item, outgoing_lane, outgoing_lanes, plant_rows}
@@ -121,7 +121,7 @@ outgoing_lane_is : (N : Table) (plant l : ℕ) → IsTable N → IsOutgoingLane 
 outgoing_lane_is N plant l is =
     let lane : Lane = lane_at N l in
     record {
-      once = λ item. omega (arith, count-map (λ (i : Load). eqb i.item.0 item) (outgoing_item N lane) (lane_items N lane), incoming_once_of N lane item is);
+      once = λ item. omega (arith, count-map (λ (i : OutgoingLoad). eqb i.item.0 item) (outgoing_item N lane) (lane_items N lane), incoming_once_of N lane item is);
       items = All-map (IsOutgoingItem (plant_rows N plant)) (outgoing_item N lane) (lane_items N lane) (outgoing_item_is N plant lane is);
     }
 
@@ -136,7 +136,7 @@ pub despatches_are : (N : Table) (plant : ℕ) → All (λ lane. lane.kind ≡ D
 despatches_are N plant =
     All-map (λ (lane : OutgoingLane). lane.kind ≡ Despatch → CallsForNothing lane) (outgoing_lane N) (filter (goes_from N plant) (lane_numbers N))
     (λ k d h kind. let lane : Lane = lane_at N (get_or (filter (goes_from N plant) (lane_numbers N)) k d) in
-    All-map (λ (i : Load). i.call ≡ None) (outgoing_item N lane) (lane_items N lane) (λ j e within. nothing_called N lane (get_or (lane_items N lane) j e) kind))
+    All-map (λ (i : OutgoingLoad). i.call ≡ None) (outgoing_item N lane) (lane_items N lane) (λ j e within. nothing_called N lane (get_or (lane_items N lane) j e) kind))
 
 pub outgoing_stand_once : (N : Table) (plant l : ℕ) → count_by (λ lane. eqb lane.number.0 l) (outgoing_lanes N plant) ≤ 1
 outgoing_stand_once N plant l =
@@ -157,11 +157,11 @@ map_alike {X} {Y} f g (x ∷ xs) h =
     ap (λ (z : Y). z ∷ map f xs) (All-head (λ x. f x ≡ g x) x xs h) ∙ ap (λ (z : List Y). g x ∷ z) (map_alike f g xs (All-tail (λ x. f x ≡ g x) x xs h))
 
 despatched_items : (N : Table) (customer supplier : PlantNo) → IsTable N
-    → map despatched (map (outgoing_item N (schedule customer supplier)) (lane_items N (schedule customer supplier))) ≡ map (incoming_item N (despatch customer supplier)) (lane_items N (despatch customer supplier))
+    → map despatched_item (map (outgoing_item N (schedule customer supplier)) (lane_items N (schedule customer supplier))) ≡ map (incoming_item N (despatch customer supplier)) (lane_items N (despatch customer supplier))
 despatched_items N customer supplier is =
     let lane : Lane = schedule customer supplier in
-    map-map despatched (outgoing_item N lane) (lane_items N lane)
-    ∙ map_alike (λ item. despatched (outgoing_item N lane item)) (incoming_item N (despatch customer supplier)) (lane_items N lane)
+    map-map despatched_item (outgoing_item N lane) (lane_items N lane)
+    ∙ map_alike (λ item. despatched_item (outgoing_item N lane item)) (incoming_item N (despatch customer supplier)) (lane_items N lane)
     (λ k d h.
     let item : ItemNo = get_or (lane_items N lane) k d in
     let has = items_have_sources N is lane item (Contains-get_or (lane_items N lane) k d h) in
@@ -216,7 +216,7 @@ stands_after N l within kind =
 
 -- each of its items is called for by the pair of the customer's own
 calls_are : (N : Table) (plant : ℕ) (customer supplier : PlantNo) → IsTable N → customer.0 ≡ plant
-    → All (λ item. IsCalled (plant_rows N plant) (outgoing_item N (schedule customer supplier) item)) (lane_items N (schedule customer supplier))
+    → All (λ item. HasCall (plant_rows N plant) (outgoing_item N (schedule customer supplier) item)) (lane_items N (schedule customer supplier))
 calls_are N plant customer supplier is mine = λ k d h.
     let lane : Lane = schedule customer supplier in
     let item : ItemNo = get_or (lane_items N lane) k d in
@@ -251,8 +251,8 @@ schedule_lane_is N plant l is within here kind =
     (record {
       after = at.after;
       before = subst (Contains (incoming_lanes N plant)) (as_first ∙ before) comes;
-      calls = All-map (IsCalled (plant_rows N plant)) (outgoing_item N lane) (lane_items N lane) (calls_are N plant at.customer at.supplier is mine);
-      customers_once = λ x. omega (arith, count-map (λ (i : Load). eqb (call_of i).customer.0 x) (outgoing_item N lane) (lane_items N lane), customers_once_of N lane x is);
+      calls = All-map (HasCall (plant_rows N plant)) (outgoing_item N lane) (lane_items N lane) (calls_are N plant at.customer at.supplier is mine);
+      customers_once = λ x. omega (arith, count-map (λ (i : OutgoingLoad). eqb (call_of i).customer.0 x) (outgoing_item N lane) (lane_items N lane), customers_once_of N lane x is);
     })
 
 pub schedules_are : (N : Table) (plant : ℕ) → IsTable N → All (λ lane. lane.kind ≡ Schedule → IsScheduleLane (plant_rows N plant) lane) (outgoing_lanes N plant)

@@ -3,7 +3,7 @@ use Rattle.std.specs.Prelude.{◌≡◌, ℕ, ◌*◌, ◌==◌, if◌then◌els
 use Rattle.mrp_lot.specs.One.{PlanRows}
 use Rattle.mrp_rows.specs.Table.{Table, IsTable, IsPair}
 use Rattle.mrp_view.specs.declared.view.PlantEdge.{PlantEdge}
-use Rattle.mrp_net.specs.PlanLaws.{released, asked_by_bill}
+use Rattle.mrp_net.specs.PlanLaws.{release_at, asked_by_bill}
 use Rattle.mrp_view.specs.Seen.{IsView}
 use Rattle.mrp_net.specs.Sums.{pair_at}
 use Rattle.mrp_view.specs.View.{edges_to, comes_to, goes_from, lane_numbers, plant_rows}
@@ -30,7 +30,7 @@ ViewsHaveParents =
 
 -- what a parent asks in a period by an edge: so many of the component for each piece of its release
 abbrev pub asked_by_parent : List PlanRows → ℕ → PlantEdge → ℕ
-asked_by_parent table t e = e.per * released table e.parent.0 t
+asked_by_parent table t e = e.per * release_at table e.parent.0 t
 
 -- the edges that a plant sees ask of each of its pairs what the component rows ask of it
 abbrev pub ViewsHaveBills : Type 0

@@ -17,12 +17,12 @@ use Rattle.mrp_view.specs.declared.view.IncomingLane.{IncomingLane}
 use Rattle.mrp_view.specs.declared.view.OutgoingLane.{OutgoingLane}
 use Rattle.mrp_view.specs.declared.view.PlantEdge.{PlantEdge}
 use Rattle.mrp_view.specs.declared.view.PlantPair.{PlantPair}
-use Rattle.mrp_view.specs.Loads.{Load, call_of}
+use Rattle.mrp_view.specs.Loads.{OutgoingLoad, call_of}
 use Rattle.mrp_view.specs.View.{PlantRows, NumbersRise}
 
 -- one of the plant's pairs has that number, and is of that item
-abbrev pub IsOwn : PlantRows → PairNo → Type 0
-IsOwn V x = (p : PlantPair) × (Contains V.pairs p) × (p.number ≡ x)
+abbrev pub IsOwnPair : PlantRows → PairNo → Type 0
+IsOwnPair V x = (p : PlantPair) × (Contains V.pairs p) × (p.number ≡ x)
 
 abbrev pub IsOwnOf : PlantRows → PairNo → ItemNo → Type 0
 IsOwnOf V x item = (p : PlantPair) × (Contains V.pairs p) × (p.number ≡ x) × (p.item ≡ item)
@@ -43,8 +43,8 @@ pub record IsPlantPair (p : PlantPair) : Type 0 where
 
 -- an edge joins two pairs of the plant
 pub record IsPlantEdge (V : PlantRows) (e : PlantEdge) : Type 0 where
-  pub parent : IsOwn V e.parent
-  pub component : IsOwn V e.component
+  pub parent : IsOwnPair V e.parent
+  pub component : IsOwnPair V e.component
   pub some : 1 ≤ e.per
   pub few : e.per ≤ MOST_PER
 
@@ -69,7 +69,7 @@ pub record IsShipment (V : PlantRows) (s : Shipment) : Type 0 where
   pub quantity : IsAmount s.quantity
 
 -- an item of a lane that goes out
-pub record IsOutgoingItem (V : PlantRows) (i : Load) : Type 0 where
+pub record IsOutgoingItem (V : PlantRows) (i : OutgoingLoad) : Type 0 where
   pub figure : i.figure ≤ MOST
   pub shipments : All (IsShipment V) i.shipments
   pub reset : StartsWithin V i.reset
@@ -84,7 +84,7 @@ abbrev pub CallsForNothing : OutgoingLane → Type 0
 CallsForNothing lane = All (λ i. i.call ≡ None) lane.items
 
 -- an item is called for: by the plant's own pair of it, for a share of what that releases
-pub record IsCalled (V : PlantRows) (i : Load) : Type 0 where
+pub record HasCall (V : PlantRows) (i : OutgoingLoad) : Type 0 where
   pub there : i.call ≡ Some (call_of i)
   pub own : IsOwnOf V (call_of i).customer i.item
   pub rises : (call_of i).low < (call_of i).high
@@ -92,19 +92,19 @@ pub record IsCalled (V : PlantRows) (i : Load) : Type 0 where
 
 -- the despatch lane of the same two plants, which stands before a schedule lane: its items begin at
 -- the figures before the shipments
-abbrev pub despatched : Load → IncomingItem
-despatched i = record { item = i.item; pair = (call_of i).customer; opening = i.figure; reset = i.reset }
+abbrev pub despatched_item : OutgoingLoad → IncomingItem
+despatched_item i = record { item = i.item; pair = (call_of i).customer; opening = i.figure; reset = i.reset }
 
 abbrev pub lane_before : OutgoingLane → IncomingLane
 lane_before lane =
-    record { number = record { 0 = lane.number.0 - 1 }; kind = Despatch; items = map despatched lane.items }
+    record { number = record { 0 = lane.number.0 - 1 }; kind = Despatch; items = map despatched_item lane.items }
 
 -- a schedule lane goes to a supplier: its customer is the plant itself, each of whose pairs calls at most
 -- once, and the despatch lane before it comes in
 pub record IsScheduleLane (V : PlantRows) (lane : OutgoingLane) : Type 0 where
   pub after : 1 ≤ lane.number.0
   pub before : Contains V.incoming (lane_before lane)
-  pub calls : All (IsCalled V) lane.items
+  pub calls : All (HasCall V) lane.items
   pub customers_once : (x : ℕ) → count_by (λ i. (call_of i).customer.0 == x) lane.items ≤ 1
 
 pub record IsView (V : PlantRows) : Type 0 where

@@ -18,7 +18,7 @@ use Rattle.mrp_view.specs.declared.view.PlantPair.{PlantPair}
 use Rattle.mrp_net.specs.Edges.{demanders}
 use Rattle.mrp_net.specs.Lanes.{lanes, lane_at, lane_items, figure, opening, shipments, reset, pair_on, supplier_of}
 use Rattle.mrp_net.specs.EdgeLaws.{is_local}
-use Rattle.mrp_view.specs.Loads.{Load}
+use Rattle.mrp_view.specs.Loads.{OutgoingLoad}
 use Rattle.mrp_net.specs.Sources.{source_on}
 use Rattle.mrp_net.specs.Sums.{pair_at, params_at, row_of, demand, received}
 
@@ -112,7 +112,7 @@ abbrev pub call_on : Table → Lane → ItemNo → Option Call
 call_on N lane item = elim lane.kind [ Despatch ↦ None | Schedule ↦ Some (called_on N lane item) ]
 
 -- an item of a lane that it sends
-abbrev pub outgoing_item : Table → Lane → ItemNo → Load
+abbrev pub outgoing_item : Table → Lane → ItemNo → OutgoingLoad
 outgoing_item N lane item = record {
   item = item;
   figure = figure N (pair_on N lane item) (supplier_of lane);

@@ -129,9 +129,9 @@ pub struct OutgoingItems {
 
 impl Model for OutgoingItems {
     ghost use Rattle.std.specs.Prelude.{List};
-    ghost use Rattle.mrp_view.specs.Loads.{Load, loads_of, AreParts};
+    ghost use Rattle.mrp_view.specs.Loads.{OutgoingLoad, loads_of, AreParts};
 
-    ghost Value = { List Load };
+    ghost Value = { List OutgoingLoad };
 
     ghost view = { λ o. loads_of o.rows.items o.shipments.items };
 

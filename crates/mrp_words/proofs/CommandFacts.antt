@@ -17,11 +17,11 @@ use Rattle.clap.specs.declared.error.Error.{Error}
 use Rattle.clap.specs.declared.builder.value_parser.ValueParser.TheVariants.{Unsigned, Bool as Truth}
 use Rattle.clap.proofs.OnLiterals.{clap_on_literals}
 use Rattle.clap.proofs.ValueTestLemmas.{accepts-Accepts}
-use Rattle.mrp_words.specs.Choice.{IsCommand, IsMeantBy, number_at}
+use Rattle.mrp_words.specs.Choice.{IsCommand, IsMeantBy, number_value}
 use Rattle.mrp_words.specs.CommandLine.{advice_words, check_words, cums_words, mrp, orders_words, peg_words, pegs_words, plan_words, program_words, schedule_words}
 use Rattle.mrp_choice.specs.declared.choice.TheConstants.{MOST_WORKERS, MOST_CAPACITY, LAST_PERIOD}
 use Rattle.mrp_choice.specs.declared.choice.Choice.{Choice}
-use Rattle.mrp_words.specs.Values.{HasFlag, HasNumber, HasOrderValues, HasPegValues, HasPlanValues, HasText, IsWhole, IsWholeCommand, IsWithin, MayBeWithin, MayHaveNumber}
+use Rattle.mrp_words.specs.Values.{HasFlag, HasNumber, HasOrderValues, HasPegValues, HasPlanValues, HasText, HasCommandValues, IsWholeCommand, LiesWithin, MayBeWithin, MayHaveNumber}
 use Rattle.mrp_words.proofs.RowFacts.{asks_at, defaults_gain, either, first_none, given_row, has_some, is_plain_rule, next_none, no_kind, no_value, rows_good, rows_pass, unfailed, value_found, value_known, walk_good}
 
 -- ---- the command as clap builds it
@@ -100,11 +100,11 @@ only true e = refl
 only false e = e
 
 number_whole : (id : Text) (rows : List Row) (low high : ℕ) (v : Text) → HasText id v rows → accepts false (Unsigned low high) v ≡ true
-    → HasNumber id rows × IsWithin low high (number_at id rows)
+    → HasNumber id rows × LiesWithin low high (number_value id rows)
 number_whole id rows low high v has e =
     let accepted = accepts-Accepts false (Unsigned low high) v e in (
       (v, has, (accepted.0, accepted.1)),
-      subst (IsWithin low high) (sym (ap (option_map (λ text. digits_value 10 (without_leading_plus text))) has.0)) (accepted.2, accepted.3),
+      subst (LiesWithin low high) (sym (ap (option_map (λ text. digits_value 10 (without_leading_plus text))) has.0)) (accepted.2, accepted.3),
     )
 
 flag_whole : (id : Text) (rows : List Row) (v : Text) → HasText id v rows → accepts false Truth v ≡ true → HasFlag id rows
@@ -164,11 +164,11 @@ advice_whole : (words : List Text) → level_fault advice_leaf [] nothing_held w
 advice_whole words e = header_whole advice_leaf words refl refl (λ v known. only _ known) e
 
 -- a number that may be left out
-free_number_whole : (rows : List Row) → MayHaveNumber (codes "until") rows → MayBeWithin 0 LAST_PERIOD (number_at (codes "until") rows)
+free_number_whole : (rows : List Row) → MayHaveNumber (codes "until") rows → MayBeWithin 0 LAST_PERIOD (number_value (codes "until") rows)
     → HasFlag (codes "header") rows → HasOrderValues rows
 free_number_whole rows until within header = record { until = until; until_within = within; header = header }
 
-may_be : (least most : ℕ) (number : Option ℕ) → IsWithin least most number → MayBeWithin least most number
+may_be : (least most : ℕ) (number : Option ℕ) → LiesWithin least most number → MayBeWithin least most number
 may_be least most None within = tt
 may_be least most (Some n) within = within
 
@@ -188,7 +188,7 @@ orders_whole words e = go (has_row (codes "until") rows) refl
     go true there =
         let until = value_found orders_leaf.rules (codes "until") rows there ok in
         let number = number_whole (codes "until") rows 0 LAST_PERIOD until.0 until.1 (only _ until.2) in
-        free_number_whole rows (inl number.0) (may_be 0 LAST_PERIOD (number_at (codes "until") rows) number.1) header
+        free_number_whole rows (inl number.0) (may_be 0 LAST_PERIOD (number_value (codes "until") rows) number.1) header
     go false there =
         let none = no_value (codes "until") rows there in
         free_number_whole rows (inr none) (subst (MayBeWithin 0 LAST_PERIOD) (sym (ap (option_map (λ text. digits_value 10 (without_leading_plus text))) none.0)) tt) header
@@ -314,7 +314,7 @@ pair_is (Some b) f g name rows e h =
 
 -- the command that was found is whole, where the words' is
 pub found_whole : {B : Type 0} (o : Option B) (f : B → Text) (g : B → List Row) (name : Text) (rows : List Row) → Some name ≡ option_map f o
-    → Some rows ≡ option_map second (paired f g o) → IsWholeCommand (paired f g o) → IsWhole name rows
+    → Some rows ≡ option_map second (paired f g o) → IsWholeCommand (paired f g o) → HasCommandValues name rows
 found_whole o f g name rows e h whole = subst IsWholeCommand (pair_is o f g name rows e h) whole
 
 pub other_name : (name other : Text) (r : Bool) → r ≡ bytes_eq name other → r ≡ false → name ≡ other → ⊥

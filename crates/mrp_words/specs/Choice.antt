@@ -24,13 +24,13 @@ abbrev pub text_at : Text → List Row → Option Text
 text_at = first_of
 
 -- the number of an argument is what its digits spell
-abbrev pub number_at : Text → List Row → Option ℕ
-number_at name rows =
+abbrev pub number_value : Text → List Row → Option ℕ
+number_value name rows =
     option_map (λ text. digits_value 10 (without_leading_plus text)) (text_at name rows)
 
 -- the text of a word that may be left out
-abbrev pub text_of : Option (Bor Text) → Option Text
-text_of = option_map (λ word. word.now)
+abbrev pub word_text : Option (Bor Text) → Option Text
+word_text = option_map (λ word. word.now)
 
 -- a flag is given where its value is `true`
 abbrev pub flag_at : Text → List Row → Bool
@@ -47,21 +47,21 @@ IsHeadedBy rows heading = flag_at (codes "header") rows ≡ has_names heading
 -- the choice that a subcommand and its values are
 abbrev pub IsCommand : Text → List Row → Choice → Type 0
 IsCommand name rows (Plan workers capacity single) =
-    (name ≡ codes "plan") × (number_at (codes "workers") rows ≡ Some workers)
-    × (number_at (codes "capacity") rows ≡ Some capacity)
+    (name ≡ codes "plan") × (number_value (codes "workers") rows ≡ Some workers)
+    × (number_value (codes "capacity") rows ≡ Some capacity)
     × (flag_at (codes "single") rows ≡ single)
 IsCommand name rows (Check heading) = (name ≡ codes "check") × IsHeadedBy rows heading
 IsCommand name rows (Peg plant item period heading) =
     (name ≡ codes "peg") × (text_at (codes "plant") rows ≡ Some plant.now)
     × (text_at (codes "item") rows ≡ Some item.now)
-    × (number_at (codes "period") rows ≡ Some period)
+    × (number_value (codes "period") rows ≡ Some period)
     × IsHeadedBy rows heading
 IsCommand name rows (Cums heading) = (name ≡ codes "cums") × IsHeadedBy rows heading
 IsCommand name rows (Orders until heading) =
-    (name ≡ codes "orders") × (number_at (codes "until") rows ≡ until) × IsHeadedBy rows heading
+    (name ≡ codes "orders") × (number_value (codes "until") rows ≡ until) × IsHeadedBy rows heading
 IsCommand name rows (Schedule from to heading) =
-    (name ≡ codes "schedule") × (text_at (codes "from") rows ≡ text_of from)
-    × (text_at (codes "to") rows ≡ text_of to)
+    (name ≡ codes "schedule") × (text_at (codes "from") rows ≡ word_text from)
+    × (text_at (codes "to") rows ≡ word_text to)
     × IsHeadedBy rows heading
 IsCommand name rows (Pegs heading) = (name ≡ codes "pegs") × IsHeadedBy rows heading
 IsCommand name rows (Advice heading) = (name ≡ codes "advice") × IsHeadedBy rows heading

@@ -4,13 +4,13 @@ ghost use Rattle.std.specs.Prelude.{◌≡◌, ◌≤◌, Some, true, false, [],
 ghost use Rattle.clap.specs.Words.{app_of, fault_of, found_of, new_app, rows_of, subcommand_rows_of, takes};
 ghost use Rattle.clap.specs.declared.builder.value_parser.ValueParser.TheVariants.{Unsigned};
 ghost use Rattle.mrp_choice.specs.Range.{IsInRange};
-ghost use Rattle.mrp_words.specs.Choice.{IsChosenBy, IsCommand, IsHeadedBy, IsMeantBy, IsMemory, IsRefusalOf, flag_at, number_at, text_at, text_of, texts_of};
+ghost use Rattle.mrp_words.specs.Choice.{IsChosenBy, IsCommand, IsHeadedBy, IsMeantBy, IsMemory, IsRefusalOf, flag_at, number_value, text_at, word_text, texts_of};
 ghost use Rattle.mrp_words.specs.CommandLine.{IsRuled, IsWorded, advice_words, check_words, cums_words, mrp, orders_words, peg_words, pegs_words};
 ghost use Rattle.mrp_words.specs.CommandLine.{plan_words, program_words, schedule_words};
 ghost use Rattle.mrp_words.specs.CommandLine.{up_to_check, up_to_cums, up_to_orders, up_to_peg, up_to_pegs, up_to_schedule};
 ghost use Rattle.mrp_words.specs.CommandLine as rule;
 ghost use Rattle.mrp_choice.specs.declared.choice.TheConstants.{MOST_CAPACITY};
-ghost use Rattle.mrp_words.specs.Values.{HasFlag, HasName, HasNumber, HasOrderValues, HasPegValues, HasPlanValues, IsWholeCommand, IsWholeReport, MayHaveNumber};
+ghost use Rattle.mrp_words.specs.Values.{HasFlag, HasNameValue, HasNumber, HasOrderValues, HasPegValues, HasPlanValues, IsWholeCommand, IsWholeReport, MayHaveNumber};
 
 use clap::builder::ValueParser;
 use clap::{Arg, ArgAction, ArgMatches, Command, value_parser};
@@ -622,14 +622,14 @@ fn heading(values: &ArgMatches<'_>) -> Heading
 /// The number of an argument, if it has one.
 fn free_number(values: &ArgMatches<'_>, name: &str) -> Option<u64>
     requires { MayHaveNumber name.now (rows_of (found_of values.now)) }
-    ensures { number_at name.now (rows_of (found_of values.now)) ≡ result }
+    ensures { number_value name.now (rows_of (found_of values.now)) ≡ result }
 {
     values.get_one::<u64>(name)
 }
 
 /// The text of an argument, if it has one.
 fn free_text<'a>(values: &ArgMatches<'a>, name: &str) -> Option<&'a str>
-    ensures { text_at name.now (rows_of (found_of values.now)) ≡ text_of result }
+    ensures { text_at name.now (rows_of (found_of values.now)) ≡ word_text result }
 {
     values.get_str(name)
 }
@@ -637,7 +637,7 @@ fn free_text<'a>(values: &ArgMatches<'a>, name: &str) -> Option<&'a str>
 /// The number of an argument that has one.
 fn number(values: &ArgMatches<'_>, name: &str) -> u64
     requires { HasNumber name.now (rows_of (found_of values.now)) }
-    ensures { number_at name.now (rows_of (found_of values.now)) ≡ Some result }
+    ensures { number_value name.now (rows_of (found_of values.now)) ≡ Some result }
 {
     values.get_one::<u64>(name).unwrap()
 }
@@ -652,7 +652,7 @@ fn is_given(values: &ArgMatches<'_>, name: &str) -> bool
 
 /// The text of an argument that has one.
 fn text<'a>(values: &ArgMatches<'a>, name: &str) -> &'a str
-    requires { HasName name.now (rows_of (found_of values.now)) }
+    requires { HasNameValue name.now (rows_of (found_of values.now)) }
     ensures { text_at name.now (rows_of (found_of values.now)) ≡ Some result.now }
 {
     values.get_str(name).unwrap()

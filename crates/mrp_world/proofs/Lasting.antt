@@ -8,7 +8,7 @@ use Rattle.mrp_net.specs.Lanes.{lanes, lane_at, lane_items, opening}
 use Rattle.mrp_net.proofs.Members.{In, In-from_contains, Contains-from_in, map_only, flat_map_only, range_only, All-in}
 use Rattle.mrp_net.proofs.Routing.{lane_items_within}
 use Rattle.mrp_record.specs.declared.record.Record.{Record}
-use Rattle.mrp_record.specs.Entries.{Entry, contents, delivery_of, entries_of, moved}
+use Rattle.mrp_record.specs.Entries.{Entry, contents, entry_delivery, entries_of, moved}
 use Rattle.mrp_record.specs.Text.{Load, IsBeginning, IsText, IsWhole, block, total}
 use Rattle.mrp_record.specs.Laws.{AreLoads}
 use Rattle.mrp_record.proofs.Beginnings.{own_block}
@@ -24,7 +24,7 @@ use Rattle.mrp_plant.specs.Moments.{Showing}
 use Rattle.mrp_world.specs.World.{WorldState}
 use Rattle.mrp_world.specs.Moves.{WorldShows, IsWorld}
 use Rattle.mrp_world.proofs.Worlds.{none_left_is_finished, shows_some}
-use Rattle.mrp_world.specs.Figures.{figure_at, figures_on, figures_of, IsLaneFigure, FiguresAreOfLanes, carried, last_figure, last_on, last_figures, FinishedFiguresAreLast}
+use Rattle.mrp_world.specs.Figures.{lane_figure_at, figures_in_lane, figures_in, IsLaneFigure, FiguresAreOfLanes, carried, settled_figure, last_on, last_figures, FinishedFiguresAreLast}
 
 -- ---- lists
 
@@ -46,7 +46,7 @@ flat_map_same f g (x ∷ xs) same = ap (λ ys. ys ++ flat_map f xs) (same x (inl
 
 -- a figure of a lane and one of its items
 figure_is_of_lane : (N : Table) → IsTable N → (capacity : ℕ) (s : State) → IsReached N capacity s → (l : ℕ) → l < length (lanes N)
-    → (item : ItemNo) → Contains (lane_items N (lane_at N l)) item → IsLaneFigure N (figure_at N s l item)
+    → (item : ItemNo) → Contains (lane_items N (lane_at N l)) item → IsLaneFigure N (lane_figure_at N s l item)
 figure_is_of_lane N table capacity s reached l within item there =
     let order = lanes_keep_order N capacity s reached l within in
     record {
@@ -57,14 +57,14 @@ figure_is_of_lane N table capacity s reached l within item there =
 
 pub figures_are_of_lanes : FiguresAreOfLanes
 figures_are_of_lanes N table capacity s reached =
-    all_by (IsLaneFigure N) (figures_of N s) (λ figure among.
-    let on = flat_map_only (figures_on N s) (range_with_len 0 (length (lanes N))) figure among in
-    let of = map_only (figure_at N s on.0) (lane_items N (lane_at N on.0)) figure on.2 in
+    all_by (IsLaneFigure N) (figures_in N s) (λ figure among.
+    let on = flat_map_only (figures_in_lane N s) (range_with_len 0 (length (lanes N))) figure among in
+    let of = map_only (lane_figure_at N s on.0) (lane_items N (lane_at N on.0)) figure on.2 in
     let within : on.0 < length (lanes N) = omega (arith, (range_only 0 (length (lanes N)) on.0 on.1).1) in
     subst (IsLaneFigure N) of.2 (figure_is_of_lane N table capacity s reached on.0 within of.0 (Contains-from_in (lane_items N (lane_at N on.0)) of.0 of.1)))
 
 pub shown_are_of_lanes : {A : Type 0} (shows : Showing A) (v w : WorldState A) → v ≡ w → IsWorld shows v → (figures : List LaneFigure)
-    → ((s : State) → WorldShows shows w s → figures ≡ figures_of w.network s) → All (IsLaneFigure w.network) figures
+    → ((s : State) → WorldShows shows w s → figures ≡ figures_in w.network s) → All (IsLaneFigure w.network) figures
 shown_are_of_lanes shows v w same is figures says =
     let some = shows_some shows v w same is in
     subst (All (IsLaneFigure w.network)) (sym (says some.0 some.1)) (figures_are_of_lanes w.network some.1.parts.sized.table w.capacity some.0 some.1.parts.reached)
@@ -77,7 +77,7 @@ whole_brings : (loads : List Load) → AreLoads loads → (records : List Record
 whole_brings loads once records whole load there =
     let text : IsText loads (contents records ++ []) = subst (IsText loads) (sym (append-nil (contents records))) whole.text in
     let own : entries_of load.item (contents records) ≡ block load = sym (append-nil (entries_of load.item (contents records))) ∙ own_block loads once load there (contents records) [] text in
-    moved_is_delivered (entries_of load.item (contents records)) ∙ ap (λ (es : List Entry). total (filter_map delivery_of es)) own ∙ ap total (block_delivers load)
+    moved_is_delivered (entries_of load.item (contents records)) ∙ ap (λ (es : List Entry). total (filter_map entry_delivery es)) own ∙ ap total (block_delivers load)
 
 -- so its figure is that of all pieces
 whole_figure : (N : Table) → IsTable N → (l : ℕ) (item : ItemNo) → Contains (lane_items N (lane_at N l)) item
@@ -94,7 +94,7 @@ figure_by : (N : Table) (l : ℕ) (item : ItemNo) (ships comes : ℕ) → LaneFi
 figure_by N l item ships comes = record { lane = record { 0 = l }; item = item; opening = opening N (lane_at N l) item; shipped = ships; received = comes }
 
 figure_is_last : (N : Table) → IsTable N → (capacity : ℕ) (s : State) → IsReached N capacity s → IsFinished N s → (l : ℕ) → l < length (lanes N)
-    → (item : ItemNo) → Contains (lane_items N (lane_at N l)) item → figure_at N s l item ≡ last_figure N l item
+    → (item : ItemNo) → Contains (lane_items N (lane_at N l)) item → lane_figure_at N s l item ≡ settled_figure N l item
 unfolding figure_by
 figure_is_last N table capacity s reached finished l within item there =
     let ends = closed_lanes_are_whole N capacity s reached l within (finished.closed l within) in
@@ -106,13 +106,13 @@ figure_is_last N table capacity s reached finished l within item there =
 pub finished_figures_are_last : FinishedFiguresAreLast
 unfolding last_figures
 finished_figures_are_last N table capacity s reached finished =
-    flat_map_same (figures_on N s) (last_on N) (range_with_len 0 (length (lanes N))) (λ l among.
+    flat_map_same (figures_in_lane N s) (last_on N) (range_with_len 0 (length (lanes N))) (λ l among.
     let within : l < length (lanes N) = omega (arith, (range_only 0 (length (lanes N)) l among).1) in
-    map_same (figure_at N s l) (last_figure N l) (lane_items N (lane_at N l)) (λ item there.
+    map_same (lane_figure_at N s l) (settled_figure N l) (lane_items N (lane_at N l)) (λ item there.
     figure_is_last N table capacity s reached finished l within item (Contains-from_in (lane_items N (lane_at N l)) item there)))
 
 pub shown_are_last : {A : Type 0} (shows : Showing A) (v w : WorldState A) → v ≡ w → IsWorld shows v → (figures : List LaneFigure)
-    → ((s : State) → WorldShows shows w s → figures ≡ figures_of w.network s) → w.left ≡ 0 → figures ≡ last_figures w.network
+    → ((s : State) → WorldShows shows w s → figures ≡ figures_in w.network s) → w.left ≡ 0 → figures ≡ last_figures w.network
 shown_are_last shows v w same is figures says none =
     let some = shows_some shows v w same is in
     let finished = none_left_is_finished shows w some.0 some.1 none in

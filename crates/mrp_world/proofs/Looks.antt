@@ -8,7 +8,7 @@ use Rattle.mrp_record.specs.declared.record.Record.{Record}
 use Rattle.mrp_events.specs.declared.event.Event.{Event}
 use Rattle.mrp_events.specs.declared.event.Event.TheVariants.{Send, Receive, Plan}
 use Rattle.mrp_events.specs.State.{State, CanPlan, after_send, after_take, after_plan}
-use Rattle.mrp_plant.specs.Moments.{Moment, Showing, IsAt, IsOut, IsOwn, IsNext, Sends}
+use Rattle.mrp_plant.specs.Moments.{Moment, Showing, IsAt, IsOut, IsOwn, IsNext, SendsLane}
 use Rattle.mrp_mailbox.specs.Mailbox.{Held}
 use Rattle.mrp_world.specs.World.{box_at}
 use Rattle.mrp_world.specs.Moves.{AreAt, AreSomewhere, Lead, LeadNowhere, MayLead, Acts, StandsStill, LaneRests, PlantRests, AllRests}
@@ -22,9 +22,9 @@ asked_at shows N capacity plants boxes s at p plant is known =
     subst (λ z. IsAt shows (moment N capacity s) p z) (sym is) (plant_is_at shows N capacity plants boxes s at p plant known)
 
 pub may_ask : {A : Type 0} (shows : Showing A) (N : Table) (plants : List A) (boxes : List Held) (l p : ℕ) (plant : A) → AreSomewhere shows N plants boxes
-    → l < length (lanes N) → p < length N.plants → (lane_at N l).sender.0 ≡ p → plant ≡ get_or plants p plant → Sends shows plant l
+    → l < length (lanes N) → p < length N.plants → (lane_at N l).sender.0 ≡ p → plant ≡ get_or plants p plant → SendsLane shows plant l
 may_ask shows N plants boxes l p plant some within known e is =
-    subst (λ z. Sends shows z l) (sym is) (may_send shows N plants boxes l p plant some within known e)
+    subst (λ z. SendsLane shows z l) (sym is) (may_send shows N plants boxes l p plant some within known e)
 
 pub none_gives : {X : Type 0} (o : Option X) (P : Type 0) → IfNone o P → o ≡ None → P
 none_gives None P h e = h

@@ -14,7 +14,7 @@ use Rattle.mrp_events.specs.Laws.{cum_on}
 use Rattle.mrp_events.specs.State.{State}
 use Rattle.mrp_events.proofs.Ordering.{lanes_keep_order, nothing_is_lost}
 use Rattle.mrp_events.proofs.Small.{legal_cums_are_small}
-use Rattle.mrp_world.specs.Figures.{figure_at}
+use Rattle.mrp_world.specs.Figures.{lane_figure_at}
 use Rattle.mrp_plant.specs.Moments.{Moment, Showing, IsAt, IsIn, Receives}
 use Rattle.mrp_mailbox.specs.Mailbox.{Held}
 use Rattle.mrp_world.specs.World.{box_at}
@@ -101,7 +101,7 @@ figure_record l item opens ships received =
 pub figure_is : {A : Type 0} (shows : Showing A) (N : Table) (capacity : ℕ) (plants : List A) (boxes : List Held) (s : State) (l : ℕ) (item : ItemNo) (plant : A) (box : Held) (p received waiting opens ships : ℕ)
     → Read shows N plants boxes l item plant box p → SaysReceived shows plant l item received → waiting ≡ moved item.0 (contents box.records) → opens ≡ opening N (lane_at N l) item
     → ships ≡ received + waiting → AreAt shows N capacity plants boxes s
-    → figure_record l item opens ships received ≡ figure_at N s l item
+    → figure_record l item opens ships received ≡ lane_figure_at N s l item
 figure_is shows N capacity plants boxes s l item plant box p received waiting opens ships read says waits opened shipped at =
     ap (λ (o : ℕ). figure_record l item o ships received) opened
     ∙ ap (λ (n : ℕ). figure_record l item (opening N (lane_at N l) item) n received) (shipped ∙ shipped_read shows N capacity plants boxes s l item plant box p received waiting read says waits at)

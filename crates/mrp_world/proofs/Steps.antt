@@ -16,7 +16,7 @@ use Rattle.mrp_events.specs.declared.event.Event.TheVariants.{Send, Receive, Pla
 use Rattle.mrp_events.specs.State.{State, CanSend, CanTake, CanPlan, changed, after_send, after_take, after_plan}
 use Rattle.mrp_events.proofs.Keeping.{reached_goes_on}
 use Rattle.mrp_events.proofs.Small.{beginnings_are_no_longer}
-use Rattle.mrp_plant.specs.Moments.{Moment, Showing, IsAt, IsOut, IsIn, IsOwn, IsNext, Sends, Receives, Has, AgreeAt}
+use Rattle.mrp_plant.specs.Moments.{Moment, Showing, IsAt, IsOut, IsIn, IsOwn, IsNext, SendsLane, Receives, Has, AgreeAt}
 use Rattle.mrp_mailbox.specs.Mailbox.{Held}
 use Rattle.mrp_world.specs.World.{nothing_held, box_at, PlantsShow}
 use Rattle.mrp_world.specs.Moves.{BoxesHold, AreAt, AreSomewhere, Lead, LeadNowhere}
@@ -373,7 +373,7 @@ cannot_leads_nowhere shows N plants boxes x p d pair known e cannot capacity s a
 -- ---- each plant may be called
 
 pub may_send : {A : Type 0} (shows : Showing A) (N : Table) (plants : List A) (boxes : List Held) (l p : ℕ) (d : A) → AreSomewhere shows N plants boxes
-    → l < length (lanes N) → p < length N.plants → (lane_at N l).sender.0 ≡ p → Sends shows (get_or plants p d) l
+    → l < length (lanes N) → p < length N.plants → (lane_at N l).sender.0 ≡ p → SendsLane shows (get_or plants p d) l
 may_send shows N plants boxes l p d some within known e =
     (moment N some.0 some.1, p, plant_is_at shows N some.0 plants boxes some.1 some.2 p d known, record { lane = within; plant = e })
 

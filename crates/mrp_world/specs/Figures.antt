@@ -13,8 +13,8 @@ use Rattle.mrp_events.specs.State.{State, IsFinished, IsReached}
 
 -- the figures of an item of a lane: where they begin, and what has been shipped and what has been received,
 -- closed years added
-abbrev pub figure_at : Table → State → ℕ → ItemNo → LaneFigure
-figure_at N s l item = record {
+abbrev pub lane_figure_at : Table → State → ℕ → ItemNo → LaneFigure
+lane_figure_at N s l item = record {
   lane = record { 0 = l };
   item = item;
   opening = opening N (lane_at N l) item;
@@ -23,12 +23,12 @@ figure_at N s l item = record {
 }
 
 -- one for each item of the lane, in its order
-abbrev pub figures_on : Table → State → ℕ → List LaneFigure
-figures_on N s l = map (figure_at N s l) (lane_items N (lane_at N l))
+abbrev pub figures_in_lane : Table → State → ℕ → List LaneFigure
+figures_in_lane N s l = map (lane_figure_at N s l) (lane_items N (lane_at N l))
 
 -- by lane, then lane item
-abbrev pub figures_of : Table → State → List LaneFigure
-figures_of N s = flat_map (figures_on N s) (range_with_len 0 (length (lanes N)))
+abbrev pub figures_in : Table → State → List LaneFigure
+figures_in N s = flat_map (figures_in_lane N s) (range_with_len 0 (length (lanes N)))
 
 -- ---- each figure
 
@@ -41,7 +41,7 @@ pub record IsLaneFigure (N : Table) (figure : LaneFigure) : Type 0 where
 -- in each state that events lead to
 abbrev pub FiguresAreOfLanes : Type 0
 FiguresAreOfLanes =
-    (N : Table) → IsTable N → (capacity : ℕ) (s : State) → IsReached N capacity s → All (IsLaneFigure N) (figures_of N s)
+    (N : Table) → IsTable N → (capacity : ℕ) (s : State) → IsReached N capacity s → All (IsLaneFigure N) (figures_in N s)
 
 -- ---- at the end
 
@@ -51,8 +51,8 @@ abbrev pub carried : Table → Lane → ItemNo → ℕ
 carried N lane item = opening N lane item + total (load_of N lane item).lines
 
 -- the figures of an item of a lane when all of them are shipped and received
-abbrev pub last_figure : Table → ℕ → ItemNo → LaneFigure
-last_figure N l item = record {
+abbrev pub settled_figure : Table → ℕ → ItemNo → LaneFigure
+settled_figure N l item = record {
   lane = record { 0 = l };
   item = item;
   opening = opening N (lane_at N l) item;
@@ -61,7 +61,7 @@ last_figure N l item = record {
 }
 
 abbrev pub last_on : Table → ℕ → List LaneFigure
-last_on N l = map (last_figure N l) (lane_items N (lane_at N l))
+last_on N l = map (settled_figure N l) (lane_items N (lane_at N l))
 
 -- by lane, then lane item
 unfoldable pub last_figures : Table → List LaneFigure
@@ -70,4 +70,4 @@ last_figures N = flat_map (last_on N) (range_with_len 0 (length (lanes N)))
 -- so every finished run ends
 abbrev pub FinishedFiguresAreLast : Type 0
 FinishedFiguresAreLast =
-    (N : Table) → IsTable N → (capacity : ℕ) (s : State) → IsReached N capacity s → IsFinished N s → figures_of N s ≡ last_figures N
+    (N : Table) → IsTable N → (capacity : ℕ) (s : State) → IsReached N capacity s → IsFinished N s → figures_in N s ≡ last_figures N

@@ -2,7 +2,7 @@
 ghost use Rattle.std.specs.Prelude.{◌≡◌, ◌<◌, ◌++◌, ℕ, Contains, IfOk, OnOk, length};
 ghost use Rattle.mrp_net.specs.Lanes.{lanes, lane_at, lane_items};
 ghost use Rattle.mrp_events.specs.State.{State};
-ghost use Rattle.mrp_world.specs.Figures.{figure_at, figures_on, figures_of};
+ghost use Rattle.mrp_world.specs.Figures.{lane_figure_at, figures_in_lane, figures_in};
 ghost use Rattle.mrp_world.specs.Moves.{AreAt, AreSomewhere};
 
 use mrp_book::LaneFigure;
@@ -25,7 +25,7 @@ pub(crate) fn figures<P: Plant>(
 ) -> Result<Vec<LaneFigure>, Memory>
     requires shown { AreSomewhere P.shows network.now plants.now boxes.now }
     ensures { IfOk result (λ figures. (capacity : ℕ) (s : State) → AreAt P.shows network.now capacity plants.now boxes.now s
-        → figures.items ≡ figures_of network.now s) }
+        → figures.items ≡ figures_in network.now s) }
 {
     let mut figures = Vec::new(alloc);
     for l in 0..network.lanes() {
@@ -45,7 +45,7 @@ fn add_lane<P: Plant>(
     requires lane { lane.0 < length (lanes network.now) }
     requires shown { AreSomewhere P.shows network.now plants.now boxes.now }
     ensures { OnOk result ((capacity : ℕ) (s : State) → AreAt P.shows network.now capacity plants.now boxes.now s
-        → figures.new.items ≡ figures.old.items ++ figures_on network.now s lane.0) }
+        → figures.new.items ≡ figures.old.items ++ figures_in_lane network.now s lane.0) }
 {
     for item in network.lane_items(lane) {
         figures.push(figure(network, plants, boxes, lane, *item))?;
@@ -64,7 +64,7 @@ fn figure<P: Plant>(
     requires lane { lane.0 < length (lanes network.now) }
     requires item { Contains (lane_items network.now (lane_at network.now lane.0)) item }
     requires shown { AreSomewhere P.shows network.now plants.now boxes.now }
-    ensures { (capacity : ℕ) (s : State) → AreAt P.shows network.now capacity plants.now boxes.now s → result ≡ figure_at network.now s lane.0 item }
+    ensures { (capacity : ℕ) (s : State) → AreAt P.shows network.now capacity plants.now boxes.now s → result ≡ lane_figure_at network.now s lane.0 item }
 {
     let opening = Qty::of(network.opening(lane, item));
     let waiting = boxes[lane.0].pieces(item);

@@ -66,7 +66,7 @@ impl<'a, P: Plant> World<'a, P> {
     ghost use Rattle.mrp_events.specs.State.{State, Step, IsEnabled, IsFinished, opening_state};
     ghost use Rattle.mrp_net.specs.Sums.{pair_at};
     ghost use Rattle.mrp_world.specs.Enabled.{CountsEnabled};
-    ghost use Rattle.mrp_world.specs.Figures.{figures_of, last_figures, IsLaneFigure};
+    ghost use Rattle.mrp_world.specs.Figures.{figures_in, last_figures, IsLaneFigure};
     ghost use Rattle.mrp_world.specs.Moves.{Runs, WorldShows};
 
     /// A world before the first event.
@@ -205,7 +205,7 @@ impl<'a, P: Plant> World<'a, P> {
     ///
     /// [`Memory`] where a growth is refused.
     pub fn figures(&self, alloc: Global) -> Result<Vec<LaneFigure>, Memory>
-        ensures figures { IfOk result (λ figures. (s : State) → WorldShows P.shows self.now s → figures.items ≡ figures_of self.now.network s) }
+        ensures figures { IfOk result (λ figures. (s : State) → WorldShows P.shows self.now s → figures.items ≡ figures_in self.now.network s) }
         ensures lanes { IfOk result (λ figures. All (IsLaneFigure self.now.network) figures.items) }
         ensures last { IfOk result (λ figures. self.now.left ≡ 0 → figures.items ≡ last_figures self.now.network) }
     {

@@ -7,7 +7,7 @@ ghost use Rattle.mrp_net.specs.Lanes.{lanes, lane_at, lane_items};
 ghost use Rattle.mrp_net.specs.Plan.{Fits, plan_of};
 ghost use Rattle.mrp_net.specs.Sources.{source_on};
 ghost use Rattle.mrp_events.specs.Loads.{called_in};
-ghost use Rattle.mrp_cursor.specs.Next.{IsLeft, IsNext, IsRemainder};
+ghost use Rattle.mrp_cursor.specs.Next.{IsWhatIsLeft, IsNextLine, IsRemainder};
 ghost use Rattle.mrp_run_cases.specs.Feeding.{despatches_from, calls_from, item_goods, goods, IsOver, Feeds};
 
 use super::trials::{Trial, holds_of};
@@ -63,7 +63,7 @@ enum Look {
 fn next_shipment(network: &Network, l: LaneNo, item: ItemNo, mark: usize) -> Option<NextLine>
     requires lane { l.0 < length (lanes network.now) }
     requires item { Contains (lane_items network.now (lane_at network.now l.0)) item }
-    ensures { IsNext (despatches_from network.now (lane_at network.now l.0) item) mark result }
+    ensures { IsNextLine (despatches_from network.now (lane_at network.now l.0) item) mark result }
 {
     let shipments = network.shipments(l, item);
     if mark < shipments.len() {
@@ -115,7 +115,7 @@ fn next_call(
     requires table { IsTable network.now }
     requires fits { Fits network.now plan.now }
     requires plan { plan.now ≡ plan_of network.now }
-    ensures { IsNext (calls_from network.now (lane_at network.now l.0) item) mark result }
+    ensures { IsNextLine (calls_from network.now (lane_at network.now l.0) item) mark result }
 {
     for period in mark..network.horizon().get() as usize {
         let quantity = call(network, plan, l, item, period);
@@ -158,7 +158,7 @@ fn left(network: &Network, plan: &Plan, l: LaneNo, cursor: &OutCursor) -> Option
     requires fits { Fits network.now plan.now }
     requires plan { plan.now ≡ plan_of network.now }
     requires over { IsOver network.now l.0 cursor.now }
-    ensures { IsLeft (goods network.now l.0) cursor.now result }
+    ensures { IsWhatIsLeft (goods network.now l.0) cursor.now result }
 {
     let place = cursor.head()?;
     let item = network.lane_items(l)[place];

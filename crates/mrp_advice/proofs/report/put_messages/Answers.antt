@@ -1,6 +1,6 @@
 use Rattle.std.proofs.Common.{◌≡◌, ◌∙◌}
 use Rattle.std.proofs.lemmas.List.{get_or_default}
-use Rattle.mrp_advice.specs.Advice.{no_order, order_at}
+use Rattle.mrp_advice.specs.Advice.{no_order, open_order_at}
 use Rattle.mrp_advice.proofs.LineFacts.{had_next, rows_next}
 use Rattle.mrp_advice.proofs.report.put_messages.Goals as goal
 
@@ -10,7 +10,7 @@ orders-preserved c =
     let gross = c.args.gross.now in
     let orders = c.args.orders.now in
     let order = c.index-orders-i.result in
-    let same : order ≡ order_at orders c.orders.i = c.index-orders-i.is ∙ get_or_default orders c.orders.i order no_order c.orders-test.true in
+    let same : order ≡ open_order_at orders c.orders.i = c.index-orders-i.is ∙ get_or_default orders c.orders.i order no_order c.orders-test.true in
     record {
       between = c.in_ok-put_next.ensures.between;
       covers = c.put_next.ensures.covers;

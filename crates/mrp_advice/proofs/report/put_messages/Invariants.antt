@@ -3,7 +3,7 @@ use Rattle.std.specs.Prelude.{filter_map}
 use Rattle.std.specs.List.{flat_map, range_with_len}
 use Rattle.mrp_sheet.specs.Writing.{IsBetweenRows, written}
 use Rattle.mrp_advice.specs.Advice.{advice_at}
-use Rattle.mrp_advice.specs.AdviceLines.{line_row}
+use Rattle.mrp_advice.specs.AdviceLines.{advice_line_row}
 use Rattle.mrp_advice.specs.Covered.{Covers}
 use Rattle.mrp_advice.specs.Needed.{had_before}
 use Rattle.mrp_advice.proofs.report.put_messages.Given as goal
@@ -14,5 +14,5 @@ invariant-orders l = record {
   between : IsBetweenRows l.rows;
   covers : Covers l.fn.pair.safety l.gross l.cover;
   had : l.cover.had ≡ had_before l.fn.pair l.orders l.i;
-  so_far : written l.rows ≡ written l.initial.rows ++ flat_map (line_row l.line) (filter_map (advice_at l.fn.pair l.gross l.orders) (range_with_len 0 l.i));
+  so_far : written l.rows ≡ written l.initial.rows ++ flat_map (advice_line_row l.line) (filter_map (advice_at l.fn.pair l.gross l.orders) (range_with_len 0 l.i));
 }

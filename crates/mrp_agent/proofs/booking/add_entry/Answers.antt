@@ -4,7 +4,7 @@ use Rattle.mrp_rows.specs.declared.numbers.ItemNo.{ItemNo}
 use Rattle.mrp_net.specs.declared.lane.LaneKind.{LaneKind}
 use Rattle.mrp_view.specs.declared.view.PlantPair.{PlantPair}
 use Rattle.mrp_view.specs.View.{PlantRows}
-use Rattle.mrp_agent.specs.After.{called_by, came_by, items_of}
+use Rattle.mrp_agent.specs.After.{called_after, came_by, items_of}
 use Rattle.mrp_agent.proofs.booking.add_entry.Goals as goal
 
 -- the amounts have room for each pair and period
@@ -24,7 +24,7 @@ add_line-requires-in-Schedule c =
     record { room = room c.args.view.now c.requires.items c.requires.called c.deref_mut-in-Schedule.ensures.value c.get-periods.ensures.value c.horizon.ensures }
 
 pub returns-in-Despatch-clause-called : goal.returns-in-Despatch-clause-called
-returns-in-Despatch-clause-called c = sym (ap (λ (k : LaneKind). called_by k c.args.view.now c.args.called.now.items c.args.entry.now) c.in-Despatch.is)
+returns-in-Despatch-clause-called c = sym (ap (λ (k : LaneKind). called_after k c.args.view.now c.args.called.now.items c.args.entry.now) c.in-Despatch.is)
 
 pub returns-in-Schedule-clause-came : goal.returns-in-Schedule-clause-came
 returns-in-Schedule-clause-came c = sym (ap (λ (k : LaneKind). came_by k c.args.view.now c.args.came.now.items c.args.entry.now) c.in-Schedule.is)

@@ -1,7 +1,7 @@
 use Rattle.std.proofs.Common.{ℕ, ◌+◌, List, get_or, slice_index, refl, sym, ap, subst, ◌∙◌}
 use Rattle.std.proofs.lemmas.List.{take_all}
 use Rattle.mrp_agent.specs.declared.edges.ParentEdge.{ParentEdge}
-use Rattle.mrp_agent.specs.Asking.{CanAsk, asked_by}
+use Rattle.mrp_agent.specs.Asking.{ParentCanAsk, asked_by}
 use Rattle.mrp_agent.proofs.Asked.{more_asked, next_within, no_edge, none_asked}
 use Rattle.mrp_agent.proofs.drafting.add_asked.Goals as goal
 
@@ -15,7 +15,7 @@ loop-edge-init c = none_asked c.args.plans.now c.args.edges.now _
 pub add_edge-requires-clause-edge : goal.add_edge-requires-clause-edge
 add_edge-requires-clause-edge c =
     let edge = get_or c.args.edges.now c.loop-edge.edge-index no_edge in
-    subst (λ (n : ℕ). CanAsk c.args.plans.now n edge) (sym c.loop-edge.invariant.size) (c.requires.edges c.loop-edge.edge-index no_edge c.loop-edge-test.true)
+    subst (λ (n : ℕ). ParentCanAsk c.args.plans.now n edge) (sym c.loop-edge.invariant.size) (c.requires.edges c.loop-edge.edge-index no_edge c.loop-edge-test.true)
 
 pub loop-edge-preserved : goal.loop-edge-preserved
 loop-edge-preserved c =

@@ -2,7 +2,7 @@ use Rattle.std.proofs.Common.{◌≡◌, ℕ, ◌+◌, ◌<◌, ◌≤◌, List,
 use Rattle.mrp_lot.specs.One.{IsWithin, PlanRows, one}
 use Rattle.mrp_qty.specs.declared.quantity.TheConstants.{MOST}
 use Rattle.mrp_agent.specs.declared.edges.ParentEdge.{ParentEdge}
-use Rattle.mrp_agent.specs.Asking.{asked_by, grossed, CanAsk}
+use Rattle.mrp_agent.specs.Asking.{asked_by, grossed, ParentCanAsk}
 use Rattle.mrp_agent.proofs.Asked.{called_within, gross_within, grossed_is}
 use Rattle.std.specs.List.{All}
 use Rattle.mrp_agent.proofs.drafting.draft_from.Goals as goal
@@ -46,7 +46,7 @@ copy_pieces-requires-2-clause-periods c = c.requires.gross
 
 pub add_asked-requires-clause-edges : goal.add_asked-requires-clause-edges
 add_asked-requires-clause-edges c =
-    subst (λ (row : List ℕ). All (CanAsk c.args.plans.now (length row)) c.args.rows.now.edges.now) (sym c.copy_pieces-2.ensures) c.requires.draft.edges_are
+    subst (λ (row : List ℕ). All (ParentCanAsk c.args.plans.now (length row)) c.args.rows.now.edges.now) (sym c.copy_pieces-2.ensures) c.requires.draft.edges_are
 
 pub plan_pair-requires-clause-room : goal.plan_pair-requires-clause-room
 plan_pair-requires-clause-room c = c.requires.into ∙ sym (c.add_asked.ensures.size ∙ ap (λ (row : List ℕ). length row) c.copy_pieces-2.ensures)

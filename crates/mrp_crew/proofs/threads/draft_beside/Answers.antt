@@ -3,8 +3,8 @@ use Rattle.std.proofs.lemmas.List.Elements.{All-pop}
 use Rattle.mrp_rows.specs.declared.numbers.PairNo.{PairNo}
 use Rattle.mrp_agent.specs.State.{AgentState}
 use Rattle.mrp_crew.specs.declared.work.Work.{Work}
-use Rattle.mrp_crew.specs.Rooms.{IsRoom, WorkedFor, pairs_of}
-use Rattle.mrp_crew.specs.Shut.{AreLetIn, IsLetIn, WasShut}
+use Rattle.mrp_crew.specs.Rooms.{IsRoom, WorkedFor, pairs_worked}
+use Rattle.mrp_crew.specs.Shut.{AreLetIn, IsLetIn, WasShutToWorker}
 use Rattle.mrp_crew.specs.Started.{ordered}
 use Rattle.mrp_crew.proofs.Keeping.{when_true}
 use Rattle.mrp_crew.proofs.Fronts.{All-pushed, All-where_none}
@@ -19,7 +19,7 @@ returns-then-not-all-clause-drafts g c =
     let room : IsRoom A.view.horizon c.take_last-room.result = (All-pop (IsRoom A.view.horizon) c.args.rooms.items c.take_last-room.new.self.items (Some c.take_last-room.result) c.take_last-room.ensures.items c.requires.wave.rooms).1 in
     let nothing : All (WorkedFor A) c.args.works.items = All-where_none (WorkedFor A) c.args.works.items c.requires.wave.works.0 in
     refused_drafts A c.args.others.now c.args.own workers started.0 (record { works = c.join_all.new.works; all = c.start_all-all.result; rooms = c.put_back.new.rooms })
-    c.if-not-all.true started.1 (c.join_all.ensures.pairs ∙ ap (λ (z : List Work). ordered workers ++ pairs_of (reverse z)) c.requires.wave.works.0)
+    c.if-not-all.true started.1 (c.join_all.ensures.pairs ∙ ap (λ (z : List Work). ordered workers ++ pairs_worked (reverse z)) c.requires.wave.works.0)
     (c.join_all.ensures.worked A c.start_all-all.ensures.agent nothing) (c.put_back.ensures A.view.horizon c.start_all-all.ensures.rooms room)
 
 pub draft_pair-drafted-requires-clause-room : goal.draft_pair-drafted-requires-clause-room
@@ -44,13 +44,13 @@ returns-clause-drafts g c =
 pub returns-then-not-all-clause-shut : goal.returns-then-not-all-clause-shut
 returns-then-not-all-clause-shut g c =
     let workers = length c.args.others.now + 1 in
-    let Shut : Type 0 = WasShut g.G.Gate.worker_shut workers c.args.plant in
+    let Shut : Type 0 = WasShutToWorker g.G.Gate.worker_shut workers c.args.plant in
     c.join_all.ensures.shut c.args.plant workers c.start_all-all.ensures.plant (All-where_none (IsLetIn Shut) c.args.works.items c.requires.wave.works.0)
 
 pub returns-clause-shut : goal.returns-clause-shut
 returns-clause-shut g c =
     let workers = length c.args.others.now + 1 in
-    let Shut : Type 0 = WasShut g.G.Gate.worker_shut workers c.args.plant in
+    let Shut : Type 0 = WasShutToWorker g.G.Gate.worker_shut workers c.args.plant in
     let nothing : AreLetIn Shut c.args.works.items = All-where_none (IsLetIn Shut) c.args.works.items c.requires.wave.works.0 in
     c.join_all-2.ensures.shut c.args.plant workers c.start_all-all.ensures.plant
     (All-pushed (IsLetIn Shut) c.args.works.items c.push_reserved.new.self.items c.draft_pair-drafted.result c.push_reserved.ensures.items nothing (λ closed. (workers, omega arith, omega arith, c.draft_pair-drafted.ensures.shut closed)))

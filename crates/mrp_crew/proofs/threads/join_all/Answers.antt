@@ -4,9 +4,9 @@ use Rattle.std.proofs.lemmas.List.Elements.{All-pop}
 use Rattle.std.proofs.Common.{Some}
 use Rattle.mrp_agent.specs.State.{AgentState}
 use Rattle.mrp_crew.specs.declared.work.Work.{Work}
-use Rattle.mrp_crew.specs.Rooms.{WorkedFor, pairs_of}
-use Rattle.mrp_crew.specs.Shut.{IsLetIn, WasShut}
-use Rattle.mrp_crew.specs.Started.{IsAt, IsFor, ordered}
+use Rattle.mrp_crew.specs.Rooms.{WorkedFor, pairs_worked}
+use Rattle.mrp_crew.specs.Shut.{IsLetIn, WasShutToWorker}
+use Rattle.mrp_crew.specs.Started.{IsWorkerOf, IsFor, ordered}
 use Rattle.mrp_crew.proofs.Fronts.{All-pushed}
 use Rattle.mrp_crew.proofs.Joining.{joined_pairs}
 use Rattle.mrp_crew.proofs.ShutGates.{let_in_at}
@@ -26,10 +26,10 @@ loop-worker-preserved g c =
       worked = λ A told worked.
           All-pushed (WorkedFor A) c.loop-worker.works.items c.push_reserved.new.self.items w pushed (before.worked A told worked)
           (subst (λ (B : AgentState). WorkedFor B w) (All-pop (IsFor A) c.loop-worker.workers.items c.pop.new.self.items (Some h) popped (before.told A told)).1 c.join.ensures.worked);
-      at = λ plant most at. (All-pop (IsAt plant most) c.loop-worker.workers.items c.pop.new.self.items (Some h) popped (before.at plant most at)).0;
+      at = λ plant most at. (All-pop (IsWorkerOf plant most) c.loop-worker.workers.items c.pop.new.self.items (Some h) popped (before.at plant most at)).0;
       shut = λ plant most at shut.
-          All-pushed (IsLetIn (WasShut g.G.Gate.worker_shut most plant)) c.loop-worker.works.items c.push_reserved.new.self.items w pushed (before.shut plant most at shut)
-          (let_in_at g.G.Gate.worker_shut plant most h w (All-pop (IsAt plant most) c.loop-worker.workers.items c.pop.new.self.items (Some h) popped (before.at plant most at)).1 c.join.ensures.shut);
+          All-pushed (IsLetIn (WasShutToWorker g.G.Gate.worker_shut most plant)) c.loop-worker.works.items c.push_reserved.new.self.items w pushed (before.shut plant most at shut)
+          (let_in_at g.G.Gate.worker_shut plant most h w (All-pop (IsWorkerOf plant most) c.loop-worker.workers.items c.pop.new.self.items (Some h) popped (before.at plant most at)).1 c.join.ensures.shut);
     }
 
 pub loop-worker-init : goal.loop-worker-init
@@ -48,7 +48,7 @@ loop-worker-smaller g c =
 pub returns-clause-pairs : goal.returns-clause-pairs
 returns-clause-pairs g c =
     let none = nil_from_length c.loop-worker.workers.items (omega (arith, c.in_default.ensures.cases.0, c.loop-worker.workers.ok.0)) in
-    sym (ap (λ z. ordered z ++ pairs_of (reverse c.loop-worker.works.items)) none) ∙ c.loop-worker.invariant.pairs
+    sym (ap (λ z. ordered z ++ pairs_worked (reverse c.loop-worker.works.items)) none) ∙ c.loop-worker.invariant.pairs
 
 pub returns-clause-worked : goal.returns-clause-worked
 returns-clause-worked g c = c.loop-worker.invariant.worked

@@ -5,7 +5,7 @@ use Rattle.std.proofs.lemmas.List.Elements.{All-pop, All-get_or}
 use Rattle.mrp_rows.specs.declared.numbers.PairNo.{PairNo}
 use Rattle.mrp_agent.specs.Drafts.{CanDraft}
 use Rattle.mrp_crew.specs.Rooms.{IsRoom}
-use Rattle.mrp_crew.specs.Started.{IsAt, IsFor, ordered}
+use Rattle.mrp_crew.specs.Started.{IsWorkerOf, IsFor, ordered}
 use Rattle.mrp_crew.proofs.Fronts.{All-pushed, All-where_none}
 use Rattle.mrp_crew.proofs.Joining.{started_all, started_next}
 use Rattle.mrp_crew.proofs.threads.start_all.Goals as goal
@@ -31,7 +31,7 @@ loop-pair-preserved g c =
       places = omega (arith, before.places, c.push_reserved.ensures.capacity);
       rooms = (All-pop (IsRoom c.args.agent.now.view.horizon) c.loop-pair.rooms.items c.take_last-room.new.self.items (Some room) popped before.rooms).0;
       told = All-pushed (IsFor c.args.agent.now) c.loop-pair.workers.items c.push_reserved.new.self.items h pushed before.told c.in-Some.ensures.agent;
-      at = All-pushed (IsAt c.args.plant (length c.args.pairs.now + 1)) c.loop-pair.workers.items c.push_reserved.new.self.items h pushed before.at
+      at = All-pushed (IsWorkerOf c.args.plant (length c.args.pairs.now + 1)) c.loop-pair.workers.items c.push_reserved.new.self.items h pushed before.at
           (record { plant_is = c.in-Some.ensures.plant_is; first = omega (arith, c.in-Some.ensures.number_is); last = omega (arith, c.in-Some.ensures.number_is, c.len.ensures, before.number, c.loop-pair-test.true) });
     }
 
@@ -45,7 +45,7 @@ loop-pair-init g c =
       places = c.requires.workers.1;
       rooms = c.requires.rooms;
       told = All-where_none (IsFor c.args.agent.now) c.args.workers.now.items none;
-      at = All-where_none (IsAt c.args.plant (length c.args.pairs.now + 1)) c.args.workers.now.items none;
+      at = All-where_none (IsWorkerOf c.args.plant (length c.args.pairs.now + 1)) c.args.workers.now.items none;
     }
 
 pub offset_bounds-pairs-pair-index : goal.offset_bounds-pairs-pair-index

@@ -4,17 +4,17 @@ use Rattle.mrp_qty.specs.declared.quantity.TheConstants.{MOST}
 use Rattle.mrp_net.specs.declared.lane.LaneNo.{LaneNo}
 use Rattle.mrp_book.specs.declared.figure.LaneFigure.{LaneFigure}
 use Rattle.mrp_lane.specs.declared.tally.ItemPieces.{ItemPieces}
-use Rattle.mrp_lane.specs.Reconciled.{figure_of, figures_of}
+use Rattle.mrp_lane.specs.Reconciled.{lane_figure, figures_of}
 use Rattle.mrp_lane.proofs.joining.lane_figures.Goals as goal
 
 -- one figure more
 more : (lane : LaneNo) (sent taken : List ItemPieces) (at : ℕ) (figures figures' all : List LaneFigure) (s t : ItemPieces) (figure : LaneFigure) → at < length sent → at < length taken
-    → s ≡ get_or sent at s → t ≡ get_or taken at t → figure ≡ figure_of lane s t → figures' ≡ figures ++ figure ∷ []
+    → s ≡ get_or sent at s → t ≡ get_or taken at t → figure ≡ lane_figure lane s t → figures' ≡ figures ++ figure ∷ []
     → figures ++ figures_of lane (drop at sent) (drop at taken) ≡ all → figures' ++ figures_of lane (drop (at + 1) sent) (drop (at + 1) taken) ≡ all
 more lane sent taken at figures figures' all s t figure in_sent in_taken s_is t_is is new so_far =
     let rest = figures_of lane (drop (at + 1) sent) (drop (at + 1) taken) in
     let here : figures_of lane (drop at sent) (drop at taken) ≡ figure ∷ rest =
-    (λ j. figures_of lane (drop_more sent at s in_sent j) (drop_more taken at t in_taken j)) ∙ (λ j. figure_of lane (sym s_is j) (sym t_is j) ∷ rest) ∙ ap (λ (f : LaneFigure). f ∷ rest) (sym is) in
+    (λ j. figures_of lane (drop_more sent at s in_sent j) (drop_more taken at t in_taken j)) ∙ (λ j. lane_figure lane (sym s_is j) (sym t_is j) ∷ rest) ∙ ap (λ (f : LaneFigure). f ∷ rest) (sym is) in
     ap (λ (z : List LaneFigure). z ++ rest) new ∙ append_assoc figures (figure ∷ []) rest ∙ ap (λ (z : List LaneFigure). figures ++ z) (sym here) ∙ so_far
 
 pub bounds-sent-at : goal.bounds-sent-at

@@ -2,13 +2,13 @@ use Rattle.std.proofs.Common.{List, get_or, sym, subst, arith}
 use Rattle.std.specs.List.{Contains, IsDistinct}
 use Rattle.std.proofs.lemmas.List.{get_or_default}
 use Rattle.mrp_rows.specs.declared.numbers.ItemNo.{ItemNo}
-use Rattle.mrp_lane.specs.Tallies.{is_same_item}
+use Rattle.mrp_lane.specs.Tallies.{is_same_pieces}
 use Rattle.mrp_lane.proofs.Counting.{opened_all, opened_apart, opened_more}
 use Rattle.mrp_lane.proofs.tally.opened.Goals as goal
 
 pub returns-clause-once : goal.returns-clause-once
 returns-clause-once c =
-    subst (IsDistinct is_same_item)
+    subst (IsDistinct is_same_pieces)
     (sym (opened_all c.args.network.now c.args.lane.0 c.lane_items-on_lane.result.now c.loop-item.item-index c.loop-item.items.items c.loop-item.invariant c.loop-item-test.false c.lane_items-on_lane.ensures.value))
     (opened_apart c.args.network.now c.args.lane.0 c.requires.sized.table)
 

@@ -3,7 +3,7 @@ use Rattle.std.proofs.lemmas.Bool.{false≢true}
 use Rattle.std.proofs.lemmas.List.{length-map}
 use Rattle.mrp_rows.specs.Table.{Table}
 use Rattle.mrp_rows.specs.declared.numbers.PairNo.{PairNo}
-use Rattle.mrp_plan.specs.Progress.{HasRooms}
+use Rattle.mrp_plan.specs.Progress.{HavePeriods}
 use Rattle.mrp_plan.proofs.Planning.{all_planned, fits_rooms}
 use Rattle.mrp_plan.proofs.fitting.fits.Goals as goal
 
@@ -11,7 +11,7 @@ pub returns-then-not-has_periods : goal.returns-then-not-has_periods
 returns-then-not-has_periods c = (
   λ no_. absurd (false≢true no_),
   λ fits.
-      let P : Table → Type 0 = λ n. HasRooms n c.args.plan.now in
+      let P : Table → Type 0 = λ n. HavePeriods n c.args.plan.now in
       let rooms = fits_rooms c.args.net.now.network c.args.plan.now fits in
       absurd (false≢true (sym c.if-not-has_periods.true ∙ c.has_periods.ensures.1 (subst P (sym c.network-network.ensures.value) rooms))),
 )

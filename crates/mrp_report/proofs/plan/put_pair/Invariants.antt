@@ -1,7 +1,7 @@
 use Rattle.std.proofs.Common.{◌≡◌, ◌≤◌, ◌+◌, ◌*◌, ◌++◌, length, take}
 use Rattle.std.specs.List.{flat_map, range_with_len}
 use Rattle.mrp_report.specs.Parts.{parts_row}
-use Rattle.mrp_sheet.specs.DateLists.{date_at}
+use Rattle.mrp_sheet.specs.DateLists.{date_in}
 use Rattle.mrp_report.specs.Parts.{period_at}
 use Rattle.mrp_report.proofs.plan.put_pair.Given as goal
 
@@ -10,5 +10,5 @@ abbrev pub invariant-periods : goal.invariant-periods
 invariant-periods l = record {
   longest : l.after ≤ l.used + l.t * 164;
   kept : length l.room ≡ length l.initial.room;
-  so_far : take l.after l.room ≡ take l.used l.initial.room ++ flat_map (λ t. parts_row l.pair (date_at l.dates t) (period_at l.plan t)) (range_with_len 0 l.t);
+  so_far : take l.after l.room ≡ take l.used l.initial.room ++ flat_map (λ t. parts_row l.pair (date_in l.dates t) (period_at l.plan t)) (range_with_len 0 l.t);
 }

@@ -4,7 +4,7 @@ use Rattle.std.proofs.lemmas.Result.{IfOk-from_err}
 use Rattle.mrp_rows.specs.Table.{Table}
 use Rattle.mrp_net.specs.Lanes.{lanes}
 use Rattle.mrp_loops.specs.Sized.{IsSized}
-use Rattle.mrp_run.specs.Ends.{AreIdle, AreReady, HasRooms, HaveFirst}
+use Rattle.mrp_run.specs.Ends.{AreIdle, AreReady, HaveMailboxRoom, HaveFirst}
 use Rattle.mrp_run.proofs.Dealt.{first_in_place, have_none}
 use Rattle.mrp_run.proofs.DealtReady.{are_ready, have_rooms}
 use Rattle.mrp_run.proofs.dealing.ready_plants.Goals as goal
@@ -42,10 +42,10 @@ pub returns-in_err-plants-clause-ready : goal.returns-in_err-plants-clause-ready
 returns-in_err-plants-clause-ready c = IfOk-from_err c.from_residual.result (λ plants. AreReady c.args.net.now.network plants.items) c.from_residual.ensures.0
 
 pub returns-in_err-plants-clause-rooms : goal.returns-in_err-plants-clause-rooms
-returns-in_err-plants-clause-rooms c = IfOk-from_err c.from_residual.result (λ plants. All (HasRooms c.args.net.now.network c.args.capacity) plants.items) c.from_residual.ensures.0
+returns-in_err-plants-clause-rooms c = IfOk-from_err c.from_residual.result (λ plants. All (HaveMailboxRoom c.args.net.now.network c.args.capacity) plants.items) c.from_residual.ensures.0
 
 pub returns-in_err-deal-clause-ready : goal.returns-in_err-deal-clause-ready
 returns-in_err-deal-clause-ready c = IfOk-from_err c.from_residual-in_err-deal.result (λ plants. AreReady c.args.net.now.network plants.items) c.from_residual-in_err-deal.ensures.0
 
 pub returns-in_err-deal-clause-rooms : goal.returns-in_err-deal-clause-rooms
-returns-in_err-deal-clause-rooms c = IfOk-from_err c.from_residual-in_err-deal.result (λ plants. All (HasRooms c.args.net.now.network c.args.capacity) plants.items) c.from_residual-in_err-deal.ensures.0
+returns-in_err-deal-clause-rooms c = IfOk-from_err c.from_residual-in_err-deal.result (λ plants. All (HaveMailboxRoom c.args.net.now.network c.args.capacity) plants.items) c.from_residual-in_err-deal.ensures.0

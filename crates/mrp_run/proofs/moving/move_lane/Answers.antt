@@ -1,6 +1,6 @@
 use Rattle.std.proofs.Common.{sym, subst, arith}
 use Rattle.mrp_run.specs.declared.plant.Plant.{Plant}
-use Rattle.mrp_run.specs.Steps.{Keeps}
+use Rattle.mrp_run.specs.Steps.{KeepsPlant}
 use Rattle.mrp_run.proofs.Keeping.{keeps_on, nothing_done, same_lanes, works_on}
 use Rattle.mrp_run.proofs.moving.move_lane.Goals as goal
 use Rattle.mrp_run.proofs.moving.move_lane.Goals.{in-None, in-Some+then-not-move_next}
@@ -20,8 +20,8 @@ loop-preserved g c = keeps_on c.args.plant.now c.loop.plant c.move_next.new.plan
 pub returns : goal.returns
 returns g c = record {
   kept = elim c.match-next.branch [
-    | in-None w ↦ subst (λ (P : Plant). Keeps c.args.plant.now P) (sym w.plant-is) c.loop.invariant
-    | in-Some+then-not-move_next w ↦ subst (λ (P : Plant). Keeps c.args.plant.now P) (sym w.plant-is)
+    | in-None w ↦ subst (λ (P : Plant). KeepsPlant c.args.plant.now P) (sym w.plant-is) c.loop.invariant
+    | in-Some+then-not-move_next w ↦ subst (λ (P : Plant). KeepsPlant c.args.plant.now P) (sym w.plant-is)
         (keeps_on c.args.plant.now c.loop.plant w.move_next.new.plant c.loop.invariant w.move_next.ensures.kept)
   ];
 }

@@ -1,4 +1,4 @@
-use Rattle.mrp_crew.specs.Shut.{WasShut}
+use Rattle.mrp_crew.specs.Shut.{WasShutToWorker}
 use Rattle.mrp_run.proofs.CrewFaults.{crew_is_of}
 use Rattle.mrp_run.proofs.Keeping.{can_plan, planned_kept}
 use Rattle.mrp_run.proofs.running.plan_all.Goals as goal
@@ -20,7 +20,7 @@ returns-in-Err-clause-by_crew g c = (c.in-Err.fault, c.of_crew.ensures)
 
 pub returns-in-Err-clause-fault : goal.returns-in-Err-clause-fault
 returns-in-Err-clause-fault g c =
-    crew_is_of (WasShut g.G.Gate.worker_shut c.args.crew.now.workers) c.args.number c.in-Err.fault c.of_crew.result c.of_crew.ensures c.in-Err.ensures.shut
+    crew_is_of (WasShutToWorker g.G.Gate.worker_shut c.args.crew.now.workers) c.args.number c.in-Err.fault c.of_crew.result c.of_crew.ensures c.in-Err.ensures.shut
 
 pub plan_ready-requires-clause-plannable : goal.plan_ready-requires-clause-plannable
 plan_ready-requires-clause-plannable g c κs within =

@@ -1,7 +1,7 @@
 use Rattle.std.proofs.Common.{sym, ap, ◌∙◌}
 use Rattle.std.proofs.lemmas.Result.{IfErr-at_err}
 use Rattle.mrp_view.specs.View.{PlantRows}
-use Rattle.mrp_crew.specs.Shut.{WasShut as WasWorkerShut}
+use Rattle.mrp_crew.specs.Shut.{WasShutToWorker as WasWorkerShut}
 use Rattle.mrp_run.specs.Faults.{IsOf, never_spent}
 use Rattle.mrp_run.proofs.Keeping.{keeps_on, works_on}
 use Rattle.mrp_run.proofs.StopRules.{handed_on}

@@ -1,7 +1,7 @@
 use Rattle.std.proofs.Common.{◌≡◌, ℕ, inl, inr, refl, sym, ap, subst, ◌∙◌, ◌+◌, is_err, arith}
 use Rattle.std.proofs.lemmas.Bool.{false≢true}
 use Rattle.std.proofs.lemmas.Result.{IfOk-from_err}
-use Rattle.mrp_crew.specs.Shut.{WasShut as WasWorkerShut}
+use Rattle.mrp_crew.specs.Shut.{WasShutToWorker as WasWorkerShut}
 use Rattle.mrp_crew.specs.State.{CrewState}
 use Rattle.mrp_view.specs.View.{PlantRows}
 use Rattle.mrp_run.specs.Faults.{HasTurned, IsOf, IsToldOrOf, WasShut, WasSpent, never_spent}

@@ -1,6 +1,6 @@
 use Rattle.std.proofs.Common.{length, length-append, ap, arith}
 use Rattle.mrp_run.specs.Faults.{AllTurned}
-use Rattle.mrp_run.specs.Joined.{HasKept, started}
+use Rattle.mrp_run.specs.Joined.{HasKept, started_plants}
 use Rattle.mrp_run.proofs.JoinedKept.{kept_finished, kept_rule, turned_back}
 use Rattle.mrp_run.proofs.JoinedThreads.{all_back, are_started, pairs_length, worst_back}
 use Rattle.std.proofs.lemmas.List.{length-map}
@@ -20,7 +20,7 @@ all_of-requires g c = record {
       pairs_length (HasKept g.G.Gate.turn_open g.S.StopRule.holds) c.start_all-refused.new.threads.items c.join_all.new.backs.items c.join_all.ensures.kept,
       length-map c.start_all-refused.new.threads.items (λ t. t.promise.plant.value),
       ap length c.start_all-refused.ensures.started.1,
-      length-append (started c.start_all-refused.new.threads.items) c.start_all-refused.ensures.started.0,
+      length-append (started_plants c.start_all-refused.new.threads.items) c.start_all-refused.ensures.started.0,
       c.in_ok-rooms.ensures.again,
       c.len-2.ensures,
       c.args.plants.ok.0,
@@ -31,21 +31,21 @@ all_of-requires g c = record {
 pub returns-clause-each : goal.returns-clause-each
 returns-clause-each g c =
     let start = c.start_all-refused in
-    all_back c.args.plants.items (started start.new.threads.items) c.err.result c.join_all.new.backs.items c.all_of.result
-    (are_started c.args.plants.items (started start.new.threads.items) start.ensures.started.0 start.result c.err.result start.ensures.started.1 start.ensures.started.2 start.ensures.refused c.err.ensures.value)
+    all_back c.args.plants.items (started_plants start.new.threads.items) c.err.result c.join_all.new.backs.items c.all_of.result
+    (are_started c.args.plants.items (started_plants start.new.threads.items) start.ensures.started.0 start.result c.err.result start.ensures.started.1 start.ensures.started.2 start.ensures.refused c.err.ensures.value)
     (kept_finished g.G.Gate.turn_open g.S.StopRule.holds start.new.threads.items c.join_all.new.backs.items c.join_all.ensures.kept) c.all_of.ensures.none c.all_of.ensures.plants
 
 pub returns-clause-turned : goal.returns-clause-turned
 returns-clause-turned g c =
     let start = c.start_all-refused in
     turned_back g.G.Gate.turn_open g.S.StopRule.holds c.args.turns c.args.plants.items start.new.threads.items c.err.result c.join_all.new.backs.items c.all_of.result
-    (are_started c.args.plants.items (started start.new.threads.items) start.ensures.started.0 start.result c.err.result start.ensures.started.1 start.ensures.started.2 start.ensures.refused c.err.ensures.value)
+    (are_started c.args.plants.items (started_plants start.new.threads.items) start.ensures.started.0 start.result c.err.result start.ensures.started.1 start.ensures.started.2 start.ensures.refused c.err.ensures.value)
     c.join_all.ensures.kept start.ensures.numbered c.all_of.ensures.none c.all_of.ensures.plants
 
 pub returns-clause-fault : goal.returns-clause-fault
 returns-clause-fault g c =
     let start = c.start_all-refused in
-    let at = are_started c.args.plants.items (started start.new.threads.items) start.ensures.started.0 start.result c.err.result start.ensures.started.1 start.ensures.started.2 start.ensures.refused c.err.ensures.value in
+    let at = are_started c.args.plants.items (started_plants start.new.threads.items) start.ensures.started.0 start.result c.err.result start.ensures.started.1 start.ensures.started.2 start.ensures.refused c.err.ensures.value in
     worst_back g.S.StopRule.holds c.err.result c.join_all.new.backs.items c.all_of.result (c.requires.rule ThreadRefused tt) at.fault
     (kept_rule g.G.Gate.turn_open g.S.StopRule.holds start.new.threads.items c.join_all.new.backs.items c.join_all.ensures.kept) c.all_of.ensures.fault
 
@@ -82,7 +82,7 @@ start_all-refused-requires-clause-room g c κs within = (c.in_ok-threads.ensures
 pub join_all-requires-clause-empty : goal.join_all-requires-clause-empty
 join_all-requires-clause-empty g c κs within = c.in_ok-rooms.ensures.no_backs
 
--- no more threads were started than there are plants
+-- no more threads were started_plants than there are plants
 pub join_all-requires-clause-room : goal.join_all-requires-clause-room
 join_all-requires-clause-room g c κs within =
     let start = c.start_all-refused in
@@ -91,7 +91,7 @@ join_all-requires-clause-room g c κs within =
       arith,
       length-map threads (λ t. t.promise.plant.value),
       ap length start.ensures.started.1,
-      length-append (started threads) start.ensures.started.0,
+      length-append (started_plants threads) start.ensures.started.0,
       c.in_ok-rooms.ensures.backs,
       c.len-2.ensures,
       c.args.plants.ok.0,

@@ -2,9 +2,9 @@ use Rattle.std.proofs.Common.{◌≡◌, ◌<◌, ◌++◌, ◌∷◌, [], List,
 use Rattle.std.proofs.lemmas.List.{length-map}
 use Rattle.std.specs.Vec.Iter.{into_iter_items}
 use Rattle.mrp_run.specs.declared.plant.Plant.{Plant}
-use Rattle.mrp_run.specs.Joined.{AreNumbered, started}
+use Rattle.mrp_run.specs.Joined.{AreNumberedThreads, started_plants}
 use Rattle.mrp_run.specs.Faults.{WasShut, WasSpent}
-use Rattle.mrp_run.specs.Steps.{IsAtWork}
+use Rattle.mrp_run.specs.Steps.{PlantIsAtWork}
 use Rattle.mrp_run.proofs.DealtLists.{pushed}
 use Rattle.mrp_run.proofs.JoinedKept.{numbered_more}
 use Rattle.mrp_run.proofs.JoinedThreads.{holds_next, none_left, started_more, whole_next, one_left}
@@ -14,7 +14,7 @@ use Rattle.mrp_run.proofs.threads.start_all.Goals as goal
 
 pub start-requires-clause-work : goal.start-requires-clause-work
 start-requires-clause-work g c = λ κs met.
-    holds_next IsAtWork c.loop-plant.yielded (into_iter_items c.loop-plant.plant-iterator) _ c.args.plants.items c.in-Some.plant c.loop-plant.invariant.whole c.in-Some.ensures.steps.0 c.requires.work
+    holds_next PlantIsAtWork c.loop-plant.yielded (into_iter_items c.loop-plant.plant-iterator) _ c.args.plants.items c.in-Some.plant c.loop-plant.invariant.whole c.in-Some.ensures.steps.0 c.requires.work
 
 -- the next thread is that of one of the plants
 pub start-requires-clause-rule : goal.start-requires-clause-rule
@@ -39,9 +39,9 @@ loop-plant-preserved g c =
     let thread = c.in-Some-start.thread in
     let grown : c.push.new.self.items ≡ at.threads.items ++ thread ∷ [] = pushed at.threads.items c.push.new.self.items thread _ c.push.ensures.items (ap is_ok c.unwrap.ensures) in record {
       whole = whole_next at.yielded (into_iter_items at.plant-iterator) _ c.args.plants.items plant at.invariant.whole c.in-Some.ensures.steps.0;
-      started_so_far = ap started grown ∙ started_more at.threads.items thread ∙ ap (λ (z : List Plant). z ++ thread.promise.plant.value ∷ []) at.invariant.started_so_far
+      started_so_far = ap started_plants grown ∙ started_more at.threads.items thread ∙ ap (λ (z : List Plant). z ++ thread.promise.plant.value ∷ []) at.invariant.started_so_far
           ∙ ap (λ (z : Plant). at.yielded ++ z ∷ []) c.in-Some-start.ensures.plant;
-      numbered = subst (λ z. AreNumbered c.args.turns z) (sym grown)
+      numbered = subst (λ z. AreNumberedThreads c.args.turns z) (sym grown)
           (numbered_more c.args.turns at.threads.items thread _ (omega (arith, c.len.ensures, at.threads.ok.0)) at.invariant.numbered c.in-Some-start.ensures.number c.in-Some-start.ensures.turns);
       room = omega (arith, at.invariant.room, c.push.ensures.capacity);
     }
@@ -65,7 +65,7 @@ pub returns-clause-started : goal.returns-clause-started
 returns-clause-started g c =
     let at = c.loop-plant in
     let all : at.yielded ≡ c.args.plants.items = none_left at.yielded (into_iter_items at.plant-iterator) c.args.plants.items at.invariant.whole (omega (arith, c.in-None.ensures.steps.0, at.plant-iterator.rest.ok.0)) in
-    ([], sym all ∙ sym at.invariant.started_so_far ∙ sym (append-nil (started at.threads.items)), refl)
+    ([], sym all ∙ sym at.invariant.started_so_far ∙ sym (append-nil (started_plants at.threads.items)), refl)
 
 pub returns-in_default-clause-numbered : goal.returns-in_default-clause-numbered
 returns-in_default-clause-numbered g c = c.loop-plant.invariant.numbered

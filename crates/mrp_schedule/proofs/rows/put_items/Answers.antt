@@ -5,11 +5,11 @@ use Rattle.mrp_rows.specs.declared.numbers.ItemNo.{ItemNo}
 use Rattle.mrp_rows.specs.Table.{Table}
 use Rattle.mrp_net.specs.Lanes.{lane_at, lane_items}
 use Rattle.mrp_sheet.specs.Writing.{written}
-use Rattle.mrp_schedule.specs.Rows.{item_text, lane_text}
+use Rattle.mrp_schedule.specs.Rows.{item_text, lane_schedule_text}
 use Rattle.mrp_schedule.proofs.rows.put_items.Goals as goal
 
 pub returns-clause-rows : goal.returns-clause-rows
-unfolding lane_text
+unfolding lane_schedule_text
 returns-clause-rows c =
     let N = c.args.report.now.net.now.network in
     let at_end : take c.items.item-index c.lane_items-items.result.now ≡ c.lane_items-items.result.now = take_all _ _ (omega arith) in

@@ -1,7 +1,7 @@
 use Rattle.std.proofs.Common.{rules}
-use Rattle.mrp_spell.specs.Spelling.{number_of}
+use Rattle.mrp_spell.specs.Spelling.{spelled_number}
 use Rattle.mrp_spell.proofs.numbers.read.Goals as goal
 
 pub returns : goal.returns
-unfolding number_of
+unfolding spelled_number
 returns c = search rules

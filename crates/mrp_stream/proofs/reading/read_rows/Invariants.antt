@@ -1,6 +1,6 @@
 use Rattle.std.proofs.Common.{◌≡◌, ◌+◌, ◌≤◌, length}
 use Rattle.mrp_qty.specs.declared.limits.TheConstants.{MOST_RECORDS}
-use Rattle.mrp_grammar.specs.Left.{GivesAll, left_of}
+use Rattle.mrp_grammar.specs.Left.{GivesAll, rows_left}
 use Rattle.mrp_stream.proofs.Loop.{IsReadSoFar}
 use Rattle.mrp_stream.proofs.reading.read_rows.Given as goal
 
@@ -8,7 +8,7 @@ use Rattle.mrp_stream.proofs.reading.read_rows.Given as goal
 abbrev pub invariant-loop-number : goal.invariant-loop-number
 invariant-loop-number g l = record {
   gives : GivesAll l.rows;
-  so_far : IsReadSoFar l.network (left_of g.R.Read.remaining l.fn.rows) (left_of g.R.Read.remaining l.rows) l.records.items;
+  so_far : IsReadSoFar l.network (rows_left g.R.Read.remaining l.fn.rows) (rows_left g.R.Read.remaining l.rows) l.records.items;
   few : length l.records.items ≤ MOST_RECORDS;
   count : length l.records.items + 1 ≡ l.number;
 }

@@ -1,7 +1,7 @@
 use Rattle.csv.specs.Records.{fields_of}
 use Rattle.mrp_grammar.proofs.Taken.{came, has_stopped}
 use Rattle.mrp_stream.specs.declared.fault.RecordFaultKind.TheVariants as fault
-use Rattle.mrp_stream.specs.Left.{fault_of}
+use Rattle.mrp_stream.specs.Left.{record_fault_of}
 use Rattle.mrp_stream.proofs.Taking.{explains_as_kind, found_or_not}
 use Rattle.mrp_stream.proofs.reading.take_row.Goals as goal
 
@@ -19,4 +19,4 @@ returns-in-Err-clause-exact g c =
 
 pub returns-in-Err-clause-failed : goal.returns-in-Err-clause-failed
 returns-in-Err-clause-failed g c =
-    has_stopped g.R.Read.remaining c.args.rows.now c.read_record.new.self c.requires.gives _ _ c.in-Err.ensures.why c.kind.ensures fault_of fault.ReadFault _ (λ pos e is. cc) c.in-Err.ensures.fails c.read_fault.ensures.value
+    has_stopped g.R.Read.remaining c.args.rows.now c.read_record.new.self c.requires.gives _ _ c.in-Err.ensures.why c.kind.ensures record_fault_of fault.ReadFault _ (λ pos e is. cc) c.in-Err.ensures.fails c.read_fault.ensures.value

@@ -3,8 +3,8 @@ use Rattle.std.proofs.lemmas.Bool.{false≢true}
 use Rattle.mrp_grammar.specs.declared.fault.TableFault.{TableFault}
 use Rattle.mrp_grammar.specs.declared.fault.TableFaultKind.{TableFaultKind}
 use Rattle.csv.specs.Records.{fields_of}
-use Rattle.mrp_grammar.specs.Left.{left_of}
-use Rattle.mrp_tables.specs.Drafts.{state_of}
+use Rattle.mrp_grammar.specs.Left.{rows_left}
+use Rattle.mrp_tables.specs.Drafts.{draft_state}
 use Rattle.mrp_grammar.proofs.Keeping.{row_after_keeps}
 use Rattle.mrp_grammar.proofs.Loop.{bad_there, ends_there, goes_row, none_there, some_there}
 use Rattle.mrp_tables.proofs.Adding.{added, refused, refused_at, refused_own}
@@ -18,29 +18,29 @@ went (Err k) told u number P same is holds = absurd (cc)
 
 pub returns-in_err-next_row-clause-exact : goal.returns-in_err-next_row-clause-exact
 returns-in_err-next_row-clause-exact g c =
-    rw (handed_on c.from_residual.result _ c.from_residual.ensures.1) (bad_there (left_of g.R.Read.remaining c.args.rows.now) c.args.number (state_of c.args.draft.now) _ c.in_err-next_row.ensures.exact)
+    rw (handed_on c.from_residual.result _ c.from_residual.ensures.1) (bad_there (rows_left g.R.Read.remaining c.args.rows.now) c.args.number (draft_state c.args.draft.now) _ c.in_err-next_row.ensures.exact)
 
 pub returns-then-not-branch-clause-exact : goal.returns-then-not-branch-clause-exact
 returns-then-not-branch-clause-exact g c =
-    ends_there (left_of g.R.Read.remaining c.args.rows.now) c.args.number (state_of c.args.draft.now)
-    (none_there c.in_ok-next_row.field-0 (left_of g.R.Read.remaining c.args.rows.now) (left_of g.R.Read.remaining c.next_row.new.rows) c.args.number (fields_of c.next_row.new.row) c.if-not-branch.true c.in_ok-next_row.ensures.exact)
+    ends_there (rows_left g.R.Read.remaining c.args.rows.now) c.args.number (draft_state c.args.draft.now)
+    (none_there c.in_ok-next_row.field-0 (rows_left g.R.Read.remaining c.args.rows.now) (rows_left g.R.Read.remaining c.next_row.new.rows) c.args.number (fields_of c.next_row.new.row) c.if-not-branch.true c.in_ok-next_row.ensures.exact)
 
 pub returns-in_err-at_row-clause-exact : goal.returns-in_err-at_row-clause-exact
 returns-in_err-at_row-clause-exact g c =
-    let takes = some_there c.in_ok-next_row.field-0 (left_of g.R.Read.remaining c.args.rows.now) (left_of g.R.Read.remaining c.next_row.new.rows) c.args.number (fields_of c.next_row.new.row) c.if-not-branch.false c.in_ok-next_row.ensures.exact in
-    rw (handed_on c.from_residual-in_err-at_row.result _ c.from_residual-in_err-at_row.ensures.1) (refused (left_of g.R.Read.remaining c.args.rows.now) (left_of g.R.Read.remaining c.next_row.new.rows) c.args.draft.now c.add.new.self c.args.number (fields_of c.next_row.new.row)
+    let takes = some_there c.in_ok-next_row.field-0 (rows_left g.R.Read.remaining c.args.rows.now) (rows_left g.R.Read.remaining c.next_row.new.rows) c.args.number (fields_of c.next_row.new.row) c.if-not-branch.false c.in_ok-next_row.ensures.exact in
+    rw (handed_on c.from_residual-in_err-at_row.result _ c.from_residual-in_err-at_row.ensures.1) (refused (rows_left g.R.Read.remaining c.args.rows.now) (rows_left g.R.Read.remaining c.next_row.new.rows) c.args.draft.now c.add.new.self c.args.number (fields_of c.next_row.new.row)
     c.add.result c.at_row.result _ c.at_row.ensures.same c.in_err-at_row.was c.add.ensures.exact takes)
 
 pub returns-clause-exact : goal.returns-clause-exact
 returns-clause-exact g c =
-    let takes = some_there c.in_ok-next_row.field-0 (left_of g.R.Read.remaining c.args.rows.now) (left_of g.R.Read.remaining c.next_row.new.rows) c.args.number (fields_of c.next_row.new.row) c.if-not-branch.false c.in_ok-next_row.ensures.exact in
+    let takes = some_there c.in_ok-next_row.field-0 (rows_left g.R.Read.remaining c.args.rows.now) (rows_left g.R.Read.remaining c.next_row.new.rows) c.args.number (fields_of c.next_row.new.row) c.if-not-branch.false c.in_ok-next_row.ensures.exact in
     let good = added c.args.draft.now c.add.new.self c.args.number (fields_of c.next_row.new.row) c.add.result c.at_row.result _ c.at_row.ensures.same c.in_ok-at_row.was c.add.ensures.exact in
-    goes_row (left_of g.R.Read.remaining c.args.rows.now) (left_of g.R.Read.remaining c.next_row.new.rows) c.args.number (state_of c.args.draft.now) (state_of c.add.new.self) (fields_of c.next_row.new.row) takes good
+    goes_row (rows_left g.R.Read.remaining c.args.rows.now) (rows_left g.R.Read.remaining c.next_row.new.rows) c.args.number (draft_state c.args.draft.now) (draft_state c.add.new.self) (fields_of c.next_row.new.row) takes good
 
 pub returns-clause-kept : goal.returns-clause-kept
 returns-clause-kept g c =
     let good = added c.args.draft.now c.add.new.self c.args.number (fields_of c.next_row.new.row) c.add.result c.at_row.result _ c.at_row.ensures.same c.in_ok-at_row.was c.add.ensures.exact in
-    row_after_keeps (state_of c.args.draft.now) (state_of c.add.new.self) (fields_of c.next_row.new.row) c.requires.kept good
+    row_after_keeps (draft_state c.args.draft.now) (draft_state c.add.new.self) (fields_of c.next_row.new.row) c.requires.kept good
 
 pub returns-in_err-next_row-clause-number : goal.returns-in_err-next_row-clause-number
 returns-in_err-next_row-clause-number g c = rw (handed_on c.from_residual.result _ c.from_residual.ensures.1) c.in_err-next_row.ensures.number
@@ -58,7 +58,7 @@ returns-in_err-at_row-clause-failed g c =
 
 pub returns-then-not-branch-clause-last : goal.returns-then-not-branch-clause-last
 returns-then-not-branch-clause-last g c = λ none.
-    none_there c.in_ok-next_row.field-0 (left_of g.R.Read.remaining c.args.rows.now) (left_of g.R.Read.remaining c.next_row.new.rows) c.args.number (fields_of c.next_row.new.row) c.if-not-branch.true c.in_ok-next_row.ensures.exact
+    none_there c.in_ok-next_row.field-0 (rows_left g.R.Read.remaining c.args.rows.now) (rows_left g.R.Read.remaining c.next_row.new.rows) c.args.number (fields_of c.next_row.new.row) c.if-not-branch.true c.in_ok-next_row.ensures.exact
 
 pub returns-clause-last : goal.returns-clause-last
 returns-clause-last g c = λ none. absurd (true≢false none)

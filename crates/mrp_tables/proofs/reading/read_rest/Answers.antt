@@ -1,8 +1,8 @@
 use Rattle.std.proofs.Common.{◌≡◌, ℕ, ◌+◌, ◌≤◌, refl, ap, ◌∙◌, arith}
 use Rattle.mrp_tables.specs.declared.draft.Draft.{Draft}
 use Rattle.mrp_tables.specs.Lists.{IsDraft}
-use Rattle.mrp_grammar.specs.Left.{left_of}
-use Rattle.mrp_tables.specs.Drafts.{state_of}
+use Rattle.mrp_grammar.specs.Left.{rows_left}
+use Rattle.mrp_tables.specs.Drafts.{draft_state}
 use Rattle.mrp_grammar.proofs.Loop.{goes_nowhere, goes_to_fault, next_false, next_true, read_all}
 use Rattle.mrp_grammar.proofs.KeepingSteps.{handed_on}
 use Rattle.mrp_tables.proofs.TurnCount.{draft_rows-le}
@@ -21,8 +21,8 @@ no_more d number is rows far = omega (arith, draft_rows-le d is)
 
 pub returns-in_err-read_next-clause-exact : goal.returns-in_err-read_next-clause-exact
 returns-in_err-read_next-clause-exact g c =
-    rw (handed_on c.from_residual.result _ c.from_residual.ensures.1) (goes_to_fault (left_of g.R.Read.remaining c.args.rows.now) (left_of g.R.Read.remaining c.loop-number.rows) 2 c.loop-number.number
-    (state_of c.args.draft.now) (state_of c.loop-number.draft) _ c.in_err-read_next.ensures.number c.loop-number.invariant.goes c.in_err-read_next.ensures.exact)
+    rw (handed_on c.from_residual.result _ c.from_residual.ensures.1) (goes_to_fault (rows_left g.R.Read.remaining c.args.rows.now) (rows_left g.R.Read.remaining c.loop-number.rows) 2 c.loop-number.number
+    (draft_state c.args.draft.now) (draft_state c.loop-number.draft) _ c.in_err-read_next.ensures.number c.loop-number.invariant.goes c.in_err-read_next.ensures.exact)
 
 pub returns-in_err-read_next-clause-failed : goal.returns-in_err-read_next-clause-failed
 returns-in_err-read_next-clause-failed g c = rw (handed_on c.from_residual.result _ c.from_residual.ensures.1) c.in_err-read_next.ensures.failed
@@ -35,7 +35,7 @@ returns-in_err-read_next-clause-least g c = rw (handed_on c.from_residual.result
 
 pub returns-then-not-branch-clause-all : goal.returns-then-not-branch-clause-all
 returns-then-not-branch-clause-all g c =
-    read_all (left_of g.R.Read.remaining c.args.rows.now) (left_of g.R.Read.remaining c.loop-number.rows) 2 c.loop-number.number (state_of c.args.draft.now) (state_of c.loop-number.draft)
+    read_all (rows_left g.R.Read.remaining c.args.rows.now) (rows_left g.R.Read.remaining c.loop-number.rows) 2 c.loop-number.number (draft_state c.args.draft.now) (draft_state c.loop-number.draft)
     c.args.steps.now c.loop-number.steps c.tick.new.self c.loop-number.invariant.goes (c.in_ok-read_next.ensures.last c.if-not-branch.true) c.loop-number.invariant.steps c.tick.ensures
 
 pub loop-number-preserved : goal.loop-number-preserved
@@ -45,8 +45,8 @@ loop-number-preserved g c = record {
   steps = steps_more _ _ _ _ c.loop-number.invariant.steps c.tick.ensures;
   gives = c.in_ok-read_next.ensures.gives;
   kept = c.in_ok-read_next.ensures.kept;
-  goes = next_true c.in_ok-read_next.field-0 (left_of g.R.Read.remaining c.args.rows.now) (left_of g.R.Read.remaining c.loop-number.rows) (left_of g.R.Read.remaining c.read_next.new.rows) 2 c.loop-number.number
-      (state_of c.args.draft.now) (state_of c.loop-number.draft) (state_of c.read_next.new.draft) c.if-not-branch.false c.loop-number.invariant.goes c.in_ok-read_next.ensures.exact;
+  goes = next_true c.in_ok-read_next.field-0 (rows_left g.R.Read.remaining c.args.rows.now) (rows_left g.R.Read.remaining c.loop-number.rows) (rows_left g.R.Read.remaining c.read_next.new.rows) 2 c.loop-number.number
+      (draft_state c.args.draft.now) (draft_state c.loop-number.draft) (draft_state c.read_next.new.draft) c.if-not-branch.false c.loop-number.invariant.goes c.in_ok-read_next.ensures.exact;
 }
 
 pub returns-in_err-read_next-clause-draft : goal.returns-in_err-read_next-clause-draft
@@ -68,7 +68,7 @@ loop-number-init g c = record {
   steps = refl;
   gives = c.requires.gives;
   kept = c.requires.kept;
-  goes = goes_nowhere (left_of g.R.Read.remaining c.args.rows.now) 2 (state_of c.args.draft.now);
+  goes = goes_nowhere (rows_left g.R.Read.remaining c.args.rows.now) 2 (draft_state c.args.draft.now);
 }
 
 pub read_next-requires-clause-gives : goal.read_next-requires-clause-gives
@@ -82,8 +82,8 @@ read_next-requires-clause-kept g c = c.loop-number.invariant.kept
 
 pub returns-then-not-branch-clause-exact : goal.returns-then-not-branch-clause-exact
 returns-then-not-branch-clause-exact g c =
-    next_false c.in_ok-read_next.field-0 (left_of g.R.Read.remaining c.args.rows.now) (left_of g.R.Read.remaining c.loop-number.rows) (left_of g.R.Read.remaining c.read_next.new.rows) 2 c.loop-number.number
-    (state_of c.args.draft.now) (state_of c.loop-number.draft) (state_of c.read_next.new.draft) c.if-not-branch.true c.loop-number.invariant.goes c.in_ok-read_next.ensures.exact
+    next_false c.in_ok-read_next.field-0 (rows_left g.R.Read.remaining c.args.rows.now) (rows_left g.R.Read.remaining c.loop-number.rows) (rows_left g.R.Read.remaining c.read_next.new.rows) 2 c.loop-number.number
+    (draft_state c.args.draft.now) (draft_state c.loop-number.draft) (draft_state c.read_next.new.draft) c.if-not-branch.true c.loop-number.invariant.goes c.in_ok-read_next.ensures.exact
 
 pub returns-then-not-branch-clause-failed : goal.returns-then-not-branch-clause-failed
 returns-then-not-branch-clause-failed g c = tt

@@ -1,6 +1,6 @@
 use Rattle.std.proofs.Common.{◌≡◌, ◌+◌}
-use Rattle.mrp_grammar.specs.Left.{GivesAll, GoesOn, left_of}
-use Rattle.mrp_tables.specs.Drafts.{IsKept, state_of}
+use Rattle.mrp_grammar.specs.Left.{GivesAll, ReadsOn, rows_left}
+use Rattle.mrp_tables.specs.Drafts.{IsDraftKept, draft_state}
 use Rattle.mrp_tables.specs.Lists.{IsDraft}
 use Rattle.mrp_tables.proofs.reading.read_rest.Given as goal
 
@@ -11,6 +11,6 @@ invariant-loop-number g l = record {
   rows : l.draft.rows + 1 ≡ l.number;
   steps : l.steps + 2 ≡ l.fn.steps + l.number;
   gives : GivesAll l.rows;
-  kept : IsKept l.draft;
-  goes : GoesOn (left_of g.R.Read.remaining l.fn.rows) (left_of g.R.Read.remaining l.rows) 2 (state_of l.fn.draft) l.number (state_of l.draft);
+  kept : IsDraftKept l.draft;
+  goes : ReadsOn (rows_left g.R.Read.remaining l.fn.rows) (rows_left g.R.Read.remaining l.rows) 2 (draft_state l.fn.draft) l.number (draft_state l.draft);
 }

@@ -11,7 +11,7 @@ use Rattle.mrp_book.specs.Figures.{Figures, figures}
 use Rattle.mrp_agent.specs.Fields.{indexes_of}
 use Rattle.mrp_agent.specs.Kept.{IsKept}
 use Rattle.mrp_agent.specs.State.{AgentState, incoming_at, incoming_place}
-use Rattle.mrp_agent.specs.Shows.{form_of, BooksShow, Shows}
+use Rattle.mrp_agent.specs.Shows.{form_of, BooksShow, ShowsHistory}
 use Rattle.mrp_agent.specs.contracts.agent.Agent.{the_view}
 use Rattle.mrp_agent.proofs.BookCalls.{HasAdded, IsOnLane, ends, kept_now, shows_now, refused_is}
 use Rattle.mrp_agent.proofs.agent.Agent.book.Goals as goal
@@ -41,7 +41,7 @@ returns-clause-booked c =
     let at = goal.at.returns-clause-booked c in
     λ sent taken planned shows.
     shows_now (on_lane at.After-index_mut) c.args.entry.now c.in_ok-book.ensures.booked (added at.After-end_block) sent taken planned
-    (subst (λ (a : AgentState). Shows a sent taken planned) (sym c.self.view_is) shows)
+    (subst (λ (a : AgentState). ShowsHistory a sent taken planned) (sym c.self.view_is) shows)
 
 pub returns-in_err-book-clause-refused : goal.returns-in_err-book-clause-refused
 returns-in_err-book-clause-refused c =

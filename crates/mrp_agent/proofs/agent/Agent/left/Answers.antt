@@ -2,7 +2,7 @@ use Rattle.std.proofs.Common.{◌≡◌, ℕ, Bool, List, subst, rules}
 use Rattle.mrp_record.specs.declared.record.Record.{Record}
 use Rattle.mrp_agent.specs.Fields.{indexes_of}
 use Rattle.mrp_agent.specs.Reading.{unplanned_pairs}
-use Rattle.mrp_agent.specs.Shows.{Shows}
+use Rattle.mrp_agent.specs.Shows.{ShowsHistory}
 use Rattle.mrp_agent.specs.State.{AgentState}
 use Rattle.mrp_agent.specs.contracts.agent.Agent.{the_view}
 use Rattle.mrp_agent.proofs.Reading.{left_said}
@@ -14,5 +14,5 @@ returns-clause-count c = search rules
 pub returns-clause-unplanned : goal.returns-clause-unplanned
 returns-clause-unplanned c =
     let A : AgentState = the_view c.self.inside in
-    let P : AgentState → Type 0 = λ a. (sent taken : ℕ → List Record) (planned : ℕ → Bool) → Shows a sent taken planned → c.left.result ≡ unplanned_pairs a.view planned in
+    let P : AgentState → Type 0 = λ a. (sent taken : ℕ → List Record) (planned : ℕ → Bool) → ShowsHistory a sent taken planned → c.left.result ≡ unplanned_pairs a.view planned in
     subst P c.self.view_is (left_said A (indexes_of c.self.inside) c.self.invariant c.left.result c.left.ensures)

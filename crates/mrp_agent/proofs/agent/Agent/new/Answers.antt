@@ -1,6 +1,6 @@
 use Rattle.std.proofs.Common.{◌≡◌, length, sym, subst}
 use Rattle.mrp_agent.specs.Kept.{AreIndexes, Indexes, IsKept}
-use Rattle.mrp_agent.specs.Shows.{Shows}
+use Rattle.mrp_agent.specs.Shows.{ShowsHistory}
 use Rattle.mrp_agent.specs.State.{AgentState}
 use Rattle.mrp_agent.proofs.Opening.{agent_of, agent_opened, none_planned, nothing, opened, opening_kept, opening_shows}
 use Rattle.mrp_agent.proofs.agent.Agent.new.Goals as goal
@@ -45,6 +45,6 @@ invariant_of-result c =
 pub returns-clause-opens : goal.returns-clause-opens
 returns-clause-opens c =
     let here = (goal.at.returns-clause-opens c).In_ok-amounts in
-    subst (λ (a : AgentState). Shows a nothing nothing none_planned) (sym (opens here))
+    subst (λ (a : AgentState). ShowsHistory a nothing nothing none_planned) (sym (opens here))
     (opening_shows c.args.view c.in_ok-structure.structure.progress c.in_ok-lanes.lanes.outs.items c.requires.seen c.requires.openings c.in_ok-structure.ensures.first
     c.in_ok-lanes.ensures.outs c.in_ok-amounts.ensures.receipts c.in_ok-amounts.ensures.demands)

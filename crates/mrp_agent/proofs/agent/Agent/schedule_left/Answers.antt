@@ -7,7 +7,7 @@ use Rattle.mrp_view.specs.declared.view.PlantPair.{PlantPair}
 use Rattle.mrp_view.specs.Loads.{call_of, load_at}
 use Rattle.mrp_agent.specs.State.{AgentState, book_at, incoming_place, pair_place, plans_of, no_book, no_plan}
 use Rattle.mrp_agent.specs.Kept.{IsShowing}
-use Rattle.mrp_agent.specs.Sending.{AreShares, remainder}
+use Rattle.mrp_agent.specs.Sending.{IsCallShare, remainder}
 use Rattle.mrp_agent.specs.contracts.agent.Agent.{the_view}
 use Rattle.mrp_agent.proofs.Calls.{CallFacts, call_facts, call_is, read_is}
 use Rattle.mrp_agent.proofs.Owning.{own_found}
@@ -73,7 +73,7 @@ left_to_call-requires-clause-book c =
 pub left_to_call-requires-clause-shares : goal.left_to_call-requires-clause-shares
 left_to_call-requires-clause-shares c =
     let facts = facts_there (goal.at.left_to_call-requires-clause-shares c).After-incoming_place-before in
-    subst AreShares (sym (call_there (goal.at.left_to_call-requires-clause-shares c).In-Some facts)) facts.shares
+    subst IsCallShare (sym (call_there (goal.at.left_to_call-requires-clause-shares c).In-Some facts)) facts.shares
 
 pub returns : goal.returns
 returns c =

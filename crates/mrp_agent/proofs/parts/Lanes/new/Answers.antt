@@ -5,7 +5,7 @@ use Rattle.mrp_agent.specs.Kept.{HasItemsOnce, HasSmallItems}
 use Rattle.mrp_agent.proofs.Opening.{lanes_once}
 use Rattle.mrp_view.specs.declared.view.IncomingLane.{IncomingLane}
 use Rattle.mrp_view.specs.Seen.{IsIncomingLane}
-use Rattle.mrp_agent.specs.Making.{AreIdle, new_figures}
+use Rattle.mrp_agent.specs.Making.{AreIdleOuts, new_figures}
 use Rattle.mrp_agent.proofs.parts.Lanes.new.Goals as goal
 
 pub out_items-requires : goal.out_items-requires
@@ -24,4 +24,4 @@ pub returns-clause-items : goal.returns-clause-items
 returns-clause-items c = c.in_ok-out_items.ensures ∙ ap (map (λ (l : OutgoingLane). map (λ i. i.item) l.items)) c.outgoing.ensures
 
 pub returns-clause-outs : goal.returns-clause-outs
-returns-clause-outs c = subst (λ (z : List OutgoingLane). AreIdle z c.in_ok-outs.outs.items) c.outgoing-2.ensures c.in_ok-outs.ensures
+returns-clause-outs c = subst (λ (z : List OutgoingLane). AreIdleOuts z c.in_ok-outs.outs.items) c.outgoing-2.ensures c.in_ok-outs.ensures

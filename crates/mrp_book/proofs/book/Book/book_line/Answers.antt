@@ -2,7 +2,7 @@ use borrow.Author.Rules.{rules}
 use Rattle.std.proofs.Common.{Some, None, refl, arith}
 use Rattle.std.proofs.lemmas.Grind.{common_steps}
 use Rattle.std.proofs.lemmas.Result.{err_from_is_err_and}
-use Rattle.mrp_book.specs.After.{with_line}
+use Rattle.mrp_book.specs.After.{figure_after_line}
 use Rattle.mrp_book.specs.Faults.{line_tests}
 use Rattle.mrp_book.proofs.Turns.{item_in_turn, own_fault, shown_line_tests, booked, line_kept}
 use Rattle.mrp_book.proofs.book.Book.book_line.Goals as goal
@@ -25,7 +25,7 @@ returns c =
     let t = item_in_turn _ c.args.self.now c.args.number c.args.item.0 c.in_ok-place.place c.index.result.now c.self.view_is c.in_ok-check_number.ensures c.in_ok-place.ensures c.index.ensures in
     let checked = shown_line_tests t c.get.result c.args.period c.args.quantity c.args.cumulative None c.get.ensures.value c.in_ok-check_line.ensures in (
       own_fault t (line_tests c.args.self.now.rising c.args.self.now.horizon c.args.number c.args.period c.args.quantity c.args.cumulative) None checked,
-      booked t c.index_mut.result.now c.add_line.new.self (with_line c.args.period c.args.quantity) (Some c.args.item.0) c.index_mut.ensures.value c.add_line.ensures,
+      booked t c.index_mut.result.now c.add_line.new.self (figure_after_line c.args.period c.args.quantity) (Some c.args.item.0) c.index_mut.ensures.value c.add_line.ensures,
     )
 
 pub returns-in_err-check_number : goal.returns-in_err-check_number

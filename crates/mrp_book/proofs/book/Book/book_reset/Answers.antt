@@ -1,6 +1,6 @@
 use Rattle.std.proofs.Common.{Some, None, refl}
 use Rattle.std.proofs.lemmas.Result.{err_from_is_err_and}
-use Rattle.mrp_book.specs.After.{with_reset}
+use Rattle.mrp_book.specs.After.{figure_after_reset}
 use Rattle.mrp_book.specs.Faults.{reset_tests}
 use Rattle.mrp_book.proofs.Turns.{item_in_turn, own_fault, booked, reset_kept}
 use Rattle.mrp_book.proofs.book.Book.book_reset.Goals as goal
@@ -20,5 +20,5 @@ pub returns : goal.returns
 returns c =
     let t = item_in_turn _ c.args.self.now c.args.number c.args.item.0 c.in_ok-place.place c.index.result.now c.self.view_is c.in_ok-check_number.ensures c.in_ok-place.ensures c.index.ensures in (
       own_fault t (reset_tests c.args.number c.args.closed) None c.in_ok-check_reset.ensures,
-      booked t c.index_mut.result.now c.add_reset.new.self with_reset (Some c.args.item.0) c.index_mut.ensures.value c.add_reset.ensures,
+      booked t c.index_mut.result.now c.add_reset.new.self figure_after_reset (Some c.args.item.0) c.index_mut.ensures.value c.add_reset.ensures,
     )

@@ -2,7 +2,7 @@ use Rattle.std.proofs.Common.{[], ◌++◌, refl, ap, ◌∙◌, sym, subst, ari
 use Rattle.std.proofs.lemmas.Result.{err_from_is_err_and}
 use Rattle.mrp_agent.specs.Drafts.{ready_numbers}
 use Rattle.mrp_view.specs.View.{PlantRows}
-use Rattle.mrp_crew.specs.Shut.{WasShut}
+use Rattle.mrp_crew.specs.Shut.{WasShutToWorker}
 use Rattle.mrp_crew.specs.State.{CrewState}
 use Rattle.mrp_crew.proofs.Keeping.{none_ready, some_ready}
 use Rattle.mrp_crew.proofs.PlanningLaws.{plannable_after, plans_append, plans_none}
@@ -39,7 +39,7 @@ returns-clause-planned g c =
 pub returns-in_err-plan_wave-clause-shut : goal.returns-in_err-plan_wave-clause-shut
 returns-in_err-plan_wave-clause-shut g c =
     let p = err_from_is_err_and c.from_residual.result c.from_residual.ensures.1 in
-    rw (p.1, p.2) (λ is. subst (λ (crew : CrewState). WasShut g.G.Gate.worker_shut crew.workers c.args.plant) c.loop-alloc.invariant.crew (c.in_err-plan_wave.ensures.shut is))
+    rw (p.1, p.2) (λ is. subst (λ (crew : CrewState). WasShutToWorker g.G.Gate.worker_shut crew.workers c.args.plant) c.loop-alloc.invariant.crew (c.in_err-plan_wave.ensures.shut is))
 
 pub returns-in_err-plan_wave-clause-refused : goal.returns-in_err-plan_wave-clause-refused
 returns-in_err-plan_wave-clause-refused g c =

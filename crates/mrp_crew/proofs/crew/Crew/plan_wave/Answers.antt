@@ -4,7 +4,7 @@ use Rattle.mrp_crew.proofs.Keeping.{when_true, where_err, where_ok}
 use Rattle.mrp_crew.proofs.PlanningLaws.{plans_none}
 use Rattle.mrp_crew.proofs.ShutGates.{memory_is_no_gate, memory_is_no_thread, shut_to_one}
 use Rattle.mrp_crew.specs.Rooms.{IsRoom}
-use Rattle.mrp_crew.specs.Shut.{WasShut}
+use Rattle.mrp_crew.specs.Shut.{WasShutToWorker}
 use Rattle.mrp_crew.specs.State.{CrewState}
 use Rattle.mrp_crew.proofs.crew.Crew.plan_wave.Goals as goal
 
@@ -93,8 +93,8 @@ returns-clause-planned g c =
 pub returns-clause-shut : goal.returns-clause-shut
 returns-clause-shut g c =
     where_err c.wave_end.result _ _ c.wave_end.ensures.shut (λ fault shut is.
-    subst (λ (crew : CrewState). WasShut g.G.Gate.worker_shut crew.workers c.args.plant) c.self.view_is
-    (shut_to_one (WasShut g.G.Gate.worker_shut c.self.inside.workers c.args.plant) c.in_ok-drafts.drafts.works.items c.settle_all-open.result c.in_ok-drafts.ensures.shut
+    subst (λ (crew : CrewState). WasShutToWorker g.G.Gate.worker_shut crew.workers c.args.plant) c.self.view_is
+    (shut_to_one (WasShutToWorker g.G.Gate.worker_shut c.self.inside.workers c.args.plant) c.in_ok-drafts.drafts.works.items c.settle_all-open.result c.in_ok-drafts.ensures.shut
     c.settle_all-open.ensures.let_in (shut is)))
 
 pub returns-in_err-refill-clause-refused : goal.returns-in_err-refill-clause-refused

@@ -2,7 +2,7 @@ use Rattle.std.proofs.Common.{ℕ, [], ◌∷◌, ◌++◌, sym, ap, subst, ◌�
 use Rattle.std.specs.Arc.{arc_value}
 use Rattle.crossbeam_queue.specs.Passes.{view}
 use Rattle.mrp_lane.specs.declared.view.LaneView.{LaneView}
-use Rattle.mrp_lane.specs.Ends.{End, IsNext}
+use Rattle.mrp_lane.specs.Ends.{End, IsNextRecord}
 use Rattle.mrp_lane.specs.Views.{IsLegal}
 use Rattle.mrp_lane.proofs.Ending.{number_fits, more_fits, ours_there, same_name, sends_on, stays_sending}
 use Rattle.mrp_lane.proofs.send.SendEnd.offer.Goals as goal
@@ -11,18 +11,18 @@ pub push-requires-clause-legal : goal.push-requires-clause-legal
 push-requires-clause-legal g c =
     let p = c.self.inside.pass in
     subst (λ (l : ℕ). IsLegal (view p).network l ((view p).sent ++ c.args.entry ∷ [])) (sym c.self.invariant.1.lane)
-    (subst (λ (e : End). IsNext e c.args.entry) (sym c.self.view_is) c.requires.legal)
+    (subst (λ (e : End). IsNextRecord e c.args.entry) (sym c.self.view_is) c.requires.legal)
 
 pub add-requires-clause-number : goal.add-requires-clause-number
-add-requires-clause-number g c = number_fits c.self.invariant.1 c.args.entry (subst (λ (e : End). IsNext e c.args.entry) (sym c.self.view_is) c.requires.legal)
+add-requires-clause-number g c = number_fits c.self.invariant.1 c.args.entry (subst (λ (e : End). IsNextRecord e c.args.entry) (sym c.self.view_is) c.requires.legal)
 
 pub add-requires-clause-fits : goal.add-requires-clause-fits
-add-requires-clause-fits g c = more_fits c.self.invariant.1 c.args.entry (subst (λ (e : End). IsNext e c.args.entry) (sym c.self.view_is) c.requires.legal)
+add-requires-clause-fits g c = more_fits c.self.invariant.1 c.args.entry (subst (λ (e : End). IsNextRecord e c.args.entry) (sym c.self.view_is) c.requires.legal)
 
 pub invariant_of-self-2 : goal.invariant_of-self-2
 invariant_of-self-2 g c =
     sends_on _ c.self.inside.pass c.push.new.pass c.self.inside.lane.0 c.self.inside.tally c.add.new.self c.args.entry g.S.Stamp.stamp c.self.invariant
-    (subst (λ (e : End). IsNext e c.args.entry) (sym c.self.view_is) c.requires.legal) c.push.ensures.same c.in_default.ensures.sent c.add.ensures
+    (subst (λ (e : End). IsNextRecord e c.args.entry) (sym c.self.view_is) c.requires.legal) c.push.ensures.same c.in_default.ensures.sent c.add.ensures
 
 pub push-requires-clause-pass : goal.push-requires-clause-pass
 push-requires-clause-pass g c = ours_there c.self.invariant.1 c.deref.ensures

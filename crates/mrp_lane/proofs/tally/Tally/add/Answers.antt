@@ -1,7 +1,7 @@
 use Rattle.std.proofs.Common.{◌≡◌, ◌+◌, length, drop, sym, subst, refl, ap, ◌∙◌, arith}
 use Rattle.std.specs.List.{IsDistinct}
 use Rattle.std.proofs.lemmas.List.{take_at}
-use Rattle.mrp_lane.specs.Tallies.{Counts, counted, is_same_item, more_of}
+use Rattle.mrp_lane.specs.Tallies.{Counts, counted, is_same_pieces, more_of}
 use Rattle.mrp_lane.proofs.Counting.{apart_after, none_more, not_line}
 use Rattle.mrp_lane.proofs.tally.Tally.add.Goals as goal
 
@@ -10,8 +10,8 @@ invariant_of-self c =
     let old = c.self.inside.items.items in
     let new = c.add_pieces-self-inside.new.items in
     let back : length new ≡ c.self.inside.items.len = omega (arith, c.add_pieces-self-inside.auto.items, c.as_mut_slice.ensures.len) in
-    subst (IsDistinct is_same_item) (sym (take_at new (drop (length new) old) c.self.inside.items.len back ∙ c.add_pieces-self-inside.ensures))
-    (apart_after (more_of c.in-Line.item.0 c.in-Line.quantity) (λ i. refl) c.as_mut_slice.result.now (subst (IsDistinct is_same_item) (sym c.as_mut_slice.ensures.value) c.self.invariant))
+    subst (IsDistinct is_same_pieces) (sym (take_at new (drop (length new) old) c.self.inside.items.len back ∙ c.add_pieces-self-inside.ensures))
+    (apart_after (more_of c.in-Line.item.0 c.in-Line.quantity) (λ i. refl) c.as_mut_slice.result.now (subst (IsDistinct is_same_pieces) (sym c.as_mut_slice.ensures.value) c.self.invariant))
 
 pub returns-in_default : goal.returns-in_default
 returns-in_default c =

@@ -3,7 +3,7 @@ use Rattle.std.specs.List.{IsDistinct}
 use Rattle.std.proofs.lemmas.List.{length-map, length_push, map-append}
 use Rattle.mrp_tables.specs.declared.draft.LaneKey.{LaneKey}
 use Rattle.mrp_rows.specs.declared.rows.SourceRow.{SourceRow}
-use Rattle.mrp_tables.specs.Lists.{AreLanes, Fits, is_same_lane, reset_key_of}
+use Rattle.mrp_tables.specs.Lists.{AreLanes, FitsRows, is_same_lane, reset_key_of}
 use Rattle.mrp_rows.specs.Turns.{row_count}
 use Rattle.mrp_rows.specs.Growing.{with_reset}
 use Rattle.mrp_rows.specs.Table.{Table}
@@ -44,7 +44,7 @@ returns-clause-adds c =
     let keys = c.in_ok-insert.ensures.keys ∙ ap (λ b. if b then self.reset_keys.keys else self.reset_keys.keys ++ k ∷ []) fresh in
     let here = found_lane r.from r.pair self.lane_keys.keys self.lists.sources _ d old.fits.lane_keys refl c.in_ok-reset.ensures.source in
     let made = sym c.in_ok-add_reset.ensures.table in
-    let fits : Fits (with_reset N r) self.lane_keys.keys self.lanes.items = record { lane_keys = old.fits.lane_keys; apart = old.fits.apart; each = old.fits.each; lanes = old.fits.lanes; sources = old.fits.sources; items = old.fits.items } in
+    let fits : FitsRows (with_reset N r) self.lane_keys.keys self.lanes.items = record { lane_keys = old.fits.lane_keys; apart = old.fits.apart; each = old.fits.each; lanes = old.fits.lanes; sources = old.fits.sources; items = old.fits.items } in
     let count : row_count (with_reset N r) ≡ row_count N + 1 = omega (arith, length_push N.resets r) in
     let named : self.reset_keys.keys ++ k ∷ [] ≡ map reset_key_of (N.resets ++ r ∷ []) = ap (λ (ks : List LaneKey). ks ++ k ∷ []) old.reset_keys ∙ sym (map-append reset_key_of N.resets (r ∷ [])) in
     record {
@@ -54,7 +54,7 @@ returns-clause-adds c =
         cum_keys = search rules;
         reset_keys = keys ∙ named ∙ ap (λ (M : Table). map reset_key_of M.resets) made;
         resets = subst (AreLanes self.lane_keys.keys) (sym keys) (lanes_push self.lane_keys.keys self.reset_keys.keys k old.resets here);
-        fits = subst (λ (M : Table). Fits M self.lane_keys.keys self.lanes.items) made fits;
+        fits = subst (λ (M : Table). FitsRows M self.lane_keys.keys self.lanes.items) made fits;
       };
       counted = refl;
       count = subst (λ (M : Table). row_count M ≡ row_count N + 1) made count;

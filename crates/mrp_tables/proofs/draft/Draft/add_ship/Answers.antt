@@ -2,7 +2,7 @@ use Rattle.std.proofs.Common.{◌≡◌, ◌+◌, set, sym, ◌∙◌, subst, re
 use Rattle.std.proofs.lemmas.List.{length-set, length_push}
 use Rattle.mrp_tables.specs.declared.draft.Lane.{Lane}
 use Rattle.mrp_rows.specs.declared.rows.SourceRow.{SourceRow}
-use Rattle.mrp_tables.specs.Lists.{after_ship, Fits}
+use Rattle.mrp_tables.specs.Lists.{after_ship, FitsRows}
 use Rattle.mrp_rows.specs.Turns.{row_count}
 use Rattle.mrp_rows.specs.Growing.{with_ship}
 use Rattle.mrp_rows.specs.Table.{Table}
@@ -22,7 +22,7 @@ returns-clause-adds c =
     let l : Lane = c.index_mut.result.now in
     let each = states_ship N.ships x self.lane_keys.keys N.sources self.lanes.items k d l old.fits.lane_keys old.fits.apart old.fits.each c.in_ok-ship.ensures.place c.index_mut.ensures.value in
     let v = after_ship l x.period in
-    let fits : Fits (with_ship N x) self.lane_keys.keys (set self.lanes.items k v) = record {
+    let fits : FitsRows (with_ship N x) self.lane_keys.keys (set self.lanes.items k v) = record {
       lane_keys = old.fits.lane_keys;
       apart = old.fits.apart;
       each = each;
@@ -39,8 +39,8 @@ returns-clause-adds c =
         cum_keys = search rules;
         reset_keys = search rules;
         resets = old.resets;
-        fits = subst (λ (m : Lane). Fits c.add_ship.new.self self.lane_keys.keys (set self.lanes.items k m)) (sym c.ship.ensures)
-            (subst (λ (M : Table). Fits M self.lane_keys.keys (set self.lanes.items k v)) made fits);
+        fits = subst (λ (m : Lane). FitsRows c.add_ship.new.self self.lane_keys.keys (set self.lanes.items k m)) (sym c.ship.ensures)
+            (subst (λ (M : Table). FitsRows M self.lane_keys.keys (set self.lanes.items k v)) made fits);
       };
       counted = refl;
       count = subst (λ (M : Table). row_count M ≡ row_count N + 1) made count;

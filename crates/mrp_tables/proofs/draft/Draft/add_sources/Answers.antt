@@ -9,7 +9,7 @@ use Rattle.mrp_rows.specs.Names.{has_plant}
 use Rattle.mrp_tables.specs.Drafts.{IsNewPair, with_sources}
 use Rattle.mrp_grammar.specs.Grammar.{knows_sources, source_row}
 use Rattle.mrp_rows.specs.Growing.{with_source}
-use Rattle.mrp_spell.specs.Spelled.{is_same_plant, source_view}
+use Rattle.mrp_spell.specs.Spelled.{is_same_spelled_plant, source_view}
 use Rattle.mrp_spell.specs.Supplies.{SourceTerms}
 use Rattle.mrp_rows.specs.Table.{Table, is_taken_from}
 use Rattle.mrp_tables.proofs.NewPair.{sources_fresh, sources_known, sources_more}
@@ -30,7 +30,7 @@ module _ (N M : Table) (x : ℕ) (xs : List SpelledSource) (i : ℕ) (is : M ≡
   turn_known : knows_sources N (map source_view xs) ≡ true → has_plant M (get_or xs i nothing).plant.now ≡ true
   turn_known known = subst (λ (s : SourceTerms). has_plant M s.plant ≡ true) (seen_at i) (sources_known N M x (map source_view xs) i (source_view nothing) is known among)
 
-  turn_fresh : IsNewPair N x → knows_sources N (map source_view xs) ≡ true → IsDistinct is_same_plant xs → is_taken_from M x (source_row M x (source_view (get_or xs i nothing))).plant.0 ≡ false
+  turn_fresh : IsNewPair N x → knows_sources N (map source_view xs) ≡ true → IsDistinct is_same_spelled_plant xs → is_taken_from M x (source_row M x (source_view (get_or xs i nothing))).plant.0 ≡ false
   turn_fresh new known apart =
       subst (λ (s : SourceTerms). is_taken_from M x (source_row M x s).plant.0 ≡ false) (seen_at i)
       (sources_fresh N M x (map source_view xs) i (source_view nothing) is new known other among)
@@ -39,7 +39,7 @@ module _ (N M : Table) (x : ℕ) (xs : List SpelledSource) (i : ℕ) (is : M ≡
       other j before =
           ap (λ (s : SourceTerms). bytes_eq s.plant (get_or (map source_view xs) i (source_view nothing)).plant) (seen_at j)
           ∙ ap (λ (s : SourceTerms). bytes_eq (get_or xs j nothing).plant.now s.plant) (seen_at i)
-          ∙ apart_from_distinct is_same_plant xs j i nothing apart before lt
+          ∙ apart_from_distinct is_same_spelled_plant xs j i nothing apart before lt
 
   turn_more : (L : Table) → L ≡ with_source M (source_row M x (source_view (get_or xs i nothing))) → L ≡ with_sources N x (take (i + 1) (map source_view xs))
   turn_more L made =

@@ -1,7 +1,7 @@
 use Rattle.std.proofs.Common.{◌≡◌, ◌+◌, List, ◌∷◌, [], ◌++◌, length, rules, ap, ◌∙◌}
 use Rattle.mrp_net.specs.declared.lane.Shipment.{Shipment}
 use Rattle.mrp_view.specs.declared.view.OutgoingRow.{OutgoingRow}
-use Rattle.mrp_view.specs.Loads.{Load, load, loads_of}
+use Rattle.mrp_view.specs.Loads.{OutgoingLoad, load, loads_of}
 use Rattle.mrp_view.proofs.Loading.{loads_push}
 use Rattle.mrp_view.proofs.view.OutgoingItems.push.Goals as goal
 
@@ -18,4 +18,4 @@ returns c =
     ap (λ (z : List OutgoingRow). loads_of z c.extend_from_slice.new.self.items) pushed
     ∙ ap (λ (z : List Shipment). loads_of (rows ++ row ∷ []) z) joined
     ∙ loads_push rows ships more row c.self.invariant begin end
-    ∙ ap (λ (z : List Load). z ++ load c.args.item more ∷ []) c.self.view_is
+    ∙ ap (λ (z : List OutgoingLoad). z ++ load c.args.item more ∷ []) c.self.view_is
