@@ -11,7 +11,8 @@ use Rattle.mrp_group.proofs.Grouping.{range-suc}
 use Rattle.mrp_lot.specs.One.{PlanRows}
 use Rattle.mrp_rows.specs.declared.rows.PairRow.{PairRow}
 use Rattle.mrp_rows.specs.Table.{Table, IsPair, horizon}
-use Rattle.mrp_net.specs.Plan.{Fits, gross as required_in, rows_at}
+use Rattle.mrp_net.specs.Plan.{gross as required_in, rows_at}
+use Rattle.mrp_net.specs.PlanLaws.{Fits}
 use Rattle.mrp_net.specs.Sums.{pair_at}
 use Rattle.mrp_loops.specs.Sized.{IsSized}
 use Rattle.mrp_loops.proofs.Within.{gross_within_need}

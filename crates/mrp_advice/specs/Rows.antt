@@ -7,7 +7,8 @@ use Rattle.mrp_choice.specs.declared.choice.Heading.{Heading}
 use Rattle.mrp_sheet.specs.Dates.{dates_of}
 use Rattle.mrp_sheet.specs.DateLists.{date_in}
 use Rattle.mrp_sheet.specs.Headings.{header_row}
-use Rattle.mrp_sheet.specs.Names.{item_of, pairs_of, name_of_plant, plant_of}
+use Rattle.mrp_sheet.specs.Names.{item_of, pairs_of, plant_of}
+use Rattle.mrp_sheet.specs.RowNames.{name_of_plant}
 use Rattle.mrp_sheet.specs.Rows.{row}
 use Rattle.mrp_advice.specs.declared.advice.Action.{Action}
 use Rattle.mrp_advice.specs.declared.advice.Action.TheVariants.{Expedite, Defer, Cancel}

@@ -3,12 +3,12 @@
 ghost use Rattle.std.specs.Prelude.{◌≡◌, ◌+◌, ◌<◌, ◌≤◌, ◌++◌, Err, OnOk, IfOk, IfErr, IfSome, length, sum};
 ghost use Rattle.mrp_qty.specs.declared.quantity.TheConstants.{MOST};
 ghost use Rattle.mrp_rows.specs.Table.{IsPair, horizon};
-ghost use Rattle.mrp_net.specs.Plan.{Fits};
+ghost use Rattle.mrp_net.specs.PlanLaws.{Fits};
 ghost use Rattle.mrp_loops.specs.Sized.{IsSized};
 ghost use Rattle.mrp_sheet.specs.Dates.{dates_of};
 ghost use Rattle.mrp_sheet.specs.Headings.{header_row};
 ghost use Rattle.mrp_sheet.specs.Writing.{IsBetweenRows, written};
-ghost use Rattle.mrp_sheet.specs.Sending.{SendsReport};
+ghost use Rattle.mrp_sheet.specs.Sent.{SendsReport};
 ghost use Rattle.mrp_advice.specs.Advice.{advice_for};
 ghost use Rattle.mrp_advice.specs.AdviceLines.{HasSender, IsAdvice, IsAdvised, IsAdviceLine, IsOpenOrder, advice_line_row, advice_line_text, message_text};
 ghost use Rattle.mrp_advice.specs.Covered.{Covers};

@@ -12,7 +12,8 @@ use Rattle.mrp_view.specs.declared.view.IncomingLane.{IncomingLane}
 use Rattle.mrp_view.specs.View.{PlantRows}
 use Rattle.mrp_view.proofs.Once.{one}
 use Rattle.mrp_record.specs.declared.record.Record.{Record}
-use Rattle.mrp_record.specs.Entries.{Entry, LineOf, EndOf, ResetOf, Delivery, content, contents, entries_of, deliveries, entry_delivery, is_of, is_end, is_ended}
+use Rattle.mrp_record.specs.Entries.{Entry, LineOf, EndOf, ResetOf, Delivery, content, contents, entries_of, is_of, is_end, is_ended}
+use Rattle.mrp_record.specs.Blocks.{deliveries, entry_delivery}
 use Rattle.mrp_record.specs.Laws.{quantity_in}
 use Rattle.mrp_events.specs.State.{changed}
 use Rattle.mrp_local.specs.Local.{pieces_in, is_of_kind, booked_on}

@@ -17,7 +17,8 @@ use Rattle.mrp_view.specs.Seen.{IsView, IsOwnOf}
 use Rattle.mrp_view.specs.View.{PlantRows}
 use Rattle.mrp_record.specs.declared.record.Record.{Record}
 use Rattle.mrp_record.specs.declared.record.Record.TheVariants.{Line, ItemEnd, Reset, Close}
-use Rattle.mrp_record.specs.Entries.{Entry, closed_of, content, contents, entry_delivery, entries_of, figure_after, is_end, is_ended, is_of}
+use Rattle.mrp_record.specs.Entries.{Entry, closed_of, content, contents, entries_of, figure_after, is_end, is_ended, is_of}
+use Rattle.mrp_record.specs.Blocks.{entry_delivery}
 use Rattle.mrp_record.specs.Form.{EntryFits}
 use Rattle.mrp_record.specs.Laws.{quantity_in}
 use Rattle.mrp_book.specs.Figures as book

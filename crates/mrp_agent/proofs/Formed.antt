@@ -13,7 +13,8 @@ use Rattle.mrp_record.specs.Form.{FormItem, LaneForm, IsInForm}
 use Rattle.mrp_record.specs.Text.{IsBeginning}
 use Rattle.mrp_book.specs.Figures.{book_form_item, rises_on}
 use Rattle.mrp_events.specs.LoadLaws.{lane_form}
-use Rattle.mrp_events.specs.Loads.{loads, is_rising}
+use Rattle.mrp_events.specs.Loads.{loads}
+use Rattle.mrp_events.specs.Steps.{is_rising}
 use Rattle.mrp_events.specs.Seen.{form_item_of, seen_form}
 use Rattle.mrp_events.proofs.Sending.{forms_are_seen}
 use Rattle.mrp_events.proofs.Small.{legal_is_in_form}

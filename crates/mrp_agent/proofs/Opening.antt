@@ -26,7 +26,7 @@ use Rattle.mrp_book.specs.Figures.{Figures}
 use Rattle.mrp_book.proofs.Opening.{empty_in_form, items_once}
 use Rattle.mrp_cursor.specs.Cursor.{OutFigures}
 use Rattle.mrp_cursor.proofs.Lists.{range_below, range_has}
-use Rattle.mrp_group.specs.Groups.{IsGrouped}
+use Rattle.mrp_group.specs.Starts.{IsGrouped}
 use Rattle.mrp_ready.specs.declared.join.Join.{Join}
 use Rattle.mrp_ready.specs.Counts.{Awaited, AreCounts, components_of, open_blocks}
 use Rattle.mrp_ready.specs.Progress.{Progress, is_planned, times}

@@ -1,7 +1,7 @@
 -- A pair of the plant stands at a place of an agent.
 use Rattle.std.proofs.Common.{◌≡◌, ℕ, ◌<◌, ◌==◌, Option, Some, length, position, sym, subst, arith}
 use Rattle.std.specs.List.{Contains}
-use Rattle.mrp_lot.specs.One.{IsWithin}
+use Rattle.mrp_lot.specs.Bound.{IsWithin}
 use Rattle.mrp_rows.specs.declared.numbers.PairNo.{PairNo}
 use Rattle.mrp_view.specs.Seen.{IsOwnPair}
 use Rattle.mrp_ready.specs.Progress.{IsListed}

@@ -1,6 +1,7 @@
 -- What an agent drafts for a pair: the plan by the rows that it has.
 use Rattle.std.specs.Prelude.{ℕ, ◌+◌, List, map, Contains}
-use Rattle.mrp_lot.specs.One.{PlanRows, one, IsWithin}
+use Rattle.mrp_lot.specs.One.{PlanRows, one}
+use Rattle.mrp_lot.specs.Bound.{IsWithin}
 use Rattle.mrp_rows.specs.declared.numbers.PairNo.{PairNo}
 use Rattle.mrp_view.specs.Seen.{IsOwnPair}
 use Rattle.mrp_ready.specs.Chosen.{number_at}

@@ -1,6 +1,6 @@
 -- Laws of agents in a network: what they plan is its plan, and what they send is what its lanes carry.
 use Rattle.std.specs.Prelude.{◌≡◌, ℕ, ◌<◌, Bool, true, List, [], ◌∷◌, ◌++◌, length}
-use Rattle.mrp_lot.specs.One.{IsWithin}
+use Rattle.mrp_lot.specs.Bound.{IsWithin}
 use Rattle.mrp_rows.specs.declared.numbers.PairNo.{PairNo}
 use Rattle.mrp_rows.specs.Table.{Table, IsTable}
 use Rattle.mrp_net.specs.Lanes.{lane_at}

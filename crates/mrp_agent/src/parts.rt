@@ -31,7 +31,7 @@ pub(crate) struct Structure {
 }
 
 impl Structure {
-    ghost use Rattle.mrp_group.specs.Groups.{IsGrouped};
+    ghost use Rattle.mrp_group.specs.Starts.{IsGrouped};
 
     /// The pairs of a plant where nothing is planned and nothing has come.
     pub(crate) fn new(alloc: Global, view: &PlantView) -> Result<Structure, Memory>

@@ -8,7 +8,7 @@ use mrp_net::PairNo;
 impl Agent {
     ghost use Rattle.std.specs.Prelude.{◌≡◌, ◌↔◌, ◌+◌, ℕ, Bool, true, List, Contains, IsTrue, slice_set};
     ghost use Rattle.std.specs.Bool.{OnFalse, OnTrue};
-    ghost use Rattle.mrp_lot.specs.One.{IsWithin};
+    ghost use Rattle.mrp_lot.specs.Bound.{IsWithin};
     ghost use Rattle.mrp_rows.specs.declared.numbers.PairNo.{PairNo};
     ghost use Rattle.mrp_record.specs.declared.record.Record.{Record};
     ghost use Rattle.mrp_ready.specs.Progress.{IsFree, left_of};

@@ -7,7 +7,8 @@ use Rattle.std.proofs.lemmas.List.{map-append, length-append}
 use Rattle.std.proofs.lemmas.List.Sums.{fold_push, sum_by_push}
 use Rattle.mrp_record.specs.declared.record.Record.{Record}
 use Rattle.mrp_record.specs.declared.record.Record.TheVariants.{Line, ItemEnd, Reset, Close}
-use Rattle.mrp_record.specs.Entries.{Entry, LineOf, EndOf, ResetOf, Closing, content, contents, is_of, is_line, is_reset, is_end, is_closing, entries_of, is_closed, next_after, figure_after, closed_of, in_force}
+use Rattle.mrp_record.specs.Entries.{Entry, LineOf, EndOf, ResetOf, Closing, content, contents, is_of, is_end, is_closing, entries_of, is_closed, figure_after, closed_of, in_force}
+use Rattle.mrp_record.specs.Blocks.{is_line, is_reset, next_after}
 use Rattle.mrp_record.specs.Form.{FormItem, LaneForm, item_on, GoesOn, ResetFits, EntryFits}
 use Rattle.mrp_record.proofs.Growing.{own_pushed, other_pushed}
 use Rattle.mrp_book.specs.declared.item.ItemFigure.{ItemFigure}

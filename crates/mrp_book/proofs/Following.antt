@@ -7,7 +7,8 @@ use Rattle.std.proofs.lemmas.List.{append-nil, map-append, length-append}
 use Rattle.std.proofs.lemmas.List.Elements.{All-head, All-tail}
 use Rattle.std.proofs.lemmas.List.Sums.{fold_push}
 use Rattle.mrp_record.specs.declared.record.Record.{Record}
-use Rattle.mrp_record.specs.Entries.{Entry, LineOf, EndOf, ResetOf, Closing, content, contents, is_of, is_end, entries_of, is_open}
+use Rattle.mrp_record.specs.Entries.{Entry, LineOf, EndOf, ResetOf, Closing, content, contents, is_of, is_end, entries_of}
+use Rattle.mrp_record.specs.Blocks.{is_open}
 use Rattle.mrp_record.specs.Form.{FormItem, LaneForm, item_on, is_other_open, GoesOn, LineFits, EndFits, ResetFits, EntryFits, Continues, IsInForm}
 use Rattle.mrp_record.proofs.FormItems.{item_is}
 use Rattle.mrp_record.proofs.Fronts.{overlap, nothing_after}

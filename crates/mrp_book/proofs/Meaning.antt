@@ -7,7 +7,8 @@ use Rattle.mrp_qty.specs.declared.quantity.TheConstants.{MOST}
 use Rattle.mrp_rows.specs.declared.numbers.ItemNo.{ItemNo}
 use Rattle.mrp_record.specs.declared.record.Record.{Record}
 use Rattle.mrp_record.specs.declared.record.Record.TheVariants.{Line, ItemEnd, Reset, Close}
-use Rattle.mrp_record.specs.Entries.{Entry, contents, is_ended, is_closed, line_count, next_period, was_reset, in_force, closed_by}
+use Rattle.mrp_record.specs.Entries.{Entry, contents, is_ended, is_closed, in_force, closed_by}
+use Rattle.mrp_record.specs.Blocks.{line_count, next_period, was_reset}
 use Rattle.mrp_record.specs.Form.{FormItem, LaneForm, item_on, is_other_open, is_anew, IsInForm}
 use Rattle.mrp_record.proofs.FormItems.{item_is}
 use Rattle.mrp_book.specs.declared.fault.BookFault.{BookFault}

@@ -5,7 +5,8 @@ use Rattle.mrp_qty.specs.declared.quantity.TheConstants.{MOST}
 use Rattle.mrp_net.specs.declared.lane.LaneKind.{LaneKind}
 use Rattle.mrp_net.specs.declared.lane.LaneKind.TheVariants.{Despatch, Schedule}
 use Rattle.mrp_record.specs.declared.record.Record.{Record}
-use Rattle.mrp_record.specs.Entries.{Entry, LineOf, EndOf, ResetOf, Closing, contents, line_count, next_period, was_reset, is_ended, is_closed, in_force}
+use Rattle.mrp_record.specs.Entries.{Entry, LineOf, EndOf, ResetOf, Closing, contents, is_ended, is_closed, in_force}
+use Rattle.mrp_record.specs.Blocks.{line_count, next_period, was_reset}
 use Rattle.mrp_record.specs.Entries.{closed_by}
 use Rattle.mrp_record.specs.Form.{FormItem, LaneForm, IsInForm}
 use Rattle.mrp_book.specs.declared.item.BookItem.{BookItem}

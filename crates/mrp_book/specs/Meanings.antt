@@ -5,7 +5,8 @@ use Rattle.std.specs.Prelude.{Option, None, is_some, option_map, unwrap_or}
 use Rattle.std.specs.List.{list_any}
 use Rattle.mrp_qty.specs.declared.quantity.TheConstants.{MOST}
 use Rattle.mrp_record.specs.declared.record.Record.{Record}
-use Rattle.mrp_record.specs.Entries.{Entry, LineOf, EndOf, ResetOf, Closing, number_of, content, contents, line_count, next_period, was_reset, is_ended}
+use Rattle.mrp_record.specs.Entries.{Entry, LineOf, EndOf, ResetOf, Closing, number_of, content, contents, is_ended}
+use Rattle.mrp_record.specs.Blocks.{line_count, next_period, was_reset}
 use Rattle.mrp_record.specs.Entries.{is_closed, in_force, closed_by}
 use Rattle.mrp_record.specs.Form.{LaneForm, item_on, is_anew, is_other_open}
 use Rattle.mrp_book.specs.declared.fault.BookFault.{BookFault}

@@ -7,9 +7,9 @@ use Rattle.jiff.specs.Words.{days_in_month, epoch_day}
 use Rattle.jiff.proofs.SpanFacts.{signed_arith}
 use Rattle.jiff.proofs.Family.{epoch_day-lt, epoch_day_injective, epoch_day_same, days_from_civil-day, days_from_civil-next_month, days_from_civil-next_year}
 use Rattle.mrp_cal.specs.Calendar.{last_date}
-use Rattle.mrp_cal.specs.DateText.{SpellsDay, date_text}
-use Rattle.mrp_cal.specs.Days.{Parts, date_at, day_text}
-use Rattle.mrp_cal.proofs.Calendars.{epoch_day-last_date}
+use Rattle.mrp_cal.specs.DateText.{SpellsDay}
+use Rattle.mrp_cal.specs.Days.{Parts, date_at, date_text, day_text}
+use Rattle.mrp_cal.proofs.Calendars.{end_date, epoch_day-end_date, last_date-is}
 use Rattle.mrp_cal.proofs.Digits.{day_zero, epoch_day-day_zero, not_negative, text_spells}
 
 pub record HasParts (date : Date) (p : Parts) (n : ℕ) : Type 0 where
@@ -20,12 +20,12 @@ pub record HasParts (date : Date) (p : Parts) (n : ℕ) : Type 0 where
 
 -- no date of calendars has a year after 2199
 year_by : (date : Date) (n : ℕ) → epoch_day date ≡ pos n → n ≤ 84005 → date.year ≤ℤ pos 2199
-unfolding last_date
+unfolding end_date
 year_by date n number h =
     by_lt_z (pos 2199) date.year
     (λ after.
-    let late : last_date.year <ℤ date.year = after in
-    absurd (omega (arith, signed_arith, number, epoch_day-lt last_date date (inl late), epoch_day-last_date)))
+    let late : end_date.year <ℤ date.year = after in
+    absurd (omega (arith, signed_arith, number, epoch_day-lt end_date date (inl late), epoch_day-end_date)))
     (λ by. by)
 
 short : (y : ℤ) (m : ℕ) → (28 ≤ days_in_month y m) × (days_in_month y m ≤ 31)
@@ -99,9 +99,9 @@ same_text : (y₁ y₂ m₁ m₂ d₁ d₂ : ℕ) → y₁ ≡ y₂ → m₁ ≡
 same_text y₁ y₂ m₁ m₂ d₁ d₂ y m d = rw (y, m, d) refl
 
 -- so the text of a date is that of its day
-pub date_text-day_text : (date : Date) (day : ℤ) → epoch_day date ≡ day → pos 0 ≤ℤ epoch_day date → epoch_day date ≤ℤ epoch_day last_date → date_text (unsigned_abs date.year) date.month date.day ≡ day_text day
+pub date_text-day_text : (date : Date) (day : ℤ) → epoch_day date ≡ day → pos 0 ≤ℤ epoch_day date → epoch_day date ≤ℤ last_date → date_text (unsigned_abs date.year) date.month date.day ≡ day_text day
 date_text-day_text date day number since until =
-    let last = rw epoch_day-last_date at until in
+    let last = rw last_date-is at until in
     let whole : epoch_day date ≡ pos (unsigned_abs day) = number ∙ not_negative day (subst from_zero number since) in
     let by : unsigned_abs day ≤ 84005 = omega (arith, signed_arith, whole, last) in
     let parts = parts_at date _ whole by in
@@ -117,9 +117,9 @@ one_day text a b h k =
     sym h.2 ∙ epoch_day_same h.0 k.0 (p.0 ∙ sym q.0) month day ∙ k.2
 
 -- and the text of a day spells it
-pub spells_day : (day : ℤ) → pos 0 ≤ℤ day → day ≤ℤ epoch_day last_date → SpellsDay (day_text day) day
+pub spells_day : (day : ℤ) → pos 0 ≤ℤ day → day ≤ℤ last_date → SpellsDay (day_text day) day
 spells_day day since until =
-    let last = rw epoch_day-last_date at until in
+    let last = rw last_date-is at until in
     let whole : day ≡ pos (unsigned_abs day) = not_negative day since in
     let by : unsigned_abs day ≤ 84005 = omega (arith, signed_arith, whole, last) in
     let on = date_on (unsigned_abs day) by in

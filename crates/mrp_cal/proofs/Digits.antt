@@ -7,7 +7,8 @@ use Rattle.jiff.specs.Words.{IsYear, days_in_month, epoch_day}
 use Rattle.jiff.proofs.OnLiterals.{jiff_on_literals}
 use Rattle.jiff.proofs.SpanFacts.{signed_arith}
 use Rattle.jiff.proofs.Family.{epoch_day-lt}
-use Rattle.mrp_cal.specs.DateText.{IsDateText, IsDigit, date_text}
+use Rattle.mrp_cal.specs.DateText.{IsDateText, IsDigit}
+use Rattle.mrp_cal.specs.Days.{date_text}
 
 pub year_in : IsYear (pos 1970)
 year_in = search rules

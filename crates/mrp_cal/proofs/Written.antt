@@ -2,7 +2,8 @@
 use Rattle.std.proofs.Common.{◌≡◌, ℕ, ◌+◌, ◌-◌, ◌*◌, ◌/◌, ◌%◌, List, [], ◌∷◌, ℤ, pos, ◌≤ℤ◌, unsigned_abs, refl, ap, sym, ◌∙◌, arith}
 use Rattle.jiff.specs.Words.{epoch_day}
 use Rattle.mrp_cal.specs.Calendar.{last_date}
-use Rattle.mrp_cal.specs.DateText.{date_text, day_of, HasDateShape, IsDigit, month_of, SpellsDay, year_of}
+use Rattle.mrp_cal.specs.DateText.{day_of, HasDateShape, IsDigit, month_of, SpellsDay, year_of}
+use Rattle.mrp_cal.specs.Days.{date_text}
 use Rattle.mrp_cal.specs.Days.{day_text}
 use Rattle.mrp_cal.proofs.Days.{date_text-day_text}
 
@@ -53,7 +54,7 @@ shaped [] s = absurd (omega (arith, s.ten))
 date_same : (y₁ y₂ m₁ m₂ d₁ d₂ : ℕ) → y₁ ≡ y₂ → m₁ ≡ m₂ → d₁ ≡ d₂ → date_text y₁ m₁ d₁ ≡ date_text y₂ m₂ d₂
 date_same y₁ y₂ m₁ m₂ d₁ d₂ y m d = rw (y, m, d) refl
 
-pub day_is_written : (text : List ℕ) (day : ℤ) → pos 0 ≤ℤ day → day ≤ℤ epoch_day last_date → SpellsDay text day → text ≡ day_text day
+pub day_is_written : (text : List ℕ) (day : ℤ) → pos 0 ≤ℤ day → day ≤ℤ last_date → SpellsDay text day → text ≡ day_text day
 day_is_written text day since until spells =
     let date = spells.0 in
     let p = spells.1.parts in

@@ -1,6 +1,6 @@
 -- What the text `yyyy-mm-dd` of a date is: ten bytes, four digits of the year, two of the month and
 -- two of the day, with a dash between.
-use Rattle.std.specs.Prelude.{◌≡◌, ℕ, ◌+◌, ◌-◌, ◌*◌, ◌/◌, ◌%◌, ◌≤◌, List, [], ◌∷◌, length, slice_index, ℤ, pos}
+use Rattle.std.specs.Prelude.{◌≡◌, ℕ, ◌+◌, ◌-◌, ◌*◌, ◌≤◌, List, length, slice_index, ℤ, pos}
 use Rattle.jiff.specs.Types.{Date}
 use Rattle.jiff.specs.Words.{IsYmd, epoch_day}
 
@@ -29,12 +29,6 @@ pub record HasDateShape (text : List ℕ) : Type 0 where
   pub month : IsDigit (slice_index text 5) × IsDigit (slice_index text 6)
   pub second_dash : slice_index text 7 ≡ 45
   pub day : IsDigit (slice_index text 8) × IsDigit (slice_index text 9)
-
--- the text of a year up to 9999, a month and a day, with zeros before them
-abbrev pub date_text : ℕ → ℕ → ℕ → List ℕ
-date_text year month day =
-    (48 + year / 1000) ∷ (48 + year / 100 % 10) ∷ (48 + year / 10 % 10) ∷ (48 + year % 10)
-    ∷ 45 ∷ (48 + month / 10) ∷ (48 + month % 10) ∷ 45 ∷ (48 + day / 10) ∷ (48 + day % 10) ∷ []
 
 -- the text spells the date
 pub record IsDateText (text : List ℕ) (date : Date) : Type 0 where

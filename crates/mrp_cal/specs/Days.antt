@@ -1,7 +1,12 @@
 -- The calendar day by day: the date that each day from 1970-01-01 on has, and its text.
-use Rattle.std.specs.Prelude.{ℕ, zero, suc, ◌+◌, nat_lt, if◌then◌else◌, List, ℤ, pos, unsigned_abs}
+use Rattle.std.specs.Prelude.{ℕ, zero, suc, ◌+◌, ◌/◌, ◌%◌, nat_lt, if◌then◌else◌, List, [], ◌∷◌, ℤ, pos, unsigned_abs}
 use Rattle.jiff.specs.Words.{days_in_month}
-use Rattle.mrp_cal.specs.DateText.{date_text}
+
+-- the text of a year up to 9999, a month and a day, with zeros before them
+abbrev pub date_text : ℕ → ℕ → ℕ → List ℕ
+date_text year month day =
+    (48 + year / 1000) ∷ (48 + year / 100 % 10) ∷ (48 + year / 10 % 10) ∷ (48 + year % 10)
+    ∷ 45 ∷ (48 + month / 10) ∷ (48 + month % 10) ∷ 45 ∷ (48 + day / 10) ∷ (48 + day % 10) ∷ []
 
 -- a month from 1, and a day of the month from 1
 pub record Parts : Type 0 where

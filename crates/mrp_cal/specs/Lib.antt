@@ -1,3 +1,4 @@
 pub mod Calendar
 pub mod DateText
 pub mod Days
+pub mod Made

@@ -4,7 +4,8 @@ ghost use Rattle.std.specs.Prelude.{◌≡◌, ◌<◌, ◌≤◌, ◌^◌, pos,
 ghost use Rattle.jiff.specs.Words.{epoch_day, IsEpochDay};
 ghost use Rattle.mrp_cal.specs.DateText.{SpellsDay};
 ghost use Rattle.mrp_cal.specs.Days.{day_text};
-ghost use Rattle.mrp_cal.specs.Calendar.{IsCalendar, IsCalendarFrom, IsRefused, first_day};
+ghost use Rattle.mrp_cal.specs.Calendar.{IsCalendar, first_day};
+ghost use Rattle.mrp_cal.specs.Made.{IsCalendarFrom, IsRefused};
 
 use crate::{CalFault, date_text};
 use jiff::civil::{Date, date};

@@ -3,7 +3,8 @@
 ghost use Rattle.std.specs.Prelude.{◌≡◌, ◌*◌, ◌+◌, ◌-◌, ◌≤◌, ◌↔◌, pos, ◌≤ℤ◌, unsigned_abs, length, slice_index, IsTrue, MatchOption};
 ghost use Rattle.jiff.specs.Types.{Date as Plain};
 ghost use Rattle.jiff.specs.Words.{epoch_day};
-ghost use Rattle.mrp_cal.specs.DateText.{IsDigit, HasDateShape, IsDateText, date_text};
+ghost use Rattle.mrp_cal.specs.DateText.{IsDigit, HasDateShape, IsDateText};
+ghost use Rattle.mrp_cal.specs.Days.{date_text};
 
 use jiff::civil::Date;
 

@@ -1,7 +1,6 @@
 //! Laws about dates, their texts and the limits of a calendar, each the contract of a function that
 //! does nothing.
 ghost use Rattle.std.specs.Prelude.{◌≡◌, ◌≤◌, ◌↔◌, ℕ, List, ℤ, pos, ◌≤ℤ◌, codes};
-ghost use Rattle.jiff.specs.Words.{epoch_day};
 ghost use Rattle.mrp_cal.specs.Calendar.{IsPeriodLength, last_date};
 ghost use Rattle.mrp_cal.specs.DateText.{SpellsDay};
 ghost use Rattle.mrp_cal.specs.Days.{day_text};
@@ -13,12 +12,12 @@ pub fn a_text_spells_one_day()
 
 /// The text of each day from 1970-01-01 to 2199-12-31 spells that day.
 pub fn the_text_of_a_day_spells_it()
-    ensures { (day : ℤ) → pos 0 ≤ℤ day → day ≤ℤ epoch_day last_date → SpellsDay (day_text day) day }
+    ensures { (day : ℤ) → pos 0 ≤ℤ day → day ≤ℤ last_date → SpellsDay (day_text day) day }
 {}
 
 /// Each day from 1970-01-01 to 2199-12-31 has one text: what spells it is its text.
 pub fn a_day_has_one_text()
-    ensures { (text : List ℕ) (day : ℤ) → pos 0 ≤ℤ day → day ≤ℤ epoch_day last_date → SpellsDay text day → text ≡ day_text day }
+    ensures { (text : List ℕ) (day : ℤ) → pos 0 ≤ℤ day → day ≤ℤ last_date → SpellsDay text day → text ≡ day_text day }
 {}
 
 /// The limits as numbers: a period has 1 to 31 days, days are counted from 1970-01-01, which is day 0,
@@ -26,5 +25,5 @@ pub fn a_day_has_one_text()
 pub fn limits_are_numbers()
     ensures length { (days : ℕ) → IsPeriodLength days ↔ ((1 ≤ days) × (days ≤ 31)) }
     ensures first { SpellsDay (codes "1970-01-01") (pos 0) }
-    ensures last { SpellsDay (codes "2199-12-31") (epoch_day last_date) }
+    ensures last { SpellsDay (codes "2199-12-31") last_date }
 {}

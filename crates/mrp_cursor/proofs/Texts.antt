@@ -13,7 +13,8 @@ use Rattle.std.proofs.lemmas.List.Elements.{Contains-append_left}
 use Rattle.std.proofs.lemmas.Option.{get_or_from_slice_get}
 use Rattle.mrp_record.specs.declared.record.Record.{Record}
 use Rattle.mrp_record.specs.Entries.{Entry, Closing, content, contents, is_closing, is_closed}
-use Rattle.mrp_record.specs.Text.{Load, block, block_length, IsText}
+use Rattle.mrp_record.specs.Text.{Load, block, IsText}
+use Rattle.mrp_record.specs.Lengths.{block_length}
 use Rattle.mrp_record.proofs.Own.{AllOf-block, none_closing, list_any-append, list_any-front}
 use Rattle.mrp_record.proofs.Running.{length-block}
 use Rattle.mrp_rows.proofs.Lists.{any_right}

@@ -3,7 +3,8 @@ use Rattle.std.specs.Prelude.{◌≡◌, ℕ, ◌+◌, ◌*◌, ◌^◌, ◌≤�
 use Rattle.mrp_record.specs.declared.record.Record.{Record}
 use Rattle.mrp_record.specs.Entries.{Entry, LineOf, EndOf, ResetOf, Closing, content, contents, is_closed}
 use Rattle.mrp_record.specs.Laws.{AreLoads}
-use Rattle.mrp_record.specs.Text.{Load, total, block_length, IsBeginning, IsWhole}
+use Rattle.mrp_record.specs.Text.{Load, total, IsBeginning, IsWhole}
+use Rattle.mrp_record.specs.Lengths.{block_length}
 use Rattle.mrp_cursor.specs.declared.remainder.Remainder.{Remainder}
 use Rattle.mrp_cursor.specs.Cursor.{OutFigures, Goods, goods_load}
 use Rattle.mrp_cursor.specs.Next.{IsWhatIsLeft, next_record, stepped, queued}

@@ -27,12 +27,14 @@ use Rattle.mrp_net.proofs.Routing.{no_lanes, some_lanes}
 use Rattle.mrp_net.proofs.Sharing.{sum_map}
 use Rattle.mrp_group.proofs.Kept.{sum_filter}
 use Rattle.mrp_record.specs.declared.record.Record.{Record}
-use Rattle.mrp_record.specs.Entries.{Entry, Closing, Delivery, contents, entry_delivery as delivery_of_entry, deliveries, entries_of, is_ended, is_of}
+use Rattle.mrp_record.specs.Entries.{Entry, Closing, Delivery, contents, entries_of, is_ended, is_of}
+use Rattle.mrp_record.specs.Blocks.{entry_delivery as delivery_of_entry, deliveries}
 use Rattle.mrp_record.specs.Laws.{quantity_in}
 use Rattle.mrp_record.specs.Text.{Load, block, IsBeginning}
 use Rattle.mrp_record.proofs.Beginnings.{ended_blocks_bring_periods}
 use Rattle.mrp_record.proofs.Loads.{load_count, count_other, count_permuted, no_block}
-use Rattle.mrp_events.specs.Loads.{delivery_of, delivery_in, by_period, called_in, has_pieces, lines_by, load_of, loads, is_rising}
+use Rattle.mrp_events.specs.Loads.{delivery_of, delivery_in, by_period, called_in, has_pieces, lines_by, load_of, loads}
+use Rattle.mrp_events.specs.Steps.{is_rising}
 use Rattle.mrp_events.specs.Local.{AreLegal, brought_by, brought, DespatchesBringIncoming, SchedulesBringGross}
 use Rattle.mrp_events.specs.State.{IsReady}
 use Rattle.mrp_events.proofs.Calling.{called_pair, pair_behind, source_over}

@@ -10,7 +10,8 @@ use Rattle.mrp_net.specs.Lanes.{lanes, lane_at}
 use Rattle.mrp_net.proofs.Periods.{period-le}
 use Rattle.mrp_record.specs.declared.record.Record.{Record}
 use Rattle.mrp_record.specs.Entries.{Entry, Closing, content, contents, is_closing, is_closed}
-use Rattle.mrp_record.specs.Text.{Load, block, text_of, IsBeginning, length_of_text}
+use Rattle.mrp_record.specs.Text.{Load, block, text_of, IsBeginning}
+use Rattle.mrp_record.specs.Lengths.{length_of_text}
 use Rattle.mrp_record.proofs.Beginnings.{beginnings_are_no_longer, texts_have_one_length}
 use Rattle.mrp_rows.proofs.Lists.{any_right}
 use Rattle.mrp_events.specs.declared.event.Event.{Event}

@@ -9,13 +9,15 @@ use Rattle.mrp_rows.specs.declared.numbers.ItemNo.{ItemNo}
 use Rattle.mrp_rows.specs.declared.rows.BillRow.{BillRow}
 use Rattle.mrp_rows.specs.Table.{Table, IsTable, IsPair, IsBillRow, horizon, plant_at}
 use Rattle.mrp_net.specs.Edges.{bill_edge, source_edge}
-use Rattle.mrp_net.specs.PlanLaws.{asked_by_bill, release_at}
+use Rattle.mrp_net.specs.PlanLaws.{asked_by_bill}
+use Rattle.mrp_net.specs.Plan.{release_at}
 use Rattle.mrp_net.specs.Plan.{rows_at, plan_of, gross}
 use Rattle.mrp_net.specs.Sums.{pair_at, params_at, row_of, incoming}
 use Rattle.mrp_net.proofs.Covering.{sum_by-same}
 use Rattle.mrp_net.proofs.Local.{plant_is}
 use Rattle.mrp_net.proofs.Members.{In, In-append_left, In-from_contains, In-map, All-in}
-use Rattle.mrp_loops.specs.Loop.{HasEdge, IsLoopFree, AreCodes}
+use Rattle.mrp_loops.specs.Loop.{HasEdge, IsLoopFree}
+use Rattle.mrp_loops.specs.Codes.{AreCodes}
 use Rattle.mrp_loops.proofs.Codes.{edge_raises}
 use Rattle.mrp_loops.proofs.Coded.{codes_exist}
 use Rattle.mrp_loops.proofs.Edges.{HasEdge-from_in, HasEdge-pairs}

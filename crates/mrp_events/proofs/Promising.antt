@@ -8,7 +8,7 @@ use Rattle.mrp_net.specs.declared.lane.Lane.{Lane}
 use Rattle.mrp_net.specs.declared.lane.LaneKind.TheVariants.{Despatch, Schedule}
 use Rattle.mrp_net.specs.Lanes.{lanes, lane_at, lane_items, taken_over, item_of_source, opening, pair_on, customer_of, supplier_of, figure}
 use Rattle.mrp_net.specs.LaneLaws.{AreBothLanes}
-use Rattle.mrp_net.specs.PlanLaws.{release_at}
+use Rattle.mrp_net.specs.Plan.{release_at}
 use Rattle.mrp_net.specs.Plan.{rows_at, plan_of}
 use Rattle.mrp_net.specs.Sources.{source_on}
 use Rattle.mrp_net.specs.Sums.{pair_at}

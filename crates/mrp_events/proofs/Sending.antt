@@ -12,7 +12,7 @@ use Rattle.mrp_view.specs.declared.view.Call.{Call}
 use Rattle.mrp_view.specs.declared.view.IncomingLane.{IncomingLane}
 use Rattle.mrp_net.specs.Lanes.{lane_at, lane_items, shipments, opening, reset, pair_on, customer_of, supplier_of, figure, shipped_from}
 use Rattle.mrp_net.specs.LaneLaws.{AreBothLanes}
-use Rattle.mrp_net.specs.PlanLaws.{release_at}
+use Rattle.mrp_net.specs.Plan.{release_at}
 use Rattle.mrp_net.specs.Plan.{plan_of}
 use Rattle.mrp_net.specs.Sources.{source_on}
 use Rattle.mrp_net.specs.Sums.{pair_at}
@@ -21,13 +21,15 @@ use Rattle.mrp_net.proofs.Routing.{opening_despatch, opening_schedule, map-map}
 use Rattle.mrp_net.proofs.Sharing.{sum_map}
 use Rattle.mrp_view.proofs.Calling.{call_seen}
 use Rattle.mrp_group.proofs.Kept.{sum_filter}
-use Rattle.mrp_record.specs.Entries.{Delivery, contents, deliveries}
+use Rattle.mrp_record.specs.Entries.{Delivery, contents}
+use Rattle.mrp_record.specs.Blocks.{deliveries}
 use Rattle.mrp_record.specs.Form.{FormItem, LaneForm}
 use Rattle.mrp_record.specs.Laws.{form_item, quantity_in}
 use Rattle.mrp_record.specs.Text.{Load, total}
 use Rattle.mrp_record.proofs.Beginnings.{ended_blocks_bring_totals}
 use Rattle.mrp_record.proofs.Figures.{cum_is_opening_and_moved}
-use Rattle.mrp_events.specs.Loads.{delivery_of, by_period, despatched, lines_by, load_of, loads, is_rising}
+use Rattle.mrp_events.specs.Loads.{delivery_of, by_period, despatched, lines_by, load_of, loads}
+use Rattle.mrp_events.specs.Steps.{is_rising}
 use Rattle.mrp_events.specs.Local.{brought_by}
 use Rattle.mrp_events.specs.Seen.{DespatchesAreSeen, SchedulesAreSeen, SchedulesOpenAfterShipments, share_of, form_item_of, FormsAreSeen, BroughtIsSeen}
 use Rattle.mrp_events.proofs.Calling.{supplier_by_kind}

@@ -38,10 +38,12 @@ use Rattle.mrp_loops.proofs.Within.{figures_within}
 use Rattle.mrp_record.specs.Entries.{Delivery}
 use Rattle.mrp_record.specs.Laws as record_laws
 use Rattle.mrp_record.specs.Laws.{AreLoads, IsSmall, AreSmall}
-use Rattle.mrp_record.specs.Text.{Load, total, block_length, length_of_text}
+use Rattle.mrp_record.specs.Text.{Load, total}
+use Rattle.mrp_record.specs.Lengths.{block_length, length_of_text}
 use Rattle.mrp_record.proofs.Beginnings as beginnings
 use Rattle.mrp_record.proofs.Forming as forming
-use Rattle.mrp_events.specs.Loads.{delivery_of, despatched, called_in, called, lines_by, load_of, loads, is_rising}
+use Rattle.mrp_events.specs.Loads.{delivery_of, despatched, called_in, called, lines_by, load_of, loads}
+use Rattle.mrp_events.specs.Steps.{is_rising}
 use Rattle.mrp_events.specs.LoadLaws.{LoadsStandOnce, LoadsAreSmall, OpeningsAreSmall, LegalIsInForm, LegalFiguresAreSmall, LegalCumsAreSmall, TextsAreNoLonger, LaneBeginningsAreNoLonger, StepsAreFew}
 use Rattle.mrp_events.proofs.Calling.{source_over, source_item}
 use Rattle.mrp_events.proofs.Delivered.{by_period_total, by_period_some, by_period_inside, by_period_rises, by_period_length, in_order, rises_in_order}

@@ -1,8 +1,10 @@
-pub mod Loads
-pub mod LoadLaws
-pub mod State
-pub mod Laws
-pub mod Progress
-pub mod Local
-pub mod Seen
 pub mod Deciding
+pub mod LaneOrder
+pub mod Laws
+pub mod LoadLaws
+pub mod Loads
+pub mod Local
+pub mod Progress
+pub mod Seen
+pub mod State
+pub mod Steps

@@ -11,8 +11,10 @@ use Rattle.mrp_record.specs.declared.record.Record.{Record}
 use Rattle.mrp_record.specs.Entries.{number_of, content, contents, cum}
 use Rattle.mrp_record.specs.Form.{LaneForm, IsInForm}
 use Rattle.mrp_record.specs.Laws.{AreLoads, AreSmall, HasSmallFigures, loads_form}
-use Rattle.mrp_record.specs.Text.{IsBeginning, length_of_text}
-use Rattle.mrp_events.specs.Loads.{loads, is_rising, steps}
+use Rattle.mrp_record.specs.Text.{IsBeginning}
+use Rattle.mrp_record.specs.Lengths.{length_of_text}
+use Rattle.mrp_events.specs.Loads.{loads}
+use Rattle.mrp_events.specs.Steps.{is_rising, steps}
 
 -- a lane has one load of each of its items
 abbrev pub LoadsStandOnce : Type 0

@@ -1,5 +1,5 @@
 -- What the lanes of a network carry: for each item of a lane its load.
-use Rattle.std.specs.Prelude.{ℕ, ◌+◌, ◌*◌, ◌==◌, not, Bool, true, false, List, length, map, filter, sum_by}
+use Rattle.std.specs.Prelude.{ℕ, ◌==◌, not, Bool, List, map, filter}
 use Rattle.std.specs.List.{range_with_len}
 use Rattle.mrp_rows.specs.declared.numbers.ItemNo.{ItemNo}
 use Rattle.mrp_rows.specs.declared.rows.SourceRow.{SourceRow}
@@ -9,12 +9,12 @@ use Rattle.mrp_net.specs.declared.lane.LaneKind.{LaneKind}
 use Rattle.mrp_net.specs.declared.lane.LaneKind.TheVariants.{Despatch, Schedule}
 use Rattle.mrp_net.specs.declared.lane.Shipment.{Shipment}
 use Rattle.mrp_net.specs.Edges.{part, source_edge}
-use Rattle.mrp_net.specs.Lanes.{lanes, lane_items, opening, shipments, reset}
-use Rattle.mrp_net.specs.PlanLaws.{release_at}
+use Rattle.mrp_net.specs.Lanes.{lane_items, opening, shipments, reset}
+use Rattle.mrp_net.specs.Plan.{release_at}
 use Rattle.mrp_net.specs.Plan.{plan_of}
 use Rattle.mrp_net.specs.Sources.{source_on}
 use Rattle.mrp_record.specs.Entries.{Delivery}
-use Rattle.mrp_record.specs.Text.{Load, length_of_text}
+use Rattle.mrp_record.specs.Text.{Load}
 
 -- a despatch lane delivers what is on its way: each shipment, in table order
 abbrev pub delivery_of : Shipment → Delivery
@@ -55,12 +55,3 @@ load_of N lane item = record {
 
 abbrev pub loads : Table → Lane → List Load
 loads N lane = map (load_of N lane) (lane_items N lane)
-
--- on a schedule lane the periods of an item rise
-abbrev pub is_rising : LaneKind → Bool
-is_rising Despatch = false
-is_rising Schedule = true
-
--- how many events a whole run has: each pair is planned, and each record of each lane sent and received
-abbrev pub steps : Table → ℕ
-steps N = length N.pairs + 2 * sum_by (λ lane. length_of_text (loads N lane)) (lanes N)

@@ -11,10 +11,12 @@ use Rattle.mrp_net.specs.Plan.{rows_at, plan_of, gross}
 use Rattle.mrp_net.specs.Sums.{pair_at, params_at, row_of, demand, received, incoming}
 use Rattle.mrp_loops.specs.Loop.{IsLoopFree}
 use Rattle.mrp_record.specs.declared.record.Record.{Record}
-use Rattle.mrp_record.specs.Entries.{contents, deliveries}
+use Rattle.mrp_record.specs.Entries.{contents}
+use Rattle.mrp_record.specs.Blocks.{deliveries}
 use Rattle.mrp_record.specs.Laws.{quantity_in}
 use Rattle.mrp_record.specs.Text.{IsBeginning}
-use Rattle.mrp_events.specs.Loads.{loads, is_rising}
+use Rattle.mrp_events.specs.Loads.{loads}
+use Rattle.mrp_events.specs.Steps.{is_rising}
 use Rattle.mrp_events.specs.State.{State, IsReady, IsReached}
 
 -- what one lane has brought of a pair's item in a period

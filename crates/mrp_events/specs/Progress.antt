@@ -4,9 +4,10 @@ use Rattle.std.specs.List.{range_with_len}
 use Rattle.mrp_rows.specs.Table.{Table, IsTable}
 use Rattle.mrp_net.specs.Lanes.{lanes, lane_at}
 use Rattle.mrp_loops.specs.Loop.{IsLoopFree}
-use Rattle.mrp_record.specs.Text.{length_of_text}
+use Rattle.mrp_record.specs.Lengths.{length_of_text}
 use Rattle.mrp_events.specs.declared.event.Event.{Event}
-use Rattle.mrp_events.specs.Loads.{loads, steps}
+use Rattle.mrp_events.specs.Loads.{loads}
+use Rattle.mrp_events.specs.Steps.{steps}
 use Rattle.mrp_events.specs.State.{State, opening_state, Step, IsEnabled, IsReached, IsFinished}
 
 -- the pairs still to be planned, and the records of a lane still to be sent and still to be taken

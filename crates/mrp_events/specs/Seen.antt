@@ -10,7 +10,7 @@ use Rattle.mrp_view.specs.declared.view.IncomingItem.{IncomingItem}
 use Rattle.mrp_view.specs.declared.view.IncomingLane.{IncomingLane}
 use Rattle.mrp_net.specs.Lanes.{lanes, lane_at, lane_items, opening, pair_on}
 use Rattle.mrp_net.specs.LaneLaws.{AreBothLanes}
-use Rattle.mrp_net.specs.PlanLaws.{release_at}
+use Rattle.mrp_net.specs.Plan.{release_at}
 use Rattle.mrp_view.specs.Loads as seen
 use Rattle.mrp_net.specs.Plan.{plan_of}
 use Rattle.mrp_net.specs.Sources.{source_on}
@@ -18,12 +18,14 @@ use Rattle.mrp_net.specs.Sums.{pair_at}
 use Rattle.mrp_view.specs.View.{incoming_lane, outgoing_item, plant_rows}
 use Rattle.mrp_loops.specs.Loop.{IsLoopFree}
 use Rattle.mrp_record.specs.declared.record.Record.{Record}
-use Rattle.mrp_record.specs.Entries.{contents, cum, deliveries, is_ended}
+use Rattle.mrp_record.specs.Entries.{contents, cum, is_ended}
+use Rattle.mrp_record.specs.Blocks.{deliveries}
 use Rattle.mrp_record.specs.Form.{FormItem, LaneForm}
 use Rattle.mrp_record.specs.Laws.{quantity_in}
 use Rattle.mrp_record.specs.Text.{Load, IsBeginning}
 use Rattle.mrp_events.specs.LoadLaws.{lane_form}
-use Rattle.mrp_events.specs.Loads.{delivery_of, by_period, load_of, loads, is_rising}
+use Rattle.mrp_events.specs.Loads.{delivery_of, by_period, load_of, loads}
+use Rattle.mrp_events.specs.Steps.{is_rising}
 use Rattle.mrp_events.specs.Local.{AreLegal, AreLocal, brought}
 
 -- ---- lanes that it sends

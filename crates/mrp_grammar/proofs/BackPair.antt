@@ -12,8 +12,10 @@ use Rattle.std.proofs.lemmas.Slice.Eq.{bytes_eq-Decides}
 use Rattle.csv.specs.Records.{field_at}
 use Rattle.mrp_lot.specs.declared.rule.Rule.{Rule}
 use Rattle.mrp_lot.specs.declared.rule.TheConstants.{LONGEST_LEAD}
-use Rattle.mrp_spell.specs.Spelling.{is_name, number_text, number_within, rule_of, rule_text}
-use Rattle.mrp_spell.specs.Supplies.{HasName, is_same_plant, IsShare, IsWholeSupply, named_sources, names_plant, ShareFrom, supply_of, supply_text, SupplyTerms}
+use Rattle.mrp_spell.specs.Spelling.{is_name, number_text, rule_text}
+use Rattle.mrp_spell.specs.Parsing.{number_within, rule_of}
+use Rattle.mrp_spell.specs.Supplies.{supply_text, SupplyTerms}
+use Rattle.mrp_spell.specs.SupplyParsing.{HasName, is_same_plant, IsShare, IsWholeSupply, named_sources, names_plant, ShareFrom, supply_of}
 use Rattle.mrp_qty.specs.declared.limits.TheConstants.{MOST_SHARE}
 use Rattle.mrp_spell.proofs.Lists.{IsDistinct-nil}
 use Rattle.mrp_spell.proofs.Ranges.{number_written}

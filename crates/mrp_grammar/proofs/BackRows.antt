@@ -9,7 +9,8 @@ use Rattle.std.proofs.lemmas.List.Elements.{All-get_or}
 use Rattle.csv.specs.Records.{field_at}
 use Rattle.mrp_qty.specs.declared.horizon.TheConstants.{LONGEST}
 use Rattle.mrp_qty.specs.declared.quantity.TheConstants.{MOST}
-use Rattle.mrp_spell.specs.Spelling.{is_name, number_text, number_within}
+use Rattle.mrp_spell.specs.Spelling.{is_name, number_text}
+use Rattle.mrp_spell.specs.Parsing.{number_within}
 use Rattle.mrp_spell.proofs.Ranges.{number_written}
 use Rattle.mrp_rows.specs.declared.numbers.PairNo.{PairNo}
 use Rattle.mrp_rows.specs.declared.rows.BillRow.{BillRow}

@@ -3,15 +3,18 @@ use Rattle.std.proofs.Common.{◌≡◌, ◌≤◌, ◌<◌, ◌^◌, ℕ, ◌�
 use Rattle.std.specs.List.{list_all, list_any}
 use Rattle.std.specs.Str.{bytes_eq, is_utf8}
 use Rattle.csv.specs.Records.{field_at}
-use Rattle.mrp_cal.specs.Calendar.{CalendarTerms, IsCalendar, IsCalendarFrom}
+use Rattle.mrp_cal.specs.Calendar.{CalendarTerms, IsCalendar}
+use Rattle.mrp_cal.specs.Made.{IsCalendarFrom}
 use Rattle.mrp_cal.specs.DateText.{SpellsDay}
 use Rattle.mrp_cal.specs.Days.{day_text}
 use Rattle.mrp_cal.proofs.Days.{spells_day}
 use Rattle.mrp_qty.specs.declared.horizon.TheConstants.{LONGEST}
 use Rattle.mrp_qty.specs.declared.limits.TheConstants.{MOST_PLANTS}
 use Rattle.mrp_rows.specs.Growing.{with_plant}
-use Rattle.mrp_rows.specs.Table.{IsName, IsTable, Table, empty_table}
-use Rattle.mrp_spell.specs.Spelling.{is_name, spelled_number, number_text, number_within}
+use Rattle.mrp_rows.specs.Table.{IsName, IsTable, Table}
+use Rattle.mrp_rows.specs.Growing.{empty_table}
+use Rattle.mrp_spell.specs.Spelling.{is_name, number_text}
+use Rattle.mrp_spell.specs.Parsing.{spelled_number, number_within}
 use Rattle.mrp_spell.proofs.Decimals.{number-written}
 use Rattle.mrp_spell.proofs.Ranges.{number_written}
 use Rattle.mrp_grammar.specs.declared.kind.Kind.{Kind}

@@ -8,12 +8,15 @@ use Rattle.std.proofs.lemmas.Bool.Decides.{nat_tests}
 use Rattle.std.proofs.lemmas.List.Elements.{All-head, All-tail}
 use Rattle.std.proofs.lemmas.Str.{IsAscii-append, IsUtf8-from_ascii, is_utf8-from_IsUtf8}
 use Rattle.std.proofs.lemmas.Str.Ascii.{IsAscii-nil}
-use Rattle.mrp_cal.specs.DateText.{date_text, HasDateShape}
+use Rattle.mrp_cal.specs.DateText.{HasDateShape}
+use Rattle.mrp_cal.specs.Days.{date_text}
 use Rattle.mrp_lot.specs.Lot.{IsRule}
 use Rattle.mrp_lot.specs.declared.rule.Rule.{Rule}
 use Rattle.mrp_lot.specs.declared.rule.Rule.TheVariants.{LotForLot, Fixed, Periods, MinMultiple}
-use Rattle.mrp_spell.specs.Spelling.{is_name, is_name_byte, IsShort, number_text, rule_text}
-use Rattle.mrp_spell.specs.Supplies.{BuyTerms, FromTerms, HasName, IsShare, IsWholeSupply, MakeTerms, source_fields, sources_text, SourceTerms, supply_text, SupplyTerms}
+use Rattle.mrp_spell.specs.Spelling.{is_name, is_name_byte, number_text, rule_text}
+use Rattle.mrp_spell.specs.Parsing.{IsShort}
+use Rattle.mrp_spell.specs.Supplies.{BuyTerms, FromTerms, MakeTerms, source_fields, sources_text, SourceTerms, supply_text, SupplyTerms}
+use Rattle.mrp_spell.specs.SupplyParsing.{HasName, IsShare, IsWholeSupply}
 use Rattle.mrp_spell.proofs.Decimals.{decimal_digits}
 
 more : (b : ℕ) (bs : List ℕ) → b < 128 → IsAscii bs → IsAscii (b ∷ bs)

@@ -12,8 +12,10 @@ use Rattle.mrp_rows.specs.declared.rows.BillRow.{BillRow}
 use Rattle.mrp_qty.specs.declared.limits.TheConstants.{MOST_BILLS, MOST_IN_ROW, MOST_OF_A_KIND, MOST_PAIRS, MOST_PER, MOST_PLANTS}
 use Rattle.mrp_rows.specs.Names.{has_plant, pair_named, plant_no}
 use Rattle.mrp_rows.specs.Table.{arrivals, horizon, is_taken_from, rises_from, Table}
-use Rattle.mrp_spell.specs.Spelling.{is_name, spelled_number, number_within, rule_of}
-use Rattle.mrp_spell.specs.Supplies.{named_sources, names_plant, SourceTerms, supply_of, SupplyTerms}
+use Rattle.mrp_spell.specs.Spelling.{is_name}
+use Rattle.mrp_spell.specs.Parsing.{spelled_number, number_within, rule_of}
+use Rattle.mrp_spell.specs.Supplies.{SourceTerms, SupplyTerms}
+use Rattle.mrp_spell.specs.SupplyParsing.{named_sources, names_plant, supply_of}
 use Rattle.mrp_grammar.specs.declared.fault.TableFaultKind.{TableFaultKind}
 use Rattle.mrp_grammar.specs.declared.fault.TableFaultKind.TheVariants as fault
 use Rattle.mrp_grammar.specs.declared.kind.Kind.{Kind}

@@ -17,7 +17,8 @@ use Rattle.mrp_grammar.specs.declared.kind.Kind.TheVariants as kind
 use Rattle.mrp_grammar.specs.Grammar.{◌>>=◌, bill_of, cum_of, demand_of, may_follow, kind_place, plant_in_row, receipt_of, reset_in_row, ship_of}
 use Rattle.mrp_rows.specs.Growing.{with_plant, with_bill, with_demand, with_receipt, with_ship, with_cum, with_reset}
 use Rattle.mrp_grammar.specs.Reading.{IsReadSoFar, kind_of_row, row_after, row_of_kind}
-use Rattle.mrp_rows.specs.Table.{Table, IsBillRow, IsCumRow, IsDemandRow, IsName, IsPairRow, IsReceiptRow, IsResetRow, IsShipRow, IsSourceRow, is_same_pair, is_same_source, is_same_bill, is_same_cum, is_same_reset, empty_table}
+use Rattle.mrp_rows.specs.Table.{Table, IsBillRow, IsCumRow, IsDemandRow, IsName, IsPairRow, IsReceiptRow, IsResetRow, IsShipRow, IsSourceRow, is_same_pair, is_same_source, is_same_bill, is_same_cum, is_same_reset}
+use Rattle.mrp_rows.specs.Growing.{empty_table}
 use Rattle.mrp_grammar.proofs.KeepingBill.{bill_keeps}
 use Rattle.mrp_spell.proofs.Lists.{IsDistinct-nil}
 use Rattle.mrp_grammar.proofs.KeepingPair.{pair_keeps}

@@ -14,12 +14,13 @@ use Rattle.mrp_rows.specs.declared.rows.PairRow.{PairRow}
 use Rattle.mrp_rows.specs.declared.rows.SourceRow.{SourceRow}
 use Rattle.mrp_rows.specs.declared.rows.Supply.{Supply}
 use Rattle.mrp_rows.specs.declared.rows.Supply.TheVariants as supply
-use Rattle.mrp_spell.specs.Supplies.{names_plant, SourceTerms, SupplyTerms, MakeTerms, BuyTerms, FromTerms}
+use Rattle.mrp_spell.specs.Supplies.{SourceTerms, SupplyTerms, MakeTerms, BuyTerms, FromTerms}
+use Rattle.mrp_spell.specs.SupplyParsing.{names_plant}
 use Rattle.mrp_rows.specs.Growing.{add_item}
 use Rattle.mrp_rows.specs.Names.{has_plant, pair_named, pair_of_item, plant_no}
 use Rattle.mrp_rows.proofs.Lists.{any_left, slice_get-append, slice_get-push}
 use Rattle.mrp_grammar.specs.Grammar.{knows_sources, PairTerms, pair_fits, pair_row, pair_terms, pair_with, kind_place, source_row, supply_kind, with_pair_terms}
-use Rattle.mrp_spell.specs.Supplies.{is_same_plant, IsShare, IsWholeSupply, named_sources}
+use Rattle.mrp_spell.specs.SupplyParsing.{is_same_plant, IsShare, IsWholeSupply, named_sources}
 use Rattle.mrp_qty.specs.declared.limits.TheConstants.{MOST_SOURCES_OF_PAIR}
 use Rattle.mrp_rows.specs.Table.{Table, HasSupply, is_item_of_pair, IsName, IsRead, IsOnce, IsPair, IsPairRow, IsSourced, IsSourceRow, is_same_pair, is_same_source, plant_at, sources_of_pair, supply_at}
 use Rattle.mrp_grammar.specs.declared.kind.Kind.{Kind}

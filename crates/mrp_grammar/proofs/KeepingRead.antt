@@ -24,7 +24,8 @@ use Rattle.mrp_rows.specs.Names.{has_plant, pair_named, pair_of_item, plant_no}
 use Rattle.mrp_rows.specs.Table.{horizon, IsBillRow, IsCumRow, IsDemandRow, IsName, IsOnce, IsRead, IsReceiptRow, IsResetRow, IsShipRow, is_same_reset, IsSourced, Table}
 use Rattle.mrp_rows.proofs.Keys.{same_test}
 use Rattle.mrp_rows.proofs.Grow.{read-with_bill, read-with_cum, read-with_demand, read-with_plant, read-with_receipt, read-with_reset, read-with_ship}
-use Rattle.mrp_spell.specs.Spelling.{is_name, number_within}
+use Rattle.mrp_spell.specs.Spelling.{is_name}
+use Rattle.mrp_spell.specs.Parsing.{number_within}
 use Rattle.mrp_spell.proofs.Mapped.{list_any_keys}
 use Rattle.mrp_spell.proofs.Ranges.{within_range}
 use Rattle.mrp_grammar.specs.declared.fault.TableFaultKind.{TableFaultKind}

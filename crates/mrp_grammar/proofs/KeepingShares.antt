@@ -6,8 +6,9 @@ use Rattle.std.proofs.lemmas.List.Elements.{All-nil}
 use Rattle.mrp_lot.specs.Lot.{IsRule}
 use Rattle.mrp_lot.specs.declared.rule.TheConstants.{LONGEST_LEAD}
 use Rattle.mrp_qty.specs.declared.limits.TheConstants.{MOST_SHARE, MOST_SOURCES_OF_PAIR}
-use Rattle.mrp_spell.specs.Spelling.{rule_of}
-use Rattle.mrp_spell.specs.Supplies.{BuyTerms, FromTerms, IsShare, IsWholeSupply, MakeTerms, named_sources, ShareFrom, SourceTerms, supply_of, SupplyTerms}
+use Rattle.mrp_spell.specs.Parsing.{rule_of}
+use Rattle.mrp_spell.specs.Supplies.{BuyTerms, FromTerms, MakeTerms, SourceTerms, SupplyTerms}
+use Rattle.mrp_spell.specs.SupplyParsing.{IsShare, IsWholeSupply, named_sources, ShareFrom, supply_of}
 use Rattle.mrp_spell.proofs.Ranges.{rule_is}
 use Rattle.mrp_spell.proofs.Wholes.{supply_is}
 use Rattle.mrp_qty.specs.declared.limits.TheConstants.{MOST_IN_ROW}

@@ -2,7 +2,8 @@
 use Rattle.std.proofs.Common.{◌≡◌, ℕ, List, [], ◌∷◌, Result, Ok, Err, ℤ, ◌<ℤ◌, ◌≤ℤ◌, refl, sym, ap, ◌∙◌, subst, arith}
 use Rattle.std.proofs.lemmas.Int.{ints}
 use Rattle.mrp_cal.proofs.Days.{one_day}
-use Rattle.mrp_cal.specs.Calendar.{CalendarTerms, IsCalendar, IsCalendarFrom, IsPastEnd, IsPeriodLength, last_day}
+use Rattle.mrp_cal.specs.Calendar.{CalendarTerms, IsCalendar, IsPeriodLength, last_day}
+use Rattle.mrp_cal.specs.Made.{IsCalendarFrom, IsPastEnd}
 use Rattle.mrp_cal.specs.declared.fault.CalFault.{CalFault}
 use Rattle.mrp_cal.specs.declared.fault.CalFault.TheVariants as cal
 use Rattle.mrp_rows.specs.Table.{Table}

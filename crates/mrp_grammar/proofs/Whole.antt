@@ -11,10 +11,12 @@ use Rattle.mrp_grammar.specs.declared.fault.TableFaultKind.{TableFaultKind}
 use Rattle.mrp_grammar.specs.declared.fault.TableFaultKind.TheVariants as fault
 use Rattle.mrp_grammar.specs.declared.kind.Kind.{Kind}
 use Rattle.mrp_grammar.specs.declared.kind.Kind.TheVariants as kind
-use Rattle.mrp_rows.specs.Table.{Table, empty_table}
+use Rattle.mrp_rows.specs.Table.{Table}
+use Rattle.mrp_rows.specs.Growing.{empty_table}
 use Rattle.mrp_grammar.specs.Grammar.{RunTerms}
 use Rattle.mrp_grammar.specs.Left.{IsSoundTo, OfLeft, records_in, StartsBadly, TakesRow}
-use Rattle.mrp_grammar.specs.Reading.{first_lacking, first_terms, go_on, IsCalendarOf, IsReadSoFar, IsSoundAbove, OfRecords, pair_row_number, OfRows, read_from, Reads, rows_after, started, Starts, StartsWith, TellsRows, unless_lacking, UnlessMemory, waiting}
+use Rattle.mrp_grammar.specs.Reading.{first_lacking, first_terms, go_on, IsCalendarOf, IsReadSoFar, IsSoundAbove, pair_row_number, OfRows, read_from, Reads, rows_after, started, Starts, StartsWith, TellsRows, unless_lacking, UnlessMemory, waiting}
+use Rattle.mrp_grammar.specs.Written.{OfRecords}
 use Rattle.mrp_grammar.proofs.Keeping.{empty_keeps}
 use Rattle.mrp_grammar.proofs.Loop.{kind_no_text, of_left_from, of_rows_from, of_unless}
 

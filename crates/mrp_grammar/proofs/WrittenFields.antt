@@ -6,7 +6,8 @@ use Rattle.std.proofs.lemmas.Bool.{and_parts, eqb-true}
 use Rattle.std.proofs.lemmas.Option.{get_or_from_slice_get}
 use Rattle.std.proofs.lemmas.Slice.Eq.{bytes_eq-Decides}
 use Rattle.csv.specs.Records.{field_at}
-use Rattle.mrp_spell.specs.Spelling.{is_name, spelled_number, number_text, number_within}
+use Rattle.mrp_spell.specs.Spelling.{is_name, number_text}
+use Rattle.mrp_spell.specs.Parsing.{spelled_number, number_within}
 use Rattle.mrp_spell.proofs.Decimals.{number-spelled}
 use Rattle.mrp_spell.proofs.Ranges.{number_is}
 use Rattle.mrp_rows.specs.Names.{found_pair, pair_named, pair_of_item, plant_no}

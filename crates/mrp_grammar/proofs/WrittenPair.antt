@@ -8,7 +8,8 @@ use Rattle.std.proofs.lemmas.List.Elements.{All-head, All-tail}
 use Rattle.std.proofs.lemmas.Slice.Eq.{bytes_eq-Decides}
 use Rattle.mrp_lot.specs.declared.rule.TheConstants.{LONGEST_LEAD}
 use Rattle.mrp_spell.specs.Spelling.{number_text, rule_text}
-use Rattle.mrp_spell.specs.Supplies.{BuyTerms, FromTerms, MakeTerms, named_sources, SourceTerms, supply_text, SupplyTerms}
+use Rattle.mrp_spell.specs.Supplies.{BuyTerms, FromTerms, MakeTerms, SourceTerms, supply_text, SupplyTerms}
+use Rattle.mrp_spell.specs.SupplyParsing.{named_sources}
 use Rattle.mrp_spell.proofs.RuleTexts.{rule_is_text}
 use Rattle.mrp_spell.proofs.Written.{supply_is_text}
 use Rattle.mrp_rows.specs.declared.numbers.PlantNo.{PlantNo}

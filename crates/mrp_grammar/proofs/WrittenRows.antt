@@ -1,10 +1,12 @@
 -- Each row but a pair's is what is written of what it adds.
 use Rattle.std.proofs.Common.{◌≡◌, ℕ, ◌-◌, Bool, ltb, not, true, List, [], ◌∷◌, length, Option, Some, Ok, refl, ap, sym, ◌∙◌, subst}
-use Rattle.mrp_cal.specs.Calendar.{CalendarTerms, IsCalendar, IsCalendarFrom}
+use Rattle.mrp_cal.specs.Calendar.{CalendarTerms, IsCalendar}
+use Rattle.mrp_cal.specs.Made.{IsCalendarFrom}
 use Rattle.mrp_cal.specs.Days.{day_text}
 use Rattle.mrp_qty.specs.declared.horizon.TheConstants.{LONGEST}
 use Rattle.mrp_qty.specs.declared.quantity.TheConstants.{MOST}
-use Rattle.mrp_spell.specs.Spelling.{spelled_number, number_text}
+use Rattle.mrp_spell.specs.Spelling.{number_text}
+use Rattle.mrp_spell.specs.Parsing.{spelled_number}
 use Rattle.mrp_rows.specs.declared.numbers.PairNo.{PairNo}
 use Rattle.mrp_rows.specs.declared.numbers.PlantNo.{PlantNo}
 use Rattle.mrp_qty.specs.declared.limits.TheConstants.{MOST_IN_ROW, MOST_PER, MOST_PLANTS}

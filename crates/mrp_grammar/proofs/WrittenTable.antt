@@ -10,7 +10,8 @@ use Rattle.mrp_rows.specs.declared.rows.ReceiptRow.{ReceiptRow}
 use Rattle.mrp_rows.specs.declared.rows.ResetRow.{ResetRow}
 use Rattle.mrp_rows.specs.declared.rows.ShipRow.{ShipRow}
 use Rattle.mrp_rows.specs.Growing.{with_bill, with_cum, with_demand, with_plant, with_receipt, with_reset, with_ship}
-use Rattle.mrp_rows.specs.Table.{Table, empty_table}
+use Rattle.mrp_rows.specs.Table.{Table}
+use Rattle.mrp_rows.specs.Growing.{empty_table}
 use Rattle.mrp_grammar.specs.declared.fault.TableFaultKind.{TableFaultKind}
 use Rattle.mrp_grammar.specs.declared.kind.Kind.{Kind}
 use Rattle.mrp_grammar.specs.declared.kind.Kind.TheVariants as kind

@@ -1,9 +1,10 @@
 -- The grammar of a whole table: its rows one after the other, and the test that waits for the last.
-use Rattle.std.specs.Prelude.{◌≡◌, ℕ, ◌+◌, ◌*◌, ◌≤◌, ◌<◌, Bool, true, false, if◌then◌else◌, List, [], ◌∷◌, ◌++◌, length, Option, Some, None, Result, Ok, Err}
+use Rattle.std.specs.Prelude.{◌≡◌, ℕ, ◌+◌, ◌*◌, ◌≤◌, ◌<◌, Bool, true, false, if◌then◌else◌, List, [], ◌∷◌, ◌++◌, length, Option, Some, None, Result}
+use Rattle.std.specs.Prelude.{Ok, Err}
 use Rattle.std.specs.List.{list_all}
 use Rattle.std.specs.Str.{is_utf8}
-use Rattle.csv.specs.Reading.{default_config, records}
-use Rattle.mrp_cal.specs.Calendar.{CalendarTerms, IsCalendar, IsCalendarFrom, IsRefused}
+use Rattle.mrp_cal.specs.Calendar.{CalendarTerms, IsCalendar}
+use Rattle.mrp_cal.specs.Made.{IsCalendarFrom, IsRefused}
 use Rattle.mrp_cal.specs.declared.fault.CalFault.{CalFault}
 use Rattle.mrp_grammar.specs.declared.fault.TableFault.{TableFault}
 use Rattle.mrp_grammar.specs.declared.fault.TableFaultKind.{TableFaultKind}
@@ -11,11 +12,12 @@ use Rattle.mrp_grammar.specs.declared.fault.TableFaultKind.TheVariants as fault
 use Rattle.mrp_grammar.specs.declared.kind.Kind.{Kind}
 use Rattle.mrp_grammar.specs.declared.kind.Kind.TheVariants as kind
 use Rattle.mrp_rows.specs.declared.rows.SourceRow.{SourceRow}
-use Rattle.mrp_rows.specs.Table.{IsOnce, IsRead, IsSourced, Table, empty_table}
+use Rattle.mrp_rows.specs.Table.{IsOnce, IsRead, IsSourced, Table}
+use Rattle.mrp_rows.specs.Growing.{empty_table}
 use Rattle.mrp_qty.specs.declared.limits.TheConstants.{MOST_SOURCES_OF_PAIR}
 use Rattle.mrp_rows.specs.Growing.{lacks_pair}
-use Rattle.mrp_grammar.specs.Grammar.{◌>>=◌, bill_row, check, cum_row, demand_row, may_follow, pair_row, kind_place}
-use Rattle.mrp_grammar.specs.Grammar.{plant_row, receipt_row, reset_row, row_kind, run_terms, RunTerms, ship_row}
+use Rattle.mrp_grammar.specs.Grammar.{bill_row, check, cum_row, demand_row, may_follow, pair_row, kind_place, plant_row, receipt_row, reset_row}
+use Rattle.mrp_grammar.specs.Grammar.{row_kind, run_terms, RunTerms, ship_row}
 
 -- the kind of a row whose fields are text
 unfoldable pub kind_of_row : List (List ℕ) → Result Kind TableFaultKind
@@ -167,8 +169,3 @@ UnlessMemory e says = says
 abbrev pub TellsRows : Result Table TableFault → List (List (List ℕ)) → Type 0
 TellsRows (Ok N) rows = Reads rows (Ok N)
 TellsRows (Err e) rows = OfRows e.kind (IsSoundAbove e.row rows) (Reads rows (Err e))
-
--- of the records of a text, where it is known
-abbrev pub OfRecords : Option (List ℕ) → (List (List (List ℕ)) → Type 0) → Type 0
-OfRecords None says = Unit {0}
-OfRecords (Some text) says = says (records default_config text)

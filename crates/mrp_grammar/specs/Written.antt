@@ -1,6 +1,6 @@
 -- A table written out: the rows that say it, kind by kind, each kind in the order of its list, field by
 -- field. Nothing here speaks of reading.
-use Rattle.std.specs.Prelude.{◌≡◌, ◌≤◌, ℕ, ◌+◌, max, List, [], ◌∷◌, ◌++◌, codes, map, slice_index_or}
+use Rattle.std.specs.Prelude.{◌≡◌, ◌≤◌, ℕ, ◌+◌, max, List, [], ◌∷◌, ◌++◌, codes, map, slice_index_or, Option, Some, None}
 use Rattle.mrp_cal.specs.Calendar.{CalendarTerms}
 use Rattle.mrp_cal.specs.Days.{day_text}
 use Rattle.mrp_spell.specs.Spelling.{number_text, rule_text}
@@ -16,6 +16,7 @@ use Rattle.mrp_rows.specs.declared.rows.ShipRow.{ShipRow}
 use Rattle.mrp_rows.specs.declared.rows.SourceRow.{SourceRow}
 use Rattle.mrp_rows.specs.declared.rows.Supply.{Supply}
 use Rattle.mrp_rows.specs.declared.rows.Supply.TheVariants as supply
+use Rattle.csv.specs.Reading.{default_config, records}
 
 -- ---- names
 
@@ -107,3 +108,8 @@ rows_of N = run_fields N.calendar ∷ later_rows N
 abbrev pub AreNumbered : ℕ → List PairRow → ℕ → Type 0
 AreNumbered n [] m = m ≡ n
 AreNumbered n (p ∷ ps) m = (p.item.0 ≤ n) × AreNumbered (max n (p.item.0 + 1)) ps m
+
+-- of the records of a text, where it is known
+abbrev pub OfRecords : Option (List ℕ) → (List (List (List ℕ)) → Type 0) → Type 0
+OfRecords None says = Unit {0}
+OfRecords (Some text) says = says (records default_config text)

@@ -1,4 +1,5 @@
-pub mod Groups
-pub mod Counts
 pub mod Added
+pub mod Counts
+pub mod Groups
 pub mod Laws
+pub mod Starts

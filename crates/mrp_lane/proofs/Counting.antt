@@ -16,7 +16,7 @@ use Rattle.mrp_record.specs.declared.record.Record.TheVariants.{Line, ItemEnd, R
 use Rattle.mrp_record.specs.Entries.{content, contents, entries_of, is_of, moved, quantity_of}
 use Rattle.mrp_record.proofs.Beginnings.{beginnings_are_no_longer}
 use Rattle.mrp_record.proofs.Figures.{cum_is_opening_and_moved, moved_within}
-use Rattle.mrp_events.specs.Laws.{cum_on}
+use Rattle.mrp_events.specs.LaneOrder.{cum_on}
 use Rattle.mrp_events.specs.Loads.{loads, load_of}
 use Rattle.mrp_events.proofs.Small.{load_is_small, load_is_there, loads_are_small, loads_stand_once}
 use Rattle.mrp_lane.specs.declared.tally.ItemPieces.{ItemPieces}

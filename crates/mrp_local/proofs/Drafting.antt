@@ -23,7 +23,7 @@ use Rattle.mrp_loops.specs.Within.{plan_at}
 use Rattle.mrp_loops.proofs.OnePlan.{one_plan}
 use Rattle.mrp_record.specs.declared.record.Record.{Record}
 use Rattle.mrp_record.specs.Entries.{contents}
-use Rattle.mrp_events.specs.Loads.{is_rising}
+use Rattle.mrp_events.specs.Steps.{is_rising}
 use Rattle.mrp_events.specs.Local as network
 use Rattle.mrp_events.specs.Local.{AreLegal, brought}
 use Rattle.mrp_events.specs.Seen.{brought_in}

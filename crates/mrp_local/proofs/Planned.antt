@@ -1,6 +1,7 @@
 -- Local plans are the plan of the network, and a plant sees which of its pairs can be planned.
 use Rattle.std.proofs.Common.{◌≡◌, ℕ, suc, zero, ◌<◌, Bool, true, List, get_or, sym, ap, ◌∙◌, subst, arith, slice_index}
-use Rattle.mrp_lot.specs.One.{PlanRows, IsWithin}
+use Rattle.mrp_lot.specs.One.{PlanRows}
+use Rattle.mrp_lot.specs.Bound.{IsWithin}
 use Rattle.mrp_lot.proofs.OneLaws.{one-gross, one-incoming}
 use Rattle.mrp_rows.specs.Table.{Table, IsTable}
 use Rattle.mrp_net.specs.Plan.{plan_of}
@@ -8,7 +9,8 @@ use Rattle.mrp_net.specs.Sums.{pair_at, params_at}
 use Rattle.mrp_net.proofs.Members.{All-in}
 use Rattle.mrp_view.specs.declared.view.PlantEdge.{PlantEdge}
 use Rattle.mrp_view.specs.View.{plant_pair, plant_pairs, plant_edges, plant_rows}
-use Rattle.mrp_loops.specs.Loop.{HasEdge, IsLoopFree, AreCodes}
+use Rattle.mrp_loops.specs.Loop.{HasEdge, IsLoopFree}
+use Rattle.mrp_loops.specs.Codes.{AreCodes}
 use Rattle.mrp_loops.specs.Within.{plan_at}
 use Rattle.mrp_loops.proofs.Codes.{edge_raises}
 use Rattle.mrp_loops.proofs.Coded.{codes_exist}

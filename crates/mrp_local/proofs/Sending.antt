@@ -27,7 +27,8 @@ use Rattle.mrp_loops.specs.Sized.{IsSized}
 use Rattle.mrp_loops.specs.Within.{plan_at}
 use Rattle.mrp_record.specs.declared.record.Record.{Record}
 use Rattle.mrp_record.specs.Entries.{Delivery, contents, cum}
-use Rattle.mrp_record.specs.Text.{Load, total, block_length}
+use Rattle.mrp_record.specs.Text.{Load, total}
+use Rattle.mrp_record.specs.Lengths.{block_length}
 use Rattle.mrp_record.proofs.BlockForm.{length_within}
 use Rattle.mrp_events.specs.Loads.{delivery_of, called_in, lines_by, load_of, loads}
 use Rattle.mrp_events.specs.Local as network

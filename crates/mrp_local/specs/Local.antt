@@ -14,7 +14,8 @@ use Rattle.mrp_view.specs.declared.view.IncomingLane.{IncomingLane}
 use Rattle.mrp_view.specs.declared.view.PlantPair.{PlantPair}
 use Rattle.mrp_view.specs.View.{PlantRows}
 use Rattle.mrp_record.specs.declared.record.Record.{Record}
-use Rattle.mrp_record.specs.Entries.{Entry, contents, deliveries, is_ended}
+use Rattle.mrp_record.specs.Entries.{Entry, contents, is_ended}
+use Rattle.mrp_record.specs.Blocks.{deliveries}
 use Rattle.mrp_record.specs.Laws.{quantity_in}
 
 -- ---- what has come

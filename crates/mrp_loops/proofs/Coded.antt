@@ -9,7 +9,8 @@ use Rattle.mrp_rows.specs.Table.{Table, IsTable, IsPair}
 use Rattle.mrp_rows.specs.declared.numbers.PairNo.{PairNo}
 use Rattle.mrp_net.specs.declared.edge.Edge.{Edge}
 use Rattle.mrp_net.specs.Edges.{demanders}
-use Rattle.mrp_loops.specs.Loop.{HasEdge, HasChain, IsLoopFree}
+use Rattle.mrp_loops.specs.Loop.{HasEdge, IsLoopFree}
+use Rattle.mrp_loops.specs.Codes.{HasChain}
 use Rattle.mrp_loops.specs.Taking.{is_in}
 use Rattle.mrp_loops.proofs.Climbing.{Climbs}
 use Rattle.mrp_loops.specs.Walk.{IsApart}

@@ -5,7 +5,8 @@ use Rattle.std.proofs.lemmas.List.{get_or_default}
 use Rattle.mrp_rows.specs.Table.{Table, IsTable, IsPair}
 use Rattle.mrp_rows.specs.declared.numbers.PairNo.{PairNo}
 use Rattle.mrp_net.specs.Edges.{demanders}
-use Rattle.mrp_loops.specs.Loop.{HasEdge, LeadsTo, IsLoopFree, AreCodes}
+use Rattle.mrp_loops.specs.Loop.{HasEdge, IsLoopFree}
+use Rattle.mrp_loops.specs.Codes.{LeadsTo, AreCodes}
 use Rattle.mrp_loops.specs.Need.{AreNeeds, AreWithin}
 use Rattle.mrp_loops.specs.Sized.{IsSized}
 use Rattle.mrp_loops.specs.Taking.{waiting_edges, IsTaken}

@@ -5,7 +5,8 @@ use Rattle.std.proofs.lemmas.Bool.{eq-eqb, eqb-true}
 use Rattle.mrp_rows.specs.Table.{Table, IsTable, IsPair, IsBillRow, IsSourceRow, source_pair}
 use Rattle.mrp_rows.specs.declared.rows.SourceRow.{SourceRow}
 use Rattle.mrp_net.specs.declared.edge.Edge.{Edge}
-use Rattle.mrp_net.specs.Edges.{edges, demanders, suppliers, bill_edge, source_edge}
+use Rattle.mrp_net.specs.Edges.{edges, demanders, bill_edge, source_edge}
+use Rattle.mrp_net.specs.Suppliers.{suppliers}
 use Rattle.mrp_loops.specs.Loop.{HasEdge}
 use Rattle.mrp_net.proofs.Members.{In, In-from_contains, Contains-from_in, In-append_cases, In-filter, filter_only, In-flat_map, flat_map_only, In-range, map_only, All-in}
 use Rattle.mrp_loops.proofs.Counts.{count-sorted, count-filter_swap}

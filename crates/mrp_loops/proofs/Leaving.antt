@@ -9,7 +9,8 @@ use Rattle.mrp_group.proofs.Kept.{sorted_rows_rise}
 use Rattle.mrp_net.specs.declared.edge.Edge.{Edge}
 use Rattle.mrp_net.specs.Edges.{edges, demanders}
 use Rattle.mrp_net.proofs.Members.{In-from_contains, Contains-from_in}
-use Rattle.mrp_loops.specs.Loop.{HasEdge, HasChain}
+use Rattle.mrp_loops.specs.Loop.{HasEdge}
+use Rattle.mrp_loops.specs.Codes.{HasChain}
 use Rattle.mrp_loops.specs.Taking.{IsTaken}
 use Rattle.mrp_loops.specs.Upstream.{IsFirst, IsLeft, GoesTo}
 use Rattle.mrp_loops.specs.Walk.{IsStuck}

@@ -13,7 +13,7 @@ use Rattle.mrp_net.specs.Sums.{pair_at, demand_total, supply}
 use Rattle.mrp_loops.specs.Need.{need_at, AreNeeds, AreWithin}
 use Rattle.mrp_loops.specs.Taking.{is_in}
 use Rattle.mrp_loops.specs.Order.{ComesBefore, IsInCodeOrder, IsFound, IsSolved, IsFirstAbove}
-use Rattle.mrp_loops.specs.Sized.{IsPlanningOrder}
+use Rattle.mrp_loops.specs.Planning.{IsPlanningOrder}
 use Rattle.mrp_loops.specs.BoundFaults.{AreSuppliesWithin, IsNeedTooLarge, IsNeedFault, IsBoundFault}
 use Rattle.mrp_loops.specs.declared.sized.BoundFault.{BoundFault}
 use Rattle.mrp_loops.specs.declared.sized.BoundFault.TheVariants.{SupplyTooLarge, NeedTooLarge, Memory}

@@ -6,8 +6,9 @@ use Rattle.std.proofs.lemmas.List.FromFn.{get_or-map-range_with_len, length-map-
 use Rattle.std.proofs.lemmas.List.Sorted.{length_permutation}
 use Rattle.mrp_lot.specs.One.{PlanRows}
 use Rattle.mrp_rows.specs.Table.{Table, IsPair}
-use Rattle.mrp_net.specs.Plan.{rows_at, no_rows, pair_plan, Fits, rounds, plan_of, HasOnePlan}
-use Rattle.mrp_loops.specs.Sized.{IsPlanningOrder}
+use Rattle.mrp_net.specs.Plan.{rows_at, no_rows, pair_plan, rounds, plan_of}
+use Rattle.mrp_net.specs.PlanLaws.{Fits, HasOnePlan}
+use Rattle.mrp_loops.specs.Planning.{IsPlanningOrder}
 use Rattle.mrp_loops.specs.Laws.{OnePlan}
 use Rattle.mrp_loops.proofs.Coded.{codes_exist}
 use Rattle.mrp_loops.proofs.Ordered.{planning_order}

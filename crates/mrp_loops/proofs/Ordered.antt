@@ -2,9 +2,9 @@
 use Rattle.std.proofs.Common.{ℕ, List, map, length, replicate, arith}
 use Rattle.std.proofs.lemmas.List.{length-replicate}
 use Rattle.mrp_rows.specs.Table.{Table, IsTable}
-use Rattle.mrp_loops.specs.Loop.{AreCodes}
+use Rattle.mrp_loops.specs.Codes.{AreCodes}
 use Rattle.mrp_loops.specs.Order.{code_order}
-use Rattle.mrp_loops.specs.Sized.{IsPlanningOrder}
+use Rattle.mrp_loops.specs.Planning.{IsPlanningOrder}
 use Rattle.mrp_loops.specs.Laws.{NeedsExist}
 use Rattle.mrp_loops.proofs.Needed.{needs_extended, solved_none}
 use Rattle.mrp_loops.proofs.Planning.{code_order_plans}

@@ -11,7 +11,7 @@ use Rattle.mrp_rows.specs.declared.numbers.PairNo.{PairNo}
 use Rattle.mrp_net.proofs.Members.{In, Contains-from_in}
 use Rattle.mrp_net.specs.Edges.{demanders}
 use Rattle.mrp_loops.specs.Order.{ComesBefore, IsInCodeOrder}
-use Rattle.mrp_loops.specs.Sized.{IsPlanningOrder}
+use Rattle.mrp_loops.specs.Planning.{IsPlanningOrder}
 use Rattle.mrp_net.specs.declared.edge.Edge.{Edge}
 
 flips : (x y : ℕ) → (x == y) ≡ (y == x)

@@ -8,8 +8,10 @@ use Rattle.std.proofs.Math.Numerals.{add-one}
 use Rattle.mrp_rows.specs.Table.{Table, IsTable, IsPair}
 use Rattle.mrp_rows.specs.declared.numbers.PairNo.{PairNo}
 use Rattle.mrp_net.specs.declared.edge.Edge.{Edge}
-use Rattle.mrp_net.specs.Edges.{demanders, suppliers}
-use Rattle.mrp_loops.specs.Loop.{HasEdge, HasChain}
+use Rattle.mrp_net.specs.Edges.{demanders}
+use Rattle.mrp_net.specs.Suppliers.{suppliers}
+use Rattle.mrp_loops.specs.Loop.{HasEdge}
+use Rattle.mrp_loops.specs.Codes.{HasChain}
 use Rattle.mrp_loops.specs.Taking.{is_in, waiting_edges, edge_count, IsTaken}
 use Rattle.mrp_loops.proofs.Passing.{IsPassing, IsBegun}
 use Rattle.mrp_net.proofs.Members.{In-from_contains, All-in}

@@ -11,7 +11,8 @@ use Rattle.std.proofs.lemmas.Map.Steps.{length-le_from_distinct_below}
 use Rattle.mrp_rows.specs.Table.{Table, IsPair}
 use Rattle.mrp_rows.specs.declared.numbers.PairNo.{PairNo}
 use Rattle.mrp_net.specs.declared.edge.Edge.{Edge}
-use Rattle.mrp_net.specs.Edges.{demanders, suppliers}
+use Rattle.mrp_net.specs.Edges.{demanders}
+use Rattle.mrp_net.specs.Suppliers.{suppliers}
 use Rattle.mrp_loops.specs.Taking.{is_in, waiting_edges, edge_count}
 use Rattle.mrp_net.proofs.Members.{In}
 use Rattle.mrp_loops.proofs.Counts.{count-cons, count_split, count_all, count-zero, count-some}

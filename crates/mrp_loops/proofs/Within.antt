@@ -7,7 +7,8 @@ use Rattle.std.proofs.lemmas.List.Sums.{sum_by-cons, sum_by-le-sum_by, get_or-le
 use Rattle.std.proofs.Math.Nat.{mul-le-mul_left}
 use Rattle.mrp_qty.specs.declared.quantity.TheConstants.{MOST}
 use Rattle.mrp_lot.specs.Lot.{rule_quantities}
-use Rattle.mrp_lot.specs.One.{PlanRows, IsWithin}
+use Rattle.mrp_lot.specs.One.{PlanRows}
+use Rattle.mrp_lot.specs.Bound.{IsWithin}
 use Rattle.mrp_lot.proofs.OneLaws.{one-gross, one-incoming, one-release_sum-le, one-within}
 use Rattle.mrp_rows.specs.declared.rows.CumRow.{CumRow}
 use Rattle.mrp_rows.specs.declared.rows.ShipRow.{ShipRow}
@@ -15,7 +16,8 @@ use Rattle.mrp_rows.specs.Table.{Table, IsPair, horizon}
 use Rattle.mrp_net.specs.declared.edge.Edge.{Edge}
 use Rattle.mrp_net.specs.Edges.{demanders}
 use Rattle.mrp_net.specs.Lanes.{figure, shipped_from}
-use Rattle.mrp_net.specs.Plan.{rows_at, gross, plan_of, Fits}
+use Rattle.mrp_net.specs.Plan.{rows_at, gross, plan_of}
+use Rattle.mrp_net.specs.PlanLaws.{Fits}
 use Rattle.mrp_net.specs.Sums.{incoming, no_pair, opening_total, pair_at, params_at, row_of, shipped_total}
 use Rattle.mrp_net.proofs.Periods.{incomings-le}
 use Rattle.mrp_net.proofs.Totals.{gross_sum-le}

@@ -1,11 +1,13 @@
 -- Laws of codes, of networks without loops, of needs, and of plans.
 use Rattle.std.specs.Prelude.{◌≡◌, ℕ, ◌<◌, Bool, true, false, List, map, slice_index}
 use Rattle.mrp_rows.specs.Table.{Table, IsTable, IsPair}
-use Rattle.mrp_net.specs.Plan.{HasOnePlan}
-use Rattle.mrp_loops.specs.Loop.{HasEdge, IsLoopFree, AreCodes}
+use Rattle.mrp_net.specs.PlanLaws.{HasOnePlan}
+use Rattle.mrp_loops.specs.Loop.{HasEdge, IsLoopFree}
+use Rattle.mrp_loops.specs.Codes.{AreCodes}
 use Rattle.mrp_loops.specs.Need.{AreNeeds, AreWithin}
 use Rattle.mrp_loops.specs.Order.{code_order}
-use Rattle.mrp_loops.specs.Sized.{IsSized, IsPlanningOrder}
+use Rattle.mrp_loops.specs.Sized.{IsSized}
+use Rattle.mrp_loops.specs.Planning.{IsPlanningOrder}
 use Rattle.mrp_loops.specs.Upstream.{IsLoopAnswered}
 
 -- codes rise along edges

@@ -5,7 +5,8 @@ use Rattle.mrp_rows.specs.Table.{Table, IsTable, IsPair}
 use Rattle.mrp_rows.specs.declared.numbers.PairNo.{PairNo}
 use Rattle.mrp_net.specs.declared.edge.Edge.{Edge}
 use Rattle.mrp_net.specs.Edges.{demanders}
-use Rattle.mrp_loops.specs.Loop.{HasEdge, HasChain}
+use Rattle.mrp_loops.specs.Loop.{HasEdge}
+use Rattle.mrp_loops.specs.Codes.{HasChain}
 
 -- whether a pair is in the list
 abbrev pub is_in : List PairNo → ℕ → Bool

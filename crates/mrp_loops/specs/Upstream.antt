@@ -1,7 +1,8 @@
 -- The walk upstream, which decides which of several loops is answered.
 use Rattle.std.specs.Prelude.{ℕ, zero, suc, ◌≤◌, List, All}
 use Rattle.mrp_rows.specs.Table.{Table}
-use Rattle.mrp_loops.specs.Loop.{HasEdge, HasChain, IsRound, IsLoopFound}
+use Rattle.mrp_loops.specs.Loop.{HasEdge, IsRound}
+use Rattle.mrp_loops.specs.Codes.{HasChain, IsLoopFound}
 
 -- x has the property, and no pair before it in the table has
 abbrev pub IsFirst : (ℕ → Type 0) → ℕ → Type 0

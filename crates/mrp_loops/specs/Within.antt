@@ -3,14 +3,16 @@ use Rattle.std.specs.Prelude.{ℕ, ◌+◌, ◌≤◌, List, sum, sum_by, slice_
 use Rattle.std.specs.List.{range_with_len}
 use Rattle.mrp_qty.specs.declared.quantity.TheConstants.{MOST}
 use Rattle.mrp_lot.specs.Lot.{rule_quantities}
-use Rattle.mrp_lot.specs.One.{PlanRows, IsWithin}
+use Rattle.mrp_lot.specs.One.{PlanRows}
+use Rattle.mrp_lot.specs.Bound.{IsWithin}
 use Rattle.mrp_rows.specs.declared.rows.SourceRow.{SourceRow}
 use Rattle.mrp_rows.specs.Table.{Table, IsPair, horizon}
 use Rattle.mrp_net.specs.declared.lane.Lane.{Lane}
 use Rattle.mrp_net.specs.Edges.{part, source_edge}
 use Rattle.mrp_net.specs.Lanes.{customer_of, supplier_of, item_of_source, taken_over, figure, shipped_from, opening}
-use Rattle.mrp_net.specs.PlanLaws.{release_at}
-use Rattle.mrp_net.specs.Plan.{rows_at, plan_of, Fits}
+use Rattle.mrp_net.specs.Plan.{release_at}
+use Rattle.mrp_net.specs.Plan.{rows_at, plan_of}
+use Rattle.mrp_net.specs.PlanLaws.{Fits}
 use Rattle.mrp_net.specs.Sums.{pair_at, params_at, supply}
 use Rattle.mrp_loops.specs.Need.{AreNeeds}
 use Rattle.mrp_loops.specs.Sized.{IsSized}

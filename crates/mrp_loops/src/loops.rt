@@ -2,7 +2,8 @@
 
 ghost use Rattle.std.specs.Prelude.{◌≡◌, ◌<◌, ◌≤◌, length, take, All, IfOk, IfErr, IfNone, IfSome, slice_index};
 ghost use Rattle.mrp_loops.specs.declared.loops.LoopFault.TheVariants.{Memory};
-ghost use Rattle.mrp_loops.specs.Loop.{IsLoopFree, AreCodes};
+ghost use Rattle.mrp_loops.specs.Loop.{IsLoopFree};
+ghost use Rattle.mrp_loops.specs.Codes.{AreCodes};
 ghost use Rattle.mrp_loops.specs.LoopFaults.{IsLoopFault};
 
 use crate::taking::take_away;

@@ -5,11 +5,12 @@ ghost use Rattle.mrp_qty.specs.declared.quantity.TheConstants.{MOST};
 ghost use Rattle.mrp_loops.specs.declared.sized.BoundFault.TheVariants.{Memory};
 ghost use Rattle.mrp_rows.specs.Table.{IsPair};
 ghost use Rattle.mrp_net.specs.Sums.{supply};
-ghost use Rattle.mrp_loops.specs.Loop.{AreCodes};
+ghost use Rattle.mrp_loops.specs.Codes.{AreCodes};
 ghost use Rattle.mrp_loops.specs.Need.{AreNeeds, AreWithin};
 ghost use Rattle.mrp_loops.specs.Order.{code_order, IsInCodeOrder};
 ghost use Rattle.mrp_loops.specs.BoundFaults.{AreSuppliesWithin, IsBoundFault, IsSupplyTooLarge, IsNeedFault};
-ghost use Rattle.mrp_loops.specs.Sized.{IsSized, IsPlanningOrder};
+ghost use Rattle.mrp_loops.specs.Sized.{IsSized};
+ghost use Rattle.mrp_loops.specs.Planning.{IsPlanningOrder};
 
 use crate::Levels;
 use crate::needs::need;
@@ -62,10 +63,11 @@ pub struct SizedNet<'a> {
 
 impl<'a> Model for SizedNet<'a> {
     ghost use Rattle.std.specs.Prelude.{◌≡◌};
-    ghost use Rattle.mrp_loops.specs.Loop.{AreCodes};
+    ghost use Rattle.mrp_loops.specs.Codes.{AreCodes};
     ghost use Rattle.mrp_loops.specs.Need.{AreNeeds};
     ghost use Rattle.mrp_loops.specs.Order.{code_order};
-    ghost use Rattle.mrp_loops.specs.Sized.{Sized, IsSized};
+    ghost use Rattle.mrp_loops.specs.Sized.{IsSized};
+    ghost use Rattle.mrp_loops.specs.Planning.{Sized};
 
     ghost Value = { Sized };
 

@@ -14,7 +14,7 @@ use Rattle.mrp_lot.specs.Lot.{IsRule, rule_quantities, periods_covered, lot_of}
 use Rattle.mrp_lot.proofs.LotLaws.{least_multiple-le, least_multiple-lt}
 use Rattle.mrp_lot.proofs.RangeLaws.{sum_take-suc, sum_drop_take-one, sum_by-range-suc, sum_by-range-same, moved_sum}
 use Rattle.mrp_lot.specs.One.{need_over, greatest_need, net_after, order_after, available_after, balance_before, order_at, order_row, released, one}
-use Rattle.mrp_lot.specs.One.{IsWithin}
+use Rattle.mrp_lot.specs.Bound.{IsWithin}
 use Rattle.mrp_lot.specs.Rules.{OrdersAreReleased, ReleasesAreBounded, AvailableCoversSafety, RowsStayWithin}
 
 -- the definitions, opened a step

@@ -9,7 +9,8 @@ use Rattle.mrp_lot.specs.declared.rule.Rule.{Rule}
 use Rattle.mrp_lot.specs.declared.rule.Rule.TheVariants.{Periods}
 use Rattle.mrp_lot.specs.Lot.{least_multiple_of, periods_covered, lot_of}
 use Rattle.mrp_lot.proofs.LotLaws.{least_multiple-le, least_multiple-lt, least_multiple-least}
-use Rattle.mrp_lot.specs.One.{PlanRows, one, need_over, greatest_need, net_after, order_after, order_at, balance_before, release_row, late_orders, IsWithin}
+use Rattle.mrp_lot.specs.One.{PlanRows, one, need_over, greatest_need, net_after, order_after, order_at, balance_before, release_row, late_orders}
+use Rattle.mrp_lot.specs.Bound.{IsWithin}
 use Rattle.mrp_lot.proofs.OneLaws.{balance_before-zero, balance_before-next, order_at-is, lot-ge, one-order, one-available}
 use Rattle.mrp_lot.proofs.OneLaws.{greatest_need-zero, greatest_need-suc, greatest_need-ge}
 use Rattle.mrp_lot.specs.Rules.{balance_in, FollowsRules, LotForLotIsExact, LotForLotOrdersTheNeed, IsLeastMultiple, FixedIsLeast, MinMultipleIsLeast, PeriodsIsGreatest}

@@ -1,3 +1,4 @@
+pub mod Bound
 pub mod Lot
 pub mod One
 pub mod Rules

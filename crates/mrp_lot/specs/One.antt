@@ -8,14 +8,12 @@
 -- nothing, and what says something is the balance without subtraction: what was there, comes in and is
 -- ordered is what is required or stays (`FollowsRules.available`, which each plan within the bound meets by
 -- the law `PlanFollowsRules`). By it no requirement is left open, whatever the safety stock.
-use Rattle.std.specs.Prelude.{◌≡◌, ℕ, ◌+◌, ◌-◌, ◌≤◌, ◌&&◌, ◌==◌, Bool, nat_lt, if◌then◌else◌, min, max, List, length}
-use Rattle.std.specs.Prelude.{map, filter, sum, sum_by, take, drop, slice_index, zero, suc}
+use Rattle.std.specs.Prelude.{ℕ, ◌+◌, ◌-◌, ◌&&◌, ◌==◌, Bool, nat_lt, if◌then◌else◌, min, max, List, length, map, filter, sum, sum_by, take, drop}
+use Rattle.std.specs.Prelude.{slice_index, zero, suc}
 use Rattle.std.specs.List.{range_with_len}
-use Rattle.mrp_qty.specs.declared.quantity.TheConstants.{MOST}
-use Rattle.mrp_lot.specs.declared.rule.TheConstants.{LONGEST_LEAD}
 use Rattle.mrp_lot.specs.declared.params.PairParams.{PairParams}
 use Rattle.mrp_lot.specs.declared.params.Late.{Late}
-use Rattle.mrp_lot.specs.Lot.{IsRule, rule_quantities, periods_covered, lot_of}
+use Rattle.mrp_lot.specs.Lot.{periods_covered, lot_of}
 
 -- the rows of one pair's plan, and its late orders by rising period
 pub record PlanRows : Type 0 where
@@ -114,10 +112,3 @@ one pair incoming gross =
       available = available_row pair incoming gross;
       late = late_orders pair.lead order;
     }
-
--- the rule is in range, the rows are of one horizon, and all quantities together are at most 10^15
-pub record IsWithin (pair : PairParams) (incoming gross : List ℕ) : Type 0 where
-  pub rule : IsRule pair.rule
-  pub lead : pair.lead ≤ LONGEST_LEAD
-  pub periods : length incoming ≡ length gross
-  pub total : pair.on_hand + sum incoming + sum gross + pair.safety + rule_quantities pair.rule ≤ MOST

@@ -6,7 +6,8 @@ use Rattle.mrp_lot.specs.declared.rule.Rule.{Rule}
 use Rattle.mrp_lot.specs.declared.rule.Rule.TheVariants.{LotForLot, Fixed, Periods, MinMultiple}
 use Rattle.mrp_lot.specs.declared.params.PairParams.{PairParams}
 use Rattle.mrp_lot.specs.Lot.{IsRule, rule_quantities, lot_of}
-use Rattle.mrp_lot.specs.One.{PlanRows, one, need_over, net_after, order_after, release_row, late_orders, IsWithin}
+use Rattle.mrp_lot.specs.One.{PlanRows, one, need_over, net_after, order_after, release_row, late_orders}
+use Rattle.mrp_lot.specs.Bound.{IsWithin}
 
 -- on hand before period 0, then the projected available
 abbrev pub balance_in : PairParams → PlanRows → ℕ → ℕ

@@ -9,7 +9,8 @@ use Rattle.std.proofs.lemmas.Map.Keys.{apart_from_distinct}
 use Rattle.mrp_rows.specs.declared.rows.ResetRow.{ResetRow}
 use Rattle.mrp_rows.specs.Table.{Table, IsTable, is_same_reset, is_taken_from}
 use Rattle.mrp_net.specs.Lanes.{is_reset_of, anew_in}
-use Rattle.mrp_net.specs.Sources.{source_no, AreResetsOf}
+use Rattle.mrp_net.specs.Sources.{source_no}
+use Rattle.mrp_net.specs.SourceRows.{AreResetsOf}
 use Rattle.mrp_net.proofs.Sourcing.{source_within, source_test}
 
 -- one row more, where none before passes, and where it doesn't pass

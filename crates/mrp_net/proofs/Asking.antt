@@ -10,7 +10,8 @@ use Rattle.mrp_rows.specs.declared.rows.SourceRow.{SourceRow}
 use Rattle.mrp_rows.specs.Table.{Table, IsTable, IsPair, source_pair, item_at}
 use Rattle.mrp_net.specs.declared.edge.Edge.{Edge}
 use Rattle.mrp_net.specs.Edges.{part, edge_need, bill_edge, source_edge, edges, demanders}
-use Rattle.mrp_net.specs.PlanLaws.{release_at, asked_by_bill, asked_by_source, GrossIsLocalAndCalled}
+use Rattle.mrp_net.specs.PlanLaws.{asked_by_bill, asked_by_source, GrossIsLocalAndCalled}
+use Rattle.mrp_net.specs.Plan.{release_at}
 use Rattle.mrp_net.specs.RouteLaws.{over_route, over_plants}
 use Rattle.mrp_net.specs.Sums.{pair_at}
 use Rattle.mrp_net.proofs.Covering.{sum_by-same, routes_cover_suppliers}

@@ -10,7 +10,8 @@ use Rattle.mrp_net.specs.declared.lane.LaneKind.{LaneKind}
 use Rattle.mrp_net.specs.declared.lane.LaneKind.TheVariants.{Despatch, Schedule}
 use Rattle.mrp_net.specs.Lanes.{lane_items, pair_on, customer_of, supplier_of}
 use Rattle.mrp_net.specs.LaneLaws.{IsPairOf, HasSource, ItemsHaveSources}
-use Rattle.mrp_net.specs.Sources.{source_no, source_on, supplied_on, no_source}
+use Rattle.mrp_net.specs.Sources.{source_no, source_on, no_source}
+use Rattle.mrp_net.specs.SourceRows.{supplied_on}
 use Rattle.mrp_net.proofs.Local.{pair_of, item_is}
 use Rattle.mrp_net.proofs.Sourcing.{item_is_taken, source_within, source_is, taker_within}
 

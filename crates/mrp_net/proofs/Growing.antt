@@ -19,7 +19,8 @@ use Rattle.mrp_net.specs.declared.lanes.Sent.{Sent}
 use Rattle.mrp_net.specs.Edges.{source_edge}
 use Rattle.mrp_net.specs.Lanes.{shipment_of}
 use Rattle.mrp_net.specs.Routes.{taken, route_no}
-use Rattle.mrp_net.specs.Sources.{no_source, sent, source_no}
+use Rattle.mrp_net.specs.Sources.{no_source, source_no}
+use Rattle.mrp_net.specs.SourceRows.{sent}
 use Rattle.mrp_net.specs.Sums.{pair_at, no_pair}
 use Rattle.mrp_net.proofs.Local.{item_is}
 

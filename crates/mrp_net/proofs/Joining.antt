@@ -4,8 +4,10 @@ use Rattle.std.specs.List.{All, filter}
 use Rattle.std.proofs.lemmas.List.Elements.{All-append, All-map, All-filter}
 use Rattle.mrp_rows.specs.Table.{Table, IsTable, IsPair}
 use Rattle.mrp_net.specs.declared.edge.Edge.{Edge}
-use Rattle.mrp_net.specs.Edges.{bill_edge, source_edge, edges, demanders, suppliers, IsEdge}
-use Rattle.mrp_group.specs.Groups.{sorted_by, IsGrouped}
+use Rattle.mrp_net.specs.Edges.{bill_edge, source_edge, edges, demanders}
+use Rattle.mrp_net.specs.Suppliers.{suppliers, IsEdge}
+use Rattle.mrp_group.specs.Groups.{sorted_by}
+use Rattle.mrp_group.specs.Starts.{IsGrouped}
 use Rattle.mrp_net.specs.Built.{by_demander, by_pair, AreDemanders, AreSuppliers}
 use Rattle.mrp_group.proofs.Grouping.{before_key-all, length-sorted_by}
 use Rattle.mrp_group.proofs.Sorting.{filter-sorted_by, group-sorted_by, All-sorted_by, IsGrouped-within}

@@ -14,7 +14,8 @@ use Rattle.mrp_net.specs.declared.lane.Lane.{Lane}
 use Rattle.mrp_net.specs.declared.lane.LaneKind.{LaneKind}
 use Rattle.mrp_net.specs.declared.lane.LaneKind.TheVariants.{Despatch, Schedule}
 use Rattle.mrp_net.specs.declared.lanes.Taken.{Taken}
-use Rattle.mrp_group.specs.Groups.{group, sorted_by, IsGrouped, ShowsGroups}
+use Rattle.mrp_group.specs.Groups.{group, sorted_by}
+use Rattle.mrp_group.specs.Starts.{IsGrouped, ShowsGroups}
 use Rattle.mrp_net.specs.Sums.{pair_at, no_pair}
 use Rattle.mrp_net.specs.Lanes.{lanes, lanes_of, lanes_between, both_lanes, lane_items, pair_on, taken_over, item_of_source, figure, shipped_from, opening, customer_of, supplier_of}
 use Rattle.mrp_net.specs.Routes.{route_no, taken, AreItems, IsLane}

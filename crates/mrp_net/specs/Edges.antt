@@ -1,9 +1,8 @@
 -- Who takes from whom: the edges of a network, read off its rows.
-use Rattle.std.specs.Prelude.{ℕ, ◌-◌, ◌*◌, ◌/◌, ◌<◌, ◌≤◌, List, ◌++◌, length, map}
+use Rattle.std.specs.Prelude.{ℕ, ◌-◌, ◌*◌, ◌/◌, List, ◌++◌, length, map}
 use Rattle.mrp_group.specs.Groups.{group, sorted_by}
 use Rattle.mrp_rows.specs.declared.rows.BillRow.{BillRow}
 use Rattle.mrp_rows.specs.declared.rows.SourceRow.{SourceRow}
-use Rattle.mrp_qty.specs.declared.limits.TheConstants.{MOST_PER}
 use Rattle.mrp_rows.specs.Table.{Table, source_pair}
 use Rattle.mrp_net.specs.declared.edge.Edge.{Edge}
 
@@ -24,10 +23,6 @@ edges N = map bill_edge N.bills ++ map (source_edge N) N.sources
 abbrev pub demanders : Table → ℕ → List Edge
 demanders N x = sorted_by (λ e. e.demander.0) (length N.pairs) (group (λ e. e.pair.0) x (edges N))
 
--- the edges from a pair, in table order of the pairs that it takes from
-abbrev pub suppliers : Table → ℕ → List Edge
-suppliers N y = sorted_by (λ e. e.pair.0) (length N.pairs) (group (λ e. e.demander.0) y (edges N))
-
 -- the edge's part of a release: whole for a component, else the source's running share
 abbrev pub part : Edge → ℕ → ℕ
 part e release = (release * e.high) / 1000 - (release * e.low) / 1000
@@ -35,12 +30,3 @@ part e release = (release * e.high) / 1000 - (release * e.low) / 1000
 -- what a release asks of the edge's pair
 abbrev pub edge_need : Edge → ℕ → ℕ
 edge_need e release = e.per * part e release
-
--- an edge joins pairs of the table, with a factor and shares in range
-pub record IsEdge (N : Table) (e : Edge) : Type 0 where
-  pub demander : e.demander.0 < length N.pairs
-  pub pair : e.pair.0 < length N.pairs
-  pub some : 1 ≤ e.per
-  pub few : e.per ≤ MOST_PER
-  pub rises : e.low < e.high
-  pub ends : e.high ≤ 1000

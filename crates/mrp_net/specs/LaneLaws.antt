@@ -10,7 +10,8 @@ use Rattle.mrp_net.specs.declared.lane.LaneKind.{LaneKind}
 use Rattle.mrp_net.specs.declared.lane.LaneKind.TheVariants.{Despatch, Schedule}
 use Rattle.mrp_net.specs.declared.lane.Shipment.{Shipment}
 use Rattle.mrp_net.specs.Lanes.{lanes, lane_at, taken_over, item_of_source, lane_items, opening, shipments, pair_on, customer_of, supplier_of}
-use Rattle.mrp_net.specs.Sources.{source_on, supplied_on}
+use Rattle.mrp_net.specs.Sources.{source_on}
+use Rattle.mrp_net.specs.SourceRows.{supplied_on}
 use Rattle.mrp_net.specs.Sums.{pair_at, incoming, received, supply}
 
 -- the items over a route are each brought by one source, and a lane has each of its items once

@@ -8,7 +8,9 @@ pub mod Plan
 pub mod PlanLaws
 pub mod RouteLaws
 pub mod Routes
+pub mod SourceRows
 pub mod Sources
 pub mod Sums
+pub mod Suppliers
 pub mod SupplyLaws
 pub mod Texts

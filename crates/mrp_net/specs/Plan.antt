@@ -1,9 +1,9 @@
 -- The plan of a whole network: the rows of each pair, whose gross requirements come from the
 -- releases of its demanders.
-use Rattle.std.specs.Prelude.{◌≡◌, ℕ, ◌+◌, zero, suc, List, [], length, map, sum_by, slice_index, slice_index_or}
+use Rattle.std.specs.Prelude.{ℕ, ◌+◌, zero, suc, List, [], length, map, sum_by, slice_index, slice_index_or}
 use Rattle.std.specs.List.{range_with_len}
 use Rattle.mrp_lot.specs.One.{PlanRows, one}
-use Rattle.mrp_rows.specs.Table.{Table, IsPair}
+use Rattle.mrp_rows.specs.Table.{Table}
 use Rattle.mrp_net.specs.declared.edge.Edge.{Edge}
 use Rattle.mrp_net.specs.Edges.{demanders, edge_need}
 use Rattle.mrp_net.specs.Sums.{demand, incoming, params_at, row_of}
@@ -28,11 +28,6 @@ gross N table x t = demand N x t + asked table (demanders N x) t
 abbrev pub pair_plan : Table → List PlanRows → ℕ → PlanRows
 pair_plan N table x = one (params_at N x) (row_of N (incoming N x)) (row_of N (gross N table x))
 
--- a table of plans obeys the rules at every pair
-pub record Fits (N : Table) (table : List PlanRows) : Type 0 where
-  pub size : length table ≡ length N.pairs
-  pub rows : (x : ℕ) → IsPair N x → rows_at table x ≡ pair_plan N table x
-
 -- rounds of planning: in each, every pair is planned beside the releases of the round before; in the
 -- first nothing was released
 abbrev pub rounds : Table → ℕ → List PlanRows
@@ -43,7 +38,6 @@ rounds N (suc k) = map (pair_plan N (rounds N k)) (range_with_len 0 (length N.pa
 abbrev pub plan_of : Table → List PlanRows
 plan_of N = rounds N (length N.pairs)
 
--- the plan obeys the rules at every pair, and no other table of plans does
-pub record HasOnePlan (N : Table) : Type 0 where
-  pub fits : Fits N (plan_of N)
-  pub only : (table : List PlanRows) → Fits N table → table ≡ plan_of N
+-- the release of a pair in a period
+abbrev pub release_at : List PlanRows → ℕ → ℕ → ℕ
+release_at table x t = slice_index (rows_at table x).release t

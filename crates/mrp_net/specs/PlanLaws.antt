@@ -1,12 +1,11 @@
 -- Laws of plans: what the plan of a pair looks at, and where its gross requirements come from.
-use Rattle.std.specs.Prelude.{◌≡◌, ℕ, ◌+◌, ◌*◌, ◌==◌, if◌then◌else◌, List}
-use Rattle.std.specs.Prelude.{sum_by, slice_index, All}
+use Rattle.std.specs.Prelude.{◌≡◌, ℕ, ◌+◌, ◌*◌, ◌==◌, if◌then◌else◌, List, sum_by, All, length}
 use Rattle.mrp_lot.specs.One.{PlanRows}
 use Rattle.mrp_rows.specs.declared.rows.BillRow.{BillRow}
 use Rattle.mrp_rows.specs.declared.rows.SourceRow.{SourceRow}
 use Rattle.mrp_rows.specs.Table.{Table, IsTable, IsPair, source_pair}
 use Rattle.mrp_net.specs.Edges.{part, source_edge, demanders}
-use Rattle.mrp_net.specs.Plan.{rows_at, gross, pair_plan}
+use Rattle.mrp_net.specs.Plan.{rows_at, gross, pair_plan, release_at, plan_of}
 use Rattle.mrp_net.specs.Sums.{pair_at, demand}
 use Rattle.mrp_net.specs.RouteLaws.{over_route, over_plants}
 
@@ -16,10 +15,6 @@ PlansLookAtDemanders =
     (N : Table) (a b : List PlanRows) (x : ℕ)
     → All (λ e. (rows_at a e.demander.0).release ≡ (rows_at b e.demander.0).release) (demanders N x)
     → pair_plan N a x ≡ pair_plan N b x
-
--- the release of a pair in a period
-abbrev pub release_at : List PlanRows → ℕ → ℕ → ℕ
-release_at table x t = slice_index (rows_at table x).release t
 
 -- what a component row asks of a pair, and what a source asks of it
 abbrev pub asked_by_bill : List PlanRows → ℕ → ℕ → BillRow → ℕ
@@ -36,3 +31,13 @@ GrossIsLocalAndCalled =
     → gross N table x t
     ≡ demand N x t + sum_by (asked_by_bill table x t) N.bills
     + over_plants N (λ customer. over_route N (asked_by_source N table x t) customer (pair_at N x).plant.0)
+
+-- a table of plans obeys the rules at every pair
+pub record Fits (N : Table) (table : List PlanRows) : Type 0 where
+  pub size : length table ≡ length N.pairs
+  pub rows : (x : ℕ) → IsPair N x → rows_at table x ≡ pair_plan N table x
+
+-- the plan obeys the rules at every pair, and no other table of plans does
+pub record HasOnePlan (N : Table) : Type 0 where
+  pub fits : Fits N (plan_of N)
+  pub only : (table : List PlanRows) → Fits N table → table ≡ plan_of N

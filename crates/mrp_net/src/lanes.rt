@@ -5,7 +5,8 @@ ghost use Rattle.mrp_rows.specs.Table.{is_taken_from};
 ghost use Rattle.mrp_group.specs.Added.{AddsTotals};
 ghost use Rattle.mrp_net.specs.Lanes.{lanes, lanes_of, both_lanes, figure, shipped_from};
 ghost use Rattle.mrp_net.specs.Routes.{taken, AreItems, AreLaneLists};
-ghost use Rattle.mrp_net.specs.Sources.{source_no, sent, AreSourceStarts, AreShipments, AreSent, AreResets, AreResetsOf};
+ghost use Rattle.mrp_net.specs.Sources.{source_no};
+ghost use Rattle.mrp_net.specs.SourceRows.{sent, AreSourceStarts, AreShipments, AreSent, AreResets, AreResetsOf};
 
 use crate::lane::{Lane, LaneKind, Shipment};
 use crate::sums::Pieces;

@@ -3,7 +3,8 @@
 ghost use Rattle.std.specs.Prelude.{◌≡◌, ◌<◌, ◌≤◌, ◌^◌, ◌-◌, ◌+◌, ◌*◌, ℕ, true, min};
 ghost use Rattle.std.specs.Prelude.{length, slice_get, Option, Some, None, IfSome, IfNone, IfOk, Contains, All};
 ghost use Rattle.mrp_rows.specs.Table.{Table, IsTable, horizon, IsPair, is_taken_from, pair_no};
-ghost use Rattle.mrp_net.specs.Edges.{demanders, suppliers, IsEdge};
+ghost use Rattle.mrp_net.specs.Edges.{demanders};
+ghost use Rattle.mrp_net.specs.Suppliers.{suppliers, IsEdge};
 ghost use Rattle.mrp_net.specs.Sums.{pair_at, row_of, demand, demand_total, incoming, received, supply};
 ghost use Rattle.mrp_net.specs.Names.{IsNamed};
 ghost use Rattle.mrp_net.specs.Lanes.{lanes, lane_at, lane_items, figure, opening, shipments, reset, pair_on, customer_of, supplier_of};

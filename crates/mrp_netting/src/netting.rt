@@ -2,7 +2,8 @@
 
 ghost use Rattle.std.specs.Prelude.{◌≡◌, ◌+◌, ◌-◌, ◌<◌, ◌≤◌, min, length, suc};
 ghost use Rattle.mrp_qty.specs.declared.quantity.TheConstants.{MOST};
-ghost use Rattle.mrp_lot.specs.One.{IsWithin, greatest_need, order_at, order_after, balance_before, order_row, available_row};
+ghost use Rattle.mrp_lot.specs.One.{greatest_need, order_at, order_after, balance_before, order_row, available_row};
+ghost use Rattle.mrp_lot.specs.Bound.{IsWithin};
 
 use mrp_lot::{PairParams, Rule, lot};
 use mrp_qty::{Qty, Row};

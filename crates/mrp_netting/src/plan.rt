@@ -1,7 +1,8 @@
 //! The plan of one pair, its five rows and its late orders.
 
 ghost use Rattle.std.specs.Prelude.{◌≡◌, ◌<◌, ◌≤◌, ◌↔◌, length, IsTrue, IfOk, Some, slice_get, vec_capacity};
-ghost use Rattle.mrp_lot.specs.One.{PlanRows, one, IsWithin};
+ghost use Rattle.mrp_lot.specs.One.{PlanRows, one};
+ghost use Rattle.mrp_lot.specs.Bound.{IsWithin};
 ghost use Rattle.mrp_netting.specs.Plan.{AreRows, nothing_planned, late_orders_in, AreLate};
 
 use crate::following::{late_follow, orders_follow, releases_follow};

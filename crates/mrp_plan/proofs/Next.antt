@@ -4,9 +4,11 @@ use Rattle.std.proofs.lemmas.List.{append-nil, drop_all, get_or-map, length-map,
 use Rattle.mrp_lot.specs.One.{PlanRows}
 use Rattle.mrp_rows.specs.Table.{Table}
 use Rattle.mrp_rows.specs.declared.numbers.PairNo.{PairNo}
-use Rattle.mrp_net.specs.Plan.{Fits, pair_plan, rows_at}
+use Rattle.mrp_net.specs.Plan.{pair_plan, rows_at}
+use Rattle.mrp_net.specs.PlanLaws.{Fits}
 use Rattle.mrp_loops.specs.Need.{AreNeeds}
-use Rattle.mrp_loops.specs.Sized.{IsSized, IsPlanningOrder}
+use Rattle.mrp_loops.specs.Sized.{IsSized}
+use Rattle.mrp_loops.specs.Planning.{IsPlanningOrder}
 use Rattle.mrp_plan.specs.Progress.{CanBeDrafted, IsPlannedTo}
 use Rattle.mrp_loops.proofs.Orders.{place_in_table}
 use Rattle.mrp_loops.proofs.Within.{needs_within}

@@ -7,9 +7,11 @@ use Rattle.std.proofs.lemmas.List.Sums.{get_or-le-sum_by}
 use Rattle.mrp_qty.specs.declared.quantity.TheConstants.{MOST}
 use Rattle.mrp_lot.specs.One.{PlanRows}
 use Rattle.mrp_rows.specs.Table.{Table, IsPair, horizon}
-use Rattle.mrp_net.specs.Edges.{demanders, edge_need, IsEdge}
+use Rattle.mrp_net.specs.Edges.{demanders, edge_need}
+use Rattle.mrp_net.specs.Suppliers.{IsEdge}
 use Rattle.mrp_net.specs.Sums.{row_of}
-use Rattle.mrp_net.specs.Plan.{rows_at, gross, Fits}
+use Rattle.mrp_net.specs.Plan.{rows_at, gross}
+use Rattle.mrp_net.specs.PlanLaws.{Fits}
 use Rattle.mrp_net.specs.declared.edge.Edge.{Edge}
 use Rattle.mrp_plan.specs.Peg.{IsPeggable, is_asked, demand_term, edge_term, peg_terms}
 use Rattle.mrp_plan.specs.declared.terms.PegTerm.{PegTerm}

@@ -3,7 +3,8 @@ use Rattle.std.specs.Prelude.{◌<◌, ◌≤◌, length, Bool, ℕ, ◌==◌, i
 use Rattle.mrp_qty.specs.declared.quantity.TheConstants.{MOST}
 use Rattle.mrp_lot.specs.One.{PlanRows}
 use Rattle.mrp_rows.specs.Table.{Table}
-use Rattle.mrp_net.specs.Edges.{demanders, edge_need, part, IsEdge}
+use Rattle.mrp_net.specs.Edges.{demanders, edge_need, part}
+use Rattle.mrp_net.specs.Suppliers.{IsEdge}
 use Rattle.mrp_net.specs.Sums.{demand, pair_at}
 use Rattle.mrp_net.specs.Plan.{rows_at}
 use Rattle.mrp_net.specs.declared.edge.Edge.{Edge}

@@ -5,7 +5,8 @@ use Rattle.mrp_rows.specs.declared.rows.BillRow.{BillRow}
 use Rattle.mrp_rows.specs.declared.rows.SourceRow.{SourceRow}
 use Rattle.mrp_rows.specs.Table.{Table, IsTable, IsPair, horizon, source_pair}
 use Rattle.mrp_net.specs.Sums.{demand}
-use Rattle.mrp_net.specs.Plan.{Fits, rows_at}
+use Rattle.mrp_net.specs.Plan.{rows_at}
+use Rattle.mrp_net.specs.PlanLaws.{Fits}
 use Rattle.mrp_plan.specs.Peg.{peg_terms}
 use Rattle.mrp_plan.specs.declared.terms.PegTerm.{PegTerm}
 use Rattle.mrp_plan.specs.declared.terms.PegSource.{PegSource}

@@ -4,9 +4,11 @@ ghost use Rattle.std.specs.Prelude.{◌≡◌, ◌<◌, ◌≤◌, ◌+◌, ◌�
 ghost use Rattle.mrp_qty.specs.declared.quantity.TheConstants.{MOST};
 ghost use Rattle.mrp_rows.specs.Table.{IsPair, horizon};
 ghost use Rattle.mrp_net.specs.Sums.{incoming, row_of};
-ghost use Rattle.mrp_net.specs.Plan.{Fits, gross, pair_plan, rows_at, asked};
+ghost use Rattle.mrp_net.specs.Plan.{gross, pair_plan, rows_at, asked};
+ghost use Rattle.mrp_net.specs.PlanLaws.{Fits};
 ghost use Rattle.mrp_loops.specs.Need.{AreNeeds};
-ghost use Rattle.mrp_loops.specs.Sized.{IsSized, IsPlanningOrder};
+ghost use Rattle.mrp_loops.specs.Sized.{IsSized};
+ghost use Rattle.mrp_loops.specs.Planning.{IsPlanningOrder};
 ghost use Rattle.mrp_plan.specs.Explosion.{CanAsk};
 ghost use Rattle.mrp_plan.specs.Progress.{CanBeDrafted, HavePeriods, IsPlannedTo};
 

@@ -3,7 +3,7 @@
 ghost use Rattle.std.specs.Prelude.{◌≡◌, ◌<◌, ◌≤◌, ◌++◌, ◌∷◌, [], ℕ, length, filter, map, All, IfOk, OnOk};
 ghost use Rattle.mrp_rows.specs.Table.{IsPair, horizon};
 ghost use Rattle.mrp_net.specs.Edges.{demanders};
-ghost use Rattle.mrp_net.specs.Plan.{Fits};
+ghost use Rattle.mrp_net.specs.PlanLaws.{Fits};
 ghost use Rattle.mrp_plan.specs.Peg.{peg_terms, is_asked, IsPeggable, demand_term as demand_term_of, edge_term as edge_term_of};
 
 use crate::explosion::part_of;

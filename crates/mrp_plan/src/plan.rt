@@ -5,9 +5,11 @@ ghost use Rattle.mrp_qty.specs.declared.quantity.TheConstants.{MOST};
 ghost use Rattle.mrp_lot.specs.One.{one};
 ghost use Rattle.mrp_rows.specs.Table.{IsPair, horizon};
 ghost use Rattle.mrp_net.specs.Sums.{demand, demand_total, incoming, received_total, shipped_total, row_of};
-ghost use Rattle.mrp_net.specs.Plan.{Fits, gross, pair_plan, plan_of, rows_at};
+ghost use Rattle.mrp_net.specs.Plan.{gross, pair_plan, plan_of, rows_at};
+ghost use Rattle.mrp_net.specs.PlanLaws.{Fits};
 ghost use Rattle.mrp_loops.specs.Need.{AreNeeds};
-ghost use Rattle.mrp_loops.specs.Sized.{IsSized, IsPlanningOrder};
+ghost use Rattle.mrp_loops.specs.Sized.{IsSized};
+ghost use Rattle.mrp_loops.specs.Planning.{IsPlanningOrder};
 ghost use Rattle.mrp_plan.specs.Progress.{CanBeDrafted, IsPlannedTo};
 
 use crate::explosion::explode_all;

@@ -12,7 +12,7 @@ use Rattle.mrp_net.specs.Plan.{plan_of, rows_at}
 use Rattle.mrp_net.proofs.Members.{Contains-from_in, In-from_contains, In-map}
 use Rattle.mrp_view.specs.View.{PlantRows, incoming_item, incoming_lane, plant_pair}
 use Rattle.mrp_view.specs.declared.view.IncomingLane.{IncomingLane}
-use Rattle.mrp_events.specs.Laws.{cum_on}
+use Rattle.mrp_events.specs.LaneOrder.{cum_on}
 use Rattle.mrp_ready.specs.Progress.{is_planned}
 use Rattle.mrp_agent.specs.Reading.{received_over}
 use Rattle.mrp_agent.specs.State.{AgentState, pair_place, plans_of}

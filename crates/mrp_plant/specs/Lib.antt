@@ -1,5 +1,4 @@
-pub mod AgentStays
 pub mod Agents
 pub mod Gathering
 pub mod Moments
-pub mod Owned
+pub mod Showing

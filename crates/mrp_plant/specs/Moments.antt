@@ -10,16 +10,13 @@ use Rattle.mrp_record.specs.Text.{IsBeginning}
 use Rattle.mrp_local.specs.Laws.{IsPairAt}
 use Rattle.mrp_events.specs.Loads.{loads}
 use Rattle.mrp_events.specs.State.{State, IsDecided, IsReached}
+use Rattle.mrp_plant.specs.Showing.{Showing}
 
 -- a moment of a run: the network, how many records a mailbox may hold, and the state
 pub record Moment : Type 0 where
   pub network : Table
   pub capacity : ℕ
   pub state : State
-
--- which states of a network a plant with a number shows
-abbrev pub Showing : Type 0 → Type 1
-Showing A = Table → ℕ → State → A → Type 0
 
 -- the plant with the number shows the state, the network is sized, and events lead to the state
 pub record IsAt {A : Type 0} (shows : Showing A) (m : Moment) (p : ℕ) (plant : A) : Type 0 where

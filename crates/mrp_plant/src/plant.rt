@@ -25,7 +25,7 @@ pub trait Plant: Drop {
     ghost use Rattle.mrp_record.specs.Form.{IsInForm};
     ghost use Rattle.mrp_book.specs.Meanings.{first_had};
     ghost use Rattle.mrp_local.specs.Local.{IsLocal};
-    ghost use Rattle.mrp_events.specs.Laws.{cum_on};
+    ghost use Rattle.mrp_events.specs.LaneOrder.{cum_on};
     ghost use Rattle.mrp_events.specs.LoadLaws.{lane_form};
     ghost use Rattle.mrp_events.specs.State.{State, opening_state, CanTake, CanPlan, after_send, after_take, after_plan};
     ghost use Rattle.mrp_plant.specs.Gathering.{HasPlannedAll, own_plans};

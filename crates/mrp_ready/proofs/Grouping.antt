@@ -5,7 +5,7 @@ use Rattle.std.specs.List.{range_with_len}
 use Rattle.std.proofs.lemmas.List.{ext_get_or, length-map, take-map, drop-map}
 use Rattle.std.proofs.lemmas.List.FromFn.{get_or-map-range_with_len, length-map-range_with_len}
 use Rattle.std.proofs.lemmas.Option.{slice_get-get_or}
-use Rattle.mrp_group.specs.Groups.{IsGrouped}
+use Rattle.mrp_group.specs.Starts.{IsGrouped}
 use Rattle.mrp_group.proofs.Sorting.{IsGrouped-within}
 use Rattle.mrp_ready.specs.declared.join.Join.{Join}
 use Rattle.mrp_ready.specs.Components.{ArePartsOf, parts}

@@ -7,9 +7,11 @@ use Rattle.std.proofs.lemmas.List.Elements.{filter-append}
 use Rattle.std.proofs.lemmas.List.Sums.{sum_by-cons}
 use Rattle.std.proofs.lemmas.List.Sorted.{IsPermutation-refl, sum_by-IsPermutation}
 use Rattle.mrp_record.specs.declared.record.Record.{Record}
-use Rattle.mrp_record.specs.Entries.{Entry, EndOf, Closing, content, contents, number_of, is_of, is_end, entries_of, entry_delivery}
+use Rattle.mrp_record.specs.Entries.{Entry, EndOf, Closing, content, contents, number_of, is_of, is_end, entries_of}
+use Rattle.mrp_record.specs.Blocks.{entry_delivery}
 use Rattle.mrp_record.specs.Laws.{AreLoads, EmptyIsABeginning, FrontsAreBeginnings, FrontsAreNested, NothingFollowsClosing, ClosedIsWhole, TextsHaveOneLength, BeginningsAreNoLonger, EndedBlocksAreWhole, EndedBlocksBringDeliveries, EndedBlocksBringPeriods, EndedBlocksBringTotals, EndedItemsAreDone, quantity_in}
-use Rattle.mrp_record.specs.Text.{Load, body, block, block_length, last_figure, text_of, IsText, IsBeginning, NumberedFrom, total}
+use Rattle.mrp_record.specs.Text.{Load, body, block, last_figure, text_of, IsText, IsBeginning, NumberedFrom, total}
+use Rattle.mrp_record.specs.Lengths.{block_length}
 use Rattle.mrp_record.proofs.Fronts.{overlap}
 use Rattle.mrp_record.proofs.Loads.{In, In-from_contains, In-permutation, at_most_one, count_permuted, text_block}
 use Rattle.mrp_record.proofs.Own.{AllOf, AllOf-block, list_any-front}

@@ -7,7 +7,8 @@ use Rattle.std.proofs.lemmas.List.{get_or_append_left, get_or-append-add}
 use Rattle.std.proofs.lemmas.List.Elements.{All-nil, All-cons, All-head, All-tail}
 use Rattle.std.proofs.lemmas.List.Sums.{sum_by-cons, sum_by-append}
 use Rattle.mrp_qty.specs.declared.quantity.TheConstants.{MOST}
-use Rattle.mrp_record.specs.Entries.{Entry, LineOf, EndOf, ResetOf, Delivery, is_line, is_reset, is_end, next_after, figure_after, closed_of}
+use Rattle.mrp_record.specs.Entries.{Entry, LineOf, EndOf, ResetOf, Delivery, is_end, figure_after, closed_of}
+use Rattle.mrp_record.specs.Blocks.{is_line, is_reset, next_after}
 use Rattle.mrp_record.specs.Form.{FormItem, LaneForm, is_anew}
 use Rattle.mrp_record.specs.Laws.{IsSmall, form_item}
 use Rattle.mrp_record.specs.Text.{Load, total, running, early, late, block}

@@ -10,7 +10,8 @@ use Rattle.std.proofs.lemmas.List.Sums.{sum_by-append, count_by-le-length, lengt
 use Rattle.std.proofs.lemmas.List.Sorted.{IsPermutation-sym}
 use Rattle.mrp_qty.specs.declared.quantity.TheConstants.{MOST}
 use Rattle.mrp_record.specs.declared.record.Record.{Record}
-use Rattle.mrp_record.specs.Entries.{Entry, LineOf, EndOf, ResetOf, Closing, number_of, content, contents, is_of, is_line, is_reset, is_end, is_closing, next_after, figure_after, closed_of, entries_of, is_ended, is_open, is_closed, in_force, line_count, cum}
+use Rattle.mrp_record.specs.Entries.{Entry, LineOf, EndOf, ResetOf, Closing, number_of, content, contents, is_of, is_end, is_closing, figure_after, closed_of, entries_of, is_ended, is_closed, in_force, cum}
+use Rattle.mrp_record.specs.Blocks.{is_line, is_reset, next_after, is_open, line_count}
 use Rattle.mrp_record.specs.Form.{FormItem, LaneForm, item_on, is_other_open, LineFits, EndFits, ResetFits, GoesOn, EntryFits}
 use Rattle.mrp_record.specs.Laws.{AreLoads, IsSmall, AreSmall, form_item, loads_form, BeginningsAreInForm, HasSmallFigures, FiguresAreSmall, CumsAreSmall}
 use Rattle.mrp_record.specs.Text.{Load, body, block, last_figure, text_of, IsBeginning}

@@ -8,7 +8,8 @@ use Rattle.std.proofs.lemmas.List.{append-nil, flat_map_more}
 use Rattle.std.proofs.lemmas.List.Elements.{All-nil, All-cons, All-head, All-tail, All-push, All-contains, All-weaker, Contains-append_cases, Contains-append_right}
 use Rattle.std.proofs.lemmas.List.Sorted.{IsPermutation-refl, IsPermutation-sym, IsPermutation-trans, IsPermutation-append_right, IsPermutation-remove, All-permutation, Contains-permutation}
 use Rattle.mrp_record.specs.declared.record.Record.{Record}
-use Rattle.mrp_record.specs.Entries.{Entry, LineOf, EndOf, ResetOf, Closing, content, contents, is_of, is_end, is_closing, entries_of, is_ended, is_open, is_closed}
+use Rattle.mrp_record.specs.Entries.{Entry, LineOf, EndOf, ResetOf, Closing, content, contents, is_of, is_end, is_closing, entries_of, is_ended, is_closed}
+use Rattle.mrp_record.specs.Blocks.{is_open}
 use Rattle.mrp_record.specs.Form.{FormItem, LaneForm, item_on, GoesOn, LineFits, EndFits, ResetFits, EntryFits, IsInForm}
 use Rattle.mrp_record.specs.Laws.{is_same_form_item}
 use Rattle.mrp_record.proofs.FormItems.{item_is, found_in, none_at, apart_after}

@@ -4,7 +4,8 @@ use Rattle.std.specs.Prelude.{nat_lt, is_some}
 use Rattle.std.specs.List.{filter_map}
 use Rattle.std.proofs.lemmas.Bool.{eq-eqb, eqb-true, both_ways, false≢true, true≢false, leb-false, leb-true, lt-ltb, le-ltb, cond-true, cond-false}
 use Rattle.std.proofs.lemmas.List.Sums.{sum_by-cons}
-use Rattle.mrp_record.specs.Entries.{Entry, LineOf, EndOf, ResetOf, Closing, Delivery, entry_delivery}
+use Rattle.mrp_record.specs.Entries.{Entry, LineOf, EndOf, ResetOf, Closing, Delivery}
+use Rattle.mrp_record.specs.Blocks.{entry_delivery}
 use Rattle.mrp_record.specs.Form.{FormItem, LaneForm}
 use Rattle.mrp_record.specs.Text.{Load, total, running, early, late, block}
 use Rattle.mrp_record.proofs.Own.{AllOf}

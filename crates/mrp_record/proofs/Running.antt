@@ -5,8 +5,10 @@ use Rattle.std.specs.List.{list_any, sum_by, filter_map}
 use Rattle.std.proofs.lemmas.List.{append-nil}
 use Rattle.std.proofs.lemmas.List.Elements.{filter_map-append}
 use Rattle.std.proofs.lemmas.List.Sums.{sum_by-cons}
-use Rattle.mrp_record.specs.Entries.{Entry, LineOf, EndOf, ResetOf, Closing, Delivery, is_end, entry_delivery, quantity_of}
-use Rattle.mrp_record.specs.Text.{Load, running, early, late, body, block, block_length, last_figure, total}
+use Rattle.mrp_record.specs.Entries.{Entry, LineOf, EndOf, ResetOf, Closing, Delivery, is_end, quantity_of}
+use Rattle.mrp_record.specs.Blocks.{entry_delivery}
+use Rattle.mrp_record.specs.Text.{Load, running, early, late, body, block, last_figure, total}
+use Rattle.mrp_record.specs.Lengths.{block_length}
 use Rattle.mrp_record.proofs.Own.{list_any-append}
 
 pub early-append-late : (from : ℕ) (lines : List Delivery) → early from lines ++ late from lines ≡ lines

@@ -4,7 +4,8 @@ use Rattle.std.specs.Prelude.{is_some}
 use Rattle.std.specs.List.{fold, list_any, sum_by, count_by}
 use Rattle.std.proofs.lemmas.List.Sums.{sum_by-cons}
 use Rattle.mrp_qty.specs.declared.quantity.TheConstants.{MOST}
-use Rattle.mrp_record.specs.Entries.{Entry, LineOf, EndOf, ResetOf, Closing, is_line, is_reset, is_end, next_after, figure_after, closed_of}
+use Rattle.mrp_record.specs.Entries.{Entry, LineOf, EndOf, ResetOf, Closing, is_end, figure_after, closed_of}
+use Rattle.mrp_record.specs.Blocks.{is_line, is_reset, next_after}
 use Rattle.mrp_record.specs.Form.{FormItem, LaneForm, is_anew}
 
 pub record Tally : Type 0 where

@@ -1,6 +1,5 @@
 -- What the records of a lane say apart from their numbers, and what a list of them says of one item.
-use Rattle.std.specs.Prelude.{ℕ, ◌+◌, ◌==◌, ◌&&◌, nat_lt, not, Bool, true, false, List, length, map, filter, filter_map, fold, sum_by, count_by, Option, Some}
-use Rattle.std.specs.Prelude.{None}
+use Rattle.std.specs.Prelude.{ℕ, ◌+◌, ◌==◌, Bool, true, false, List, map, filter, fold, sum_by}
 use Rattle.std.specs.List.{list_any}
 use Rattle.mrp_record.specs.declared.record.Record.{Record}
 use Rattle.mrp_record.specs.declared.record.Record.TheVariants.{Line, ItemEnd, Reset, Close}
@@ -43,23 +42,11 @@ is_of item Closing = false
 abbrev pub entries_of : ℕ → List Entry → List Entry
 entries_of item entries = filter (is_of item) entries
 
-abbrev pub is_line : Entry → Bool
-is_line (LineOf item period quantity cumulative) = true
-is_line (EndOf item lines cumulative) = false
-is_line (ResetOf item closed) = false
-is_line Closing = false
-
 abbrev pub is_end : Entry → Bool
 is_end (LineOf item period quantity cumulative) = false
 is_end (EndOf item lines cumulative) = true
 is_end (ResetOf item closed) = false
 is_end Closing = false
-
-abbrev pub is_reset : Entry → Bool
-is_reset (LineOf item period quantity cumulative) = false
-is_reset (EndOf item lines cumulative) = false
-is_reset (ResetOf item closed) = true
-is_reset Closing = false
 
 abbrev pub is_closing : Entry → Bool
 is_closing (LineOf item period quantity cumulative) = false
@@ -67,39 +54,8 @@ is_closing (EndOf item lines cumulative) = false
 is_closing (ResetOf item closed) = false
 is_closing Closing = true
 
--- the deliveries of its lines, in order
-abbrev pub entry_delivery : Entry → Option Delivery
-entry_delivery (LineOf item period quantity cumulative) = Some (record { period = period; quantity = quantity })
-entry_delivery (EndOf item lines cumulative) = None
-entry_delivery (ResetOf item closed) = None
-entry_delivery Closing = None
-
-abbrev pub deliveries : ℕ → List Entry → List Delivery
-deliveries item entries = filter_map entry_delivery (entries_of item entries)
-
--- how many lines it has
-abbrev pub line_count : ℕ → List Entry → ℕ
-line_count item entries = count_by is_line (entries_of item entries)
-
--- the first period after that of its last line; 0 without a line
-abbrev pub next_after : ℕ → Entry → ℕ
-next_after next (LineOf item period quantity cumulative) = period + 1
-next_after next (EndOf item lines cumulative) = next
-next_after next (ResetOf item closed) = next
-next_after next Closing = next
-
-abbrev pub next_period : ℕ → List Entry → ℕ
-next_period item entries = fold next_after 0 (entries_of item entries)
-
--- its figures have started anew; its block has ended; its block has begun and hasn't ended
-abbrev pub was_reset : ℕ → List Entry → Bool
-was_reset item entries = list_any is_reset (entries_of item entries)
-
 abbrev pub is_ended : ℕ → List Entry → Bool
 is_ended item entries = list_any is_end (entries_of item entries)
-
-abbrev pub is_open : ℕ → List Entry → Bool
-is_open item entries = nat_lt 0 (length (entries_of item entries)) && not (is_ended item entries)
 
 -- the lane is closed
 abbrev pub is_closed : List Entry → Bool

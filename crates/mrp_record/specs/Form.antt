@@ -4,8 +4,10 @@ use Rattle.std.specs.Prelude.{is_some, IsSomeAnd}
 use Rattle.std.specs.List.{list_any}
 use Rattle.mrp_qty.specs.declared.quantity.TheConstants.{MOST}
 use Rattle.mrp_record.specs.declared.record.Record.{Record}
-use Rattle.mrp_record.specs.Entries.{Entry, LineOf, EndOf, ResetOf, Closing, number_of, content, contents, line_count, next_period, was_reset, is_ended}
-use Rattle.mrp_record.specs.Entries.{is_open, is_closed, in_force, closed_by}
+use Rattle.mrp_record.specs.Entries.{Entry, LineOf, EndOf, ResetOf, Closing, number_of, content, contents, is_ended}
+use Rattle.mrp_record.specs.Blocks.{line_count, next_period, was_reset}
+use Rattle.mrp_record.specs.Entries.{is_closed, in_force, closed_by}
+use Rattle.mrp_record.specs.Blocks.{is_open}
 
 -- an item of the lane: its opening figure, and the period from which its figures start anew, if they do
 pub record FormItem : Type 0 where

@@ -4,10 +4,12 @@ use Rattle.std.specs.List.{AllPairs, IsDistinct}
 use Rattle.std.specs.List.Sorted.{IsNonDecreasingBy}
 use Rattle.mrp_qty.specs.declared.quantity.TheConstants.{MOST}
 use Rattle.mrp_record.specs.declared.record.Record.{Record}
-use Rattle.mrp_record.specs.Entries.{Entry, LineOf, EndOf, ResetOf, Closing, Delivery, number_of, content, contents, entries_of, deliveries, is_ended, moved}
+use Rattle.mrp_record.specs.Entries.{Entry, LineOf, EndOf, ResetOf, Closing, Delivery, number_of, content, contents, entries_of, is_ended, moved}
+use Rattle.mrp_record.specs.Blocks.{deliveries}
 use Rattle.mrp_record.specs.Entries.{cum}
 use Rattle.mrp_record.specs.Form.{FormItem, LaneForm, IsInForm}
-use Rattle.mrp_record.specs.Text.{Load, total, block, IsText, IsWhole, IsBeginning, length_of_text}
+use Rattle.mrp_record.specs.Text.{Load, total, block, IsText, IsWhole, IsBeginning}
+use Rattle.mrp_record.specs.Lengths.{length_of_text}
 
 -- the loads of a lane: no item has two
 abbrev pub is_same_load : Load → Load → Bool

@@ -1,5 +1,5 @@
 -- The text of a lane: the block of each of its items, in some order, and the closing record.
-use Rattle.std.specs.Prelude.{◌≡◌, ℕ, ◌+◌, nat_lt, if◌then◌else◌, List, [], ◌∷◌, ◌++◌, length, sum_by, Option, Some, None, is_some, IsPermutation}
+use Rattle.std.specs.Prelude.{◌≡◌, ℕ, ◌+◌, nat_lt, if◌then◌else◌, List, [], ◌∷◌, ◌++◌, length, sum_by, Option, Some, None, IsPermutation}
 use Rattle.std.specs.List.{flat_map}
 use Rattle.mrp_record.specs.declared.record.Record.{Record}
 use Rattle.mrp_record.specs.Entries.{Entry, LineOf, EndOf, ResetOf, Closing, Delivery, number_of, contents}
@@ -69,11 +69,3 @@ pub record IsBeginning (loads : List Load) (records : List Record) : Type 0 wher
   pub numbered : NumberedFrom 1 records
   pub rest : List Entry
   pub text : IsText loads (contents records ++ rest)
-
--- how many records all texts of the loads have: the lines and the end of each item, a reset where its
--- figures start anew, and the closing record
-abbrev pub block_length : Load → ℕ
-block_length load = length load.lines + (if is_some load.reset then 1 else 0) + 1
-
-abbrev pub length_of_text : List Load → ℕ
-length_of_text loads = sum_by block_length loads + 1

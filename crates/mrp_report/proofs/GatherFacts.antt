@@ -5,7 +5,8 @@ use Rattle.std.specs.Io.KnownBytes.{Appends}
 use Rattle.std.proofs.lemmas.Grind.{flat_map-append}
 use Rattle.std.proofs.lemmas.List.{take-append-drop}
 use Rattle.csv.proofs.WriteFacts.{appends-more, appends-none}
-use Rattle.mrp_sheet.specs.Sending.{AppendsFront, SendsReport}
+use Rattle.mrp_sheet.specs.Sending.{AppendsFront}
+use Rattle.mrp_sheet.specs.Sent.{SendsReport}
 use Rattle.mrp_sheet.specs.declared.fault.ReportFault.{ReportFault}
 use Rattle.mrp_sheet.specs.declared.fault.ReportFault.TheVariants.{WriteFault, Memory}
 use Rattle.mrp_sheet.proofs.Fronts.{front-after, front-longer, whole-after}

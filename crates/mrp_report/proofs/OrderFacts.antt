@@ -10,7 +10,8 @@ use Rattle.mrp_plan.specs.declared.orders.PlannedOrder.{PlannedOrder}
 use Rattle.mrp_report.specs.declared.orders.OrderLine.{OrderLine}
 use Rattle.mrp_lot.proofs.OneLaws.{length-one-order}
 use Rattle.mrp_rows.specs.Table.{horizon, IsPair, Table}
-use Rattle.mrp_net.specs.Plan.{Fits, gross, rows_at}
+use Rattle.mrp_net.specs.Plan.{gross, rows_at}
+use Rattle.mrp_net.specs.PlanLaws.{Fits}
 use Rattle.mrp_net.specs.Sums.{incoming, params_at, row_of}
 use Rattle.mrp_sheet.specs.Dates.{dates_of, period_date}
 use Rattle.mrp_report.specs.OrderLines.{IsOrderLine, due_text, order_line_row, order_line_text}

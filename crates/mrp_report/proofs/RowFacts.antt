@@ -6,7 +6,8 @@ use Rattle.mrp_lot.proofs.OneLaws.{one-gross, one-incoming, length-one-order, le
 use Rattle.mrp_lot.specs.declared.params.PairParams.{PairParams}
 use Rattle.mrp_rows.specs.Table.{Table, IsPair, horizon}
 use Rattle.mrp_net.specs.Sums.{params_at, row_of, incoming}
-use Rattle.mrp_net.specs.Plan.{Fits, gross, rows_at}
+use Rattle.mrp_net.specs.Plan.{gross, rows_at}
+use Rattle.mrp_net.specs.PlanLaws.{Fits}
 use Rattle.mrp_report.specs.Parts.{HasPeriods}
 
 -- the rows of a pair's plan have the periods of its given rows

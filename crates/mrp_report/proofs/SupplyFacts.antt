@@ -16,7 +16,8 @@ use Rattle.mrp_rows.specs.declared.rows.Supply.{Supply}
 use Rattle.mrp_rows.specs.declared.rows.Supply.TheVariants.{Buy, From, Make}
 use Rattle.mrp_rows.specs.Table.{AreShares, HasSupply, IsPair, IsSourceRow, IsTable, source_pair, sources_of_pair, supply_at as supply_kind, Table}
 use Rattle.mrp_net.specs.declared.edge.Edge.{Edge}
-use Rattle.mrp_net.specs.Edges.{bill_edge, edges, source_edge, suppliers}
+use Rattle.mrp_net.specs.Edges.{bill_edge, edges, source_edge}
+use Rattle.mrp_net.specs.Suppliers.{suppliers}
 use Rattle.mrp_net.specs.Sums.{no_pair, pair_at}
 use Rattle.mrp_net.proofs.Local.{source_pairs_are_there}
 use Rattle.mrp_net.proofs.Routing.{filter-map}

@@ -7,7 +7,7 @@ use Rattle.mrp_net.specs.declared.lane.LaneKind.{LaneKind}
 use Rattle.mrp_net.specs.declared.lane.LaneKind.TheVariants.{Despatch, Schedule}
 use Rattle.mrp_net.specs.Lanes.{lane_at, lanes}
 use Rattle.mrp_book.specs.declared.figure.LaneFigure.{LaneFigure}
-use Rattle.mrp_sheet.specs.Names.{name_of_item, name_of_plant}
+use Rattle.mrp_sheet.specs.RowNames.{name_of_item, name_of_plant}
 use Rattle.mrp_sheet.specs.Rows.{row}
 
 -- what the row of a figure calls the kind of its lane

@@ -3,7 +3,7 @@ use Rattle.std.specs.Prelude.{◌≡◌, ◌≤◌, ℕ, if◌then◌else◌, Li
 use Rattle.std.specs.List.{flat_map}
 use Rattle.mrp_lot.specs.One.{PlanRows}
 use Rattle.mrp_rows.specs.Table.{IsPair, IsTable, Table}
-use Rattle.mrp_net.specs.Plan.{Fits}
+use Rattle.mrp_net.specs.PlanLaws.{Fits}
 use Rattle.mrp_net.specs.declared.edge.Edge.{Edge}
 use Rattle.mrp_plan.specs.Peg.{edge_term, is_asked}
 use Rattle.mrp_plan.specs.declared.terms.PegTerm.{PegTerm}

@@ -6,7 +6,7 @@ ghost use Rattle.mrp_sheet.specs.Headings.{header_row};
 ghost use Rattle.mrp_report.specs.Headings.{lane_names};
 ghost use Rattle.mrp_report.specs.Lanes.{lane_kind_word, lane_row, lane_text, IsFigure};
 ghost use Rattle.mrp_sheet.specs.Writing.{IsBetweenRows, written};
-ghost use Rattle.mrp_sheet.specs.Sending.{SendsReport};
+ghost use Rattle.mrp_sheet.specs.Sent.{SendsReport};
 
 use csv::Writer;
 use itoa::Buffer;

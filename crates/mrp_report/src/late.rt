@@ -2,9 +2,9 @@
 
 ghost use Rattle.std.specs.Prelude.{◌≡◌, ◌++◌, Err, OnOk, IfOk, IfErr};
 ghost use Rattle.std.specs.List.{flat_map};
-ghost use Rattle.mrp_net.specs.Plan.{Fits};
+ghost use Rattle.mrp_net.specs.PlanLaws.{Fits};
 ghost use Rattle.mrp_sheet.specs.Writing.{IsBetweenRows, written};
-ghost use Rattle.mrp_sheet.specs.Sending.{SendsReport};
+ghost use Rattle.mrp_sheet.specs.Sent.{SendsReport};
 ghost use Rattle.mrp_report.specs.Report.{late_text};
 ghost use Rattle.mrp_report.specs.Parts.{late_row};
 

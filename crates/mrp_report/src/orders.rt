@@ -2,14 +2,14 @@
 
 ghost use Rattle.std.specs.Prelude.{◌≡◌, ◌<◌, ◌++◌, Err, OnOk, IfOk, IfErr, length};
 ghost use Rattle.mrp_rows.specs.Table.{IsPair};
-ghost use Rattle.mrp_net.specs.Plan.{Fits};
+ghost use Rattle.mrp_net.specs.PlanLaws.{Fits};
 ghost use Rattle.mrp_sheet.specs.Dates.{dates_of};
 ghost use Rattle.mrp_sheet.specs.Headings.{header_row};
 ghost use Rattle.mrp_report.specs.Headings.{order_names};
 ghost use Rattle.mrp_report.specs.Orders.{order_text, orders_text, pair_orders_text, spelled_supply};
 ghost use Rattle.mrp_report.specs.OrderLines.{IsOrderLine, due_text, order_line_row, order_line_text};
 ghost use Rattle.mrp_sheet.specs.Writing.{IsBetweenRows, written};
-ghost use Rattle.mrp_sheet.specs.Sending.{SendsReport};
+ghost use Rattle.mrp_sheet.specs.Sent.{SendsReport};
 
 use crate::supply::put_supply;
 use csv::Writer;

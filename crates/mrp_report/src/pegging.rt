@@ -3,10 +3,11 @@
 ghost use Rattle.std.specs.Prelude.{◌≡◌, ◌+◌, ◌≤◌, ◌<◌, ◌++◌, ◌∷◌, take, drop, length, decimal, All, Err, IfOk, OnOk, IfErr, OnErr};
 ghost use Rattle.csv.specs.Writing.{comma};
 ghost use Rattle.mrp_rows.specs.Table.{IsPair, IsTable, horizon};
-ghost use Rattle.mrp_net.specs.Plan.{Fits};
+ghost use Rattle.mrp_net.specs.PlanLaws.{Fits};
 ghost use Rattle.mrp_plan.specs.Peg.{IsPeggable};
 ghost use Rattle.mrp_sheet.specs.Headings.{header_row};
-ghost use Rattle.mrp_sheet.specs.Sending.{AppendsFront, SendsReport};
+ghost use Rattle.mrp_sheet.specs.Sending.{AppendsFront};
+ghost use Rattle.mrp_sheet.specs.Sent.{SendsReport};
 ghost use Rattle.mrp_report.specs.Gathering.{Gathers};
 ghost use Rattle.mrp_report.specs.Headings.{pegs_names};
 ghost use Rattle.mrp_report.specs.Pegs.{pair_pegs_text, pegs_text, period_pegs_text};

@@ -5,7 +5,7 @@ ghost use Rattle.mrp_rows.specs.Table.{IsPair};
 ghost use Rattle.mrp_sheet.specs.Headings.{header_row};
 ghost use Rattle.mrp_report.specs.Headings.{peg_names};
 ghost use Rattle.mrp_sheet.specs.Writing.{IsBetweenRows, written};
-ghost use Rattle.mrp_sheet.specs.Sending.{SendsReport};
+ghost use Rattle.mrp_sheet.specs.Sent.{SendsReport};
 ghost use Rattle.mrp_report.specs.Terms.{peg_row, peg_text, source_word};
 
 use csv::Writer;

@@ -72,3 +72,19 @@ with_cum N c = record N { cums = N.cums ++ c ∷ [] }
 
 abbrev pub with_reset : Table → ResetRow → Table
 with_reset N r = record N { resets = N.resets ++ r ∷ [] }
+
+-- the table of a calendar without any row
+abbrev pub empty_table : CalendarTerms → Table
+empty_table c = record {
+  calendar = c;
+  plants = [];
+  items = [];
+  pairs = [];
+  sources = [];
+  bills = [];
+  demands = [];
+  receipts = [];
+  ships = [];
+  cums = [];
+  resets = [];
+}

@@ -1,6 +1,6 @@
 -- A table as its rows say it, and what every accepted table says.
-use Rattle.std.specs.Prelude.{◌≡◌, ℕ, ◌≤◌, ◌<◌, ◌==◌, ◌&&◌, Bool, true, false, List, []}
-use Rattle.std.specs.Prelude.{◌∷◌, length, map, filter, nat_le, All, position, unwrap_or, option_map, slice_get}
+use Rattle.std.specs.Prelude.{◌≡◌, ℕ, ◌≤◌, ◌<◌, ◌==◌, ◌&&◌, Bool, true, false, List, [], ◌∷◌, length, map, filter, nat_le, All, position, unwrap_or}
+use Rattle.std.specs.Prelude.{option_map, slice_get}
 use Rattle.std.specs.List.{IsDistinct, list_any}
 use Rattle.std.specs.List.Sorted.{IsNonDecreasingBy}
 use Rattle.std.specs.Str.{bytes_eq}
@@ -45,22 +45,6 @@ horizon N = N.calendar.periods
 -- the place of the pair of that plant and item, or past the end where there is none
 abbrev pub pair_no : Table → ℕ → ℕ → ℕ
 pair_no N plant item = unwrap_or (position (λ p. (p.plant.0 == plant) && (p.item.0 == item)) N.pairs) (length N.pairs)
-
--- the table of a calendar without any row
-abbrev pub empty_table : CalendarTerms → Table
-empty_table c = record {
-  calendar = c;
-  plants = [];
-  items = [];
-  pairs = [];
-  sources = [];
-  bills = [];
-  demands = [];
-  receipts = [];
-  ships = [];
-  cums = [];
-  resets = [];
-}
 
 -- a pair of the table
 abbrev pub IsPair : Table → ℕ → Type 0

@@ -60,7 +60,8 @@ impl RowLists {
     ghost use Rattle.mrp_rows.specs.Names.{has_plant, pair_named, plant_no};
     ghost use Rattle.mrp_rows.specs.Growing.{lacks_pair, with_plant, with_item, with_pair, with_source, with_bill};
     ghost use Rattle.mrp_rows.specs.Growing.{with_demand, with_receipt, with_ship, with_cum, with_reset};
-    ghost use Rattle.mrp_rows.specs.Table.{empty_table, item_at, IsName, IsRead, IsPairRow, IsSourceRow, IsBillRow};
+    ghost use Rattle.mrp_rows.specs.Table.{item_at, IsName, IsRead, IsPairRow, IsSourceRow, IsBillRow};
+    ghost use Rattle.mrp_rows.specs.Growing.{empty_table};
     ghost use Rattle.mrp_rows.specs.Table.{IsDemandRow, IsReceiptRow, IsShipRow, IsCumRow, IsResetRow};
 
     /// The lists after the run row.

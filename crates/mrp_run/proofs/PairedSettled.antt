@@ -5,7 +5,8 @@ use Rattle.mrp_rows.specs.Table.{Table}
 use Rattle.mrp_net.specs.Lanes.{lanes, lane_at}
 use Rattle.mrp_record.specs.declared.record.Record.{Record}
 use Rattle.mrp_record.specs.Entries.{content, contents, is_closed}
-use Rattle.mrp_record.specs.Text.{Load, IsBeginning, IsWhole, length_of_text}
+use Rattle.mrp_record.specs.Text.{Load, IsBeginning, IsWhole}
+use Rattle.mrp_record.specs.Lengths.{length_of_text}
 use Rattle.mrp_record.proofs.Beginnings.{closed_is_whole, nothing_follows_closing, texts_have_one_length}
 use Rattle.mrp_events.specs.Loads.{loads}
 use Rattle.mrp_events.proofs.Ordering.{has_closing}

@@ -14,7 +14,8 @@ use Rattle.mrp_net.specs.declared.lane.LaneKind.{LaneKind}
 use Rattle.mrp_net.specs.declared.lane.LaneKind.TheVariants.{Despatch, Schedule}
 use Rattle.mrp_net.specs.declared.lane.Shipment.{Shipment}
 use Rattle.mrp_net.specs.Lanes.{lanes, lane_at, lane_items}
-use Rattle.mrp_net.specs.Plan.{Fits, rows_at}
+use Rattle.mrp_net.specs.Plan.{rows_at}
+use Rattle.mrp_net.specs.PlanLaws.{Fits}
 use Rattle.mrp_net.specs.Sources.{source_on}
 use Rattle.mrp_net.proofs.Behind.{items_have_sources}
 use Rattle.mrp_plan.proofs.Pegs.{fitting_release}

@@ -8,7 +8,8 @@ use Rattle.mrp_rows.specs.Table.{Table, IsTable}
 use Rattle.mrp_net.specs.declared.lane.Lane.{Lane}
 use Rattle.mrp_net.specs.Lanes.{lane_at, lane_items, opening, reset}
 use Rattle.mrp_record.specs.declared.record.Record.{Record}
-use Rattle.mrp_record.specs.Entries.{Delivery, Entry, LineOf, EndOf, ResetOf, Closing, contents, entry_delivery, entries_of, quantity_of}
+use Rattle.mrp_record.specs.Entries.{Delivery, Entry, LineOf, EndOf, ResetOf, Closing, contents, entries_of, quantity_of}
+use Rattle.mrp_record.specs.Blocks.{entry_delivery}
 use Rattle.mrp_record.specs.Text.{block, total, IsBeginning, IsText, IsWhole}
 use Rattle.mrp_record.proofs.Beginnings.{own_block}
 use Rattle.mrp_record.proofs.Figures.{cum_is_opening_and_moved}

@@ -13,7 +13,8 @@ use Rattle.mrp_net.specs.declared.lane.Lane.{Lane}
 use Rattle.mrp_net.specs.declared.lane.LaneKind.{LaneKind}
 use Rattle.mrp_net.specs.declared.lane.LaneKind.TheVariants.{Despatch, Schedule}
 use Rattle.mrp_net.specs.Lanes.{figure, is_reset_of, lane_items, opening, pair_on, reset, shipments, shipped_from, supplier_of}
-use Rattle.mrp_net.specs.Plan.{Fits, plan_of, rows_at}
+use Rattle.mrp_net.specs.Plan.{plan_of, rows_at}
+use Rattle.mrp_net.specs.PlanLaws.{Fits}
 use Rattle.mrp_net.specs.Sources.{source_on}
 use Rattle.mrp_net.proofs.Behind.{items_have_sources}
 use Rattle.mrp_net.proofs.Members.{In-from_contains, All-in}

@@ -14,9 +14,10 @@ use Rattle.mrp_net.specs.Edges.{part, source_edge}
 use Rattle.mrp_net.specs.LaneLaws.{HasBothLanes, schedule_lane}
 use Rattle.mrp_net.specs.Lanes.{item_of_source, opening, reset}
 use Rattle.mrp_net.specs.Plan.{no_rows, pair_plan, plan_of, rounds, rows_at}
-use Rattle.mrp_net.specs.PlanLaws.{release_at}
+use Rattle.mrp_net.specs.Plan.{release_at}
 use Rattle.mrp_net.specs.Sources.{source_on}
-use Rattle.mrp_record.specs.Entries.{Entry, LineOf, EndOf, ResetOf, Closing, Delivery, entry_delivery}
+use Rattle.mrp_record.specs.Entries.{Entry, LineOf, EndOf, ResetOf, Closing, Delivery}
+use Rattle.mrp_record.specs.Blocks.{entry_delivery}
 use Rattle.mrp_record.specs.Laws.{quantity_in}
 use Rattle.mrp_record.specs.Text.{block}
 use Rattle.mrp_record.proofs.Running.{block_delivers}

@@ -15,13 +15,14 @@ use Rattle.mrp_net.specs.Lanes.{lane_items, opening, pair_on, reset}
 use Rattle.mrp_net.specs.Sources.{source_on}
 use Rattle.mrp_net.specs.Sums.{no_pair}
 use Rattle.mrp_net.proofs.Behind.{items_have_sources}
-use Rattle.mrp_record.specs.Entries.{Closing, Delivery, EndOf, Entry, LineOf, ResetOf, entry_delivery}
+use Rattle.mrp_record.specs.Entries.{Closing, Delivery, EndOf, Entry, LineOf, ResetOf}
+use Rattle.mrp_record.specs.Blocks.{entry_delivery}
 use Rattle.mrp_record.specs.Text.{block}
 use Rattle.mrp_record.proofs.Running.{block_delivers}
 use Rattle.mrp_events.specs.Loads.{called_in, lines_by, load_of}
 use Rattle.mrp_events.proofs.Delivered.{by_period_inside}
 use Rattle.mrp_sheet.specs.Dates.{dates_of, period_date}
-use Rattle.mrp_sheet.specs.Names.{name_of_item}
+use Rattle.mrp_sheet.specs.RowNames.{name_of_item}
 use Rattle.mrp_schedule.specs.declared.line.ScheduleLine.{ScheduleLine}
 use Rattle.mrp_schedule.specs.declared.line.ScheduleLine.TheVariants.{Call, Opening, Reset}
 use Rattle.mrp_schedule.specs.declared.rows.ItemRows.{ItemRows}

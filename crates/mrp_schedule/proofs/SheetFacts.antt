@@ -10,7 +10,7 @@ use Rattle.mrp_net.specs.declared.lane.Lane.{Lane}
 use Rattle.mrp_net.specs.Lanes.{customer_of, lane_items, lanes, supplier_of}
 use Rattle.mrp_sheet.specs.Dates.{dates_of}
 use Rattle.mrp_sheet.specs.DateLists.{date_in}
-use Rattle.mrp_sheet.specs.Names.{name_of_item}
+use Rattle.mrp_sheet.specs.RowNames.{name_of_item}
 use Rattle.mrp_sheet.specs.Rows.{row}
 use Rattle.mrp_sheet.specs.Sheets.{IsPlain}
 use Rattle.mrp_sheet.proofs.FieldFacts.{ArePlain, headed_read, more, none, number}

@@ -8,12 +8,12 @@ use Rattle.mrp_net.specs.declared.lane.Lane.{Lane}
 use Rattle.mrp_net.specs.LaneLaws.{schedule_lane}
 use Rattle.mrp_net.specs.Lanes.{lane_at, lane_items, item_of_source, opening, reset}
 use Rattle.mrp_net.specs.Plan.{plan_of}
-use Rattle.mrp_net.specs.PlanLaws.{release_at}
+use Rattle.mrp_net.specs.Plan.{release_at}
 use Rattle.mrp_net.specs.Sums.{pair_at}
 use Rattle.mrp_record.specs.declared.record.Record.{Record}
 use Rattle.mrp_record.specs.Entries.{contents, entries_of}
 use Rattle.mrp_record.specs.Text.{IsWhole}
-use Rattle.mrp_events.specs.Laws.{cum_on}
+use Rattle.mrp_events.specs.LaneOrder.{cum_on}
 use Rattle.mrp_events.specs.Loads.{loads}
 use Rattle.mrp_schedule.specs.declared.line.ScheduleLine.{ScheduleLine}
 use Rattle.mrp_schedule.specs.declared.line.ScheduleLine.TheVariants.{Opening, Call, Reset}

@@ -12,7 +12,7 @@ use Rattle.mrp_net.specs.Lanes.{customer_of, lane_items, lanes, supplier_of}
 use Rattle.mrp_sheet.specs.Dates.{dates_of}
 use Rattle.mrp_sheet.specs.DateLists.{date_in}
 use Rattle.mrp_sheet.specs.Headings.{header_row}
-use Rattle.mrp_sheet.specs.Names.{name_of_item}
+use Rattle.mrp_sheet.specs.RowNames.{name_of_item}
 use Rattle.mrp_sheet.specs.Rows.{row}
 use Rattle.mrp_schedule.specs.declared.line.ScheduleLine.{ScheduleLine}
 use Rattle.mrp_schedule.specs.declared.line.ScheduleLine.TheVariants.{Opening, Call, Reset}

@@ -8,7 +8,7 @@ use Rattle.mrp_choice.specs.declared.choice.Heading.{Heading}
 use Rattle.mrp_net.specs.declared.lane.Lane.{Lane}
 use Rattle.mrp_net.specs.Lanes.{lane_items, lanes}
 use Rattle.mrp_sheet.specs.Dates.{dates_of}
-use Rattle.mrp_sheet.specs.Names.{name_of_item}
+use Rattle.mrp_sheet.specs.RowNames.{name_of_item}
 use Rattle.mrp_sheet.specs.Sheets.{IsReadAs, Sheet, header_sheet}
 use Rattle.mrp_schedule.specs.Rows.{customer_name, is_between, schedule_line_fields, schedule_names, schedule_text, supplier_name}
 use Rattle.mrp_schedule.specs.Schedule.{schedule_of}

@@ -4,12 +4,12 @@ ghost use Rattle.std.specs.Prelude.{◌≡◌, ◌<◌, ◌++◌, Err, OnOk, IfO
 ghost use Rattle.std.specs.List.{flat_map};
 ghost use Rattle.mrp_net.specs.declared.lane.LaneKind.TheVariants.{Schedule};
 ghost use Rattle.mrp_net.specs.Lanes.{lane_at, lane_items, lanes};
-ghost use Rattle.mrp_net.specs.Plan.{Fits};
+ghost use Rattle.mrp_net.specs.PlanLaws.{Fits};
 ghost use Rattle.mrp_net.specs.Routes.{IsLane};
 ghost use Rattle.mrp_sheet.specs.Dates.{dates_of};
 ghost use Rattle.mrp_sheet.specs.Headings.{header_row};
 ghost use Rattle.mrp_sheet.specs.Writing.{IsBetweenRows, written};
-ghost use Rattle.mrp_sheet.specs.Sending.{SendsReport};
+ghost use Rattle.mrp_sheet.specs.Sent.{SendsReport};
 ghost use Rattle.mrp_schedule.specs.declared.line.ScheduleLine.TheVariants.{Opening, Call, Reset};
 ghost use Rattle.mrp_schedule.specs.Rows.{is_asked_for, is_between, item_text, lane_schedule_text, lanes_text, schedule_names, schedule_text};
 ghost use Rattle.mrp_schedule.specs.ItemRows.{AreOfItem, IsLineWithin, asked_text, item_row};

@@ -3,7 +3,7 @@
 ghost use Rattle.std.specs.Prelude.{◌≡◌, ◌+◌, ◌<◌, ◌≤◌, ◌++◌, IfOk, IfErr, IsOk, Contains, length, vec_capacity};
 ghost use Rattle.mrp_net.specs.declared.lane.LaneKind.TheVariants.{Schedule};
 ghost use Rattle.mrp_net.specs.Lanes.{lanes, lane_at, lane_items, opening};
-ghost use Rattle.mrp_net.specs.Plan.{Fits};
+ghost use Rattle.mrp_net.specs.PlanLaws.{Fits};
 ghost use Rattle.mrp_rows.specs.Table.{horizon};
 ghost use Rattle.mrp_loops.specs.Sized.{IsSized};
 ghost use Rattle.mrp_schedule.specs.declared.line.ScheduleLine.TheVariants.{Opening};

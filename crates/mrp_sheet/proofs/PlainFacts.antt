@@ -8,7 +8,7 @@ use Rattle.std.proofs.lemmas.List.Elements.{All-get_or, All-map}
 use Rattle.std.specs.Fmt.{digit_glyph, digits, digits_onto}
 use Rattle.csv.specs.Writing.{default_writer, needs_byte}
 use Rattle.mrp_cal.specs.Calendar.{CalendarTerms, first_day}
-use Rattle.mrp_cal.specs.DateText.{date_text}
+use Rattle.mrp_cal.specs.Days.{date_text}
 use Rattle.mrp_cal.specs.Days.{date_at as day_parts}
 use Rattle.mrp_spell.specs.Spelling.{is_name_byte}
 use Rattle.mrp_rows.specs.Table.{IsName, IsTable, Table}

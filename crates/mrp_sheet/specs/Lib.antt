@@ -1,8 +1,10 @@
-pub mod Sending
-pub mod Rows
+pub mod DateLists
 pub mod Dates
 pub mod Headings
 pub mod Names
+pub mod RowNames
+pub mod Rows
+pub mod Sending
+pub mod Sent
 pub mod Sheets
 pub mod Writing
-pub mod DateLists

@@ -1,17 +1,8 @@
 -- The names in a report's rows.
 use Rattle.std.specs.Prelude.{ℕ, List, [], length, slice_index_or}
 use Rattle.std.specs.List.{range_with_len}
-use Rattle.mrp_rows.specs.declared.numbers.ItemNo.{ItemNo}
-use Rattle.mrp_rows.specs.declared.numbers.PlantNo.{PlantNo}
 use Rattle.mrp_rows.specs.Table.{Table}
 use Rattle.mrp_net.specs.Sums.{pair_at}
-
--- the names of a plant and of an item
-abbrev pub name_of_plant : Table → PlantNo → List ℕ
-name_of_plant N plant = slice_index_or N.plants plant.0 []
-
-abbrev pub name_of_item : Table → ItemNo → List ℕ
-name_of_item N item = slice_index_or N.items item.0 []
 
 -- the names of a pair's plant and item
 abbrev pub plant_of : Table → ℕ → List ℕ

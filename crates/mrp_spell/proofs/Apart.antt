@@ -10,7 +10,7 @@ use Rattle.std.proofs.lemmas.Map.Keys.{IsDistinct-push}
 use Rattle.std.proofs.lemmas.Slice.Eq.{bytes_eq-Decides}
 use Rattle.mrp_spell.specs.declared.supplies.SpelledSource.{SpelledSource}
 use Rattle.mrp_spell.specs.Spelled.{AreSources, IsSource, is_same_spelled_plant, source_view}
-use Rattle.mrp_spell.specs.Supplies.{names_plant}
+use Rattle.mrp_spell.specs.SupplyParsing.{names_plant}
 use Rattle.mrp_spell.proofs.Mapped.{list_any_keys}
 
 flipped : (xs ys : List ℕ) → Decides (bytes_eq ys xs) (xs ≡ ys)

@@ -6,7 +6,7 @@ use Rattle.std.specs.List.{All, join_with_byte, list_all, slice_split}
 use Rattle.std.proofs.lemmas.Bool.{and_parts, ne_eqb}
 use Rattle.std.proofs.lemmas.List.Elements.{All-cons, All-nil}
 use Rattle.std.proofs.lemmas.List.Splits.{join_with_byte-slice_split, length-slice_split, slice_split_at, slice_split_none}
-use Rattle.mrp_spell.specs.Spelling.{cut, is_colon}
+use Rattle.mrp_spell.specs.Parsing.{cut, is_colon}
 use Rattle.mrp_spell.proofs.Decimals.{decimal_digits}
 use Rattle.mrp_spell.proofs.Shares.{fields_after, fields_alone}
 

@@ -7,7 +7,7 @@ use Rattle.std.proofs.lemmas.Bool.{and_parts, eqb-true, ne_eqb}
 use Rattle.std.proofs.lemmas.Bool.Decides.{nat_tests}
 use Rattle.std.proofs.lemmas.Fmt.{decimal-digits_value, decimal_digit, decimal_nonempty, digits_decimal, digits_value-decimal, first_decimal, length-decimal-le}
 use Rattle.std.proofs.lemmas.Str.Parse.{digits_value_short, IsNumeralModel, numerals_by_fold}
-use Rattle.mrp_spell.specs.Spelling.{is_number, spelled_number, read_on}
+use Rattle.mrp_spell.specs.Parsing.{is_number, spelled_number, read_on}
 
 own : IsNumeralModel (λ ds. list_all is_ascii_digit ds ≡ true) (read_on 0)
 own = numerals_by_fold _ (search rules) read_on (search rules)

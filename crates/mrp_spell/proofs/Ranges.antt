@@ -10,7 +10,7 @@ use Rattle.mrp_lot.specs.declared.rule.Rule.{Rule}
 use Rattle.mrp_lot.specs.declared.rule.Rule.TheVariants.{LotForLot, Fixed, Periods, MinMultiple}
 use Rattle.mrp_lot.specs.declared.rule.TheConstants.{MOST_IN_RULE}
 use Rattle.mrp_lot.specs.Lot.{IsRule}
-use Rattle.mrp_spell.specs.Spelling.{cut, kept_within, min_rule, min_rule_of, spelled_number, number_within, numbered_rule, rule_in, rule_of}
+use Rattle.mrp_spell.specs.Parsing.{cut, kept_within, min_rule, min_rule_of, spelled_number, number_within, numbered_rule, rule_in, rule_of}
 use Rattle.mrp_spell.proofs.Decimals.{number-spelled, number-written}
 
 pub same_Some : {A : Type 0} (x y : A) → ◌≡◌ {A = Option A} (Some x) (Some y) → x ≡ y

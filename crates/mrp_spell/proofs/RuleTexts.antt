@@ -9,7 +9,8 @@ use Rattle.mrp_lot.specs.declared.rule.Rule.{Rule}
 use Rattle.mrp_lot.specs.declared.rule.Rule.TheVariants.{LotForLot, Fixed, Periods, MinMultiple}
 use Rattle.mrp_lot.specs.declared.rule.TheConstants.{MOST_IN_RULE}
 use Rattle.mrp_lot.specs.Lot.{IsRule}
-use Rattle.mrp_spell.specs.Spelling.{cut, is_name_byte, min_rule, min_rule_of, number_within, numbered_rule, rule_in, rule_of, rule_text}
+use Rattle.mrp_spell.specs.Spelling.{is_name_byte, rule_text}
+use Rattle.mrp_spell.specs.Parsing.{cut, min_rule, min_rule_of, number_within, numbered_rule, rule_in, rule_of}
 use Rattle.mrp_spell.proofs.Cuts.{cut_at, cut_none, cut_text, plain, plain_number}
 use Rattle.mrp_spell.proofs.Ranges.{number_is, number_written, rule_is, same_Some}
 

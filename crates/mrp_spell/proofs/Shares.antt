@@ -11,10 +11,12 @@ use Rattle.std.proofs.lemmas.List.Splits.{length-slice_split, slice_split_first,
 use Rattle.std.proofs.lemmas.List.Sums.{fails_before_first, sum_by-cons}
 use Rattle.std.proofs.lemmas.Option.{some_pair_parts}
 use Rattle.mrp_qty.specs.declared.limits.TheConstants.{MOST_SHARE, MOST_SOURCES_OF_PAIR}
-use Rattle.mrp_spell.specs.Spelling.{cut, is_colon, is_name, number_within}
+use Rattle.mrp_spell.specs.Spelling.{is_name}
+use Rattle.mrp_spell.specs.Parsing.{cut, is_colon, number_within}
 use Rattle.mrp_spell.specs.Steps.{may_come, share_in, share_step, shared_in, shared_source, sources_with, with_later}
 use Rattle.mrp_spell.proofs.Ranges.{same_Some, within_range}
-use Rattle.mrp_spell.specs.Supplies.{are_different, are_whole, in_a_row, names_plant, plant_shares, PlantShare, share_before, sources_of, SourceTerms, split_sources, whole_in_a_row}
+use Rattle.mrp_spell.specs.Supplies.{SourceTerms}
+use Rattle.mrp_spell.specs.SupplyParsing.{are_different, are_whole, in_a_row, names_plant, plant_shares, PlantShare, share_before, sources_of, split_sources, whole_in_a_row}
 
 -- ---- a text that is cut at its first colon, and at all
 

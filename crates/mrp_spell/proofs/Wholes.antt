@@ -9,8 +9,10 @@ use Rattle.std.proofs.lemmas.List.Elements.{All-cons, All-head, All-nil, All-tai
 use Rattle.std.proofs.lemmas.List.Sums.{sum_by-cons}
 use Rattle.std.proofs.lemmas.Map.Keys.{IsDistinct-cons}
 use Rattle.mrp_qty.specs.declared.limits.TheConstants.{MOST_SHARE, MOST_SOURCES_OF_PAIR}
-use Rattle.mrp_spell.specs.Spelling.{cut, is_colon, is_name}
-use Rattle.mrp_spell.specs.Supplies.{are_different, are_whole, AreWhole, BuyTerms, from_terms, FromTerms, HasName, in_a_row, is_same_plant, IsShare, IsWholeSupply, MakeTerms, plant_shares, PlantShare, ShareFrom, sources_of, SourceTerms, split_sources, supply_in, supply_of, SupplyTerms, whole_in_a_row}
+use Rattle.mrp_spell.specs.Spelling.{is_name}
+use Rattle.mrp_spell.specs.Parsing.{cut, is_colon}
+use Rattle.mrp_spell.specs.Supplies.{BuyTerms, FromTerms, MakeTerms, SourceTerms, SupplyTerms}
+use Rattle.mrp_spell.specs.SupplyParsing.{are_different, are_whole, AreWhole, from_terms, HasName, in_a_row, is_same_plant, IsShare, IsWholeSupply, plant_shares, PlantShare, ShareFrom, sources_of, split_sources, supply_in, supply_of, whole_in_a_row}
 use Rattle.mrp_spell.proofs.Lists.{All-from_any, All_one, IsDistinct-nil, distinct_one}
 use Rattle.mrp_spell.proofs.Ranges.{same_Some}
 use Rattle.mrp_spell.proofs.Shares.{InRange, shares_in_range}

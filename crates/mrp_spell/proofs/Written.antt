@@ -13,8 +13,10 @@ use Rattle.std.proofs.lemmas.List.Sums.{sum_by-cons}
 use Rattle.std.proofs.lemmas.Map.Keys.{IsDistinct-head, IsDistinct-tail}
 use Rattle.std.proofs.lemmas.Slice.Eq.{bytes_eq-Decides}
 use Rattle.mrp_qty.specs.declared.limits.TheConstants.{MOST_SHARE, MOST_SOURCES_OF_PAIR}
-use Rattle.mrp_spell.specs.Spelling.{cut, is_colon, is_name, is_name_byte, number_within}
-use Rattle.mrp_spell.specs.Supplies.{are_different, are_whole, AreWhole, BeginsFrom, BuyTerms, from_terms, FromTerms, HasName, in_a_row, is_same_plant, IsShare, IsWholeSupply, MakeTerms, plant_shares, PlantShare, share_before, ShareFrom, source_fields, sources_of, sources_text, SourceTerms, split_sources, supply_in, supply_of, supply_text, SupplyTerms, whole_in_a_row}
+use Rattle.mrp_spell.specs.Spelling.{is_name, is_name_byte}
+use Rattle.mrp_spell.specs.Parsing.{cut, is_colon, number_within}
+use Rattle.mrp_spell.specs.Supplies.{BuyTerms, FromTerms, MakeTerms, source_fields, sources_text, SourceTerms, supply_text, SupplyTerms}
+use Rattle.mrp_spell.specs.SupplyParsing.{are_different, are_whole, AreWhole, BeginsFrom, from_terms, HasName, in_a_row, is_same_plant, IsShare, IsWholeSupply, plant_shares, PlantShare, share_before, ShareFrom, sources_of, split_sources, supply_in, supply_of, whole_in_a_row}
 use Rattle.mrp_spell.specs.declared.supplies.SpelledSupply.{SpelledSupply}
 use Rattle.mrp_spell.specs.declared.supplies.SupplyFault.{SupplyFault}
 use Rattle.mrp_spell.specs.declared.supplies.SupplyFault.TheVariants.{NotASupply, Memory}

@@ -2,7 +2,7 @@
 use Rattle.std.specs.Prelude.{ℕ, if◌then◌else◌, List, Option, Some, None}
 use Rattle.std.specs.Char.{is_ascii_digit}
 use Rattle.std.specs.List.{list_all}
-use Rattle.mrp_spell.specs.Spelling.{read_on}
+use Rattle.mrp_spell.specs.Parsing.{read_on}
 
 -- the number that digits spell after n, where each byte is one
 abbrev pub digits_from : ℕ → List ℕ → Option ℕ

@@ -9,7 +9,8 @@ use Rattle.mrp_spell.specs.declared.supplies.SpelledSupply.{SpelledSupply}
 use Rattle.mrp_spell.specs.declared.supplies.SpelledSupply.TheVariants.{Make, Buy, From}
 use Rattle.mrp_spell.specs.declared.supplies.SupplyFault.{SupplyFault}
 use Rattle.mrp_spell.specs.declared.supplies.SupplyFault.TheVariants.{NotASupply, Memory}
-use Rattle.mrp_spell.specs.Supplies.{BeginsFrom, IsWholeSupply, SourceTerms, supply_text, SupplyTerms, MakeTerms, BuyTerms, FromTerms}
+use Rattle.mrp_spell.specs.Supplies.{SourceTerms, supply_text, SupplyTerms, MakeTerms, BuyTerms, FromTerms}
+use Rattle.mrp_spell.specs.SupplyParsing.{BeginsFrom, IsWholeSupply}
 
 -- a share that ends after it begins, and within the whole
 pub record IsSource (s : SpelledSource) : Type 0 where

@@ -2,8 +2,10 @@
 use Rattle.std.specs.Prelude.{ℕ, ◌+◌, ◌-◌, ◌==◌, ◌&&◌, not, nat_le, Bool, if◌then◌else◌, List, ◌++◌, length, Option, Some, None}
 use Rattle.std.specs.List.{list_all, slice_split, sum_by}
 use Rattle.mrp_qty.specs.declared.limits.TheConstants.{MOST_SHARE}
-use Rattle.mrp_spell.specs.Spelling.{cut, is_colon, is_name, number_within}
-use Rattle.mrp_spell.specs.Supplies.{are_different, in_a_row, names_plant, plant_shares, PlantShare, SourceTerms}
+use Rattle.mrp_spell.specs.Spelling.{is_name}
+use Rattle.mrp_spell.specs.Parsing.{cut, is_colon, number_within}
+use Rattle.mrp_spell.specs.Supplies.{SourceTerms}
+use Rattle.mrp_spell.specs.SupplyParsing.{are_different, in_a_row, names_plant, plant_shares, PlantShare}
 
 -- a plant with its share, which begins at low, and what is spelled after them
 abbrev pub share_step : List ℕ → ℕ → Option ℕ → Option (List ℕ) → Option (SourceTerms × Option (List ℕ))

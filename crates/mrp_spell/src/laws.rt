@@ -2,8 +2,10 @@
 ghost use Rattle.std.specs.Prelude.{◌≡◌, ℕ, List, Some};
 ghost use Rattle.mrp_lot.specs.declared.rule.Rule.{Rule};
 ghost use Rattle.mrp_lot.specs.Lot.{IsRule};
-ghost use Rattle.mrp_spell.specs.Spelling.{IsShort, spelled_number, number_text, rule_of, rule_text};
-ghost use Rattle.mrp_spell.specs.Supplies.{IsWholeSupply, supply_of, supply_text, SupplyTerms};
+ghost use Rattle.mrp_spell.specs.Spelling.{number_text, rule_text};
+ghost use Rattle.mrp_spell.specs.Parsing.{IsShort, spelled_number, rule_of};
+ghost use Rattle.mrp_spell.specs.Supplies.{supply_text, SupplyTerms};
+ghost use Rattle.mrp_spell.specs.SupplyParsing.{IsWholeSupply, supply_of};
 
 /// What is spelled after `from:` is at most four plants, all different, each with a share, and their
 /// shares are together the whole.

@@ -2,7 +2,8 @@
 
 ghost use Rattle.std.specs.Prelude.{◌≡◌, ◌≢◌, ◌≤◌, ℕ, length, IfSome, MatchOption};
 ghost use Rattle.mrp_spell.specs.Digits.{digits_of};
-ghost use Rattle.mrp_spell.specs.Spelling.{IsShort, spelled_number, number_text, number_within};
+ghost use Rattle.mrp_spell.specs.Spelling.{number_text};
+ghost use Rattle.mrp_spell.specs.Parsing.{IsShort, spelled_number, number_within};
 
 /// The number that digits spell, where each byte is one.
 fn digits_value(text: &[u8]) -> Option<u64>

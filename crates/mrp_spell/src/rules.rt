@@ -4,7 +4,8 @@ ghost use Rattle.std.specs.Prelude.{◌≡◌, ◌≢◌, IfSome, MatchOption};
 ghost use Rattle.mrp_lot.specs.declared.rule.Rule.{Rule};
 ghost use Rattle.mrp_lot.specs.Lot.{IsRule};
 ghost use Rattle.mrp_spell.specs.Spelled.{cut_view};
-ghost use Rattle.mrp_spell.specs.Spelling.{cut, min_rule_of, numbered_rule, rule_of, rule_text};
+ghost use Rattle.mrp_spell.specs.Spelling.{rule_text};
+ghost use Rattle.mrp_spell.specs.Parsing.{cut, min_rule_of, numbered_rule, rule_of};
 
 use crate::numbers::number_within;
 use mrp_lot::{MOST_IN_RULE, Rule};

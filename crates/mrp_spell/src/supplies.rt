@@ -4,9 +4,9 @@ ghost use Rattle.std.specs.Prelude.{◌≡◌, ◌+◌, ◌-◌, ◌==◌, ◌�
 ghost use Rattle.std.specs.List.{list_any};
 ghost use Rattle.std.specs.Str.{bytes_eq};
 ghost use Rattle.mrp_spell.specs.Spelled.{share_view, source_view, supply_view, AreSources, HasSources, IsSource, TellsSpelled, TellsWritten};
-ghost use Rattle.mrp_spell.specs.Spelling.{number_within};
+ghost use Rattle.mrp_spell.specs.Parsing.{number_within};
 ghost use Rattle.mrp_spell.specs.Steps.{share_step, shared_source, sources_with};
-ghost use Rattle.mrp_spell.specs.Supplies.{BeginsFrom, names_plant, sources_of, supply_of};
+ghost use Rattle.mrp_spell.specs.SupplyParsing.{BeginsFrom, names_plant, sources_of, supply_of};
 ghost use Rattle.mrp_qty.specs.declared.limits.TheConstants.{MOST_SHARE};
 ghost use Rattle.mrp_spell.specs.declared.supplies.SupplyFault.TheVariants.{Memory};
 

@@ -8,7 +8,8 @@ use Rattle.std.proofs.lemmas.Option.{same_Some}
 use Rattle.std.proofs.lemmas.Slice.Eq.{bytes_eq-Decides}
 use Rattle.std.proofs.lemmas.Str.{is_utf8-from_IsUtf8}
 use Rattle.csv.specs.Records.{AllText, field_at}
-use Rattle.mrp_spell.specs.Spelling.{IsShort, spelled_number, number_text}
+use Rattle.mrp_spell.specs.Spelling.{number_text}
+use Rattle.mrp_spell.specs.Parsing.{IsShort, spelled_number}
 use Rattle.mrp_spell.proofs.Decimals.{number-spelled}
 use Rattle.mrp_rows.specs.declared.numbers.ItemNo.{ItemNo}
 use Rattle.mrp_rows.specs.Table.{Table}

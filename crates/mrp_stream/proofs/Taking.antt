@@ -8,7 +8,8 @@ use Rattle.csv.specs.declared.error.ErrorKind.{ErrorKind}
 use Rattle.csv.specs.declared.error.ErrorKind.TheVariants as error
 use Rattle.csv.specs.declared.reader.Reader.{Reader}
 use Rattle.csv.specs.declared.reader.Trim.TheVariants as trim
-use Rattle.mrp_rows.specs.Table.{Table, empty_table}
+use Rattle.mrp_rows.specs.Table.{Table}
+use Rattle.mrp_rows.specs.Growing.{empty_table}
 use Rattle.mrp_grammar.specs.declared.fault.TableFaultKind.TheVariants as table_fault
 use Rattle.mrp_grammar.specs.Left.{GivesAll, rows_left, OfLeft, StartsBadly, TakesRow}
 use Rattle.mrp_grammar.proofs.Taken.{ends_rows, explains, takes_row}

@@ -9,7 +9,7 @@ use Rattle.csv.specs.Records.{field_at}
 use Rattle.csv.specs.Writing.{comma, default_writer, fields_text, is_blank, row_text}
 use Rattle.csv.specs.declared.parser.State.TheVariants.{StartRecord}
 use Rattle.csv.proofs.RoundTrip.{read-write-many}
-use Rattle.mrp_spell.specs.Spelling.{IsShort, spelled_number}
+use Rattle.mrp_spell.specs.Parsing.{IsShort, spelled_number}
 use Rattle.mrp_spell.proofs.Decimals.{number-written}
 use Rattle.mrp_rows.specs.declared.numbers.ItemNo.{ItemNo}
 use Rattle.mrp_rows.specs.Table.{IsName, IsTable, Table}

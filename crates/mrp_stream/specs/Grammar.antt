@@ -3,7 +3,7 @@ use Rattle.std.specs.Prelude.{ℕ, ◌==◌, ◌&&◌, Bool, if◌then◌else◌
 use Rattle.std.specs.Prelude.{Option, Some, None, option_map, position, Result, Ok, Err, ok_or}
 use Rattle.std.specs.List.{list_all}
 use Rattle.std.specs.Str.{bytes_eq, is_utf8}
-use Rattle.mrp_spell.specs.Spelling.{spelled_number}
+use Rattle.mrp_spell.specs.Parsing.{spelled_number}
 use Rattle.mrp_rows.specs.declared.numbers.ItemNo.{ItemNo}
 use Rattle.mrp_rows.specs.Table.{Table}
 use Rattle.mrp_record.specs.declared.record.Record.{Record}

@@ -19,7 +19,7 @@ use Rattle.mrp_rows.specs.declared.rows.SourceRow.{SourceRow}
 use Rattle.mrp_tables.specs.Drafts.{IsNewPair, with_sources}
 use Rattle.mrp_rows.specs.Names.{has_plant, pair_named, pair_of_item, plant_no}
 use Rattle.mrp_grammar.specs.Grammar.{knows_sources, pair_with, PairTerms, source_row, with_pair_terms}
-use Rattle.mrp_spell.specs.Supplies.{named_sources}
+use Rattle.mrp_spell.specs.SupplyParsing.{named_sources}
 use Rattle.mrp_rows.specs.Growing.{add_item, with_item, with_pair, with_source}
 use Rattle.mrp_tables.specs.Lists.{FitsRows}
 use Rattle.mrp_spell.specs.Supplies.{SourceTerms}

@@ -8,10 +8,11 @@ use Rattle.mrp_grammar.specs.declared.kind.Kind.TheVariants as kind
 use Rattle.mrp_cal.specs.Calendar.{CalendarTerms}
 use Rattle.mrp_rows.specs.declared.numbers.PlantNo.{PlantNo}
 use Rattle.mrp_qty.specs.declared.limits.TheConstants.{MOST_PAIRS}
-use Rattle.mrp_rows.specs.Table.{Table, empty_table}
+use Rattle.mrp_rows.specs.Table.{Table}
+use Rattle.mrp_rows.specs.Growing.{empty_table}
 use Rattle.mrp_spell.specs.Supplies.{SourceTerms}
 use Rattle.mrp_grammar.specs.Grammar.{knows_sources, PairTerms, run_terms, seen, source_row, TellsFault}
-use Rattle.mrp_spell.specs.Supplies.{named_sources}
+use Rattle.mrp_spell.specs.SupplyParsing.{named_sources}
 use Rattle.mrp_rows.specs.Names.{pair_named, plant_no}
 use Rattle.mrp_grammar.specs.Reading.{IsReadSoFar, row_after, Starts, StartsWith, UnlessMemory}
 

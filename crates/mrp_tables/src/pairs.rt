@@ -1,7 +1,7 @@
 //! Plant and pair rows, tested against the rows before them.
 
 ghost use Rattle.std.specs.Prelude.{◌≡◌, map};
-ghost use Rattle.mrp_spell.specs.Supplies.{named_sources};
+ghost use Rattle.mrp_spell.specs.SupplyParsing.{named_sources};
 ghost use Rattle.mrp_grammar.specs.Grammar.{supply_kind};
 ghost use Rattle.mrp_spell.specs.Spelled.{source_view, supply_view, AreSources, HasSources};
 

@@ -4,7 +4,8 @@ ghost use Rattle.std.specs.Prelude.{◌≡◌, ◌+◌, ◌≤◌, ◌<◌, max,
 ghost use Rattle.csv.specs.Reading.{has_failed, strip_bom};
 ghost use Rattle.csv.specs.Records.{AllText, fields_of};
 ghost use Rattle.mrp_tables.specs.Lists.{IsDraft};
-ghost use Rattle.mrp_grammar.specs.Reading.{OfRecords, TellsRows, waiting};
+ghost use Rattle.mrp_grammar.specs.Reading.{TellsRows, waiting};
+ghost use Rattle.mrp_grammar.specs.Written.{OfRecords};
 ghost use Rattle.mrp_tables.specs.Steps.{StepsTo, UnlessMissing};
 ghost use Rattle.mrp_rows.specs.Turns.{row_count};
 ghost use Rattle.mrp_grammar.specs.Left.{fault_of, GivesAll, MayCome, OfLeft, TellsNext, TellsRest, TellsTaken, rows_left};

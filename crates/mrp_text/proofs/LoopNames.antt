@@ -2,7 +2,8 @@
 use Rattle.std.proofs.Common.{ℕ, zero, suc, List, [], ◌∷◌, map, All, arith}
 use Rattle.mrp_rows.specs.Table.{Table, IsTable, IsPair}
 use Rattle.mrp_rows.specs.declared.numbers.PairNo.{PairNo}
-use Rattle.mrp_loops.specs.Loop.{IsLoop, LeadsTo}
+use Rattle.mrp_loops.specs.Loop.{IsLoop}
+use Rattle.mrp_loops.specs.Codes.{LeadsTo}
 use Rattle.mrp_loops.specs.LoopFaults.{IsLoopFault}
 use Rattle.mrp_loops.specs.declared.loops.LoopFault.{LoopFault}
 use Rattle.mrp_loops.specs.declared.loops.LoopFault.TheVariants as check

@@ -12,7 +12,8 @@ use Rattle.mrp_grammar.specs.declared.fault.TableFaultKind.TheVariants as kind
 use Rattle.mrp_grammar.specs.Reading.{OfRows, Reads}
 use Rattle.mrp_grammar.proofs.OneWay.{reads_one_way}
 use Rattle.mrp_net.specs.Names.{IsNamed}
-use Rattle.mrp_net.specs.Plan.{Fits, plan_of}
+use Rattle.mrp_net.specs.Plan.{plan_of}
+use Rattle.mrp_net.specs.PlanLaws.{Fits}
 use Rattle.mrp_net.proofs.Naming.{same_place}
 use Rattle.mrp_net.proofs.Sharing.{pairs_are_found}
 use Rattle.mrp_loops.specs.Sized.{IsSized}

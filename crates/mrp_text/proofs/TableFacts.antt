@@ -2,7 +2,8 @@
 use Rattle.std.proofs.Common.{◌≡◌, ◌↔◌, ℕ, List, length, Option, None, Some, Ok, option_map}
 use Rattle.csv.specs.Reading.{default_config, records, strip_bom}
 use Rattle.mrp_rows.specs.Table.{Table, IsTable}
-use Rattle.mrp_grammar.specs.Reading.{OfRecords, Reads, TellsRows}
+use Rattle.mrp_grammar.specs.Reading.{Reads, TellsRows}
+use Rattle.mrp_grammar.specs.Written.{OfRecords}
 use Rattle.mrp_grammar.specs.Written.{AreNumbered, rows_of}
 use Rattle.mrp_grammar.proofs.BackTable.{read_from_its_rows}
 use Rattle.mrp_text.specs.Laws.{TablesAreRead}

@@ -3,7 +3,7 @@ use Rattle.std.proofs.Common.{◌≡◌, ℕ, List, ◌++◌, Option, None, Some
 use Rattle.std.specs.Io.KnownBytes.{Appends, Keeps}
 use Rattle.mrp_rows.specs.Table.{Table}
 use Rattle.mrp_grammar.specs.declared.fault.TableFault.{TableFault}
-use Rattle.mrp_sheet.specs.Sending.{SendsReport}
+use Rattle.mrp_sheet.specs.Sent.{SendsReport}
 use Rattle.mrp_sheet.specs.declared.fault.ReportFault.{ReportFault}
 use Rattle.mrp_sheet.specs.declared.fault.ReportFault.TheVariants as report
 use Rattle.mrp_sheet.proofs.Fronts.{front-after, front-longer, some-longer}

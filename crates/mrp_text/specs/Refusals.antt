@@ -2,9 +2,11 @@
 use Rattle.std.specs.Prelude.{◌≡◌, ℕ, ◌<◌, ◌≤◌, ◌⊎◌, List, [], ◌∷◌, Option, Some, None, option_map, slice_get, length, Contains, Err, string_bytes}
 use Rattle.csv.specs.Reading.{strip_bom}
 use Rattle.mrp_rows.specs.Table.{Table, horizon}
-use Rattle.mrp_grammar.specs.Reading.{OfRecords, TellsRows}
+use Rattle.mrp_grammar.specs.Reading.{TellsRows}
+use Rattle.mrp_grammar.specs.Written.{OfRecords}
 use Rattle.mrp_net.specs.Names.{IsNamed}
-use Rattle.mrp_loops.specs.Loop.{AreCodes, IsLoopFree}
+use Rattle.mrp_loops.specs.Loop.{IsLoopFree}
+use Rattle.mrp_loops.specs.Codes.{AreCodes}
 use Rattle.mrp_loops.specs.Upstream.{IsLoopAnswered}
 use Rattle.mrp_loops.specs.Sized.{IsSized}
 use Rattle.mrp_loops.specs.BoundFaults.{IsSupplyTooLarge, IsNeedTooLarge}

@@ -6,7 +6,7 @@ use Rattle.mrp_rows.specs.declared.numbers.PlantNo.{PlantNo}
 use Rattle.mrp_rows.specs.Table.{Table, horizon}
 use Rattle.mrp_net.specs.Names.{IsNamed}
 use Rattle.mrp_net.specs.Plan.{plan_of}
-use Rattle.mrp_loops.specs.Loop.{AreCodes}
+use Rattle.mrp_loops.specs.Codes.{AreCodes}
 use Rattle.mrp_loops.specs.Sized.{IsSized}
 use Rattle.mrp_choice.specs.declared.choice.Heading.{Heading}
 use Rattle.mrp_plan.specs.Peg.{peg_terms}

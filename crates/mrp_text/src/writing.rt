@@ -4,8 +4,8 @@
 ghost use Rattle.std.specs.Prelude.{◌≡◌, ◌≢◌, ◌≤◌, ◌<◌, IfErr, IfOk, OnOk, length};
 ghost use Rattle.mrp_loops.specs.Sized.{IsSized};
 ghost use Rattle.mrp_rows.specs.Table.{IsPair, horizon};
-ghost use Rattle.mrp_net.specs.Plan.{Fits};
-ghost use Rattle.mrp_loops.specs.Loop.{AreCodes};
+ghost use Rattle.mrp_net.specs.PlanLaws.{Fits};
+ghost use Rattle.mrp_loops.specs.Codes.{AreCodes};
 ghost use Rattle.mrp_run.specs.Faults.{AllTurned, WasShut, WasSpent};
 ghost use Rattle.mrp_qty.specs.declared.limits.TheConstants.{MOST_TURNS};
 ghost use Rattle.mrp_text.specs.Fault.{IsBeforeWriting, IsLate};

@@ -16,7 +16,8 @@ use Rattle.mrp_view.specs.declared.view.PlantEdge.{PlantEdge}
 use Rattle.mrp_view.specs.declared.view.PlantPair.{PlantPair}
 use Rattle.mrp_net.specs.Edges.{bill_edge, source_edge, edges, demanders}
 use Rattle.mrp_net.specs.EdgeLaws.{is_local}
-use Rattle.mrp_net.specs.PlanLaws.{release_at, asked_by_bill}
+use Rattle.mrp_net.specs.PlanLaws.{asked_by_bill}
+use Rattle.mrp_net.specs.Plan.{release_at}
 use Rattle.mrp_net.specs.Sums.{pair_at}
 use Rattle.mrp_view.specs.View.{NumbersRise, is_of_plant, plant_pair, plant_pairs, plant_edge, edges_to, plant_edges}
 use Rattle.mrp_view.specs.Laws.{asked_by_parent, ViewsHaveParents, ViewsHaveBills}

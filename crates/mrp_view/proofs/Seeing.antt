@@ -12,7 +12,8 @@ use Rattle.mrp_rows.specs.declared.numbers.PairNo.{PairNo}
 use Rattle.mrp_rows.specs.Table.{Table, IsTable, IsPair, horizon, pair_no}
 use Rattle.mrp_net.specs.declared.edge.Edge.{Edge}
 use Rattle.mrp_view.specs.declared.view.PlantPair.{PlantPair}
-use Rattle.mrp_net.specs.Edges.{demanders, edges, IsEdge}
+use Rattle.mrp_net.specs.Edges.{demanders, edges}
+use Rattle.mrp_net.specs.Suppliers.{IsEdge}
 use Rattle.mrp_net.specs.EdgeLaws.{is_local}
 use Rattle.mrp_view.specs.Seen.{IsOwnPair, IsOwnOf, IsPlantPair, IsPlantEdge, pairs_of_number, pairs_of_item}
 use Rattle.mrp_net.specs.Sums.{pair_at, no_pair, row_of}

@@ -3,7 +3,8 @@ use Rattle.std.specs.Prelude.{◌≡◌, ℕ, ◌*◌, ◌==◌, if◌then◌els
 use Rattle.mrp_lot.specs.One.{PlanRows}
 use Rattle.mrp_rows.specs.Table.{Table, IsTable, IsPair}
 use Rattle.mrp_view.specs.declared.view.PlantEdge.{PlantEdge}
-use Rattle.mrp_net.specs.PlanLaws.{release_at, asked_by_bill}
+use Rattle.mrp_net.specs.PlanLaws.{asked_by_bill}
+use Rattle.mrp_net.specs.Plan.{release_at}
 use Rattle.mrp_view.specs.Seen.{IsView}
 use Rattle.mrp_net.specs.Sums.{pair_at}
 use Rattle.mrp_view.specs.View.{edges_to, comes_to, goes_from, lane_numbers, plant_rows}

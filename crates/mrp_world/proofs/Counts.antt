@@ -12,7 +12,8 @@ use Rattle.mrp_rows.specs.Table.{Table, IsTable, IsPair, IsSourceRow, horizon}
 use Rattle.mrp_net.specs.declared.lane.Lane.{Lane}
 use Rattle.mrp_net.specs.declared.lane.LaneKind.TheVariants.{Despatch}
 use Rattle.mrp_net.specs.Lanes.{lanes, lane_at, lane_items}
-use Rattle.mrp_net.specs.Plan.{Fits, rows_at, gross, plan_of}
+use Rattle.mrp_net.specs.Plan.{rows_at, gross, plan_of}
+use Rattle.mrp_net.specs.PlanLaws.{Fits}
 use Rattle.mrp_netting.specs.Plan.{AreRows}
 use Rattle.mrp_rows.specs.declared.rows.SourceRow.{SourceRow}
 use Rattle.mrp_events.specs.Seen.{share_of}
@@ -20,7 +21,8 @@ use Rattle.mrp_net.specs.Sources.{source_on}
 use Rattle.mrp_net.proofs.Behind.{items_have_sources}
 use Rattle.mrp_net.proofs.Members.{In, In-from_contains, All-in}
 use Rattle.mrp_net.proofs.Sharing.{sum_map}
-use Rattle.mrp_record.specs.Text.{Load, block_length, length_of_text}
+use Rattle.mrp_record.specs.Text.{Load}
+use Rattle.mrp_record.specs.Lengths.{block_length, length_of_text}
 use Rattle.mrp_events.specs.Loads.{by_period, called_in, delivery_in, has_pieces, load_of, loads}
 use Rattle.mrp_events.proofs.Small.{steps_are_few}
 

@@ -3,14 +3,14 @@ use Rattle.std.proofs.Common.{◌≡◌, ℕ, ◌+◌, ◌≤◌, Bool, true, fa
 use Rattle.mrp_rows.specs.Table.{Table}
 use Rattle.mrp_loops.specs.Sized.{IsSized}
 use Rattle.mrp_events.specs.declared.event.Event.{Event}
-use Rattle.mrp_events.specs.Loads.{steps}
+use Rattle.mrp_events.specs.Steps.{steps}
 use Rattle.mrp_events.specs.Progress.{steps_left}
 use Rattle.mrp_events.specs.State.{State, opening_state, Run, IsReached, IsFinished}
 use Rattle.mrp_events.proofs.Counting.{runs_begin_with_steps, events_are_steps, none_is_left_at_the_end}
 use Rattle.mrp_events.proofs.Finishing.{no_schedule_sticks}
 use Rattle.mrp_events.proofs.Keeping.{opening_is_reached, reached_goes_on, runs_go_on}
 use Rattle.mrp_world.specs.Driving.{LeadOn}
-use Rattle.mrp_plant.specs.Moments.{Showing}
+use Rattle.mrp_plant.specs.Showing.{Showing}
 use Rattle.mrp_mailbox.specs.Mailbox.{Held}
 use Rattle.mrp_world.specs.World.{PlantsShow, WorldState}
 use Rattle.mrp_world.specs.Moves.{BoxesHold, AreAt, AreSomewhere, Lead, Acts, MayLead, AllRests, WorldShows, IsWorld, Runs}

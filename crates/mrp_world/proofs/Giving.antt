@@ -6,7 +6,8 @@ use Rattle.mrp_netting.specs.declared.plan.PairPlan.{PairPlan}
 use Rattle.mrp_rows.specs.Table.{Table}
 use Rattle.mrp_events.specs.State.{State, IsFinished}
 use Rattle.mrp_plant.specs.Gathering.{own_plans, HasPlannedAll}
-use Rattle.mrp_plant.specs.Moments.{Moment, Showing, IsAt}
+use Rattle.mrp_plant.specs.Moments.{Moment, IsAt}
+use Rattle.mrp_plant.specs.Showing.{Showing}
 use Rattle.mrp_mailbox.specs.Mailbox.{Held}
 use Rattle.mrp_world.specs.Moves.{AreAt}
 use Rattle.mrp_world.proofs.Makes.{each_more}

@@ -8,19 +8,20 @@ use Rattle.mrp_net.specs.Lanes.{lanes, lane_at, lane_items, opening}
 use Rattle.mrp_net.proofs.Members.{In, In-from_contains, Contains-from_in, map_only, flat_map_only, range_only, All-in}
 use Rattle.mrp_net.proofs.Routing.{lane_items_within}
 use Rattle.mrp_record.specs.declared.record.Record.{Record}
-use Rattle.mrp_record.specs.Entries.{Entry, contents, entry_delivery, entries_of, moved}
+use Rattle.mrp_record.specs.Entries.{Entry, contents, entries_of, moved}
+use Rattle.mrp_record.specs.Blocks.{entry_delivery}
 use Rattle.mrp_record.specs.Text.{Load, IsBeginning, IsText, IsWhole, block, total}
 use Rattle.mrp_record.specs.Laws.{AreLoads}
 use Rattle.mrp_record.proofs.Beginnings.{own_block}
 use Rattle.mrp_record.proofs.Figures.{cum_is_opening_and_moved}
 use Rattle.mrp_record.proofs.Running.{block_delivers, moved_is_delivered}
 use Rattle.mrp_book.specs.declared.figure.LaneFigure.{LaneFigure}
-use Rattle.mrp_events.specs.Laws.{cum_on}
+use Rattle.mrp_events.specs.LaneOrder.{cum_on}
 use Rattle.mrp_events.specs.Loads.{load_of, loads}
 use Rattle.mrp_events.specs.State.{State, IsFinished, IsReached}
 use Rattle.mrp_events.proofs.Ordering.{lanes_keep_order, closed_lanes_are_whole, nothing_is_lost}
 use Rattle.mrp_events.proofs.Small.{loads_stand_once, load_is_there}
-use Rattle.mrp_plant.specs.Moments.{Showing}
+use Rattle.mrp_plant.specs.Showing.{Showing}
 use Rattle.mrp_world.specs.World.{WorldState}
 use Rattle.mrp_world.specs.Moves.{WorldShows, IsWorld}
 use Rattle.mrp_world.proofs.Worlds.{none_left_is_finished, shows_some}

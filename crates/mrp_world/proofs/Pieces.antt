@@ -10,12 +10,13 @@ use Rattle.mrp_net.specs.Lanes.{lanes, lane_at, lane_items, opening}
 use Rattle.mrp_net.specs.Routes.{IsLane}
 use Rattle.mrp_record.specs.Entries.{contents, moved}
 use Rattle.mrp_book.specs.declared.figure.LaneFigure.{LaneFigure}
-use Rattle.mrp_events.specs.Laws.{cum_on}
+use Rattle.mrp_events.specs.LaneOrder.{cum_on}
 use Rattle.mrp_events.specs.State.{State}
 use Rattle.mrp_events.proofs.Ordering.{lanes_keep_order, nothing_is_lost}
 use Rattle.mrp_events.proofs.Small.{legal_cums_are_small}
 use Rattle.mrp_world.specs.Figures.{lane_figure_at}
-use Rattle.mrp_plant.specs.Moments.{Moment, Showing, IsAt, IsIn, Receives}
+use Rattle.mrp_plant.specs.Moments.{Moment, IsAt, IsIn, Receives}
+use Rattle.mrp_plant.specs.Showing.{Showing}
 use Rattle.mrp_mailbox.specs.Mailbox.{Held}
 use Rattle.mrp_world.specs.World.{box_at}
 use Rattle.mrp_world.specs.Moves.{AreAt, AreSomewhere}

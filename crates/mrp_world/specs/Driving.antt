@@ -3,7 +3,7 @@ use Rattle.std.specs.Prelude.{ℕ, List}
 use Rattle.mrp_rows.specs.Table.{Table}
 use Rattle.mrp_events.specs.declared.event.Event.{Event}
 use Rattle.mrp_events.specs.State.{State, Run}
-use Rattle.mrp_plant.specs.Moments.{Showing}
+use Rattle.mrp_plant.specs.Showing.{Showing}
 use Rattle.mrp_mailbox.specs.Mailbox.{Held}
 use Rattle.mrp_world.specs.Moves.{AreAt}
 

@@ -8,7 +8,7 @@ use Rattle.mrp_net.specs.Plan.{rows_at, plan_of}
 use Rattle.mrp_net.specs.Sums.{pair_at}
 use Rattle.mrp_record.specs.Entries.{contents, is_closed, moved}
 use Rattle.mrp_record.specs.Text.{IsWhole}
-use Rattle.mrp_events.specs.Laws.{KeepsOrder, cum_on}
+use Rattle.mrp_events.specs.LaneOrder.{KeepsOrder, cum_on}
 use Rattle.mrp_events.specs.Loads.{loads}
 use Rattle.mrp_events.specs.State.{State}
 use Rattle.mrp_world.specs.World.{WorldState, box_at}

@@ -9,7 +9,8 @@ use Rattle.mrp_events.specs.declared.event.Event.{Event}
 use Rattle.mrp_events.specs.declared.event.Event.TheVariants.{Send, Receive, Plan}
 use Rattle.mrp_events.specs.Progress.{steps_left}
 use Rattle.mrp_events.specs.State.{State, Step, Run, IsEnabled, IsReached}
-use Rattle.mrp_plant.specs.Moments.{Showing, IsOwn}
+use Rattle.mrp_plant.specs.Moments.{IsOwn}
+use Rattle.mrp_plant.specs.Showing.{Showing}
 use Rattle.mrp_world.specs.World.{WorldState, PlantsShow, box_at}
 
 -- each mailbox holds what has been sent and not yet taken, and has room for what it may ever hold

@@ -3,10 +3,12 @@ ghost use Rattle.std.specs.Prelude.{◌≡◌, ◌<◌, ◌≤◌, Contains, IfO
 ghost use Rattle.mrp_qty.specs.declared.quantity.TheConstants.{MOST};
 ghost use Rattle.mrp_rows.specs.Table.{IsPair, horizon};
 ghost use Rattle.mrp_net.specs.Lanes.{lanes, lane_at, lane_items};
-ghost use Rattle.mrp_net.specs.Plan.{Fits, plan_of};
+ghost use Rattle.mrp_net.specs.Plan.{plan_of};
+ghost use Rattle.mrp_net.specs.PlanLaws.{Fits};
 ghost use Rattle.mrp_loops.specs.Sized.{IsSized};
-ghost use Rattle.mrp_record.specs.Text.{block_length, length_of_text};
-ghost use Rattle.mrp_events.specs.Loads.{by_period, called_in, load_of, loads, steps};
+ghost use Rattle.mrp_record.specs.Lengths.{block_length, length_of_text};
+ghost use Rattle.mrp_events.specs.Loads.{by_period, called_in, load_of, loads};
+ghost use Rattle.mrp_events.specs.Steps.{steps};
 ghost use Rattle.mrp_events.specs.Seen.{share_of};
 
 use mrp_loops::SizedNet;

@@ -61,7 +61,7 @@ impl<'a, P: Plant> Model for World<'a, P> {
 impl<'a, P: Plant> World<'a, P> {
     ghost use Rattle.mrp_net.specs.Plan.{plan_of, rows_at};
     ghost use Rattle.mrp_events.specs.declared.event.Event.{Event};
-    ghost use Rattle.mrp_events.specs.Loads.{steps as network_steps};
+    ghost use Rattle.mrp_events.specs.Steps.{steps as network_steps};
     ghost use Rattle.mrp_events.specs.Progress.{steps_left};
     ghost use Rattle.mrp_events.specs.State.{State, Step, IsEnabled, IsFinished, opening_state};
     ghost use Rattle.mrp_net.specs.Sums.{pair_at};

@@ -4,7 +4,8 @@
 ghost use Rattle.std.specs.Prelude.{◌≡◌, ◌<◌, ◌≤◌, ◌-◌, ◌*◌, ◌/◌, length, Contains, IfOk};
 ghost use Rattle.mrp_rows.specs.Table.{IsTable, horizon};
 ghost use Rattle.mrp_net.specs.Lanes.{lanes, lane_at, lane_items};
-ghost use Rattle.mrp_net.specs.Plan.{Fits, plan_of};
+ghost use Rattle.mrp_net.specs.Plan.{plan_of};
+ghost use Rattle.mrp_net.specs.PlanLaws.{Fits};
 ghost use Rattle.mrp_net.specs.Sources.{source_on};
 ghost use Rattle.mrp_events.specs.Loads.{called_in};
 ghost use Rattle.mrp_cursor.specs.Next.{IsWhatIsLeft, IsNextLine, IsRemainder};

@@ -1,5 +1,5 @@
 use Rattle.std.proofs.Common.{ℕ, ◌+◌, ◌<◌, ◌≤◌, List, length, map, slice_index, ◌∙◌, ap, subst, sym}
-use Rattle.mrp_group.specs.Groups.{IsGrouped}
+use Rattle.mrp_group.specs.Starts.{IsGrouped}
 use Rattle.mrp_group.proofs.Sorting.{IsGrouped-within}
 use Rattle.mrp_view.specs.View.{PlantRows}
 use Rattle.mrp_agent.specs.declared.edges.ParentEdge.{ParentEdge}

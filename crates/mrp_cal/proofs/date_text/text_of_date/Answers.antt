@@ -3,7 +3,8 @@ use Rattle.std.proofs.lemmas.Int.{to_z-of_z}
 use Rattle.jiff.specs.Types.{Date}
 use Rattle.jiff.specs.Words.{epoch_day}
 use Rattle.jiff.proofs.SpanFacts.{signed_arith}
-use Rattle.mrp_cal.specs.DateText.{IsDateText, date_text}
+use Rattle.mrp_cal.specs.DateText.{IsDateText}
+use Rattle.mrp_cal.specs.Days.{date_text}
 use Rattle.mrp_cal.proofs.Digits.{year_not_negative, not_negative, text_spells}
 use Rattle.mrp_cal.proofs.date_text.text_of_date.Goals as goal
 

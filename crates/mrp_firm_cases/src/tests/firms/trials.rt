@@ -1,7 +1,7 @@
 //! What is tried on the network of a table, each by its name. A function holds one of the network, its codes and
 //! the checked network.
 
-ghost use Rattle.mrp_loops.specs.Loop.{AreCodes};
+ghost use Rattle.mrp_loops.specs.Codes.{AreCodes};
 
 use super::Figures;
 use super::events::{Tried, counts_what_is_enabled, ends_at_each_capacity, goes_so};

@@ -1,5 +1,5 @@
 use Rattle.std.proofs.Common.{◌≡◌, map, take}
-use Rattle.mrp_net.specs.Sources.{sent}
+use Rattle.mrp_net.specs.SourceRows.{sent}
 use Rattle.mrp_net.proofs.lanes.all_sent.Given as goal
 
 abbrev pub invariant-loop-ship : goal.invariant-loop-ship

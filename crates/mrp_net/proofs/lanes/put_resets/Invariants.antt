@@ -1,5 +1,5 @@
 use Rattle.std.proofs.Common.{take}
-use Rattle.mrp_net.specs.Sources.{AreResetsOf}
+use Rattle.mrp_net.specs.SourceRows.{AreResetsOf}
 use Rattle.mrp_net.proofs.lanes.put_resets.Given as goal
 
 abbrev pub invariant-loop-reset : goal.invariant-loop-reset

@@ -1,8 +1,8 @@
 use Rattle.std.proofs.Common.{◌≡◌, ◌<◌, List, length, map, sym, ap, ◌∙◌, subst}
 use Rattle.std.specs.List.{All}
 use Rattle.mrp_net.specs.declared.lanes.Sent.{Sent}
-use Rattle.mrp_group.specs.Groups.{IsGrouped}
-use Rattle.mrp_net.specs.Sources.{sent}
+use Rattle.mrp_group.specs.Starts.{IsGrouped}
+use Rattle.mrp_net.specs.SourceRows.{sent}
 use Rattle.mrp_net.proofs.Routing.{ShowsGroups-from_grouped}
 use Rattle.mrp_net.proofs.Sourcing.{sent_within}
 use Rattle.mrp_net.proofs.lanes.shipments.Goals as goal

@@ -2,7 +2,7 @@ use Rattle.std.proofs.Common.{◌≡◌, ℕ, ◌<◌, List, length, map, replic
 use Rattle.std.specs.List.{All}
 use Rattle.std.proofs.lemmas.List.{length-replicate}
 use Rattle.mrp_net.specs.declared.lanes.Sent.{Sent}
-use Rattle.mrp_net.specs.Sources.{sent}
+use Rattle.mrp_net.specs.SourceRows.{sent}
 use Rattle.mrp_net.proofs.Summing.{totals_built}
 use Rattle.mrp_net.proofs.Sourcing.{sent_within, shipped_built}
 use Rattle.mrp_net.proofs.lanes.shipped.Goals as goal

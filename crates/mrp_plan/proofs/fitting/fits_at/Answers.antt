@@ -1,6 +1,7 @@
 use Rattle.std.proofs.Common.{◌≡◌, ℕ, Bool, true, false, List, sym, ap, ◌∙◌, subst}
 use Rattle.std.proofs.lemmas.Bool.{false≢true}
-use Rattle.mrp_lot.specs.One.{PlanRows, IsWithin, one}
+use Rattle.mrp_lot.specs.One.{PlanRows, one}
+use Rattle.mrp_lot.specs.Bound.{IsWithin}
 use Rattle.mrp_lot.specs.declared.params.PairParams.{PairParams}
 use Rattle.mrp_rows.specs.Rows.{params_of}
 use Rattle.mrp_net.specs.Sums.{incoming, params_at, row_of}

@@ -1,7 +1,8 @@
 use Rattle.std.proofs.Common.{◌≡◌, ◌<◌, ◌≤◌, ◌+◌, ℕ, List, length, sum, slice_index, slice_set, arith, ap, sym, ◌∙◌, subst}
 use Rattle.std.proofs.lemmas.List.{get_or_default}
 use Rattle.std.specs.List.{All}
-use Rattle.mrp_lot.specs.One.{PlanRows, IsWithin, one}
+use Rattle.mrp_lot.specs.One.{PlanRows, one}
+use Rattle.mrp_lot.specs.Bound.{IsWithin}
 use Rattle.mrp_lot.specs.declared.params.PairParams.{PairParams}
 use Rattle.mrp_rows.specs.Rows.{params_of}
 use Rattle.mrp_rows.specs.Table.{horizon}

@@ -1,7 +1,7 @@
 use Rattle.std.proofs.Common.{◌≡◌, [], rules}
 use Rattle.std.proofs.lemmas.Option.{get_or_from_slice_get}
 use Rattle.mrp_report.specs.Lanes.{figure_row}
-use Rattle.mrp_sheet.specs.Names.{name_of_item, name_of_plant}
+use Rattle.mrp_sheet.specs.RowNames.{name_of_item, name_of_plant}
 use Rattle.mrp_report.proofs.lanes.put_figure.Goals as goal
 
 pub returns-clause-row : goal.returns-clause-row

@@ -1,5 +1,5 @@
 use Rattle.std.proofs.Common.{rules}
-use Rattle.mrp_spell.specs.Spelling.{spelled_number}
+use Rattle.mrp_spell.specs.Parsing.{spelled_number}
 use Rattle.mrp_spell.proofs.numbers.read.Goals as goal
 
 pub returns : goal.returns

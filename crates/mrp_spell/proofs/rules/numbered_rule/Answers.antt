@@ -1,5 +1,5 @@
 use Rattle.std.proofs.Common.{rules}
-use Rattle.mrp_spell.specs.Spelling.{numbered_rule}
+use Rattle.mrp_spell.specs.Parsing.{numbered_rule}
 use Rattle.mrp_spell.proofs.rules.numbered_rule.Goals as goal
 
 pub returns-in_err-number_within-clause-exact : goal.returns-in_err-number_within-clause-exact

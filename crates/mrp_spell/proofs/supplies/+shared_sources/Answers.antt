@@ -5,7 +5,8 @@ use Rattle.mrp_spell.specs.declared.supplies.SpelledSource.{SpelledSource}
 use Rattle.mrp_spell.specs.Spelled.{source_view, AreSources, IsSource, TellsSpelled}
 use Rattle.mrp_qty.specs.declared.limits.TheConstants.{MOST_SHARE}
 use Rattle.mrp_spell.specs.Steps.{sources_with}
-use Rattle.mrp_spell.specs.Supplies.{SourceTerms, names_plant}
+use Rattle.mrp_spell.specs.Supplies.{SourceTerms}
+use Rattle.mrp_spell.specs.SupplyParsing.{names_plant}
 use Rattle.mrp_spell.proofs.Apart.{sources_push}
 use Rattle.mrp_spell.proofs.Shares.{sources_with-last, sources_with-more, sources_with-none, sources_with-stop, sources_with-twice}
 use Rattle.mrp_spell.proofs.supplies.+shared_sources.Goals as goal

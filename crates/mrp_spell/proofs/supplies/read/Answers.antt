@@ -1,6 +1,6 @@
 use Rattle.std.proofs.Common.{sym, ap, ◌∙◌, rules}
 use Rattle.mrp_spell.specs.Spelled.{cut_view}
-use Rattle.mrp_spell.specs.Supplies.{supply_of}
+use Rattle.mrp_spell.specs.SupplyParsing.{supply_of}
 use Rattle.mrp_spell.proofs.Written.{begins_from}
 use Rattle.mrp_spell.proofs.supplies.read.Goals as goal
 

@@ -3,7 +3,8 @@ use Rattle.csv.specs.declared.parser.State.{State}
 use Rattle.csv.specs.declared.parser.State.TheVariants as state
 use Rattle.mrp_grammar.specs.declared.fault.TableFault.{TableFault}
 use Rattle.mrp_grammar.specs.Left.{OfLeft, records_in}
-use Rattle.mrp_grammar.specs.Reading.{OfRecords, TellsRows}
+use Rattle.mrp_grammar.specs.Reading.{TellsRows}
+use Rattle.mrp_grammar.specs.Written.{OfRecords}
 use Rattle.mrp_tables.specs.Steps.{StepsTo}
 use Rattle.mrp_grammar.proofs.Whole.{of_text}
 use Rattle.mrp_tables.proofs.reading.read_tables.Goals as goal

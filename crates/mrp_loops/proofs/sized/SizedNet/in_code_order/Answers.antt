@@ -1,7 +1,7 @@
 use Rattle.std.proofs.Common.{List, map, sym, ap, ◌∙◌, subst}
 use Rattle.mrp_rows.specs.declared.numbers.PairNo.{PairNo}
 use Rattle.mrp_loops.specs.Order.{code_order, IsInCodeOrder}
-use Rattle.mrp_loops.specs.Sized.{Sized, IsPlanningOrder}
+use Rattle.mrp_loops.specs.Planning.{Sized, IsPlanningOrder}
 use Rattle.mrp_loops.proofs.Planning.{in_code_order, code_order_plans}
 use Rattle.mrp_loops.proofs.sized.SizedNet.in_code_order.Goals as goal
 

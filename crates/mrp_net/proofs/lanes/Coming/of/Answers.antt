@@ -1,5 +1,5 @@
 use Rattle.std.proofs.Common.{ℕ, List, sym, subst}
-use Rattle.mrp_net.specs.Sources.{AreSourceStarts}
+use Rattle.mrp_net.specs.SourceRows.{AreSourceStarts}
 use Rattle.mrp_net.proofs.lanes.Coming.of.Goals as goal
 
 pub figures-requires : goal.figures-requires

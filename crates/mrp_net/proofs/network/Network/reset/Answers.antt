@@ -2,7 +2,7 @@ use Rattle.std.proofs.Common.{ap, ◌∙◌, subst}
 use Rattle.mrp_rows.specs.Table.{Table}
 use Rattle.mrp_net.specs.declared.lane.Lane.{Lane}
 use Rattle.mrp_net.specs.Lanes.{reset, pair_on, supplier_of}
-use Rattle.mrp_net.specs.Sources.{AreResetsOf}
+use Rattle.mrp_net.specs.SourceRows.{AreResetsOf}
 use Rattle.mrp_net.proofs.Anew.{reset_at}
 use Rattle.mrp_net.proofs.network.Network.reset.Goals as goal
 

@@ -2,7 +2,7 @@ use Rattle.std.proofs.Common.{ℕ, ◌+◌, slice_index, slice_range, ap, ◌∙
 use Rattle.mrp_rows.specs.Table.{Table}
 use Rattle.mrp_net.specs.declared.lane.Lane.{Lane}
 use Rattle.mrp_net.specs.Lanes.{shipments, pair_on, supplier_of}
-use Rattle.mrp_net.specs.Sources.{AreShipments}
+use Rattle.mrp_net.specs.SourceRows.{AreShipments}
 use Rattle.mrp_net.proofs.Sourcing.{shipments_ends, shipments_slice}
 use Rattle.mrp_net.proofs.network.Network.shipments.Goals as goal
 

@@ -1,7 +1,7 @@
 use Rattle.std.proofs.Common.{List, sym, ◌∙◌, subst}
 use Rattle.std.specs.List.{All}
 use Rattle.mrp_net.specs.declared.edge.Edge.{Edge}
-use Rattle.mrp_net.specs.Edges.{IsEdge}
+use Rattle.mrp_net.specs.Suppliers.{IsEdge}
 use Rattle.mrp_net.proofs.Joining.{suppliers_of}
 use Rattle.mrp_net.proofs.network.Network.suppliers.Goals as goal
 

@@ -32,7 +32,7 @@ use Rattle.mrp_agent.specs.State.{AgentState, book_at, incoming_at, out_at, outg
 use Rattle.mrp_agent.proofs.Owning.{own_of_item}
 use Rattle.mrp_plant.specs.Agents.{ShowsAgent}
 use Rattle.mrp_plant.specs.Moments.{AgreeAt}
-use Rattle.mrp_plant.specs.Owned.{incoming_are_in, outgoing_are_out}
+use Rattle.mrp_plant.proofs.Owned.{incoming_are_in, outgoing_are_out}
 
 -- ---- maps and joined lists, element by element
 

@@ -1,0 +1,8 @@
+-- Which states of a network a plant shows.
+use Rattle.std.specs.Prelude.{ℕ}
+use Rattle.mrp_rows.specs.Table.{Table}
+use Rattle.mrp_events.specs.State.{State}
+
+-- which states of a network a plant with a number shows
+abbrev pub Showing : Type 0 → Type 1
+Showing A = Table → ℕ → State → A → Type 0
