@@ -13,13 +13,13 @@ pub last_date-is : last_date ≡ pos 84005
 unfolding last_date
 last_date-is = refl
 
-is_year : IsYear (pos 2199)
+pub is_year : IsYear (pos 2199)
 is_year = search rules
 
-is_month : IsInRange 1 12 12
+pub is_month : IsInRange 1 12 12
 is_month = search rules
 
-is_day : IsInRange 1 (days_in_month (pos 2199) 12) 31
+pub is_day : IsInRange 1 (days_in_month (pos 2199) 12) 31
 is_day = search rules
 
 -- the last date, as the library has it

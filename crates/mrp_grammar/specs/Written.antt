@@ -104,12 +104,13 @@ rows_of N = run_fields N.calendar ∷ later_rows N
 
 -- ---- the numbers of items
 
--- of pairs above which there are n items each is of one of those or of the next, and in the end there are m
+-- items are numbered in the order in which pairs first name them: where n items stand above these pairs, each pair is of one
+-- of those or of the next, and with the last pair there are m
 abbrev pub AreNumbered : ℕ → List PairRow → ℕ → Type 0
 AreNumbered n [] m = m ≡ n
 AreNumbered n (p ∷ ps) m = (p.item.0 ≤ n) × AreNumbered (max n (p.item.0 + 1)) ps m
 
--- of the records of a text, where it is known
+-- the records of the text are so; of a text that is not known this says nothing
 abbrev pub OfRecords : Option (List ℕ) → (List (List (List ℕ)) → Type 0) → Type 0
 OfRecords None says = Unit {0}
 OfRecords (Some text) says = says (records default_config text)

@@ -6,8 +6,8 @@ use Rattle.mrp_rows.specs.Table.{Table, IsPair}
 use Rattle.mrp_net.specs.Edges.{demanders}
 use Rattle.mrp_net.specs.Sums.{pair_at, demand_total, supply}
 
--- need of a pair beside the needs of its demanders: its demand rows, what its demanders need of it,
--- safety stock and the rule's quantities
+-- what the orders of a pair over the whole horizon can't exceed, its demanders' being given: its demand rows, what its
+-- demanders ask, safety stock, and what its lot rule may order beyond a requirement. Shares don't lessen it
 abbrev pub need_at : Table → List ℕ → ℕ → ℕ
 need_at N needs x =
     demand_total N x + sum_by (λ e. e.per * slice_index needs e.demander.0) (demanders N x) + (pair_at N x).safety + rule_quantities (pair_at N x).rule

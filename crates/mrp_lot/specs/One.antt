@@ -33,7 +33,8 @@ pub record PlanRows : Type 0 where
 abbrev pub sum_from : List ℕ → ℕ → ℕ → ℕ
 sum_from row t n = sum (take n (drop t row))
 
--- what the n periods from t on need beyond `before`, the balance before t, and what comes in
+-- the net requirement of the n periods from t on together: safety stock and their gross requirements, less `before`, the
+-- balance before t, and their scheduled receipts
 abbrev pub need_over : PairParams → List ℕ → List ℕ → ℕ → ℕ → ℕ → ℕ
 need_over pair incoming gross before t n = (pair.safety + sum_from gross t n) - (before + sum_from incoming t n)
 
@@ -76,7 +77,8 @@ order_row pair incoming gross = map (order_at pair incoming gross) (range_with_l
 abbrev pub available_row : PairParams → List ℕ → List ℕ → List ℕ
 available_row pair incoming gross = map (λ t. balance_before pair incoming gross (suc t)) (range_with_len 0 (length gross))
 
--- what the orders of the first n periods release in period u: those due a lead time later, in period 0 also those due before
+-- what of the orders of the first n periods is released in period u: those due a lead time later. Subtraction stops at 0, so
+-- those due within the lead time are released in period 0
 abbrev pub released : ℕ → List ℕ → ℕ → ℕ → ℕ
 released lead order n u = sum_by (λ t. if (t - lead) == u then slice_index order t else 0) (range_with_len 0 n)
 
@@ -84,7 +86,7 @@ released lead order n u = sum_by (λ t. if (t - lead) == u then slice_index orde
 abbrev pub release_row : ℕ → List ℕ → List ℕ
 release_row lead order = map (released lead order (length order)) (range_with_len 0 (length order))
 
--- the period has an order, and it is due within the lead time
+-- the period has an order, and lies less than a lead time after period 0
 abbrev pub is_late : ℕ → List ℕ → ℕ → Bool
 is_late lead order t = nat_lt t lead && nat_lt 0 (slice_index order t)
 

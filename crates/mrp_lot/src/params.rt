@@ -10,9 +10,9 @@ pub struct PairParams {
     pub rule: Rule,
     /// Periods from release to receipt, 0 to 104.
     pub lead: u64,
-    /// Pieces on hand before period 0, 0 to 10^15.
+    /// Pieces on hand before period 0, 0 to 10^15; of a pair of a table 0 to 10^12.
     pub on_hand: Qty,
-    /// Safety stock: pieces below which the projected available never falls, 0 to 10^15.
+    /// Safety stock in pieces, 0 to 10^15, below which projected available never falls; of a pair of a table 0 to 10^12.
     pub safety: Qty,
 }
 

@@ -23,7 +23,8 @@ edges N = map bill_edge N.bills ++ map (source_edge N) N.sources
 abbrev pub demanders : Table → ℕ → List Edge
 demanders N x = sorted_by (λ e. e.demander.0) (length N.pairs) (group (λ e. e.pair.0) x (edges N))
 
--- the edge's part of a release: whole for a component, else the source's running share
+-- the edge's part of a release: what its shares up to `high` make, less what those up to `low` make, each rounded down.
+-- So the parts of all sources of a pair are the whole release. A component's part is the whole.
 abbrev pub part : Edge → ℕ → ℕ
 part e release = (release * e.high) / 1000 - (release * e.low) / 1000
 

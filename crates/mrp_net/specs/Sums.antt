@@ -54,6 +54,7 @@ incoming N x t = received N x t + shipped N x t
 abbrev pub opening_total : Table → ℕ → ℕ
 opening_total N x = sum_by (λ c. if c.pair.0 == x then c.figure else 0) N.cums
 
--- what a pair has without any order: on hand, receipts, shipments and opening figures
+-- what is counted of a pair without any order: on hand, receipts and shipments, and the opening figures, on which its
+-- cumulative figures go on
 abbrev pub supply : Table → ℕ → ℕ
 supply N x = (pair_at N x).on_hand + received_total N x + shipped_total N x + opening_total N x

@@ -3,13 +3,13 @@
 /// The most plants of a table.
 pub const MOST_PLANTS: usize = 64;
 
-/// The most pairs of a table.
+/// The most pairs of a table, and so the most items.
 pub const MOST_PAIRS: usize = 20_000;
 
 /// The most sources of one pair.
 pub const MOST_SOURCES_OF_PAIR: usize = 4;
 
-/// The most sources of all pairs together: four of each.
+/// The most source rows of a table, four of each pair, and the most reset rows, one of each source.
 pub const MOST_SOURCES: usize = 80_000;
 
 /// The most bill rows of a table.
@@ -18,7 +18,7 @@ pub const MOST_BILLS: usize = 200_000;
 /// The most demand rows of a table, and the most receipt, ship and cum rows.
 pub const MOST_OF_A_KIND: usize = 1_000_000;
 
-/// The greatest quantity in a row: 10^12 pieces.
+/// The greatest quantity of a pair, demand, receipt or ship row: 10^12 pieces. A cumulative figure may be greater.
 pub const MOST_IN_ROW: u64 = 1_000_000_000_000;
 
 /// The greatest quantity of a component in one parent.

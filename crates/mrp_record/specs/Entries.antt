@@ -93,6 +93,6 @@ closed_of Closing = 0
 abbrev pub closed_by : ℕ → List Entry → ℕ
 closed_by item entries = sum_by closed_of (entries_of item entries)
 
--- the cumulative figure: the figure in force with the closed years added
+-- the cumulative figure: the figure in force, and what resets have closed
 abbrev pub cum : ℕ → ℕ → List Entry → ℕ
 cum opening item entries = in_force opening item entries + closed_by item entries

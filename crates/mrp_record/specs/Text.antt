@@ -21,7 +21,7 @@ running item figure [] = []
 running item figure (line ∷ lines) =
     LineOf item line.period line.quantity (figure + line.quantity) ∷ running item (figure + line.quantity) lines
 
--- the deliveries up to the first that isn't before the period, and the others
+-- the deliveries before the first one that isn't before the period, and from that one on
 abbrev pub early : ℕ → List Delivery → List Delivery
 early from [] = []
 early from (line ∷ lines) = if nat_lt line.period from then line ∷ early from lines else []

@@ -5,9 +5,9 @@ use mrp_rows::ItemNo;
 /// One record of a lane.
 ///
 /// The records of a lane are numbered from 1. Those of an item stand together, as its block: its
-/// lines, at most one reset among them, and the item end. The closing record is the last of all.
-/// The figure of an item is cumulative: it counts the pieces of all its lines so far, beyond the
-/// figure that the lane opened with or from 0 on after a reset.
+/// lines, at most one reset among or after them, and the item end. The closing record is the last of all.
+/// The figure of an item is cumulative: it counts the pieces of all its lines so far, on top of the
+/// figure that the item opened with, and after a reset from 0 on.
 #[derive(Clone, Copy, Debug, PartialEq, Eq)]
 pub enum Record {
     /// A delivery: on a despatch lane what has been shipped, on a schedule lane what is called for.

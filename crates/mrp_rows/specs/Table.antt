@@ -107,7 +107,7 @@ pub record IsResetRow (N : Table) (r : ResetRow) : Type 0 where
   pub pair : IsPair N r.pair.0
   pub period : r.period < horizon N
 
--- how many rows there are of each kind
+-- the table has a period, and no more periods, names and rows of each kind than a table may have
 pub record IsLimited (N : Table) : Type 0 where
   pub some_periods : 1 ≤ horizon N
   pub periods : horizon N ≤ LONGEST
@@ -122,8 +122,7 @@ pub record IsLimited (N : Table) : Type 0 where
   pub cums : length N.cums ≤ MOST_OF_A_KIND
   pub resets : length N.resets ≤ MOST_SOURCES
 
--- what the rows read so far say: the calendar is one, names are names, and each row is in range and
--- names what is there
+-- the calendar is one, names are names, and each row is in range and names plants, items and pairs of the table
 pub record IsRead (N : Table) : Type 0 where
   pub calendar : IsCalendar N.calendar
   pub limits : IsLimited N
@@ -138,10 +137,11 @@ pub record IsRead (N : Table) : Type 0 where
   pub cums : All (IsCumRow N) N.cums
   pub resets : All (IsResetRow N) N.resets
 
--- the pair that a source row takes from: the same item at the source's plant
+-- the item of the pair at a place
 abbrev pub item_at : Table → ℕ → ℕ
 item_at N x = unwrap_or (option_map (λ p. p.item.0) (slice_get N.pairs x)) 0
 
+-- the pair that a source row takes from: the same item at the source's plant
 abbrev pub source_pair : Table → SourceRow → ℕ
 source_pair N s = pair_no N s.plant.0 (item_at N s.pair.0)
 
@@ -162,7 +162,7 @@ is_same_cum c d = (c.from.0 == d.from.0) && (c.pair.0 == d.pair.0)
 abbrev pub is_same_reset : ResetRow → ResetRow → Bool
 is_same_reset r s = (r.from.0 == s.from.0) && (r.pair.0 == s.pair.0)
 
--- no name, pair, source, component, cumulative figure or new start of one stands twice
+-- no plant, item, pair, source, bill row, cumulative figure or reset stands twice
 pub record IsOnce (N : Table) : Type 0 where
   pub plants : IsDistinct bytes_eq N.plants
   pub items : IsDistinct bytes_eq N.items
@@ -210,7 +210,7 @@ arrivals_of ships f x = map (λ s. s.period) (filter (λ s. (s.from.0 == f) && (
 abbrev pub arrivals : Table → ℕ → ℕ → List ℕ
 arrivals N f x = arrivals_of N.ships f x
 
--- no number is below the one before it
+-- no number is below the one before it, and the first is not below `low`
 abbrev pub rises_from : ℕ → List ℕ → Bool
 rises_from low [] = true
 rises_from low (n ∷ ns) = nat_le low n && rises_from n ns
@@ -219,9 +219,9 @@ rises_from low (n ∷ ns) = nat_le low n && rises_from n ns
 abbrev pub is_item_of_pair : Table → ℕ → Bool
 is_item_of_pair N item = list_any (λ p. p.item.0 == item) N.pairs
 
--- each item is some pair's; sources stand in the order of their pairs, at most four to a pair, and are
--- other plants than the pair's; the parent of a component is made at the component's plant; what is
--- shipped comes from a source, and where the count of a source starts anew its shipments arrive in order
+-- where pairs come from: sources stand in the order of their pairs, at most four to a pair, and none is the pair's own plant.
+-- A parent is made, at its component's plant. Shipments, cumulative figures and resets are of a source of the table.
+-- The shipments of a source with a reset stand in the order of their arrival. Each item is some pair's.
 pub record IsSourced (N : Table) : Type 0 where
   pub items : (item : ℕ) → item < length N.items → is_item_of_pair N item ≡ true
   pub order : IsNonDecreasingBy (λ s. s.pair.0) N.sources
@@ -235,7 +235,8 @@ pub record IsSourced (N : Table) : Type 0 where
   pub resets : All (λ r. is_taken_from N r.pair.0 r.from.0 ≡ true) N.resets
   pub arrive : All (λ r. rises_from 0 (arrivals N r.from.0 r.pair.0) ≡ true) N.resets
 
--- what every accepted table says: the pair behind each source has a row too
+-- an accepted table: its rows are in range, none stands twice, pairs come from where it says, and each source takes from
+-- a pair of the table
 pub record IsTable (N : Table) : Type 0 where
   pub read : IsRead N
   pub source_pairs : All (λ s. IsPair N (source_pair N s)) N.sources
