@@ -1,10 +1,11 @@
-pub mod Settings
-pub mod Faults
-pub mod Plant
-pub mod Steps
 pub mod Ends
-pub mod Outcome
-pub mod Worst
+pub mod Faults
+pub mod Gates
 pub mod Joined
 pub mod Laws
 pub mod Moments
+pub mod Outcome
+pub mod Plant
+pub mod Settings
+pub mod Steps
+pub mod Worst

@@ -1,12 +1,11 @@
 //! A whole network, run by a thread for each plant.
-ghost use Rattle.std.specs.Prelude.{◌≡◌, IfErr, IfOk, OnOk, length};
+ghost use Rattle.std.specs.Prelude.{◌≡◌, IfErr, IfOk};
 ghost use Rattle.mrp_loops.specs.Sized.{IsSized};
 ghost use Rattle.mrp_run.specs.Ends.{AreThrough};
 ghost use Rattle.mrp_run.specs.declared.fault.RunFault.{RunFault};
 ghost use Rattle.mrp_qty.specs.declared.limits.TheConstants.{MOST_TURNS};
-ghost use Rattle.mrp_run.specs.Faults.{AllTurned, WasShut, WasSpent};
+ghost use Rattle.mrp_run.specs.Gates.{GateTells};
 ghost use Rattle.mrp_run.specs.Outcome.{IsOutcome};
-ghost use Rattle.mrp_run.specs.Worst.{IsFaultIn};
 
 use crate::dealing::ready_plants;
 use crate::fault::RunFault;
@@ -60,8 +59,7 @@ pub fn run_network<R: Threads + Wait + Sync, G: Gate>(
     gate: &G,
 ) -> Result<Outcome, RunFault>
     ensures outcome { IfOk result (λ o. IsOutcome net.now.network o) }
-    ensures turned { OnOk result (AllTurned G.turn_open MOST_TURNS (length net.now.network.plants)) }
-    ensures fault { IfErr result (IsFaultIn (WasShut G.turn_open G.turn_shut G.worker_shut settings.workers MOST_TURNS) (WasSpent G.turn_open MOST_TURNS) net.now.network) }
+    ensures gate { GateTells G.turn_open G.turn_shut G.worker_shut settings.workers MOST_TURNS net.now.network result }
 {
     run_network_within(rt, alloc, net, settings, gate, MOST_TURNS)
 }
@@ -80,8 +78,7 @@ pub fn run_network_within<R: Threads + Wait + Sync, G: Gate>(
     turns: u64,
 ) -> Result<Outcome, RunFault>
     ensures outcome { IfOk result (λ o. IsOutcome net.now.network o) }
-    ensures turned { OnOk result (AllTurned G.turn_open turns (length net.now.network.plants)) }
-    ensures fault { IfErr result (IsFaultIn (WasShut G.turn_open G.turn_shut G.worker_shut settings.workers turns) (WasSpent G.turn_open turns) net.now.network) }
+    ensures gate { GateTells G.turn_open G.turn_shut G.worker_shut settings.workers turns net.now.network result }
 {
     let ready = ready_plants(alloc, net, settings.capacity())?;
     let through = run_plants::<R, G, Brand>(rt, alloc, ready, settings.workers(), gate, turns)?;

@@ -1,17 +1,20 @@
 -- What a fault of a run says of its gate, and that a gate that is always open is never answered as shut.
-use Rattle.std.proofs.Common.{◌≡◌, ℕ, Bool, true, false, List, Option, Result, Ok, Err, IfErr, OnOk, ⊎_elim, subst, sym}
+use Rattle.std.proofs.Common.{◌≡◌, ℕ, Bool, true, false, length, List, Option, Result, Ok, Err, IfErr, OnOk, ⊎_elim, subst, sym, refl}
 use Rattle.std.proofs.lemmas.Bool.{false≢true}
 use Rattle.mrp_rows.specs.Table.{Table}
 use Rattle.mrp_run.specs.declared.fault.RunFault.{RunFault}
 use Rattle.mrp_run.specs.declared.fault.RunFault.TheVariants as run
-use Rattle.mrp_run.specs.Faults.{WasShut}
+use Rattle.mrp_run.specs.Faults.{AllTurned, WasShut, WasSpent}
 use Rattle.mrp_run.specs.Worst.{IsFaultIn}
 use Rattle.mrp_text.specs.declared.fault.TextFault.{TextFault}
 use Rattle.mrp_text.specs.declared.fault.TextFault.TheVariants as fault
 use Rattle.mrp_choice.specs.declared.choice.Choice.TheVariants.{Plan}
-use Rattle.mrp_text.specs.Answer.{IsAnswerRefusal, IsNoShutGate}
-use Rattle.mrp_text.specs.Runs.{IsInNetwork, IsOfRun}
-use Rattle.mrp_text.specs.Refusals.{IsRunFault, IsRunRefusal, IsTextRefusal}
+use Rattle.mrp_text.specs.Answer.{IsNoShutGate, question_of}
+use Rattle.mrp_text.specs.Fault.{IsLate}
+use Rattle.mrp_text.specs.Gates.{GateExplains, IsGateFault}
+use Rattle.mrp_text.specs.Runs.{IsInNetwork, IsOfRun, IsRunFault}
+use Rattle.mrp_text.specs.Refusals.{IsThreaded, OfPlan, OfThreads, Question, Refuses, RefusesTable}
+use Rattle.mrp_text.specs.Text.{IsTableOf, OfTable}
 
 pub in_network : (Shut Spent : ℕ → Type 0) (N : Table) (f : RunFault) → IsFaultIn Shut Spent N f → IsInNetwork N f
 in_network Shut Spent N run.Memory is = tt
@@ -20,12 +23,79 @@ in_network Shut Spent N (run.GateShut plant) is = is.0
 in_network Shut Spent N run.Stopped is = tt
 
 -- the fault that a run's fault is
-pub run_fault : (Shut Spent : ℕ → Type 0) (N : Table) (f : RunFault) (said : TextFault) → IsFaultIn Shut Spent N f → IsOfRun N f said → IsRunFault Shut Spent N said
-run_fault Shut Spent N run.Memory said is of = subst (IsRunFault Shut Spent N) (sym of) tt
-run_fault Shut Spent N run.ThreadRefused said is of = subst (IsRunFault Shut Spent N) (sym of) tt
-run_fault Shut Spent N (run.GateShut plant) (fault.GateShut name) is of = (plant.0, of, is.1)
-run_fault Shut Spent N (run.GateShut plant) _ is of = absurd of
-run_fault Shut Spent N run.Stopped said is of = subst (IsRunFault Shut Spent N) (sym of) is
+pub run_fault : (N : Table) (f : RunFault) (said : TextFault) → IsOfRun N f said → IsRunFault N said
+run_fault N run.Memory said of = subst (IsRunFault N) (sym of) tt
+run_fault N run.ThreadRefused said of = subst (IsRunFault N) (sym of) tt
+run_fault N (run.GateShut plant) (fault.GateShut name) of = (plant.0, of)
+run_fault N (run.GateShut plant) _ of = absurd of
+run_fault N run.Stopped said of = subst (IsRunFault N) (sym of) tt
+
+-- ---- what the gate explains
+
+-- of a table
+abbrev InTable : Table → (Table → Type 0) → Type 0
+InTable N says = says N
+
+gate_fault : (Shut Spent : ℕ → Type 0) (N : Table) (f : RunFault) (said : TextFault) → IsFaultIn Shut Spent N f → IsOfRun N f said → IsGateFault Shut Spent (InTable N) said
+gate_fault Shut Spent N run.Memory said is of = subst (IsGateFault Shut Spent (InTable N)) (sym of) tt
+gate_fault Shut Spent N run.ThreadRefused said is of = subst (IsGateFault Shut Spent (InTable N)) (sym of) tt
+gate_fault Shut Spent N (run.GateShut plant) (fault.GateShut name) is of = (plant.0, of, is.1)
+gate_fault Shut Spent N (run.GateShut plant) _ is of = absurd of
+gate_fault Shut Spent N run.Stopped said is of = subst (IsGateFault Shut Spent (InTable N)) (sym of) is
+
+late_fault : (Shut Spent : ℕ → Type 0) (N : Table) (f : TextFault) → IsLate f → IsGateFault Shut Spent (InTable N) f
+late_fault Shut Spent N (fault.GateShut name) late = absurd late
+late_fault Shut Spent N fault.Stopped late = absurd late
+late_fault Shut Spent N _ late = tt
+
+refused_fault : (Shut Spent : ℕ → Type 0) (N : Table) (f : TextFault) → RefusesTable OfPlan N f → IsGateFault Shut Spent (InTable N) f
+refused_fault Shut Spent N (fault.GateShut name) said = absurd said.1.0
+refused_fault Shut Spent N fault.Stopped said = absurd said.1
+refused_fault Shut Spent N _ said = tt
+
+text_fault : (Shut Spent : ℕ → Type 0) (known : Option (List ℕ)) (N : Table) (f : TextFault) → IsTableOf known N → IsGateFault Shut Spent (InTable N) f → IsGateFault Shut Spent (OfTable known) f
+text_fault Shut Spent known N (fault.GateShut name) is said = (N, is, said)
+text_fault Shut Spent known N fault.Stopped is said = (N, is, said)
+text_fault Shut Spent known N _ is said = tt
+
+text_refused : (Shut Spent : ℕ → Type 0) (known : Option (List ℕ)) (f : TextFault) → Refuses known OfPlan f → IsGateFault Shut Spent (OfTable known) f
+text_refused Shut Spent known (fault.GateShut name) said = absurd said.2.1.0
+text_refused Shut Spent known fault.Stopped said = absurd said.2.1
+text_refused Shut Spent known _ said = tt
+
+module _ (Open Shut Worker : ℕ → ℕ → Type 0) (workers turns : ℕ) {U : Type 0} where
+  abbrev Was : ℕ → Type 0
+  Was = WasShut Open Shut Worker workers turns
+
+  abbrev Spent : ℕ → Type 0
+  Spent = WasSpent Open turns
+
+  -- a run that came to a plan
+  pub gate_ok : (N : Table) (u : U) → AllTurned Open turns (length N.plants) → GateExplains {U = U} Open Shut Worker workers turns (InTable N) (Ok u)
+  gate_ok N u turned = record { turned = turned; shut = tt }
+
+  -- one that met a fault
+  pub gate_err : (N : Table) (f : RunFault) (said : TextFault) → IsFaultIn Was Spent N f → IsOfRun N f said
+      → GateExplains {U = U} Open Shut Worker workers turns (InTable N) (Err said)
+  gate_err N f said is of = record { turned = tt; shut = gate_fault Was Spent N f said is of }
+
+  -- one whose plan was written, or not whole
+  pub gate_late : (N : Table) (r : Result U TextFault) → AllTurned Open turns (length N.plants) → IfErr r IsLate → GateExplains Open Shut Worker workers turns (InTable N) r
+  gate_late N (Ok u) turned late = record { turned = turned; shut = tt }
+  gate_late N (Err f) turned late = record { turned = tt; shut = late_fault Was Spent N f late }
+
+  -- one that was refused before
+  pub gate_refused : (N : Table) (f : TextFault) → RefusesTable OfPlan N f → GateExplains {U = U} Open Shut Worker workers turns (InTable N) (Err f)
+  gate_refused N f said = record { turned = tt; shut = refused_fault Was Spent N f said }
+
+  pub gate_unread : (known : Option (List ℕ)) (f : TextFault) → Refuses known OfPlan f → GateExplains {U = U} Open Shut Worker workers turns (OfTable known) (Err f)
+  gate_unread known f said = record { turned = tt; shut = text_refused Was Spent known f said }
+
+  -- so of the text
+  pub gate_of : (known : Option (List ℕ)) (N : Table) (r : Result U TextFault) → IsTableOf known N → GateExplains Open Shut Worker workers turns (InTable N) r
+      → GateExplains Open Shut Worker workers turns (OfTable known) r
+  gate_of known N (Ok u) is gate = record { turned = (N, is, gate.turned); shut = tt }
+  gate_of known N (Err f) is gate = record { turned = tt; shut = text_fault Was Spent known N f is gate.shut }
 
 -- ---- a gate that is always open
 
@@ -33,49 +103,27 @@ run_fault Shut Spent N run.Stopped said is of = subst (IsRunFault Shut Spent N) 
 never_shut : (Open : ℕ → ℕ → Type 0) (crew turns p : ℕ) → WasShut Open (λ _ _. ⊥) (λ _ _. ⊥) crew turns p → ⊥
 never_shut Open crew turns p shut = ⊎_elim (λ turn. turn.3) (λ worker. worker.3) shut
 
-abbrev IsOpenRefusal : (ℕ → ℕ → Type 0) → ℕ → ℕ → (ℕ → Type 0) → Table → TextFault → Type 0
-IsOpenRefusal Open crew turns Spent = IsRunRefusal (WasShut Open (λ _ _. ⊥) (λ _ _. ⊥) crew turns) Spent
+open_fault : (Open : ℕ → ℕ → Type 0) (crew turns : ℕ) (Spent : ℕ → Type 0) (known : Option (List ℕ)) (f : TextFault)
+    → IsGateFault (WasShut Open (λ _ _. ⊥) (λ _ _. ⊥) crew turns) Spent (OfTable known) f → IsNoShutGate f
+open_fault Open crew turns Spent known (fault.GateShut name) said = never_shut Open crew turns said.2.0 said.2.2
+open_fault Open crew turns Spent known _ said = tt
 
-open_refusal : (Open : ℕ → ℕ → Type 0) (crew turns : ℕ) (Spent : ℕ → Type 0) (N : Table) (f : TextFault) → IsOpenRefusal Open crew turns Spent N f → IsRunRefusal (λ _. ⊥) (λ _. Unit {0}) N f
-open_refusal Open crew turns Spent N fault.ThreadRefused said = said
-open_refusal Open crew turns Spent N (fault.GateShut name) said = absurd (never_shut Open crew turns said.1.0 said.1.2)
-open_refusal Open crew turns Spent N fault.Stopped said = (said.0, (said.1.0, said.1.1, tt))
-open_refusal Open crew turns Spent N _ said = said
+pub open_gate : {U : Type 0} (Open : ℕ → ℕ → Type 0) (crew turns : ℕ) (known : Option (List ℕ)) (r : Result U TextFault)
+    → GateExplains Open (λ _ _. ⊥) (λ _ _. ⊥) crew turns (OfTable known) r → IfErr r IsNoShutGate
+open_gate Open crew turns known (Ok u) gate = tt
+open_gate Open crew turns known (Err f) gate = open_fault Open crew turns (WasSpent Open turns) known f gate.shut
 
-open_text : (Open : ℕ → ℕ → Type 0) (crew turns : ℕ) (Spent : ℕ → Type 0) (known : Option (List ℕ)) (f : TextFault) → IsTextRefusal known (IsOpenRefusal Open crew turns Spent) f
-    → IsTextRefusal known (IsRunRefusal (λ _. ⊥) (λ _. Unit {0})) f
-open_text Open crew turns Spent known (fault.Table e) said = said
-open_text Open crew turns Spent known fault.Memory said = said
-open_text Open crew turns Spent known f said = (said.0, said.1, open_refusal Open crew turns Spent said.0 f said.2)
-
-pub open_refuses : {U : Type 0} (Open : ℕ → ℕ → Type 0) (crew turns : ℕ) (Spent : ℕ → Type 0) (known : Option (List ℕ)) (r : Result U TextFault)
-    → IfErr r (IsTextRefusal known (IsOpenRefusal Open crew turns Spent)) → IfErr r (IsTextRefusal known (IsRunRefusal (λ _. ⊥) (λ _. Unit {0})))
-open_refuses Open crew turns Spent known (Ok u) said = tt
-open_refuses Open crew turns Spent known (Err f) said = open_text Open crew turns Spent known f said
-
--- so of a plan that isn't asked for on one thread
-pub open_answer : {U : Type 0} (Open : ℕ → ℕ → Type 0) (crew turns : ℕ) (Spent : ℕ → Type 0) (known : Option (List ℕ)) (r : Result U TextFault) (workers capacity : ℕ) (single : Bool)
-    → single ≡ false → IfErr r (IsTextRefusal known (IsOpenRefusal Open crew turns Spent)) → IfErr r (IsTextRefusal known (IsAnswerRefusal (Plan workers capacity single)))
-open_answer Open crew turns Spent known r workers capacity true e said = absurd (false≢true (sym e))
-open_answer Open crew turns Spent known r workers capacity false e said = open_refuses Open crew turns Spent known r said
+-- a plan that isn't asked for on one thread
+pub asks_threads : (workers capacity : ℕ) (single : Bool) → single ≡ false → question_of (Plan workers capacity single) ≡ OfThreads
+asks_threads workers capacity true e = absurd (false≢true (sym e))
+asks_threads workers capacity false e = refl
 
 -- ---- a refusal that is no shut gate
 
-no_gate : (known : Option (List ℕ)) (says : Table → TextFault → Type 0) (f : TextFault) → ((N : Table) (name : _) → ¬ says N (fault.GateShut name)) → IsTextRefusal known says f → IsNoShutGate f
-no_gate known says (fault.GateShut name) never said = never said.0 name said.2
-no_gate known says _ never said = tt
+no_gate : (known : Option (List ℕ)) (asked : Question) (f : TextFault) → ¬ IsThreaded asked → Refuses known asked f → IsNoShutGate f
+no_gate known asked (fault.GateShut name) never said = never said.2.1.0
+no_gate known asked _ never said = tt
 
-pub never_gate : {U : Type 0} (known : Option (List ℕ)) (says : Table → TextFault → Type 0) (r : Result U TextFault) → ((N : Table) (name : _) → ¬ says N (fault.GateShut name))
-    → IfErr r (IsTextRefusal known says) → IfErr r IsNoShutGate
-never_gate known says (Ok u) never said = tt
-never_gate known says (Err f) never said = no_gate known says f never said
-
--- ---- a gate that was open
-
-pub on_ok : {T E : Type 0} (X : Type 0) (r : Result T E) → X → OnOk r X
-on_ok X (Ok x) is = is
-on_ok X (Err f) is = tt
-
-pub on_ok_of : {T E : Type 0} (X Y : Type 0) (r : Result T E) → (X → Y) → OnOk r X → OnOk r Y
-on_ok_of X Y (Ok x) then is = then is
-on_ok_of X Y (Err f) then is = tt
+pub never_gate : {U : Type 0} (known : Option (List ℕ)) (asked : Question) (r : Result U TextFault) → ¬ IsThreaded asked → IfErr r (Refuses known asked) → IfErr r IsNoShutGate
+never_gate known asked (Ok u) never said = tt
+never_gate known asked (Err f) never said = no_gate known asked f never said

@@ -31,14 +31,13 @@ use Rattle.mrp_choice.specs.declared.choice.Choice.{Choice}
 use Rattle.mrp_choice.specs.declared.choice.Choice.TheVariants.{Plan, Check, Peg, Cums, Orders, Schedule, Pegs, Advice}
 use Rattle.mrp_text.specs.declared.fault.TextFault.{TextFault}
 use Rattle.mrp_text.specs.declared.fault.TextFault.TheVariants as fault
-use Rattle.mrp_text.specs.Answer.{IsAnswer, IsAnswerRefusal}
+use Rattle.mrp_text.specs.Answer.{IsAnswer, question_of}
 use Rattle.mrp_text.specs.Fault.{status_of, table_status_of}
 use Rattle.mrp_text.specs.Laws.{BytesMakeOneTable, ReportsAreOne, ReportsExcludeRefusals}
 use Rattle.mrp_text.specs.Text.{IsPlanReport}
-use Rattle.mrp_text.specs.Refusals.{IsPegRefusal, IsRefusal, IsRunRefusal}
+use Rattle.mrp_text.specs.Refusals.{IsPairUnknown, IsPeriodUnknown, IsPlantUnknown, IsUnknownPlant, RefusesTable}
 use Rattle.mrp_text.specs.Reports.{IsHeaded, IsCodeReport, IsCumReport, IsPegReport, IsPlanRows}
 use Rattle.mrp_text.proofs.TableFacts.{tables_are_read}
-use Rattle.mrp_text.specs.Refusals.{IsScheduleRefusal, IsUnknownPlant}
 use Rattle.mrp_text.specs.Reports.{IsChosenPlant, IsPegsReport, IsScheduleReport, name_of}
 
 -- ---- the plan
@@ -115,54 +114,79 @@ one_report choice bytes a b x y =
 
 -- ---- no refusal beside it
 
--- a network that can be planned isn't refused
-sized_passes : (N : Table) (f : TextFault) → IsSized N → IsRefusal N f → status_of f ≡ 3
-sized_passes N (fault.Loop names) sized said = absurd (sized.loop_free said.0 said.1.found.loop)
-sized_passes N (fault.SupplyTooLarge name) sized said =
-    let x = said.1.0 in
-    absurd (omega (arith, said.1.1.above, sized.within x said.1.1.pair))
-sized_passes N (fault.NeedTooLarge name) sized said =
-    let x = said.1.2.0 in
-    let is = said.1.2.1 in
-    absurd (omega (arith, is.above, needs_within N sized is.needs is.are_needs x is.pair))
-sized_passes N fault.WriteFault sized said = refl
-sized_passes N fault.Memory sized said = refl
-sized_passes N _ sized said = absurd said
+-- a report is of a table that can be planned
+answer_sized : (choice : Choice) (N : Table) (text : List ℕ) → IsAnswer choice N text → IsSized N
+answer_sized (Plan workers capacity single) N text is = is.0
+answer_sized (Check heading) N text is = is.1.0
+answer_sized (Peg plant item period heading) N text is = is.1.2.0
+answer_sized (Cums heading) N text is = is.1.0
+answer_sized (Orders until heading) N text is = is.0
+answer_sized (Schedule from to heading) N text is = is.4.0
+answer_sized (Pegs heading) N text is = is.1.0
+answer_sized (Advice heading) N text is = is.0
 
-run_passes : (N : Table) (f : TextFault) → IsSized N → IsRunRefusal (λ _. ⊥) (λ _. Unit {0}) N f → status_of f ≡ 3
-run_passes N fault.ThreadRefused sized said = refl
-run_passes N (fault.GateShut name) sized said = refl
-run_passes N fault.Stopped sized said = refl
-run_passes N f sized said = sized_passes N f sized said
+-- a report about a pair and a period is of a pair and a period that are there
+pair_known : (choice : Choice) (N : Table) (text : List ℕ) → IsAnswer choice N text → IsPairUnknown (question_of choice) N → ⊥
+pair_known (Plan workers capacity true) N text is unknown = unknown
+pair_known (Plan workers capacity false) N text is unknown = unknown
+pair_known (Check heading) N text is unknown = unknown
+pair_known (Peg plant item period heading) N text is unknown = unknown is.1.0 is.1.1
+pair_known (Cums heading) N text is unknown = unknown
+pair_known (Orders until heading) N text is unknown = unknown
+pair_known (Schedule from to heading) N text is unknown = unknown
+pair_known (Pegs heading) N text is unknown = unknown
+pair_known (Advice heading) N text is unknown = unknown
 
--- nor is a question about a pair and a period of it that are there
-peg_passes : (plant item : List ℕ) (period : ℕ) (N : Table) (text : List ℕ) (f : TextFault) → IsPegReport plant item period N text → IsPegRefusal plant item period N f → status_of f ≡ 3
-peg_passes plant item period N text fault.NoPair is said = absurd (said.1 is.0 is.1)
-peg_passes plant item period N text fault.NoPeriod is said = absurd (omega (arith, said.1.2, is.2.1))
-peg_passes plant item period N text f is said = sized_passes N f is.2.0 said
+period_known : (choice : Choice) (N : Table) (text : List ℕ) → IsAnswer choice N text → IsPeriodUnknown (question_of choice) N → ⊥
+period_known (Plan workers capacity true) N text is unknown = unknown
+period_known (Plan workers capacity false) N text is unknown = unknown
+period_known (Check heading) N text is unknown = unknown
+period_known (Peg plant item period heading) N text is unknown = absurd (omega (arith, unknown.2, is.1.2.1))
+period_known (Cums heading) N text is unknown = unknown
+period_known (Orders until heading) N text is unknown = unknown
+period_known (Schedule from to heading) N text is unknown = unknown
+period_known (Pegs heading) N text is unknown = unknown
+period_known (Advice heading) N text is unknown = unknown
 
--- nor is one about plants that are there
-known_plant : (N : Table) (name : Option (List ℕ)) (f : Option PlantNo) → IsChosenPlant N name f → IsUnknownPlant N name → ⊥
-known_plant N None f is unknown = unknown
-known_plant N (Some name) None is unknown = is
-known_plant N (Some name) (Some p) is unknown =
+-- one about plants is of plants that are there
+name_known : (N : Table) (name : Option (List ℕ)) (f : Option PlantNo) → IsChosenPlant N name f → IsUnknownPlant N name → ⊥
+name_known N None f is unknown = unknown
+name_known N (Some name) None is unknown = is
+name_known N (Some name) (Some p) is unknown =
     unknown (p.0, slice_get_within N.plants p.0 name is, get_or_from_slice_get N.plants p.0 name name is)
 
-schedule_passes : (from to : Option (List ℕ)) (heading : Heading) (N : Table) (text : List ℕ) (f : TextFault) → IsScheduleReport from to heading N text → IsScheduleRefusal from to N f → status_of f ≡ 3
-schedule_passes from to heading N text fault.NoPlant is said =
-    absurd (⊎_elim (known_plant N from is.0 is.2) (known_plant N to is.1 is.3) said.1)
-schedule_passes from to heading N text f is said = sized_passes N f is.4.0 said
+plant_known : (choice : Choice) (N : Table) (text : List ℕ) → IsAnswer choice N text → IsPlantUnknown (question_of choice) N → ⊥
+plant_known (Plan workers capacity true) N text is unknown = unknown
+plant_known (Plan workers capacity false) N text is unknown = unknown
+plant_known (Check heading) N text is unknown = unknown
+plant_known (Peg plant item period heading) N text is unknown = unknown
+plant_known (Cums heading) N text is unknown = unknown
+plant_known (Orders until heading) N text is unknown = unknown
+plant_known (Schedule from to heading) N text is unknown = ⊎_elim (name_known N (name_of from) is.0 is.2) (name_known N (name_of to) is.1 is.3) unknown
+plant_known (Pegs heading) N text is unknown = unknown
+plant_known (Advice heading) N text is unknown = unknown
 
-answer_passes : (choice : Choice) (N : Table) (text : List ℕ) (f : TextFault) → IsAnswer choice N text → IsAnswerRefusal choice N f → status_of f ≡ 3
-answer_passes (Plan workers capacity true) N text f is said = sized_passes N f is.0 said
-answer_passes (Plan workers capacity false) N text f is said = run_passes N f is.0 said
-answer_passes (Check heading) N text f is said = sized_passes N f is.1.0 said
-answer_passes (Peg plant item period heading) N text f is said = peg_passes plant.now item.now period N is.0 f is.1 said
-answer_passes (Cums heading) N text f is said = sized_passes N f is.1.0 said
-answer_passes (Orders until heading) N text f is said = sized_passes N f is.0 said
-answer_passes (Schedule from to heading) N text f is said = schedule_passes (name_of from) (name_of to) heading N text f is said
-answer_passes (Pegs heading) N text f is said = sized_passes N f is.1.0 said
-answer_passes (Advice heading) N text f is said = sized_passes N f is.0 said
+-- so a table of which there is a report isn't refused
+answer_passes : (choice : Choice) (N : Table) (text : List ℕ) (f : TextFault) → IsAnswer choice N text → RefusesTable (question_of choice) N f → status_of f ≡ 3
+answer_passes choice N text (fault.Table e) is said = absurd said
+answer_passes choice N text (fault.Loop names) is said = absurd ((answer_sized choice N text is).loop_free said.0 said.1.found.loop)
+answer_passes choice N text (fault.SupplyTooLarge name) is said =
+    let sized = answer_sized choice N text is in
+    let x = said.1.0 in
+    absurd (omega (arith, said.1.1.above, sized.within x said.1.1.pair))
+answer_passes choice N text (fault.NeedTooLarge name) is said =
+    let sized = answer_sized choice N text is in
+    let x = said.1.2.0 in
+    let large = said.1.2.1 in
+    absurd (omega (arith, large.above, needs_within N sized large.needs large.are_needs x large.pair))
+answer_passes choice N text fault.NoPair is said = absurd (pair_known choice N text is said.1)
+answer_passes choice N text fault.NoPeriod is said = absurd (period_known choice N text is said.1)
+answer_passes choice N text fault.NoPlant is said = absurd (plant_known choice N text is said.1)
+answer_passes choice N text fault.ThreadRefused is said = refl
+answer_passes choice N text (fault.GateShut name) is said = refl
+answer_passes choice N text fault.Stopped is said = refl
+answer_passes choice N text fault.WriteFault is said = refl
+answer_passes choice N text fault.Memory is said = refl
 
 -- nor are rows that make a table
 rows_pass : (rows : List (List (List ℕ))) (N : Table) (e : TableFault) (k : TableFaultKind) (above : Type 0) → Reads rows (Ok N) → OfRows k above (Reads rows (Err e)) → table_status_of k ≡ 3
@@ -174,4 +198,4 @@ pub accepted_passes : ReportsExcludeRefusals
 accepted_passes choice bytes text (fault.Table e) is said = rows_pass (records default_config (strip_bom bytes)) is.0 e e.kind _ ((tables_are_read bytes is.0).0 is.1) said
 accepted_passes choice bytes text fault.Memory is said = refl
 accepted_passes choice bytes text f is said =
-    answer_passes choice is.0 text f is.2 (subst (λ (N : Table). IsAnswerRefusal choice N f) (one_table bytes said.0 is.0 said.1 is.1) said.2)
+    answer_passes choice is.0 text f is.2 (subst (λ (N : Table). RefusesTable (question_of choice) N f) (one_table bytes said.0 is.0 said.1 is.1) said.2)

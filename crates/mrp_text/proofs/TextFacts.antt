@@ -2,7 +2,6 @@
 use Rattle.std.proofs.Common.{◌≡◌, ℕ, List, ◌++◌, Option, None, Some, Result, Ok, Err, IfErr, inl, inr, ⊎_elim, subst, sym, refl}
 use Rattle.std.specs.Io.KnownBytes.{Appends, Keeps}
 use Rattle.mrp_rows.specs.Table.{Table}
-use Rattle.mrp_grammar.specs.declared.fault.TableFault.{TableFault}
 use Rattle.mrp_sheet.specs.Sent.{SendsReport}
 use Rattle.mrp_sheet.specs.declared.fault.ReportFault.{ReportFault}
 use Rattle.mrp_sheet.specs.declared.fault.ReportFault.TheVariants as report
@@ -11,7 +10,7 @@ use Rattle.mrp_text.specs.declared.fault.TextFault.{TextFault}
 use Rattle.mrp_text.specs.declared.fault.TextFault.TheVariants as fault
 use Rattle.mrp_text.specs.Fault.{IsOfReport}
 use Rattle.mrp_text.specs.Text.{IsTableOf, Writes}
-use Rattle.mrp_text.specs.Refusals.{IsTextRefusal}
+use Rattle.mrp_text.specs.Refusals.{Question, Refuses, RefusesTable}
 
 -- what was written of a text of one kind was written of a text of each kind that it is of
 pub writes-of : {U : Type 0} (a b : Option (List ℕ)) (r : Result U TextFault) (P Q : List ℕ → Type 0)
@@ -22,17 +21,16 @@ writes-of a b (Err fault.Memory) P Q along written =
     ⊎_elim (λ kept. inl kept) (λ front. inr (front.0, along front.0 front.1, front.2)) written
 writes-of a b (Err _) P Q along written = written
 
--- what a fault says of a network that was read, it says of the text
-refused-of : (known : Option (List ℕ)) (says : Table → TextFault → Type 0) (N : Table) (f : TextFault) → IsTableOf known N
-    → ((e : TableFault) → ¬ says N (fault.Table e)) → says N f → IsTextRefusal known says f
-refused-of known says N (fault.Table e) is none said = absurd (none e said)
-refused-of known says N fault.Memory is none said = tt
-refused-of known says N _ is none said = (N, is, said)
+-- what a fault says of a table that was read, it says of the text
+refused-of : (known : Option (List ℕ)) (asked : Question) (N : Table) (f : TextFault) → IsTableOf known N → RefusesTable asked N f → Refuses known asked f
+refused-of known asked N (fault.Table e) is said = absurd said
+refused-of known asked N fault.Memory is said = tt
+refused-of known asked N _ is said = (N, is, said)
 
-pub refuses-of : {U : Type 0} (known : Option (List ℕ)) (says : Table → TextFault → Type 0) (N : Table) (r : Result U TextFault) → IsTableOf known N
-    → ((e : TableFault) → ¬ says N (fault.Table e)) → IfErr r (says N) → IfErr r (IsTextRefusal known says)
-refuses-of known says N (Ok u) is none said = tt
-refuses-of known says N (Err f) is none said = refused-of known says N f is none said
+pub refuses-of : {U : Type 0} (known : Option (List ℕ)) (asked : Question) (N : Table) (r : Result U TextFault) → IsTableOf known N
+    → IfErr r (RefusesTable asked N) → IfErr r (Refuses known asked)
+refuses-of known asked N (Ok u) is said = tt
+refuses-of known asked N (Err f) is said = refused-of known asked N f is said
 
 -- bytes stay as they are
 keeps-all : (a : Option (List ℕ)) → Keeps a a

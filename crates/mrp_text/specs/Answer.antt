@@ -8,9 +8,8 @@ use Rattle.mrp_text.specs.declared.fault.TextFault.TheVariants.{GateShut, WriteF
 use Rattle.mrp_text.specs.Fault.{IsBeforeWriting, status_of}
 use Rattle.mrp_report.specs.Headings.{code_names, lane_names, peg_names, pegs_names}
 use Rattle.mrp_text.specs.Text.{IsPlanReport}
-use Rattle.mrp_text.specs.Refusals.{IsRefusal, IsRunRefusal, IsPegRefusal}
 use Rattle.mrp_text.specs.Reports.{IsCodeReport, IsPegReport, IsCumReport, IsOrderReport, IsHeaded}
-use Rattle.mrp_text.specs.Refusals.{IsScheduleRefusal}
+use Rattle.mrp_text.specs.Refusals.{Question, OfPlan, OfThreads, OfPair, OfPlants}
 use Rattle.mrp_text.specs.Reports.{IsScheduleReport, IsPegsReport, IsAdviceReport, name_of}
 
 -- the report that a choice asks for
@@ -24,17 +23,17 @@ IsAnswer (Schedule from to heading) = IsScheduleReport (name_of from) (name_of t
 IsAnswer (Pegs heading) = λ N. IsHeaded heading pegs_names (IsPegsReport N)
 IsAnswer (Advice heading) = IsAdviceReport heading
 
--- what a refusal of the network says to a choice; no gate is ever shut there, and of turns that are used nothing is said
-abbrev pub IsAnswerRefusal : Choice → Table → TextFault → Type 0
-IsAnswerRefusal (Plan workers capacity true) = IsRefusal
-IsAnswerRefusal (Plan workers capacity false) = IsRunRefusal (λ _. ⊥) (λ _. Unit {0})
-IsAnswerRefusal (Check heading) = IsRefusal
-IsAnswerRefusal (Peg plant item period heading) = IsPegRefusal plant.now item.now period
-IsAnswerRefusal (Cums heading) = IsRefusal
-IsAnswerRefusal (Orders until heading) = IsRefusal
-IsAnswerRefusal (Schedule from to heading) = IsScheduleRefusal (name_of from) (name_of to)
-IsAnswerRefusal (Pegs heading) = IsRefusal
-IsAnswerRefusal (Advice heading) = IsRefusal
+-- what a choice asks of a table
+abbrev pub question_of : Choice → Question
+question_of (Plan workers capacity true) = OfPlan
+question_of (Plan workers capacity false) = OfThreads
+question_of (Check heading) = OfPlan
+question_of (Peg plant item period heading) = OfPair plant.now item.now period
+question_of (Cums heading) = OfPlan
+question_of (Orders until heading) = OfPlan
+question_of (Schedule from to heading) = OfPlants (name_of from) (name_of to)
+question_of (Pegs heading) = OfPlan
+question_of (Advice heading) = OfPlan
 
 -- the faults after which nothing of the report is written: of a plan those that are met before its first byte,
 -- of every other report all but a failed write

@@ -5,10 +5,10 @@ use Rattle.mrp_rows.specs.Table.{Table}
 use Rattle.mrp_grammar.specs.Reading.{Reads}
 use Rattle.mrp_choice.specs.declared.choice.Choice.{Choice}
 use Rattle.mrp_text.specs.declared.fault.TextFault.{TextFault}
-use Rattle.mrp_text.specs.Answer.{IsAnswer, IsAnswerRefusal}
+use Rattle.mrp_text.specs.Answer.{IsAnswer, question_of}
 use Rattle.mrp_text.specs.Fault.{status_of}
 use Rattle.mrp_text.specs.Text.{IsTableOf, OfTable}
-use Rattle.mrp_text.specs.Refusals.{IsTextRefusal}
+use Rattle.mrp_text.specs.Refusals.{Refuses}
 
 -- bytes are a table exactly where the grammar reads that table in their records
 abbrev pub TablesAreRead : Type 0
@@ -28,4 +28,4 @@ ReportsAreOne =
 abbrev pub ReportsExcludeRefusals : Type 0
 ReportsExcludeRefusals =
     (choice : Choice) (bytes text : List ℕ) (fault : TextFault)
-    → OfTable (Some bytes) (λ N. IsAnswer choice N text) → IsTextRefusal (Some bytes) (IsAnswerRefusal choice) fault → status_of fault ≡ 3
+    → OfTable (Some bytes) (λ N. IsAnswer choice N text) → Refuses (Some bytes) (question_of choice) fault → status_of fault ≡ 3

@@ -4,6 +4,7 @@ use Rattle.mrp_rows.specs.Table.{Table}
 use Rattle.mrp_rows.specs.declared.numbers.PlantNo.{PlantNo}
 use Rattle.mrp_run.specs.declared.fault.RunFault.{RunFault}
 use Rattle.mrp_run.specs.declared.fault.RunFault.TheVariants as run
+use Rattle.mrp_text.specs.Refusals.{IsPlantName}
 use Rattle.mrp_text.specs.declared.fault.TextFault.{TextFault}
 use Rattle.mrp_text.specs.declared.fault.TextFault.TheVariants as fault
 
@@ -17,6 +18,15 @@ IsOfRun N run.Memory said = said ≡ fault.Memory
 IsOfRun N run.ThreadRefused said = said ≡ fault.ThreadRefused
 IsOfRun N (run.GateShut plant) said = IsShutFor N plant said
 IsOfRun N run.Stopped said = said ≡ fault.Stopped
+
+-- what a run by threads meets: a thread was refused, the gate was shut for a plant of the network, turns were used, or memory
+-- was refused
+abbrev pub IsRunFault : Table → TextFault → Type 0
+IsRunFault N fault.ThreadRefused = Unit {0}
+IsRunFault N (fault.GateShut name) = IsPlantName N (string_bytes name)
+IsRunFault N fault.Stopped = Unit {0}
+IsRunFault N fault.Memory = Unit {0}
+IsRunFault N _ = ⊥
 
 -- a shut gate is that of a plant of the network
 abbrev pub IsInNetwork : Table → RunFault → Type 0

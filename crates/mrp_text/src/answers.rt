@@ -2,9 +2,9 @@
 
 ghost use Rattle.std.specs.Prelude.{◌≡◌, IfErr};
 ghost use Rattle.mrp_choice.specs.Range.{IsInRange};
-ghost use Rattle.mrp_text.specs.Answer.{IsAnswer, IsAnswerRefusal, IsBeforeReport, IsNoShutGate, exit_status_of};
+ghost use Rattle.mrp_text.specs.Answer.{IsAnswer, question_of, IsBeforeReport, IsNoShutGate, exit_status_of};
 ghost use Rattle.mrp_text.specs.Text.{Writes, OfTable};
-ghost use Rattle.mrp_text.specs.Refusals.{IsTextRefusal};
+ghost use Rattle.mrp_text.specs.Refusals.{Refuses};
 ghost use Rattle.mrp_text.specs.Reports.{WritesRows, IsPlanRows};
 
 use crate::fault::{TextFault, status};
@@ -35,9 +35,9 @@ pub fn answer<T: Threads + Wait + Sync, R: Read + Drop, W: Write>(
     requires { IsInRange choice }
     ensures text { Writes (W.contents writer.old) (W.contents writer.new) result (λ text. OfTable (R.remaining reader) (λ N. IsAnswer choice.entry N text)) }
     ensures rows { WritesRows W.contents writer.old writer.new result (λ rows. OfTable (R.remaining reader) (λ N. IsPlanRows N rows)) }
-    ensures refusal { IfErr result (IsTextRefusal (R.remaining reader) (IsAnswerRefusal choice.entry)) }
-    ensures gate { IfErr result IsNoShutGate }
+    ensures refusal { IfErr result (Refuses (R.remaining reader) (question_of choice.entry)) }
     ensures untouched { IfErr result (λ fault. IsBeforeReport choice.entry fault → writer.new ≡ writer.old) }
+    ensures gate { IfErr result IsNoShutGate }
 {
     match choice {
         Choice::Plan {

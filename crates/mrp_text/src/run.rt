@@ -1,12 +1,11 @@
 //! A network run by a thread for each plant, for its plan.
 
-ghost use Rattle.std.specs.Prelude.{◌<◌, IfOk, IfErr, OnOk, length};
+ghost use Rattle.std.specs.Prelude.{◌<◌, IfOk, IfErr, length};
 ghost use Rattle.mrp_loops.specs.Sized.{IsSized};
 ghost use Rattle.mrp_net.specs.PlanLaws.{Fits};
-ghost use Rattle.mrp_run.specs.Faults.{AllTurned, WasShut, WasSpent};
 ghost use Rattle.mrp_qty.specs.declared.limits.TheConstants.{MOST_TURNS};
-ghost use Rattle.mrp_text.specs.Runs.{IsInNetwork, IsOfRun, IsShutFor};
-ghost use Rattle.mrp_text.specs.Refusals.{IsRunFault};
+ghost use Rattle.mrp_text.specs.Gates.{GateExplains};
+ghost use Rattle.mrp_text.specs.Runs.{IsInNetwork, IsOfRun, IsRunFault, IsShutFor};
 
 use crate::fault::TextFault;
 use mrp_loops::SizedNet;
@@ -27,8 +26,8 @@ pub(crate) fn run_plan<T: Threads + Wait + Sync, G: Gate>(
 ) -> Result<Plan, TextFault>
     requires plannable { IsSized net.now.network }
     ensures fits { IfOk result (Fits net.now.network) }
-    ensures turned { OnOk result (AllTurned G.turn_open MOST_TURNS (length net.now.network.plants)) }
-    ensures fault { IfErr result (IsRunFault (WasShut G.turn_open G.turn_shut G.worker_shut settings.workers MOST_TURNS) (WasSpent G.turn_open MOST_TURNS) net.now.network) }
+    ensures fault { IfErr result (IsRunFault net.now.network) }
+    ensures gate { GateExplains G.turn_open G.turn_shut G.worker_shut settings.workers MOST_TURNS (λ says. says net.now.network) result }
 {
     match run_network(rt, alloc, net, settings, gate) {
         Ok(outcome) => Ok(Plan::gather(net, outcome.plans)),

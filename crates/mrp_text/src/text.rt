@@ -1,13 +1,13 @@
 //! The text functions: each reads a table and writes one report of it.
 //!
 //! Their contracts say what the planner does from bytes to bytes: `text` which text is written,
-//! `refusal` what each fault says of the input, `untouched` after which faults nothing is written.
+//! `refusal` what each fault says of the input, `untouched` after which faults nothing is written. The last clause
+//! of a run by threads, `gate`, is for those who give a gate of their own.
 //!
 //! The network is let go by `drop` and not at the end of a scope: what lets go each of its lists is then
 //! proved once, and not in each of these functions.
 
-ghost use Rattle.std.specs.Prelude.{◌≡◌, ◌≢◌, ◌≤◌, IfErr, OnOk, length};
-ghost use Rattle.mrp_run.specs.Faults.{AllTurned, WasShut, WasSpent};
+ghost use Rattle.std.specs.Prelude.{◌≡◌, ◌≢◌, ◌≤◌, IfErr};
 ghost use Rattle.mrp_qty.specs.declared.limits.TheConstants.{MOST_TURNS};
 ghost use Rattle.mrp_text.specs.Fault.{IsBeforeWriting};
 ghost use Rattle.mrp_text.specs.Text.{Writes, OfTable, IsPlanReport};
@@ -15,7 +15,8 @@ ghost use Rattle.mrp_text.specs.Reports.{WritesRows, IsPlanRows, IsCodeReport};
 ghost use Rattle.mrp_report.specs.Headings.{code_names, lane_names, peg_names, pegs_names};
 ghost use Rattle.mrp_text.specs.Reports.{IsPegReport, IsCumReport, IsOrderReport, IsHeaded};
 ghost use Rattle.mrp_text.specs.Reports.{IsAdviceReport, IsPegsReport, IsScheduleReport, name_of};
-ghost use Rattle.mrp_text.specs.Refusals.{IsRefusal, IsRunRefusal, IsPegRefusal, IsScheduleRefusal, IsTextRefusal};
+ghost use Rattle.mrp_text.specs.Refusals.{Refuses, OfPlan, OfThreads, OfPair, OfPlants};
+ghost use Rattle.mrp_text.specs.Gates.{GateExplains};
 ghost use Rattle.mrp_choice.specs.declared.choice.TheConstants.{MOST_CAPACITY};
 
 use crate::fault::TextFault;
@@ -54,10 +55,9 @@ pub fn plan_text<T: Threads + Wait + Sync, R: Read + Drop, W: Write, G: Gate>(
 ) -> Result<(), TextFault>
     ensures text { Writes (W.contents writer.old) (W.contents writer.new) result (λ text. OfTable (R.remaining reader) (λ N. IsPlanReport N text)) }
     ensures rows { WritesRows W.contents writer.old writer.new result (λ rows. OfTable (R.remaining reader) (λ N. IsPlanRows N rows)) }
-    ensures turned { OnOk result (OfTable (R.remaining reader) (λ N. AllTurned G.turn_open MOST_TURNS (length N.plants))) }
-    ensures refusal { IfErr result (IsTextRefusal (R.remaining reader)
-        (IsRunRefusal (WasShut G.turn_open G.turn_shut G.worker_shut settings.workers MOST_TURNS) (WasSpent G.turn_open MOST_TURNS))) }
+    ensures refusal { IfErr result (Refuses (R.remaining reader) OfThreads) }
     ensures untouched { IfErr result (λ fault. IsBeforeWriting fault → writer.new ≡ writer.old) }
+    ensures gate { GateExplains G.turn_open G.turn_shut G.worker_shut settings.workers MOST_TURNS (OfTable (R.remaining reader)) result }
 {
     let network = network_of(alloc, reader)?;
     let written = write_run(rt, alloc, &network, writer, settings, gate);
@@ -93,7 +93,7 @@ pub fn drive_text<R: Read + Drop, W: Write>(
     requires within { capacity ≤ MOST_CAPACITY }
     ensures text { Writes (W.contents writer.old) (W.contents writer.new) result (λ text. OfTable (R.remaining reader) (λ N. IsPlanReport N text)) }
     ensures rows { WritesRows W.contents writer.old writer.new result (λ rows. OfTable (R.remaining reader) (λ N. IsPlanRows N rows)) }
-    ensures refusal { IfErr result (IsTextRefusal (R.remaining reader) IsRefusal) }
+    ensures refusal { IfErr result (Refuses (R.remaining reader) OfPlan) }
     ensures untouched { IfErr result (λ fault. IsBeforeWriting fault → writer.new ≡ writer.old) }
 {
     let network = network_of(alloc, reader)?;
@@ -114,7 +114,7 @@ pub fn check_text<R: Read + Drop, W: Write>(
     writer: &mut W,
 ) -> Result<(), TextFault>
     ensures text { Writes (W.contents writer.old) (W.contents writer.new) result (λ text. OfTable (R.remaining reader) (λ N. IsCodeReport N text)) }
-    ensures refusal { IfErr result (IsTextRefusal (R.remaining reader) IsRefusal) }
+    ensures refusal { IfErr result (Refuses (R.remaining reader) OfPlan) }
     ensures untouched { IfErr result (λ fault. fault ≢ TextFault.WriteFault → writer.new ≡ writer.old) }
 {
     headed_check_text(alloc, reader, writer, Heading::Without)
@@ -132,7 +132,7 @@ pub fn headed_check_text<R: Read + Drop, W: Write>(
     heading: Heading,
 ) -> Result<(), TextFault>
     ensures text { Writes (W.contents writer.old) (W.contents writer.new) result (λ text. OfTable (R.remaining reader) (λ N. IsHeaded heading code_names (IsCodeReport N) text)) }
-    ensures refusal { IfErr result (IsTextRefusal (R.remaining reader) IsRefusal) }
+    ensures refusal { IfErr result (Refuses (R.remaining reader) OfPlan) }
     ensures untouched { IfErr result (λ fault. fault ≢ TextFault.WriteFault → writer.new ≡ writer.old) }
 {
     let network = network_of(alloc, reader)?;
@@ -159,7 +159,7 @@ pub fn peg_text<R: Read + Drop, W: Write>(
 ) -> Result<(), TextFault>
     ensures text { Writes (W.contents writer.old) (W.contents writer.new) result
         (λ text. OfTable (R.remaining reader) (λ N. IsPegReport plant.now item.now period N text)) }
-    ensures refusal { IfErr result (IsTextRefusal (R.remaining reader) (IsPegRefusal plant.now item.now period)) }
+    ensures refusal { IfErr result (Refuses (R.remaining reader) (OfPair plant.now item.now period)) }
     ensures untouched { IfErr result (λ fault. fault ≢ TextFault.WriteFault → writer.new ≡ writer.old) }
 {
     headed_peg_text(alloc, reader, writer, plant, item, period, Heading::Without)
@@ -181,7 +181,7 @@ pub fn headed_peg_text<R: Read + Drop, W: Write>(
 ) -> Result<(), TextFault>
     ensures text { Writes (W.contents writer.old) (W.contents writer.new) result
         (λ text. OfTable (R.remaining reader) (λ N. IsHeaded heading peg_names (IsPegReport plant.now item.now period N) text)) }
-    ensures refusal { IfErr result (IsTextRefusal (R.remaining reader) (IsPegRefusal plant.now item.now period)) }
+    ensures refusal { IfErr result (Refuses (R.remaining reader) (OfPair plant.now item.now period)) }
     ensures untouched { IfErr result (λ fault. fault ≢ TextFault.WriteFault → writer.new ≡ writer.old) }
 {
     let network = network_of(alloc, reader)?;
@@ -203,7 +203,7 @@ pub fn cums_text<R: Read + Drop, W: Write>(
     writer: &mut W,
 ) -> Result<(), TextFault>
     ensures text { Writes (W.contents writer.old) (W.contents writer.new) result (λ text. OfTable (R.remaining reader) (λ N. IsCumReport N text)) }
-    ensures refusal { IfErr result (IsTextRefusal (R.remaining reader) IsRefusal) }
+    ensures refusal { IfErr result (Refuses (R.remaining reader) OfPlan) }
     ensures untouched { IfErr result (λ fault. fault ≢ TextFault.WriteFault → writer.new ≡ writer.old) }
 {
     headed_cums_text(alloc, reader, writer, Heading::Without)
@@ -221,7 +221,7 @@ pub fn headed_cums_text<R: Read + Drop, W: Write>(
     heading: Heading,
 ) -> Result<(), TextFault>
     ensures text { Writes (W.contents writer.old) (W.contents writer.new) result (λ text. OfTable (R.remaining reader) (λ N. IsHeaded heading lane_names (IsCumReport N) text)) }
-    ensures refusal { IfErr result (IsTextRefusal (R.remaining reader) IsRefusal) }
+    ensures refusal { IfErr result (Refuses (R.remaining reader) OfPlan) }
     ensures untouched { IfErr result (λ fault. fault ≢ TextFault.WriteFault → writer.new ≡ writer.old) }
 {
     let network = network_of(alloc, reader)?;
@@ -248,7 +248,7 @@ pub fn orders_text<R: Read + Drop, W: Write>(
     heading: Heading,
 ) -> Result<(), TextFault>
     ensures text { Writes (W.contents writer.old) (W.contents writer.new) result (λ text. OfTable (R.remaining reader) (λ N. IsOrderReport until heading N text)) }
-    ensures refusal { IfErr result (IsTextRefusal (R.remaining reader) IsRefusal) }
+    ensures refusal { IfErr result (Refuses (R.remaining reader) OfPlan) }
     ensures untouched { IfErr result (λ fault. fault ≢ TextFault.WriteFault → writer.new ≡ writer.old) }
 {
     let network = network_of(alloc, reader)?;
@@ -279,7 +279,7 @@ pub fn schedule_text<R: Read + Drop, W: Write>(
 ) -> Result<(), TextFault>
     ensures text { Writes (W.contents writer.old) (W.contents writer.new) result
         (λ text. OfTable (R.remaining reader) (λ N. IsScheduleReport (name_of from.entry) (name_of to.entry) heading N text)) }
-    ensures refusal { IfErr result (IsTextRefusal (R.remaining reader) (IsScheduleRefusal (name_of from.entry) (name_of to.entry))) }
+    ensures refusal { IfErr result (Refuses (R.remaining reader) (OfPlants (name_of from.entry) (name_of to.entry))) }
     ensures untouched { IfErr result (λ fault. fault ≢ TextFault.WriteFault → writer.new ≡ writer.old) }
 {
     let network = network_of(alloc, reader)?;
@@ -304,7 +304,7 @@ pub fn pegs_text<R: Read + Drop, W: Write>(
 ) -> Result<(), TextFault>
     ensures text { Writes (W.contents writer.old) (W.contents writer.new) result
         (λ text. OfTable (R.remaining reader) (λ N. IsHeaded heading pegs_names (IsPegsReport N) text)) }
-    ensures refusal { IfErr result (IsTextRefusal (R.remaining reader) IsRefusal) }
+    ensures refusal { IfErr result (Refuses (R.remaining reader) OfPlan) }
     ensures untouched { IfErr result (λ fault. fault ≢ TextFault.WriteFault → writer.new ≡ writer.old) }
 {
     let network = network_of(alloc, reader)?;
@@ -328,7 +328,7 @@ pub fn advice_text<R: Read + Drop, W: Write>(
     heading: Heading,
 ) -> Result<(), TextFault>
     ensures text { Writes (W.contents writer.old) (W.contents writer.new) result (λ text. OfTable (R.remaining reader) (λ N. IsAdviceReport heading N text)) }
-    ensures refusal { IfErr result (IsTextRefusal (R.remaining reader) IsRefusal) }
+    ensures refusal { IfErr result (Refuses (R.remaining reader) OfPlan) }
     ensures untouched { IfErr result (λ fault. fault ≢ TextFault.WriteFault → writer.new ≡ writer.old) }
 {
     let network = network_of(alloc, reader)?;

@@ -1,21 +1,20 @@
 //! What a text function writes of a network: the plan, the codes, the pegs, the figures of the lanes, the
 //! planned orders, the delivery schedules, and the messages for open orders.
 
-ghost use Rattle.std.specs.Prelude.{◌≡◌, ◌≢◌, ◌≤◌, ◌<◌, IfErr, IfOk, OnOk, length};
+ghost use Rattle.std.specs.Prelude.{◌≡◌, ◌≢◌, ◌≤◌, ◌<◌, IfErr, IfOk, length};
 ghost use Rattle.mrp_loops.specs.Sized.{IsSized};
 ghost use Rattle.mrp_rows.specs.Table.{IsPair, horizon};
 ghost use Rattle.mrp_net.specs.PlanLaws.{Fits};
 ghost use Rattle.mrp_loops.specs.Codes.{AreCodes};
-ghost use Rattle.mrp_run.specs.Faults.{AllTurned, WasShut, WasSpent};
 ghost use Rattle.mrp_qty.specs.declared.limits.TheConstants.{MOST_TURNS};
 ghost use Rattle.mrp_text.specs.Fault.{IsBeforeWriting, IsLate};
 ghost use Rattle.mrp_text.specs.Text.{Writes, IsPlanReport};
 ghost use Rattle.mrp_text.specs.Reports.{WritesRows, IsPlanRows, IsCodeReport};
 ghost use Rattle.mrp_report.specs.Headings.{code_names, lane_names, peg_names, pegs_names};
 ghost use Rattle.mrp_text.specs.Reports.{IsPegReport, IsCumReport, IsPegs, IsOrderReport, IsHeaded};
-ghost use Rattle.mrp_text.specs.Refusals.{IsUnknownPlant};
 ghost use Rattle.mrp_text.specs.Reports.{AreSchedules, IsAdviceReport, IsChosenPlant, IsPegsReport, IsScheduleReport, name_of};
-ghost use Rattle.mrp_text.specs.Refusals.{IsRefusal, IsRunRefusal, IsPegRefusal, IsScheduleRefusal};
+ghost use Rattle.mrp_text.specs.Refusals.{IsUnknownPlant, RefusesTable, OfPlan, OfThreads, OfPair, OfPlants};
+ghost use Rattle.mrp_text.specs.Gates.{GateExplains};
 ghost use Rattle.mrp_choice.specs.declared.choice.TheConstants.{MOST_CAPACITY};
 
 use crate::fault::TextFault;
@@ -45,7 +44,7 @@ pub(crate) fn write_plan<W: Write>(
     requires capacity { (1 ≤ capacity) × (capacity ≤ MOST_CAPACITY) }
     ensures text { Writes (W.contents writer.old) (W.contents writer.new) result (IsPlanReport network.now) }
     ensures rows { WritesRows W.contents writer.old writer.new result (IsPlanRows network.now) }
-    ensures refusal { IfErr result (IsRefusal network.now) }
+    ensures refusal { IfErr result (RefusesTable OfPlan network.now) }
     ensures untouched { IfErr result (λ fault. IsBeforeWriting fault → writer.new ≡ writer.old) }
 {
     let levels = levels_of(alloc, network)?;
@@ -65,9 +64,9 @@ pub(crate) fn write_run<T: Threads + Wait + Sync, W: Write, G: Gate>(
 ) -> Result<(), TextFault>
     ensures text { Writes (W.contents writer.old) (W.contents writer.new) result (IsPlanReport network.now) }
     ensures rows { WritesRows W.contents writer.old writer.new result (IsPlanRows network.now) }
-    ensures turned { OnOk result (AllTurned G.turn_open MOST_TURNS (length network.now.plants)) }
-    ensures refusal { IfErr result (IsRunRefusal (WasShut G.turn_open G.turn_shut G.worker_shut settings.workers MOST_TURNS) (WasSpent G.turn_open MOST_TURNS) network.now) }
+    ensures refusal { IfErr result (RefusesTable OfThreads network.now) }
     ensures untouched { IfErr result (λ fault. IsBeforeWriting fault → writer.new ≡ writer.old) }
+    ensures gate { GateExplains G.turn_open G.turn_shut G.worker_shut settings.workers MOST_TURNS (λ says. says network.now) result }
 {
     let levels = levels_of(alloc, network)?;
     let net = sized_of(alloc, network, &levels)?;
@@ -101,7 +100,7 @@ pub(crate) fn write_codes<W: Write>(
     heading: Heading,
 ) -> Result<(), TextFault>
     ensures text { Writes (W.contents writer.old) (W.contents writer.new) result (IsHeaded heading code_names (IsCodeReport network.now)) }
-    ensures refusal { IfErr result (IsRefusal network.now) }
+    ensures refusal { IfErr result (RefusesTable OfPlan network.now) }
     ensures untouched { IfErr result (λ fault. fault ≢ TextFault.WriteFault → writer.new ≡ writer.old) }
 {
     let levels = levels_of(alloc, network)?;
@@ -139,7 +138,7 @@ pub(crate) fn write_pegs<W: Write>(
 ) -> Result<(), TextFault>
     ensures text { Writes (W.contents writer.old) (W.contents writer.new) result
         (IsHeaded heading peg_names (IsPegReport plant.now item.now period network.now)) }
-    ensures refusal { IfErr result (IsPegRefusal plant.now item.now period network.now) }
+    ensures refusal { IfErr result (RefusesTable (OfPair plant.now item.now period) network.now) }
     ensures untouched { IfErr result (λ fault. fault ≢ TextFault.WriteFault → writer.new ≡ writer.old) }
 {
     let levels = levels_of(alloc, network)?;
@@ -183,7 +182,7 @@ pub(crate) fn write_cums<W: Write>(
     heading: Heading,
 ) -> Result<(), TextFault>
     ensures text { Writes (W.contents writer.old) (W.contents writer.new) result (IsHeaded heading lane_names (IsCumReport network.now)) }
-    ensures refusal { IfErr result (IsRefusal network.now) }
+    ensures refusal { IfErr result (RefusesTable OfPlan network.now) }
     ensures untouched { IfErr result (λ fault. fault ≢ TextFault.WriteFault → writer.new ≡ writer.old) }
 {
     let levels = levels_of(alloc, network)?;
@@ -217,7 +216,7 @@ pub(crate) fn write_orders<W: Write>(
     heading: Heading,
 ) -> Result<(), TextFault>
     ensures text { Writes (W.contents writer.old) (W.contents writer.new) result (IsOrderReport until heading network.now) }
-    ensures refusal { IfErr result (IsRefusal network.now) }
+    ensures refusal { IfErr result (RefusesTable OfPlan network.now) }
     ensures untouched { IfErr result (λ fault. fault ≢ TextFault.WriteFault → writer.new ≡ writer.old) }
 {
     let levels = levels_of(alloc, network)?;
@@ -254,7 +253,7 @@ pub(crate) fn write_schedule<W: Write>(
     heading: Heading,
 ) -> Result<(), TextFault>
     ensures text { Writes (W.contents writer.old) (W.contents writer.new) result (IsScheduleReport (name_of from.entry) (name_of to.entry) heading network.now) }
-    ensures refusal { IfErr result (IsScheduleRefusal (name_of from.entry) (name_of to.entry) network.now) }
+    ensures refusal { IfErr result (RefusesTable (OfPlants (name_of from.entry) (name_of to.entry)) network.now) }
     ensures untouched { IfErr result (λ fault. fault ≢ TextFault.WriteFault → writer.new ≡ writer.old) }
 {
     let levels = levels_of(alloc, network)?;
@@ -305,7 +304,7 @@ pub(crate) fn write_all_pegs<W: Write>(
     heading: Heading,
 ) -> Result<(), TextFault>
     ensures text { Writes (W.contents writer.old) (W.contents writer.new) result (IsHeaded heading pegs_names (IsPegsReport network.now)) }
-    ensures refusal { IfErr result (IsRefusal network.now) }
+    ensures refusal { IfErr result (RefusesTable OfPlan network.now) }
     ensures untouched { IfErr result (λ fault. fault ≢ TextFault.WriteFault → writer.new ≡ writer.old) }
 {
     let levels = levels_of(alloc, network)?;
@@ -338,7 +337,7 @@ pub(crate) fn write_advice<W: Write>(
     heading: Heading,
 ) -> Result<(), TextFault>
     ensures text { Writes (W.contents writer.old) (W.contents writer.new) result (IsAdviceReport heading network.now) }
-    ensures refusal { IfErr result (IsRefusal network.now) }
+    ensures refusal { IfErr result (RefusesTable OfPlan network.now) }
     ensures untouched { IfErr result (λ fault. fault ≢ TextFault.WriteFault → writer.new ≡ writer.old) }
 {
     let levels = levels_of(alloc, network)?;

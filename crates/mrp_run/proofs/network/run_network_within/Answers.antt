@@ -24,10 +24,13 @@ ready_plants-requires g c = record {
 pub returns-in_err-ready-clause-outcome : goal.returns-in_err-ready-clause-outcome
 returns-in_err-ready-clause-outcome g c = IfOk-from_err c.from_residual.result (λ o. IsOutcome c.args.net.now.network o) c.from_residual.ensures.0
 
-pub returns-in_err-ready-clause-fault : goal.returns-in_err-ready-clause-fault
-returns-in_err-ready-clause-fault g c =
+pub returns-in_err-ready-clause-gate : goal.returns-in_err-ready-clause-gate
+returns-in_err-ready-clause-gate g c =
     let Shut = WasShut g.G.Gate.turn_open g.G.Gate.turn_shut g.G.Gate.worker_shut c.args.settings.workers c.args.turns in
-    handed_on (IsFaultIn Shut (WasSpent g.G.Gate.turn_open c.args.turns) c.args.net.now.network) c.from_residual.result Memory c.from_residual.ensures.1 tt
+    record {
+      turned = IfOk-from_err c.from_residual.result (λ _. AllTurned g.G.Gate.turn_open c.args.turns (length c.args.net.now.network.plants)) c.from_residual.ensures.0;
+      fault = handed_on (IsFaultIn Shut (WasSpent g.G.Gate.turn_open c.args.turns) c.args.net.now.network) c.from_residual.result Memory c.from_residual.ensures.1 tt;
+    }
 
 pub run_plants-requires-clause-workers : goal.run_plants-requires-clause-workers
 run_plants-requires-clause-workers g c κs within =
@@ -40,14 +43,18 @@ pub returns-in_err-through-clause-outcome : goal.returns-in_err-through-clause-o
 returns-in_err-through-clause-outcome g c = IfOk-from_err c.from_residual-in_err-through.result (λ o. IsOutcome c.args.net.now.network o) c.from_residual-in_err-through.ensures.0
 
 -- there are as many plants as the network has
-pub returns-in_err-through-clause-fault : goal.returns-in_err-through-clause-fault
-returns-in_err-through-clause-fault g c =
+pub returns-in_err-through-clause-gate : goal.returns-in_err-through-clause-gate
+returns-in_err-through-clause-gate g c =
     let Shut : ℕ → ℕ → Type 0 = λ workers. WasShut g.G.Gate.turn_open g.G.Gate.turn_shut g.G.Gate.worker_shut workers c.args.turns in
     let Spent = WasSpent g.G.Gate.turn_open c.args.turns in
-    handed_on (IsFaultIn (Shut c.args.settings.workers) Spent c.args.net.now.network) c.from_residual-in_err-through.result _ c.from_residual-in_err-through.ensures.1
-    (subst (λ (workers : ℕ). IsOfFirst (Shut workers) Spent (length c.args.net.now.network.plants) c.in_err-through.field-0.0) c.workers.ensures.value
-    (subst (λ (plants : ℕ). IsOfFirst (Shut c.workers.result) Spent plants c.in_err-through.field-0.0) c.in_ok-ready.ensures.ready.all_plants
-    (IfErr-at_err (IsOfFirst (Shut c.workers.result) Spent (length c.in_ok-ready.ready.items)) c.in_err-through.was c.run_plants.ensures.fault)))
+    record {
+      turned =
+          IfOk-from_err c.from_residual-in_err-through.result (λ _. AllTurned g.G.Gate.turn_open c.args.turns (length c.args.net.now.network.plants)) c.from_residual-in_err-through.ensures.0;
+      fault = handed_on (IsFaultIn (Shut c.args.settings.workers) Spent c.args.net.now.network) c.from_residual-in_err-through.result _ c.from_residual-in_err-through.ensures.1
+          (subst (λ (workers : ℕ). IsOfFirst (Shut workers) Spent (length c.args.net.now.network.plants) c.in_err-through.field-0.0) c.workers.ensures.value
+          (subst (λ (plants : ℕ). IsOfFirst (Shut c.workers.result) Spent plants c.in_err-through.field-0.0) c.in_ok-ready.ensures.ready.all_plants
+          (IfErr-at_err (IsOfFirst (Shut c.workers.result) Spent (length c.in_ok-ready.ready.items)) c.in_err-through.was c.run_plants.ensures.fault)));
+    }
 
 pub outcome_of-requires-clause-sized : goal.outcome_of-requires-clause-sized
 outcome_of-requires-clause-sized g c = subst IsSized (sym c.network.ensures.value) c.network.ensures.sized
@@ -62,22 +69,13 @@ outcome_of-requires-clause-through g c =
 pub returns-clause-outcome : goal.returns-clause-outcome
 returns-clause-outcome g c = subst (λ (N : Table). IfOk c.outcome_of.result (λ o. IsOutcome N o)) c.network.ensures.value c.outcome_of.ensures.outcome
 
-pub returns-clause-fault : goal.returns-clause-fault
-returns-clause-fault g c =
+pub returns-clause-gate : goal.returns-clause-gate
+returns-clause-gate g c =
     let Shut = WasShut g.G.Gate.turn_open g.G.Gate.turn_shut g.G.Gate.worker_shut c.args.settings.workers c.args.turns in
     let Fault = IsFaultIn Shut (WasSpent g.G.Gate.turn_open c.args.turns) c.args.net.now.network in
-    IfErr-weaker c.outcome_of.result (λ fault. fault ≡ Memory) Fault (λ fault is. subst Fault (sym is) tt) c.outcome_of.ensures.fault
-
-pub returns-in_err-ready-clause-turned : goal.returns-in_err-ready-clause-turned
-returns-in_err-ready-clause-turned g c =
-    IfOk-from_err c.from_residual.result (λ _. AllTurned g.G.Gate.turn_open c.args.turns (length c.args.net.now.network.plants)) c.from_residual.ensures.0
-
-pub returns-in_err-through-clause-turned : goal.returns-in_err-through-clause-turned
-returns-in_err-through-clause-turned g c =
-    IfOk-from_err c.from_residual-in_err-through.result (λ _. AllTurned g.G.Gate.turn_open c.args.turns (length c.args.net.now.network.plants)) c.from_residual-in_err-through.ensures.0
-
-pub returns-clause-turned : goal.returns-clause-turned
-returns-clause-turned g c =
     let Turned = AllTurned g.G.Gate.turn_open c.args.turns in
     let each : Turned (length c.in_ok-ready.ready.items) = IfOk-at_ok (λ _. Turned (length c.in_ok-ready.ready.items)) c.in_ok-through.was c.run_plants.ensures.turned in
-    on_ok (Turned (length c.args.net.now.network.plants)) c.outcome_of.result (subst Turned c.in_ok-ready.ensures.ready.all_plants each)
+    record {
+      turned = on_ok (Turned (length c.args.net.now.network.plants)) c.outcome_of.result (subst Turned c.in_ok-ready.ensures.ready.all_plants each);
+      fault = IfErr-weaker c.outcome_of.result (λ fault. fault ≡ Memory) Fault (λ fault is. subst Fault (sym is) tt) c.outcome_of.ensures.fault;
+    }

@@ -1,11 +1,8 @@
-use Rattle.std.proofs.Common.{length}
 use Rattle.mrp_qty.specs.declared.limits.TheConstants.{MOST_TURNS}
-use Rattle.mrp_rows.specs.Table.{Table}
-use Rattle.mrp_run.specs.Faults.{AllTurned, WasShut, WasSpent}
 use Rattle.mrp_text.specs.Text.{IsPlanReport}
-use Rattle.mrp_text.specs.Refusals.{IsRunRefusal}
+use Rattle.mrp_text.specs.Refusals.{OfThreads}
 use Rattle.mrp_text.specs.Reports.{IsPlanRows}
-use Rattle.mrp_text.proofs.GateFacts.{on_ok_of}
+use Rattle.mrp_text.proofs.GateFacts.{gate_of}
 use Rattle.mrp_text.proofs.RowFacts.{rows-of}
 use Rattle.mrp_text.proofs.TextFacts.{refuses-of, writes-of}
 use Rattle.mrp_text.proofs.text.plan_text.Goals as goal
@@ -17,16 +14,15 @@ returns-clause-text g c =
 
 pub returns-clause-refusal : goal.returns-clause-refusal
 returns-clause-refusal g c =
-    refuses-of _ (IsRunRefusal (WasShut g.G.Gate.turn_open g.G.Gate.turn_shut g.G.Gate.worker_shut c.args.settings.workers MOST_TURNS) (WasSpent g.G.Gate.turn_open MOST_TURNS)) c.in_ok-network.network c.write_run-written.result
-    c.in_ok-network.ensures.rows (λ e said. said) c.write_run-written.ensures.refusal
+    refuses-of _ OfThreads c.in_ok-network.network c.write_run-written.result
+    c.in_ok-network.ensures.rows c.write_run-written.ensures.refusal
 
 pub returns-clause-rows : goal.returns-clause-rows
 returns-clause-rows g c =
     rows-of g.W.Write.contents _ _ c.write_run-written.result (IsPlanRows c.in_ok-network.network) _
     (λ rows is. (c.in_ok-network.network, c.in_ok-network.ensures.rows, is)) c.write_run-written.ensures.rows
 
-pub returns-clause-turned : goal.returns-clause-turned
-returns-clause-turned g c =
-    let Turned : Table → Type 0 = λ N. AllTurned g.G.Gate.turn_open MOST_TURNS (length N.plants) in
-    let N = c.in_ok-network.network in
-    on_ok_of (Turned N) _ c.write_run-written.result (λ turned. (N, c.in_ok-network.ensures.rows, turned)) c.write_run-written.ensures.turned
+pub returns-clause-gate : goal.returns-clause-gate
+returns-clause-gate g c =
+    gate_of g.G.Gate.turn_open g.G.Gate.turn_shut g.G.Gate.worker_shut c.args.settings.workers MOST_TURNS _ c.in_ok-network.network c.write_run-written.result
+    c.in_ok-network.ensures.rows c.write_run-written.ensures.gate

@@ -4,7 +4,7 @@ use Rattle.mrp_rows.specs.Table.{Table}
 use Rattle.mrp_run.specs.Faults.{AllTurned}
 use Rattle.mrp_text.specs.Text.{IsPlanReport, Writes}
 use Rattle.mrp_text.specs.Reports.{IsPlanRows, WritesRows}
-use Rattle.mrp_text.proofs.GateFacts.{on_ok}
+use Rattle.mrp_text.proofs.GateFacts.{gate_late}
 use Rattle.mrp_text.proofs.writing.write_run.Goals as goal
 
 pub returns-clause-text : goal.returns-clause-text
@@ -16,7 +16,8 @@ pub returns-clause-rows : goal.returns-clause-rows
 returns-clause-rows g c =
     subst (λ (N : Table). WritesRows g.W.Write.contents c.args.writer.now c.report_plan.new.writer c.report_plan.result (IsPlanRows N)) c.in_ok-net.ensures.network c.report_plan.ensures.rows
 
-pub returns-clause-turned : goal.returns-clause-turned
-returns-clause-turned g c =
+pub returns-clause-gate : goal.returns-clause-gate
+returns-clause-gate g c =
     let Turned : Table → Type 0 = λ N. AllTurned g.G.Gate.turn_open MOST_TURNS (length N.plants) in
-    on_ok (Turned c.args.network.now) c.report_plan.result (subst Turned c.in_ok-net.ensures.network c.in_ok-plan.ensures.turned)
+    gate_late g.G.Gate.turn_open g.G.Gate.turn_shut g.G.Gate.worker_shut c.args.settings.workers MOST_TURNS c.args.network.now c.report_plan.result
+    (subst Turned c.in_ok-net.ensures.network c.in_ok-plan.ensures.gate.turned) c.report_plan.ensures.fault
