@@ -14,7 +14,8 @@ ghost use Rattle.mrp_advice.specs.AdviceLines.{HasSender, IsAdvice, IsAdvised, I
 ghost use Rattle.mrp_advice.specs.Covered.{Covers};
 ghost use Rattle.mrp_advice.specs.Gathered.{AreOpenOrders};
 ghost use Rattle.mrp_advice.specs.Needed.{first_short};
-ghost use Rattle.mrp_advice.specs.Rows.{action_word, advice_names, advice_text, order_kind_word, messages_text, needed_date, needed_period, pair_advice_text, sender_name};
+ghost use Rattle.mrp_advice.specs.Rows.{action_word, advice_names, advice_text, order_kind_word};
+ghost use Rattle.mrp_advice.specs.Rows.{messages_text, needed_date, needed_period, pair_advice_text, sender_name};
 
 use crate::cover::{Cover, next_advice};
 use crate::gathering::open_orders;

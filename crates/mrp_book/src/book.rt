@@ -100,10 +100,12 @@ impl Book {
     ///
     /// The first fault that holds; then nothing has changed.
     pub fn book(&mut self, entry: &Record) -> Result<(), BookFault>
-        ensures booked { OnOk result ((F : LaneForm) (records : List Record) → BookShows F self.old records → BookShows F self.new (records ++ entry.now ∷ [])) }
+        ensures booked { OnOk result ((F : LaneForm) (records : List Record) → BookShows F self.old records
+            → BookShows F self.new (records ++ entry.now ∷ [])) }
         ensures refused { IfErr result (λ fault. (F : LaneForm) (records : List Record) → BookShows F self.old records
             → (first_fault (figures F records) entry.now ≡ Some fault) × (IsInForm F (records ++ entry.now ∷ []) → ⊥)) }
-        ensures first { IfErr result (λ fault. (F : LaneForm) (records : List Record) → BookShows F self.old records → first_had F records entry.now ≡ Some fault) }
+        ensures first { IfErr result (λ fault. (F : LaneForm) (records : List Record) → BookShows F self.old records
+            → first_had F records entry.now ≡ Some fault) }
         ensures unchanged { OnErr result (self.new ≡ self.old) }
     {
         self.book_exactly(*entry)

@@ -30,7 +30,7 @@ pair_at_plant N (Some p) item x is = by (position (bytes_eq item) N.items) is
         let same : q.plant.0 ≡ p = eqb-true q.plant.0 p (and_parts (q.plant.0 == p) (q.item.0 == i) t).0 in
         ap (λ n. Some n) (sym same ∙ ap (λ (z : PairRow). z.plant.0) (sym s))
 
-    by : (o : Option ℕ) → Rattle.mrp_rows.specs.Names.pair_of N p o ≡ Some x → Some p ≡ Some (plant_at N x)
+    by : (o : Option ℕ) → Rattle.mrp_rows.specs.Names.pair_of_item N p o ≡ Some x → Some p ≡ Some (plant_at N x)
     by None e = absurd (cc)
     by (Some i) e =
         let there = position_there (λ q. (q.plant.0 == p) && (q.item.0 == i)) N.pairs x e in

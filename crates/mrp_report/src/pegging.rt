@@ -130,8 +130,10 @@ fn put_pair_pegs<W: Write>(
     out: &mut W,
 ) -> Result<(), ReportFault>
     requires { IsPegLine line.now }
-    ensures rows { OnOk result (Gathers (W.contents out.old) (W.contents out.new) room.old room.new (pair_pegs_text line.now.network.now line.now.plan.now line.now.x.0)) }
-    ensures front { OnErr result (AppendsFront (W.contents out.old) (W.contents out.new) (room.old ++ pair_pegs_text line.now.network.now line.now.plan.now line.now.x.0)) }
+    ensures rows { OnOk result (Gathers (W.contents out.old) (W.contents out.new) room.old room.new
+        (pair_pegs_text line.now.network.now line.now.plan.now line.now.x.0)) }
+    ensures front { OnErr result (AppendsFront (W.contents out.old) (W.contents out.new)
+        (room.old ++ pair_pegs_text line.now.network.now line.now.plan.now line.now.x.0)) }
     ensures fault { IfErr result (λ fault. fault ≡ ReportFault.WriteFault) }
 {
     let periods = line.network.horizon().get() as usize;
@@ -150,8 +152,10 @@ fn put_period_pegs<W: Write>(
 ) -> Result<(), ReportFault>
     requires line { IsPegLine line.now }
     requires period { t < horizon line.now.network.now }
-    ensures rows { OnOk result (Gathers (W.contents out.old) (W.contents out.new) room.old room.new (period_pegs_text line.now.network.now line.now.plan.now line.now.x.0 t)) }
-    ensures front { OnErr result (AppendsFront (W.contents out.old) (W.contents out.new) (room.old ++ period_pegs_text line.now.network.now line.now.plan.now line.now.x.0 t)) }
+    ensures rows { OnOk result (Gathers (W.contents out.old) (W.contents out.new) room.old room.new
+        (period_pegs_text line.now.network.now line.now.plan.now line.now.x.0 t)) }
+    ensures front { OnErr result (AppendsFront (W.contents out.old) (W.contents out.new)
+        (room.old ++ period_pegs_text line.now.network.now line.now.plan.now line.now.x.0 t)) }
     ensures fault { IfErr result (λ fault. fault ≡ ReportFault.WriteFault) }
 {
     let demand = demand_term(line.network, line.x, t);
@@ -170,8 +174,10 @@ fn put_edge_pegs<W: Write>(
 ) -> Result<(), ReportFault>
     requires line { IsPegLine line.now }
     requires edges { All (IsPeggable line.now.network.now line.now.plan.now t) edges.now }
-    ensures rows { OnOk result (Gathers (W.contents out.old) (W.contents out.new) room.old room.new (edges_text line.now.network.now line.now.plan.now line.now.x.0 t edges.now)) }
-    ensures front { OnErr result (AppendsFront (W.contents out.old) (W.contents out.new) (room.old ++ edges_text line.now.network.now line.now.plan.now line.now.x.0 t edges.now)) }
+    ensures rows { OnOk result (Gathers (W.contents out.old) (W.contents out.new) room.old room.new
+        (edges_text line.now.network.now line.now.plan.now line.now.x.0 t edges.now)) }
+    ensures front { OnErr result (AppendsFront (W.contents out.old) (W.contents out.new)
+        (room.old ++ edges_text line.now.network.now line.now.plan.now line.now.x.0 t edges.now)) }
     ensures fault { IfErr result (λ fault. fault ≡ ReportFault.WriteFault) }
 {
     'edges: for edge in edges {

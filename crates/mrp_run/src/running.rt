@@ -128,7 +128,8 @@ fn work<R: Threads + Wait + Sync, G: Gate, S: StopRule>(
     ensures crew { crew.new ≡ crew.old }
     ensures finishes { OnOk result (Finishes plant.old plant.new) }
     ensures turned { OnOk result (HasTurned G.turn_open turns number.0) }
-    ensures fault { IfErr result (IsToldOrOf S.holds (WasShut G.turn_open G.turn_shut G.worker_shut crew.old.workers turns) (WasSpent G.turn_open turns) number) }
+    ensures fault { IfErr result (IsToldOrOf S.holds (WasShut G.turn_open G.turn_shut G.worker_shut crew.old.workers turns)
+        (WasSpent G.turn_open turns) number) }
     ensures unfinished { result ≡ Err RunFault.Stopped → IsUnfinished plant.old plant.new }
 {
     for turn in 0..turns {

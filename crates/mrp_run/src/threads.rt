@@ -85,7 +85,8 @@ fn run_until<R: Threads + Wait + Sync, G: Gate, S: StopRule + Send + Sync>(
         move |scope| -> Result<Vec<Plant>, RunFault>
             requires work { All PlantIsAtWork plants.items }
             requires workers { (1 ≤ workers) × (workers ≤ MOST_WORKERS) }
-            requires rule { AllowsOfFirst S.holds (WasShut G.turn_open G.turn_shut G.worker_shut workers turns) (WasSpent G.turn_open turns) (length plants.items) }
+            requires rule { AllowsOfFirst S.holds (WasShut G.turn_open G.turn_shut G.worker_shut workers turns) (WasSpent G.turn_open turns)
+                (length plants.items) }
             ensures each { IfOk result (λ after. AllZip Finishes plants.items after.items) }
             ensures turned { OnOk result (AllTurned G.turn_open turns (length plants.items)) }
             ensures fault { IfErr result S.holds }

@@ -21,7 +21,7 @@ fn digits_value(text: &[u8]) -> Option<u64>
 }
 
 /// The number that a text spells.
-#[tactic(auto, unfolding(crate::specs::Spelling::number_of))]
+#[tactic(auto, unfolding(crate::specs::Parsing::spelled_number))]
 fn read(text: &str) -> Option<u64>
     ensures { result ≡ spelled_number text.now }
 {
@@ -42,7 +42,7 @@ pub fn number(text: &str) -> Option<u64>
 }
 
 /// The number that a text spells, where it is `low` to `high`.
-#[tactic(auto, unfolding(crate::specs::Spelling::number_within))]
+#[tactic(auto, unfolding(crate::specs::Parsing::number_within))]
 pub fn number_within(text: &str, low: u64, high: u64) -> Option<u64>
     ensures exact { result ≡ number_within text.now low high }
     ensures within { IfSome result (λ n. (low ≤ n) × (n ≤ high)) }

@@ -12,7 +12,7 @@ use mrp_lot::{MOST_IN_RULE, Rule};
 use mrp_qty::LONGEST;
 
 /// A text cut at its first colon.
-#[tactic(auto, unfolding(crate::specs::Spelling::cut))]
+#[tactic(auto, unfolding(crate::specs::Parsing::cut))]
 pub(crate) fn cut(text: &str) -> Option<(&str, &str)>
     ensures { cut_view result ≡ cut text.now }
 {
@@ -31,7 +31,7 @@ pub fn rule(text: &str) -> Option<Rule>
 }
 
 /// The lot rule that a text spells.
-#[tactic(auto, unfolding(crate::specs::Spelling::rule_of))]
+#[tactic(auto, unfolding(crate::specs::Parsing::rule_of))]
 fn read(text: &str) -> Option<Rule>
     ensures exact { result ≡ rule_of text.now }
     ensures rule { IfSome result IsRule }
@@ -49,7 +49,7 @@ fn read(text: &str) -> Option<Rule>
 }
 
 /// The lot rule of a word and the numbers after it.
-#[tactic(auto, unfolding(crate::specs::Spelling::numbered_rule))]
+#[tactic(auto, unfolding(crate::specs::Parsing::numbered_rule))]
 fn numbered_rule(word: &str, numbers: &str) -> Option<Rule>
     ensures exact { result ≡ numbered_rule word.now numbers.now }
     ensures rule { IfSome result IsRule }

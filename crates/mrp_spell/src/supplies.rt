@@ -77,7 +77,7 @@ pub fn supply<'r>(alloc: Global, text: &'r str) -> Result<SpelledSupply<'r>, Sup
 }
 
 /// The supply that a text spells.
-#[tactic(auto, unfolding(crate::specs::Supplies::supply_of))]
+#[tactic(auto, unfolding(crate::specs::SupplyParsing::supply_of))]
 fn read<'r>(alloc: Global, text: &'r str) -> Result<SpelledSupply<'r>, SupplyFault>
     ensures exact { TellsSpelled supply_view result (supply_of text.now) }
     ensures sources { IfOk result HasSources }
@@ -104,7 +104,7 @@ fn read<'r>(alloc: Global, text: &'r str) -> Result<SpelledSupply<'r>, SupplyFau
 }
 
 /// The sources that the text after `from:` spells.
-#[tactic(auto, unfolding(crate::specs::Supplies::sources_of))]
+#[tactic(auto, unfolding(crate::specs::SupplyParsing::sources_of))]
 fn sources<'r>(alloc: Global, text: &'r str) -> Result<Vec<SpelledSource<'r>>, SupplyFault>
     ensures exact { TellsSpelled (λ found. map source_view found.items) result (sources_of text.now) }
     ensures sources { IfOk result (λ found. AreSources found.items) }

@@ -31,7 +31,7 @@ record_fields_used kind.Close = 2
 
 -- the fields that are not record_fields_used are empty
 abbrev pub record_is_empty_from : List (List ℕ) → ℕ → Bool
-record_is_empty_from row record_fields_used = is_free row record_fields_used 2 && is_free row record_fields_used 3 && is_free row record_fields_used 4 && is_free row record_fields_used 5
+record_is_empty_from row used = is_free row used 2 && is_free row used 3 && is_free row used 4 && is_free row used 5
 
 abbrev pub with_record_fields : List (List ℕ) → Kind → Result Kind RecordFaultKind
 with_record_fields row k = if record_is_empty_from row (record_fields_used k) then Ok k else Err fault.FieldCount

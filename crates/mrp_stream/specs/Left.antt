@@ -57,7 +57,8 @@ TellsRecordFault N before count fault.ReadFault = Unit {0}
 TellsRecordFault N before count fault.Memory = Unit {0}
 TellsRecordFault N before count k = (count < MOST_RECORDS) × OfLeft before (λ rows. StartsWithFault N rows k)
 
-abbrev pub TellsNextRecord : Table → Option (List (List (List ℕ))) → Option (List (List (List ℕ))) → List Record → List Record → Result Bool RecordFaultKind → Type 0
+abbrev pub TellsNextRecord : Table → Option (List (List (List ℕ))) → Option (List (List (List ℕ))) → List Record → List Record
+    → Result Bool RecordFaultKind → Type 0
 TellsNextRecord N before after old new (Ok true) = AddsRecord N before after old new
 TellsNextRecord N before after old new (Ok false) = (new ≡ old) × OfLeft before (λ rows. rows ≡ [])
 TellsNextRecord N before after old new (Err k) = TellsRecordFault N before (length old) k

@@ -82,7 +82,8 @@ fn read_next<R: Read>(
     ensures gives { OnOk result (GivesAll rows.new) }
     ensures exact { TellsNextRecord network.now (rows_left R.remaining rows.old) (rows_left R.remaining rows.new) records.old.items records.new.items result }
     ensures kept { OnErr result (records.new.items ≡ records.old.items) }
-    ensures failed { IfErr result (λ kind. StopsReading kind (has_failed rows.new) (MOST_RECORDS ≤ length records.old.items) 0 (rows_left R.remaining rows.old)) }
+    ensures failed { IfErr result (λ kind. StopsReading kind (has_failed rows.new) (MOST_RECORDS ≤ length records.old.items) 0
+        (rows_left R.remaining rows.old)) }
 {
     let full = MOST_RECORDS <= records.len() as u64;
     if !next_row(rows, row, full)? {

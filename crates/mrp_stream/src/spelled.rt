@@ -3,7 +3,8 @@
 ghost use Rattle.std.specs.Prelude.{◌≡◌, IfOk};
 ghost use Rattle.csv.specs.Records.{fields_of};
 ghost use Rattle.mrp_grammar.specs.Grammar.{field, is_free};
-ghost use Rattle.mrp_stream.specs.Grammar.{spelled_close, spelled_end, record_is_empty_from, item_field, item_named, spelled_line, number_field, spelled_reset, record_row_kind, spelled_record};
+ghost use Rattle.mrp_stream.specs.Grammar.{spelled_close, spelled_end, record_is_empty_from, item_field, item_named};
+ghost use Rattle.mrp_stream.specs.Grammar.{spelled_line, number_field, spelled_reset, record_row_kind, spelled_record};
 
 use crate::RecordFaultKind;
 use crate::kind::Kind;
@@ -37,7 +38,7 @@ fn is_empty_from(row: &StringRecord, used: usize) -> bool
 }
 
 /// The kind of a row that has the fields of its kind.
-#[tactic(auto, unfolding(crate::specs::Grammar::row_kind))]
+#[tactic(auto, unfolding(crate::specs::Grammar::record_row_kind))]
 fn row_kind(row: &StringRecord) -> Result<Kind, RecordFaultKind>
     ensures { result ≡ record_row_kind (fields_of row.now) }
 {
@@ -75,7 +76,7 @@ fn item_at(network: &Network, row: &StringRecord) -> Result<ItemNo, RecordFaultK
 }
 
 /// The line of a row.
-#[tactic(auto, unfolding(crate::specs::Grammar::line_of))]
+#[tactic(auto, unfolding(crate::specs::Grammar::spelled_line))]
 fn line_of(network: &Network, row: &StringRecord) -> Result<Record, RecordFaultKind>
     ensures { result ≡ spelled_line network.now (fields_of row.now) }
 {
@@ -94,7 +95,7 @@ fn line_of(network: &Network, row: &StringRecord) -> Result<Record, RecordFaultK
 }
 
 /// The item end of a row.
-#[tactic(auto, unfolding(crate::specs::Grammar::end_of))]
+#[tactic(auto, unfolding(crate::specs::Grammar::spelled_end))]
 fn end_of(network: &Network, row: &StringRecord) -> Result<Record, RecordFaultKind>
     ensures { result ≡ spelled_end network.now (fields_of row.now) }
 {
@@ -111,7 +112,7 @@ fn end_of(network: &Network, row: &StringRecord) -> Result<Record, RecordFaultKi
 }
 
 /// The reset of a row.
-#[tactic(auto, unfolding(crate::specs::Grammar::reset_of))]
+#[tactic(auto, unfolding(crate::specs::Grammar::spelled_reset))]
 fn reset_of(network: &Network, row: &StringRecord) -> Result<Record, RecordFaultKind>
     ensures { result ≡ spelled_reset network.now (fields_of row.now) }
 {
@@ -126,7 +127,7 @@ fn reset_of(network: &Network, row: &StringRecord) -> Result<Record, RecordFault
 }
 
 /// The closing record of a row.
-#[tactic(auto, unfolding(crate::specs::Grammar::close_of))]
+#[tactic(auto, unfolding(crate::specs::Grammar::spelled_close))]
 fn close_of(row: &StringRecord) -> Result<Record, RecordFaultKind>
     ensures { result ≡ spelled_close (fields_of row.now) }
 {

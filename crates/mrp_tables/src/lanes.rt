@@ -203,7 +203,7 @@ impl Draft {
     }
 
     /// What a reset row says.
-    #[tactic(auto, using(crate::proofs::Finding::known_err, crate::proofs::Finding::known_ok), unfolding(mrp_grammar::specs::Grammar::reset_of))]
+    #[tactic(auto, using(crate::proofs::Finding::known_err, crate::proofs::Finding::known_ok), unfolding(mrp_grammar::specs::Grammar::reset_in_row))]
     fn reset_of(&self, row: &StringRecord) -> Result<ResetRow, TableFaultKind>
         requires draft { IsDraft self.now }
         ensures exact { result ≡ reset_in_row self.now.lists (fields_of row.now) }

@@ -47,7 +47,7 @@ impl Draft {
     }
 
     /// The name of the plant that a plant row adds.
-    #[tactic(auto, unfolding(mrp_grammar::specs::Grammar::plant_of))]
+    #[tactic(auto, unfolding(mrp_grammar::specs::Grammar::plant_in_row))]
     fn plant_of<'r>(&self, row: &'r StringRecord) -> Result<&'r str, TableFaultKind>
         ensures exact { seen (λ name. name.now) result ≡ plant_in_row self.now.lists (fields_of row.now) }
         ensures named { IfOk result (λ name. IsName name.now) }

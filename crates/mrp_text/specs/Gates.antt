@@ -21,6 +21,7 @@ IsGateFault Shut Spent Of _ = Unit {0}
 
 -- where a run ended well, the gate was open to the first turns of each plant, one or more; where it was ended by the gate or by
 -- the number of turns, which plant's
-pub record GateExplains {U : Type 0} (Open Shut Worker : ℕ → ℕ → Type 0) (workers turns : ℕ) (Of : (Table → Type 0) → Type 0) (result : Result U TextFault) : Type 0 where
+pub record GateExplains {U : Type 0} (Open Shut Worker : ℕ → ℕ → Type 0) (workers turns : ℕ) (Of : (Table → Type 0) → Type 0)
+    (result : Result U TextFault) : Type 0 where
   pub turned : OnOk result (Of (λ N. AllTurned Open turns (length N.plants)))
   pub shut : IfErr result (IsGateFault (WasShut Open Shut Worker workers turns) (WasSpent Open turns) Of)

@@ -3,7 +3,8 @@
 ghost use Rattle.std.specs.Prelude.{◌≡◌, IfErr};
 ghost use Rattle.std.specs.List.{flat_map};
 ghost use Rattle.mrp_sheet.specs.Sending.{AppendsSome};
-ghost use Rattle.mrp_text.specs.Lines.{fault_line, gate_line, SendsText, table_fault_word, calendar_word, loop_line, loop_word, pair_line, row_line, table_line};
+ghost use Rattle.mrp_text.specs.Lines.{fault_line, gate_line, SendsText, table_fault_word, calendar_word};
+ghost use Rattle.mrp_text.specs.Lines.{loop_line, loop_word, pair_line, row_line, table_line};
 
 use crate::fault::{PairName, TextFault};
 use itoa::Buffer;

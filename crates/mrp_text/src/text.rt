@@ -131,7 +131,8 @@ pub fn headed_check_text<R: Read + Drop, W: Write>(
     writer: &mut W,
     heading: Heading,
 ) -> Result<(), TextFault>
-    ensures text { Writes (W.contents writer.old) (W.contents writer.new) result (λ text. OfTable (R.remaining reader) (λ N. IsHeaded heading code_names (IsCodeReport N) text)) }
+    ensures text { Writes (W.contents writer.old) (W.contents writer.new) result
+        (λ text. OfTable (R.remaining reader) (λ N. IsHeaded heading code_names (IsCodeReport N) text)) }
     ensures refusal { IfErr result (Refuses (R.remaining reader) OfPlan) }
     ensures untouched { IfErr result (λ fault. fault ≢ TextFault.WriteFault → writer.new ≡ writer.old) }
 {
@@ -220,7 +221,8 @@ pub fn headed_cums_text<R: Read + Drop, W: Write>(
     writer: &mut W,
     heading: Heading,
 ) -> Result<(), TextFault>
-    ensures text { Writes (W.contents writer.old) (W.contents writer.new) result (λ text. OfTable (R.remaining reader) (λ N. IsHeaded heading lane_names (IsCumReport N) text)) }
+    ensures text { Writes (W.contents writer.old) (W.contents writer.new) result
+        (λ text. OfTable (R.remaining reader) (λ N. IsHeaded heading lane_names (IsCumReport N) text)) }
     ensures refusal { IfErr result (Refuses (R.remaining reader) OfPlan) }
     ensures untouched { IfErr result (λ fault. fault ≢ TextFault.WriteFault → writer.new ≡ writer.old) }
 {
@@ -247,7 +249,8 @@ pub fn orders_text<R: Read + Drop, W: Write>(
     until: Option<u64>,
     heading: Heading,
 ) -> Result<(), TextFault>
-    ensures text { Writes (W.contents writer.old) (W.contents writer.new) result (λ text. OfTable (R.remaining reader) (λ N. IsOrderReport until heading N text)) }
+    ensures text { Writes (W.contents writer.old) (W.contents writer.new) result
+        (λ text. OfTable (R.remaining reader) (λ N. IsOrderReport until heading N text)) }
     ensures refusal { IfErr result (Refuses (R.remaining reader) OfPlan) }
     ensures untouched { IfErr result (λ fault. fault ≢ TextFault.WriteFault → writer.new ≡ writer.old) }
 {

@@ -252,7 +252,8 @@ pub(crate) fn write_schedule<W: Write>(
     to: Option<&str>,
     heading: Heading,
 ) -> Result<(), TextFault>
-    ensures text { Writes (W.contents writer.old) (W.contents writer.new) result (IsScheduleReport (name_of from.entry) (name_of to.entry) heading network.now) }
+    ensures text { Writes (W.contents writer.old) (W.contents writer.new) result
+        (IsScheduleReport (name_of from.entry) (name_of to.entry) heading network.now) }
     ensures refusal { IfErr result (RefusesTable (OfPlants (name_of from.entry) (name_of to.entry)) network.now) }
     ensures untouched { IfErr result (λ fault. fault ≢ TextFault.WriteFault → writer.new ≡ writer.old) }
 {

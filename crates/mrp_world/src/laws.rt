@@ -32,9 +32,8 @@ pub fn headline<P: Plant>(world: &World<P>)
     let _left = world.steps_left();
 }
 
-/// What plants keep as plans they have made for themselves: in each state that a world shows, what a plant keeps
-/// as the plan of a planned pair is what its own rows, the records that have come to it and the plans of the pair's
-/// parents give.
+/// Plans are made of what a plant has: in each state that a world shows, what a plant keeps as the plan of a planned
+/// pair is what its own rows, the records that have come to it and the plans of the pair's parents give.
 pub fn plans_are_local<P: Plant>(world: &World<P>)
     ensures { (s : State) → Shows P.shows world.now s → PlansAreLocal P.kept world.now s }
 {

@@ -187,7 +187,8 @@ impl<'a, P: Plant> World<'a, P> {
     /// network. In a finished world each pair has one.
     pub fn planned(&self, x: PairNo) -> Option<&PairPlan>
         requires pair { IsPair self.now.network x.0 }
-        ensures kept { IfSome result (λ plan. IsSomeAnd (slice_get self.now.plants (pair_at self.now.network x.0).plant.0) (λ plant. plan.now ≡ P.kept plant x.0)) }
+        ensures kept { IfSome result (λ plan. IsSomeAnd (slice_get self.now.plants (pair_at self.now.network x.0).plant.0)
+            (λ plant. plan.now ≡ P.kept plant x.0)) }
         ensures planned { IfSome result (λ plan. (s : State) → WorldShows P.shows self.now s → s.planned x.0 ≡ true) }
         ensures plan { IfSome result (λ plan. plan.now ≡ rows_at (plan_of self.now.network) x.0) }
         ensures none { IfNone result ((s : State) → WorldShows P.shows self.now s → s.planned x.0 ≡ false) }
