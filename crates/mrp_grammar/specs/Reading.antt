@@ -16,7 +16,7 @@ use Rattle.mrp_rows.specs.Table.{IsOnce, IsRead, IsSourced, Table}
 use Rattle.mrp_rows.specs.Growing.{empty_table}
 use Rattle.mrp_qty.specs.declared.limits.TheConstants.{MOST_SOURCES_OF_PAIR}
 use Rattle.mrp_rows.specs.Growing.{lacks_pair}
-use Rattle.mrp_grammar.specs.Grammar.{bill_row, check, cum_row, demand_row, may_follow, pair_row, kind_place, plant_row, receipt_row, reset_row}
+use Rattle.mrp_grammar.specs.Grammar.{◌>>=◌, bill_row, check, cum_row, demand_row, may_follow, pair_row, kind_place, plant_row, receipt_row, reset_row}
 use Rattle.mrp_grammar.specs.Grammar.{row_kind, run_terms, RunTerms, ship_row}
 
 -- the kind of a row whose fields are text
