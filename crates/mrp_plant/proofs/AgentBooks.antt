@@ -26,8 +26,9 @@ use Rattle.mrp_agent.specs.State.{AgentState, book_at, incoming_at, incoming_pla
 use Rattle.mrp_agent.proofs.Formed.{form_same, legal_in_form}
 use Rattle.mrp_agent.proofs.Placed.{in_placed}
 use Rattle.mrp_agent.proofs.Sent.{changed_there}
-use Rattle.mrp_plant.specs.Agents.{ShowsAgent}
-use Rattle.mrp_plant.specs.Moments.{Moment, IsAt, IsIn, Receives}
+use Rattle.mrp_agent.specs.InNetwork.{ShowsAgent}
+use Rattle.mrp_plant.specs.Moments.{Moment, IsAt, Receives}
+use Rattle.mrp_agent.specs.OwnPart.{IsIn}
 use Rattle.mrp_plant.proofs.AgentPlaces.{in_there}
 
 -- ---- what can be taken is in form

@@ -10,10 +10,11 @@ use Rattle.mrp_view.specs.View.{PlantRows, is_of_plant, plant_pair}
 use Rattle.mrp_agent.specs.State.{AgentState, no_plant_pair, no_plan, pair_place, plans_of}
 use Rattle.mrp_agent.proofs.Looking.{place_is_only}
 use Rattle.mrp_agent.proofs.Network.{planned_pairs_have_the_plan}
-use Rattle.mrp_plant.specs.Agents.{ShowsAgent}
+use Rattle.mrp_agent.specs.InNetwork.{ShowsAgent}
 use Rattle.mrp_plant.specs.Gathering.{HasPlannedAll, own_plans}
 use Rattle.mrp_local.proofs.Seeing.{pairs_are_at}
-use Rattle.mrp_plant.specs.Moments.{Moment, IsAt, IsOwn}
+use Rattle.mrp_plant.specs.Moments.{Moment, IsAt}
+use Rattle.mrp_agent.specs.OwnPart.{IsOwn}
 use Rattle.mrp_plant.proofs.AgentWorks.{works_in}
 
 -- the plan at a place is the network's plan of the pair there

@@ -8,7 +8,7 @@ use Rattle.mrp_net.proofs.Members.{Contains-from_in, In-map}
 use Rattle.mrp_view.specs.Seen as seen
 use Rattle.mrp_view.specs.View.{PlantRows, comes_to, goes_from, lane_numbers, incoming_lane, incoming_lanes, outgoing_lane, outgoing_lanes, plant_rows}
 use Rattle.mrp_view.proofs.Seeing.{is_own, owned_there}
-use Rattle.mrp_plant.specs.Moments.{IsIn, IsOut, IsOwn}
+use Rattle.mrp_agent.specs.OwnPart.{IsIn, IsOut, IsOwn}
 
 -- ---- its lanes are seen
 

@@ -17,8 +17,9 @@ use Rattle.mrp_agent.specs.Drafts.{drafted_gross, drafted_incoming}
 use Rattle.mrp_agent.specs.Shows.{ShowsHistory}
 use Rattle.mrp_agent.specs.State.{AgentState, pair_owned}
 use Rattle.mrp_agent.proofs.DraftLaws.{drafts_are_within}
-use Rattle.mrp_plant.specs.Agents.{ShowsAgent}
-use Rattle.mrp_plant.specs.Moments.{Moment, IsAt, IsOwn, Has}
+use Rattle.mrp_agent.specs.InNetwork.{ShowsAgent}
+use Rattle.mrp_plant.specs.Moments.{Moment, IsAt, Has}
+use Rattle.mrp_agent.specs.OwnPart.{IsOwn}
 use Rattle.mrp_plant.proofs.AgentPlaces.{own_seen}
 use Rattle.mrp_plant.proofs.AgentWorks.{works_in}
 

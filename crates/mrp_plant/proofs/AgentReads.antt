@@ -18,8 +18,9 @@ use Rattle.mrp_agent.specs.Reading.{received_over}
 use Rattle.mrp_agent.specs.State.{AgentState, pair_place, plans_of}
 use Rattle.mrp_agent.proofs.Network.{planned_pairs_have_the_plan}
 use Rattle.mrp_agent.proofs.Reading.{received_figures_are_cumulative}
-use Rattle.mrp_plant.specs.Agents.{ShowsAgent}
-use Rattle.mrp_plant.specs.Moments.{Moment, IsAt, IsIn, IsOwn}
+use Rattle.mrp_agent.specs.InNetwork.{ShowsAgent}
+use Rattle.mrp_plant.specs.Moments.{Moment, IsAt}
+use Rattle.mrp_agent.specs.OwnPart.{IsIn, IsOwn}
 use Rattle.mrp_local.proofs.Seeing.{seen_there}
 use Rattle.mrp_plant.proofs.AgentPlaces.{in_there}
 use Rattle.mrp_plant.proofs.AgentWorks.{works_in}

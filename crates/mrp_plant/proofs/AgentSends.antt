@@ -32,8 +32,9 @@ use Rattle.mrp_agent.specs.State.{AgentState, outgoing_at, outgoing_place, out_a
 use Rattle.mrp_agent.proofs.Left.{lanes_are_seen}
 use Rattle.mrp_agent.proofs.Network.{agrees_at, sent_is_within_64, nothing_legal_is_left}
 use Rattle.mrp_agent.proofs.Placed.{out_placed}
-use Rattle.mrp_plant.specs.Agents.{ShowsAgent}
-use Rattle.mrp_plant.specs.Moments.{Moment, IsAt, IsOut, IsNext, SendsLane}
+use Rattle.mrp_agent.specs.InNetwork.{ShowsAgent}
+use Rattle.mrp_plant.specs.Moments.{Moment, IsAt, IsNext, SendsLane}
+use Rattle.mrp_agent.specs.OwnPart.{IsOut}
 use Rattle.mrp_plant.proofs.AgentPlaces.{out_there}
 use Rattle.mrp_plant.proofs.AgentWorks.{works_in}
 

@@ -7,7 +7,7 @@ use Rattle.mrp_agent.specs.Kept.{HasSmallOpenings}
 use Rattle.mrp_agent.specs.Laws.{WorksIn}
 use Rattle.mrp_agent.specs.State.{AgentState}
 use Rattle.mrp_agent.proofs.Viewing.{views_can_be_planned}
-use Rattle.mrp_plant.specs.Agents.{ShowsAgent}
+use Rattle.mrp_agent.specs.InNetwork.{ShowsAgent}
 use Rattle.mrp_plant.specs.Moments.{Moment, IsAt, IsSeen}
 
 -- what came to it on each lane is a legal beginning

@@ -4,6 +4,4 @@ pub mod AgentPlaces
 pub mod AgentPlans
 pub mod AgentReads
 pub mod AgentSends
-pub mod AgentStays
 pub mod AgentWorks
-pub mod Owned

@@ -3,7 +3,8 @@ use Rattle.std.specs.Prelude.{◌≡◌, ℕ, ◌-◌, true, List, length}
 use Rattle.mrp_lot.specs.One.{PlanRows}
 use Rattle.mrp_rows.specs.Table.{Table}
 use Rattle.mrp_gather.specs.Given.{plans_below}
-use Rattle.mrp_plant.specs.Moments.{Moment, IsOwn}
+use Rattle.mrp_plant.specs.Moments.{Moment}
+use Rattle.mrp_agent.specs.OwnPart.{IsOwn}
 
 -- by the plan of the network the plans of all pairs of a plant, in table order
 abbrev pub own_plans : Table → ℕ → List PlanRows

@@ -1,4 +1,3 @@
-pub mod Agents
 pub mod Gathering
 pub mod Moments
 pub mod Showing

@@ -12,8 +12,8 @@ use std::alloc::Global;
 
 impl Plant for Agent {
     ghost use Rattle.mrp_agent.specs.State.{plans_of};
-    ghost use Rattle.mrp_plant.proofs.AgentStays.{agent_is_local, agent_stays};
-    ghost use Rattle.mrp_plant.specs.Agents.{ShowsAgent};
+    ghost use Rattle.mrp_agent.proofs.AgentStays.{agent_is_local, agent_stays};
+    ghost use Rattle.mrp_agent.specs.InNetwork.{ShowsAgent};
 
     ghost shows = { ShowsAgent };
 

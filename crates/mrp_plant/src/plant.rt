@@ -29,7 +29,8 @@ pub trait Plant: Drop {
     ghost use Rattle.mrp_events.specs.LoadLaws.{lane_form};
     ghost use Rattle.mrp_events.specs.State.{State, opening_state, CanTake, CanPlan, after_send, after_take, after_plan};
     ghost use Rattle.mrp_plant.specs.Gathering.{HasPlannedAll, own_plans};
-    ghost use Rattle.mrp_plant.specs.Moments.{Moment, IsAt, IsOut, IsIn, IsOwn, IsNext, IsSeen, SendsLane, Receives, Has, AgreeAt};
+    ghost use Rattle.mrp_plant.specs.Moments.{Moment, IsAt, IsNext, IsSeen, SendsLane, Receives, Has};
+    ghost use Rattle.mrp_agent.specs.OwnPart.{IsOut, IsIn, IsOwn, AgreeAt};
 
     /// Which states of a network a plant with a number shows.
     ghost shows: { Table → ℕ → State → Self → Type 0 };

@@ -8,7 +8,8 @@ use Rattle.mrp_record.specs.declared.record.Record.{Record}
 use Rattle.mrp_events.specs.declared.event.Event.{Event}
 use Rattle.mrp_events.specs.declared.event.Event.TheVariants.{Send, Receive, Plan}
 use Rattle.mrp_events.specs.State.{State, CanPlan, after_send, after_take, after_plan}
-use Rattle.mrp_plant.specs.Moments.{Moment, IsAt, IsOut, IsOwn, IsNext, SendsLane}
+use Rattle.mrp_plant.specs.Moments.{Moment, IsAt, IsNext, SendsLane}
+use Rattle.mrp_agent.specs.OwnPart.{IsOut, IsOwn}
 use Rattle.mrp_plant.specs.Showing.{Showing}
 use Rattle.mrp_mailbox.specs.Mailbox.{Held}
 use Rattle.mrp_world.specs.World.{box_at}

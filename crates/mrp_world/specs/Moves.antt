@@ -9,7 +9,7 @@ use Rattle.mrp_events.specs.declared.event.Event.{Event}
 use Rattle.mrp_events.specs.declared.event.Event.TheVariants.{Send, Receive, Plan}
 use Rattle.mrp_events.specs.Progress.{steps_left}
 use Rattle.mrp_events.specs.State.{State, Step, Run, IsEnabled, IsReached}
-use Rattle.mrp_plant.specs.Moments.{IsOwn}
+use Rattle.mrp_agent.specs.OwnPart.{IsOwn}
 use Rattle.mrp_plant.specs.Showing.{Showing}
 use Rattle.mrp_world.specs.World.{WorldState, PlantsShow, box_at}
 

@@ -2,7 +2,7 @@ use Rattle.std.proofs.Common.{◌≡◌, ◌+◌, ◌++◌, ◌∷◌, [], lengt
 use Rattle.mrp_rows.specs.Table.{Table}
 use Rattle.mrp_loops.specs.Sized.{IsSized}
 use Rattle.mrp_world.proofs.Makes as make
-use Rattle.mrp_plant.specs.Agents.{ShowsAgent}
+use Rattle.mrp_agent.specs.InNetwork.{ShowsAgent}
 use Rattle.mrp_firm_cases.specs.Hands.{AreAlone}
 use Rattle.mrp_firm_cases.proofs.Handing as hand
 use Rattle.mrp_firm_cases.proofs.tests.agents.hands.agents_of.Goals as goal

@@ -1,7 +1,7 @@
 use Rattle.std.proofs.Common.{ap, sym}
 use Rattle.mrp_rows.specs.declared.rows.PairRow.{PairRow}
 use Rattle.mrp_world.proofs.Steps as step
-use Rattle.mrp_plant.specs.Agents.{ShowsAgent}
+use Rattle.mrp_agent.specs.InNetwork.{ShowsAgent}
 use Rattle.mrp_firm_cases.proofs.Handing as hand
 use Rattle.mrp_firm_cases.proofs.tests.agents.hands.plan.Goals as goal
 

@@ -8,7 +8,7 @@ use Rattle.mrp_view.specs.declared.view.IncomingLane.{IncomingLane}
 use Rattle.mrp_view.specs.declared.view.OutgoingLane.{OutgoingLane}
 use Rattle.mrp_view.specs.View.{comes_to, goes_from, lane_numbers, incoming_lane, incoming_lanes, outgoing_lane, outgoing_lanes}
 use Rattle.mrp_view.proofs.Seeing.{owned}
-use Rattle.mrp_plant.specs.Moments.{IsIn, IsOut}
+use Rattle.mrp_agent.specs.OwnPart.{IsIn, IsOut}
 
 pub outgoing_are_out : (N : Table) (p : ℕ) → All (λ lane. IsOut N p lane.number.0) (outgoing_lanes N p)
 outgoing_are_out N p =

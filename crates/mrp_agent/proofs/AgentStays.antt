@@ -30,9 +30,9 @@ use Rattle.mrp_local.specs.Local.{local_plan, local_row, pieces_in, AwaitsNothin
 use Rattle.mrp_agent.specs.Shows.{ShowsHistory, OutShows, awaited, awaited_on, form_of, joins_of, up_to_last}
 use Rattle.mrp_agent.specs.State.{AgentState, book_at, incoming_at, out_at, outgoing_at, pair_place, plans_of, no_incoming, no_outgoing}
 use Rattle.mrp_agent.proofs.Owning.{own_of_item}
-use Rattle.mrp_plant.specs.Agents.{ShowsAgent}
-use Rattle.mrp_plant.specs.Moments.{AgreeAt}
-use Rattle.mrp_plant.proofs.Owned.{incoming_are_in, outgoing_are_out}
+use Rattle.mrp_agent.specs.InNetwork.{ShowsAgent}
+use Rattle.mrp_agent.specs.OwnPart.{AgreeAt}
+use Rattle.mrp_agent.proofs.Owned.{incoming_are_in, outgoing_are_out}
 
 -- ---- maps and joined lists, element by element
 
