@@ -1,5 +1,5 @@
 -- What a fault of a run says of its gate, and that a gate that is always open is never answered as shut.
-use Rattle.std.proofs.Common.{◌≡◌, ℕ, Bool, true, false, length, List, Option, Result, Ok, Err, IfErr, OnOk, ⊎_elim, subst, sym, refl}
+use Rattle.std.proofs.Common.{◌≡◌, ℕ, Bool, true, false, length, List, Option, Result, Ok, Err, IfErr, IsErrAnd, OnOk, ⊎_elim, subst, sym, refl}
 use Rattle.std.proofs.lemmas.Bool.{false≢true}
 use Rattle.mrp_rows.specs.Table.{Table}
 use Rattle.mrp_run.specs.declared.fault.RunFault.{RunFault}
@@ -49,7 +49,7 @@ late_fault Shut Spent N fault.Stopped late = absurd late
 late_fault Shut Spent N _ late = tt
 
 refused_fault : (Shut Spent : ℕ → Type 0) (N : Table) (f : TextFault) → RefusesTable OfPlan N f → IsGateFault Shut Spent (InTable N) f
-refused_fault Shut Spent N (fault.GateShut name) said = absurd said.1.0
+refused_fault Shut Spent N (fault.GateShut name) said = absurd said.1
 refused_fault Shut Spent N fault.Stopped said = absurd said.1
 refused_fault Shut Spent N _ said = tt
 
@@ -59,11 +59,11 @@ text_fault Shut Spent known N fault.Stopped is said = (N, is, said)
 text_fault Shut Spent known N _ is said = tt
 
 text_refused : (Shut Spent : ℕ → Type 0) (known : Option (List ℕ)) (f : TextFault) → Refuses known OfPlan f → IsGateFault Shut Spent (OfTable known) f
-text_refused Shut Spent known (fault.GateShut name) said = absurd said.2.1.0
+text_refused Shut Spent known (fault.GateShut name) said = absurd said.2.1
 text_refused Shut Spent known fault.Stopped said = absurd said.2.1
 text_refused Shut Spent known _ said = tt
 
-module _ (Open Shut Worker : ℕ → ℕ → Type 0) (workers turns : ℕ) {U : Type 0} where
+module _ (Open Shut Worker : ℕ → ℕ → Type 0) (workers turns : ℕ) where
   abbrev Was : ℕ → Type 0
   Was = WasShut Open Shut Worker workers turns
 
@@ -71,28 +71,37 @@ module _ (Open Shut Worker : ℕ → ℕ → Type 0) (workers turns : ℕ) {U : 
   Spent = WasSpent Open turns
 
   -- a run that came to a plan
-  pub gate_ok : (N : Table) (u : U) → AllTurned Open turns (length N.plants) → GateExplains {U = U} Open Shut Worker workers turns (InTable N) (Ok u)
+  pub gate_ok : {U : Type 0} (N : Table) (u : U) → AllTurned Open turns (length N.plants) → GateExplains {U = U} Open Shut Worker workers turns (InTable N) (Ok u)
   gate_ok N u turned = record { turned = turned; shut = tt }
 
   -- one that met a fault
-  pub gate_err : (N : Table) (f : RunFault) (said : TextFault) → IsFaultIn Was Spent N f → IsOfRun N f said
+  pub gate_err : {U : Type 0} (N : Table) (f : RunFault) (said : TextFault) → IsFaultIn Was Spent N f → IsOfRun N f said
       → GateExplains {U = U} Open Shut Worker workers turns (InTable N) (Err said)
   gate_err N f said is of = record { turned = tt; shut = gate_fault Was Spent N f said is of }
 
   -- one whose plan was written, or not whole
-  pub gate_late : (N : Table) (r : Result U TextFault) → AllTurned Open turns (length N.plants) → IfErr r IsLate → GateExplains Open Shut Worker workers turns (InTable N) r
+  pub gate_late : {U : Type 0} (N : Table) (r : Result U TextFault) → AllTurned Open turns (length N.plants) → IfErr r IsLate → GateExplains Open Shut Worker workers turns (InTable N) r
   gate_late N (Ok u) turned late = record { turned = turned; shut = tt }
   gate_late N (Err f) turned late = record { turned = tt; shut = late_fault Was Spent N f late }
 
   -- one that was refused before
-  pub gate_refused : (N : Table) (f : TextFault) → RefusesTable OfPlan N f → GateExplains {U = U} Open Shut Worker workers turns (InTable N) (Err f)
+  pub gate_refused : {U : Type 0} (N : Table) (f : TextFault) → RefusesTable OfPlan N f → GateExplains {U = U} Open Shut Worker workers turns (InTable N) (Err f)
   gate_refused N f said = record { turned = tt; shut = refused_fault Was Spent N f said }
 
-  pub gate_unread : (known : Option (List ℕ)) (f : TextFault) → Refuses known OfPlan f → GateExplains {U = U} Open Shut Worker workers turns (OfTable known) (Err f)
+  pub gate_unread : {U : Type 0} (known : Option (List ℕ)) (f : TextFault) → Refuses known OfPlan f → GateExplains {U = U} Open Shut Worker workers turns (OfTable known) (Err f)
   gate_unread known f said = record { turned = tt; shut = text_refused Was Spent known f said }
 
+  -- a fault that is handed on
+  pub gate_fails : {U : Type 0} (N M : Table) (r : Result U TextFault) (f : TextFault) → N ≡ M → IsErrAnd r (λ x. x ≡ f) → IsGateFault Was Spent (InTable N) f
+      → GateExplains Open Shut Worker workers turns (InTable M) r
+  gate_fails N M (Ok u) f same is shut = absurd is
+  gate_fails N M (Err e) f same is shut = record {
+    turned = tt;
+    shut = subst (IsGateFault Was Spent (InTable M)) (sym is) (subst (λ (L : Table). IsGateFault Was Spent (InTable L) f) same shut);
+  }
+
   -- so of the text
-  pub gate_of : (known : Option (List ℕ)) (N : Table) (r : Result U TextFault) → IsTableOf known N → GateExplains Open Shut Worker workers turns (InTable N) r
+  pub gate_of : {U : Type 0} (known : Option (List ℕ)) (N : Table) (r : Result U TextFault) → IsTableOf known N → GateExplains Open Shut Worker workers turns (InTable N) r
       → GateExplains Open Shut Worker workers turns (OfTable known) r
   gate_of known N (Ok u) is gate = record { turned = (N, is, gate.turned); shut = tt }
   gate_of known N (Err f) is gate = record { turned = tt; shut = text_fault Was Spent known N f is gate.shut }
@@ -121,7 +130,7 @@ asks_threads workers capacity false e = refl
 -- ---- a refusal that is no shut gate
 
 no_gate : (known : Option (List ℕ)) (asked : Question) (f : TextFault) → ¬ IsThreaded asked → Refuses known asked f → IsNoShutGate f
-no_gate known asked (fault.GateShut name) never said = never said.2.1.0
+no_gate known asked (fault.GateShut name) never said = never said.2.1
 no_gate known asked _ never said = tt
 
 pub never_gate : {U : Type 0} (known : Option (List ℕ)) (asked : Question) (r : Result U TextFault) → ¬ IsThreaded asked → IfErr r (Refuses known asked) → IfErr r IsNoShutGate

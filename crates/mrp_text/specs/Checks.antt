@@ -1,5 +1,8 @@
--- The fault of a text after a fault of the loop check or of the bound, where there is memory for the names of its pairs.
-use Rattle.std.specs.Prelude.{map, All}
+-- The faults of a text that each step before a report may answer, and those that faults of the loop check and of the bound are.
+use Rattle.std.specs.Prelude.{ℕ, List, map, All, Err, Option, option_map}
+use Rattle.csv.specs.Reading.{strip_bom}
+use Rattle.mrp_grammar.specs.Reading.{TellsRows}
+use Rattle.mrp_grammar.specs.Written.{OfRecords}
 use Rattle.mrp_rows.specs.Table.{Table, IsPair}
 use Rattle.mrp_loops.specs.declared.loops.LoopFault.{LoopFault}
 use Rattle.mrp_loops.specs.declared.loops.LoopFault.TheVariants as check
@@ -7,7 +10,7 @@ use Rattle.mrp_loops.specs.declared.sized.BoundFault.{BoundFault}
 use Rattle.mrp_loops.specs.declared.sized.BoundFault.TheVariants as bound
 use Rattle.mrp_text.specs.declared.fault.TextFault.{TextFault}
 use Rattle.mrp_text.specs.declared.fault.TextFault.TheVariants as fault
-use Rattle.mrp_text.specs.Refusals.{AreCalled, IsPairName}
+use Rattle.mrp_text.specs.Refusals.{AreCalled, IsLoopNamed, IsNeedNamed, IsPairName, IsSupplyNamed}
 
 -- a loop is of pairs of the network
 abbrev pub AreLoopPairs : Table → LoopFault → Type 0
@@ -32,3 +35,29 @@ IsOfBound N (bound.SupplyTooLarge x) (fault.SupplyTooLarge name) = IsPairName N 
 IsOfBound N (bound.NeedTooLarge x) (fault.NeedTooLarge name) = IsPairName N x.0 name
 IsOfBound N bound.Memory fault.Memory = Unit {0}
 IsOfBound N _ _ = ⊥
+
+-- ---- the faults of each step
+
+-- reading answers the first fault of the rows
+abbrev pub IsRowFault : Option (List ℕ) → TextFault → Type 0
+IsRowFault known (fault.Table e) = OfRecords (option_map strip_bom known) (TellsRows (Err e))
+IsRowFault known _ = ⊥
+
+-- or that memory was wanting for the network
+abbrev pub IsReadFault : Option (List ℕ) → TextFault → Type 0
+IsReadFault known (fault.Table e) = OfRecords (option_map strip_bom known) (TellsRows (Err e))
+IsReadFault known fault.Memory = Unit {0}
+IsReadFault known _ = ⊥
+
+-- the loop check answers a loop
+abbrev pub IsLoopFault : Table → TextFault → Type 0
+IsLoopFault N (fault.Loop names) = IsLoopNamed N names.items
+IsLoopFault N fault.Memory = Unit {0}
+IsLoopFault N _ = ⊥
+
+-- the bound answers a pair past it
+abbrev pub IsBoundFault : Table → List ℕ → TextFault → Type 0
+IsBoundFault N codes (fault.SupplyTooLarge name) = IsSupplyNamed N name
+IsBoundFault N codes (fault.NeedTooLarge name) = IsNeedNamed N codes name
+IsBoundFault N codes fault.Memory = Unit {0}
+IsBoundFault N codes _ = ⊥

@@ -4,7 +4,7 @@ use Rattle.mrp_rows.specs.Table.{Table}
 use Rattle.mrp_run.specs.Faults.{AllTurned}
 use Rattle.mrp_text.specs.Text.{IsPlanReport, Writes}
 use Rattle.mrp_text.specs.Reports.{IsPlanRows, WritesRows}
-use Rattle.mrp_text.proofs.GateFacts.{gate_late}
+use Rattle.mrp_text.proofs.GateFacts.{gate_fails, gate_late}
 use Rattle.mrp_text.proofs.writing.write_run.Goals as goal
 
 pub returns-clause-text : goal.returns-clause-text
@@ -21,3 +21,9 @@ returns-clause-gate g c =
     let Turned : Table → Type 0 = λ N. AllTurned g.G.Gate.turn_open MOST_TURNS (length N.plants) in
     gate_late g.G.Gate.turn_open g.G.Gate.turn_shut g.G.Gate.worker_shut c.args.settings.workers MOST_TURNS c.args.network.now c.report_plan.result
     (subst Turned c.in_ok-net.ensures.network c.in_ok-plan.ensures.gate.turned) c.report_plan.ensures.fault
+
+-- the run's network is the one that was given
+pub returns-in_err-plan-clause-gate : goal.returns-in_err-plan-clause-gate
+returns-in_err-plan-clause-gate g c =
+    gate_fails g.G.Gate.turn_open g.G.Gate.turn_shut g.G.Gate.worker_shut c.args.settings.workers MOST_TURNS c.in_ok-net.net.network c.args.network.now
+    c.from_residual-in_err-plan.result c.in_err-plan.field-0.0 c.in_ok-net.ensures.network c.from_residual-in_err-plan.ensures.1 c.in_err-plan.ensures.gate.shut
