@@ -25,8 +25,8 @@ is_local N e = (pair_at N e.demander.0).plant.0 == (pair_at N e.pair.0).plant.0
 abbrev pub SourcePairsAreThere : Type 0
 SourcePairsAreThere =
     (N : Table) → IsTable N
-    → All (λ s. IsPair N (source_pair N s) × ((pair_at N (source_pair N s)).plant ≡ s.plant) 
-        × ((pair_at N (source_pair N s)).item ≡ item_of_source N s)) N.sources
+    → All (λ s. IsPair N (source_pair N s) × ((pair_at N (source_pair N s)).plant ≡ s.plant)
+    × ((pair_at N (source_pair N s)).item ≡ item_of_source N s)) N.sources
 
 -- the edges within plants are those of components
 abbrev pub LocalEdgesAreBills : Type 0
