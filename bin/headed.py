@@ -36,6 +36,7 @@ SHEETS = {
     "cums.csv": {**LANE, "Cum received": "cumulativereceived received figure"},
     "resets.csv": {**LANE, "Date": "day resetdate"},
 }
+DESCRIBED = ("description", "itemdescription", "partdescription", "materialdescription", "itemname", "partname", "name", "text")
 # Headings that could mean two things, and what is asked of them.
 UNCLEAR = {
     "Lead": ("lead leadtime transit transittime", "in which unit? Head it Lead (periods), Lead (weeks) or Lead (days)"),
@@ -126,12 +127,13 @@ class Row:
             return None
 
     def rest(self):
-        """Returns what the other columns say, each text behind its heading, but for descriptions."""
-        taken, found = set(self.sheet.places.values()), []
+        """Returns what the other columns say: descriptions, and the others, each behind its heading."""
+        taken, parts = {*self.sheet.places.values()}, ([], [])
         for place, (head, text) in enumerate(zip(self.sheet.heads, self.cells)):
             if text and place not in taken:
-                found.append(text if key(head) in ("description", "text", "name", "") else f"{head} {text}")
-        return ", ".join(found)
+                described = key(head) in DESCRIBED
+                parts[not described].append(text if described else f"{head} {text}".strip())
+        return tuple(", ".join(it) for it in parts)
 
 
 class Sheet:
