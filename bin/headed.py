@@ -140,7 +140,7 @@ class Sheet:
     """A sheet of a folder. Where it can't be read it has no columns and no rows, and slips."""
 
     def __init__(self, folder, name, slips):
-        self.name, self.slips, self.places, self.heads, self.records = name, slips, {}, [], iter(())
+        self.name, self.slips, self.places, self.heads, self.records, self.is_whole = name, slips, {}, [], iter(()), False
         if os.path.exists(f"{folder}/{name}"):
             with open(f"{folder}/{name}", "rb") as file:
                 self.open(file.read())
@@ -165,7 +165,7 @@ class Sheet:
         if not any(self.heads):
             self.slip(0, ": it has no headings")
         elif all([self.find(*it) for it in SHEETS[self.name].items()]):
-            self.records = csv.reader(io.StringIO(text, newline=""), delimiter=mark, strict=True)
+            self.records, self.is_whole = csv.reader(io.StringIO(text, newline=""), delimiter=mark, strict=True), True
             self.next(1)
         else:
             self.places = {}
@@ -191,6 +191,7 @@ class Sheet:
             return next(self.records, None)
         except csv.Error as fault:
             self.slip(place, f": its quotes are wrong ({fault})")
+            self.is_whole = False
             return None
 
     def rows(self):
@@ -200,5 +201,5 @@ class Sheet:
             place, cells = place + 1, [it.strip() for it in cells]
             if any(cells[wide:]):
                 self.slip(place, f": it has more cells than headings, as {next(filter(None, cells[wide:]))!r}; a separator within a cell wants quotes")
-            elif any(cells):
+            if any(cells):
                 yield Row(self, place, cells + [""] * (wide - len(cells)))

@@ -270,6 +270,7 @@ class Names:
     def __init__(self, path=None):
         self.plants, self.pairs, self.rows = {}, {}, {}
         if path:
+            sys.stdout.reconfigure(encoding="utf-8")
             try:
                 with open(path, encoding="utf-8", newline="") as file:
                     rows = csv.reader(file)
