@@ -3,19 +3,20 @@ import csv
 import datetime
 import difflib
 import functools
+import heapq
 import io
 import itertools
 import os
 import re
 
-MOST = 100
+MOST_SLIPS = 100
 PLANT, ITEM = "site location facility works warehouse", "part material article sku product"
 LANE = {"From": "fromplant supplier source sourceplant sender", "To": "toplant customer destination receiver", "Item": ITEM}
 DATES = "date duedate delivery deliverydate"
 EXPECTED = f"{DATES} arrival arrivaldate eta expected expecteddate"
 UNITS = {"period": 0, "week": 7, "day": 1}
 LEADS = itertools.product(("lead", "leadtime", "transit", "transittime"), ("", "in"), UNITS, ("", "s"))
-WANTED = {"Plant": PLANT, "Item": ITEM, "Due": f"{DATES} needdate required requireddate", "Quantity": "pieces orderquantity openquantity"}
+WANTED = {"Plant": PLANT, "Item": ITEM, "Due": f"{DATES} needby needdate required requireddate", "Quantity": "pieces orderquantity openquantity"}
 # The columns of each sheet, and what else they are headed, as `key` has it.
 SHEETS = {
     "firm.csv": {"First day": "first start startdate", "Days": "daysperperiod perioddays", "Periods": "numberofperiods noofperiods"},
@@ -23,13 +24,13 @@ SHEETS = {
     "items.csv": {
         "Plant": PLANT,
         "Item": ITEM,
-        "Supply": "source sourcing procurement makeorbuy",
+        "Supply": "source sourcing procurement makeorbuy makebuy",
         "Lot rule": "rule lotsize lotsizing lotsizingrule orderpolicy",
         "Lead": " ".join(map("".join, LEADS)),
         "On hand": "stock stockonhand quantityonhand onhandquantity inventory",
         "Safety stock": "safety safetystockquantity",
     },
-    "bills.csv": {"Plant": PLANT, "Parent": "parentitem assembly", "Component": "componentitem child", "Per": "quantityper quantity usage"},
+    "bills.csv": {"Plant": PLANT, "Parent": "parentitem assembly", "Component": "componentitem child", "Per": "quantityper quantityperparent quantity usage"},
     "demands.csv": WANTED,
     "receipts.csv": {**WANTED, "Due": f"arrives {EXPECTED}"},
     "shipments.csv": {**LANE, "Arrives": f"due {EXPECTED}", "Quantity": "pieces"},
@@ -61,8 +62,10 @@ class Slips:
 
     def nearest(self, text, names, least=0.5):
         """Returns the name that is most like a text, as a question in brackets, or nothing. It is looked for while slips are few."""
-        plain = {it.casefold(): it for it in names} if len(self.found) < MOST else {}
-        found = difflib.get_close_matches(text.casefold(), plain, 1, least)
+        plain, wanted = {it.casefold(): it for it in names} if len(self.found) < MOST_SLIPS else {}, text.casefold()
+        # (of many names those that share the most pairs of letters, for matching takes long)
+        likely = heapq.nlargest(30, plain, key=lambda it: len({*zip(it, it[1:])} & {*zip(wanted, wanted[1:])}))
+        found = difflib.get_close_matches(wanted, likely, 1, least)
         return f" ({plain[found[0]]}?)" if found else ""
 
     def lines(self):
@@ -118,12 +121,13 @@ class Row:
 
     def read(self, column, read=str):
         """Returns what a cell says, or nothing where that is a slip."""
+        text = self.text(column)
         try:
-            if not self.text(column):
+            if not text:
                 raise Slip("nothing stands here")
-            return read(self.text(column))
+            return read(text)
         except Slip as why:
-            self.slip(column, why)
+            self.slip(column, why if not text or repr(text) in str(why) else f"{text!r}: {why}")
             return None
 
     def rest(self):
