@@ -9,7 +9,7 @@ import itertools
 import os
 import re
 
-MOST_SLIPS = 100
+MOST_SLIPS, DIGITS = 100, re.compile("-?[0-9]{1,99}")
 PLANT, ITEM = "site location facility works warehouse", "part material article sku product"
 LANE = {"From": "fromplant supplier source sourceplant sender", "To": "toplant customer destination receiver", "Item": ITEM}
 DATES = "date duedate delivery deliverydate"
@@ -82,7 +82,7 @@ def number(least, most):
     """Returns what reads a whole number between two."""
 
     def read(text):
-        if not re.fullmatch("-?[0-9]{1,99}", text):
+        if not DIGITS.fullmatch(text):
             raise Slip(f"{text!r} is no whole number; write its digits alone")
         if not least <= int(text) <= most:
             raise Slip(f"{text!r} is not from {least} to {most}")
@@ -121,7 +121,7 @@ class Row:
 
     def read(self, column, read=str):
         """Returns what a cell says, or nothing where that is a slip."""
-        text = self.text(column)
+        text = self.cells[self.sheet.places[column]]
         try:
             if not text:
                 raise Slip("nothing stands here")
