@@ -1,5 +1,6 @@
 """The reports of mrp as the tools for planners read them, and how all tools speak."""
 import argparse
+import csv
 import mmap
 import os
 import re
@@ -259,6 +260,60 @@ class Words(argparse.ArgumentParser):
     def error(self, message):
         print(f"{self.prog}: {message}", file=sys.stderr)
         sys.exit(2)
+
+
+class Names:
+    """What a file of bin/sheets --names says: the names of plants and items in the sheets, descriptions, and notes. Without a file names are the table's."""
+
+    COLUMNS = ["row", "plant", "item", "period", "date", "quantity", "name", "description", "note"]
+
+    def __init__(self, path=None):
+        self.plants, self.pairs, self.rows = {}, {}, {}
+        if path:
+            sys.stdout.reconfigure(encoding="utf-8")
+            try:
+                with open(path, encoding="utf-8", newline="") as file:
+                    rows = csv.reader(file)
+                    if next(rows, None) != self.COLUMNS:
+                        raise ValueError
+                    for it in rows:
+                        self.take(*it)
+            except (TypeError, ValueError, csv.Error):
+                raise Refused(f"{path} is no file that bin/sheets --names has written") from None
+
+    def take(self, kind, plant, item, period, date, quantity, name, description, note):
+        """Takes a row over."""
+        if kind == "plant":
+            self.plants[plant] = name
+        elif kind == "pair":
+            self.pairs[plant, item] = name, description
+        else:
+            self.rows.setdefault((kind, plant, item, int(period)), []).append(f"{quantity} of {date}" + (f": {note}" if note else ""))
+
+    def plant(self, plant):
+        return self.plants.get(plant, plant)
+
+    def item(self, plant, item):
+        """Returns the name of an item at a plant, with its description in brackets."""
+        name, description = self.pairs.get((plant, item), (item, ""))
+        return f"{name} ({description})" if description else name
+
+    def pair(self, plant, item):
+        return f"{self.plant(plant)} {self.item(plant, item)}"
+
+    def meant(self, plant, item):
+        """Returns the names in the table of a plant and an item, which may be those of the sheets."""
+        plants, items = {name: it for it, name in self.plants.items()}, {name: it for (_, it), (name, _) in self.pairs.items()}
+        return plants.get(plant, plant), items.get(item, item)
+
+    def of(self, kind, plant, item, period):
+        """Returns what stood beside the rows of a pair in a period, demand, receipt or ship."""
+        return self.rows.get((kind, plant, item, period), [])
+
+
+def add_names(parser):
+    """Adds the option of a tool that shows the names of sheets."""
+    parser.add_argument("--names", metavar="FILE", type=Names, default=Names(), help="show the names, descriptions and notes that bin/sheets --names has kept")
 
 
 def counted(number, word):

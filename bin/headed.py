@@ -1,0 +1,209 @@
+"""Sheets with headings as planners keep them, for bin/sheets: how they are headed, their rows by columns, and what is wrong in them."""
+import csv
+import datetime
+import difflib
+import functools
+import heapq
+import io
+import itertools
+import os
+import re
+
+MOST_SLIPS, DIGITS = 100, re.compile("-?[0-9]{1,99}")
+PLANT, ITEM = "site location facility works warehouse", "part material article sku product"
+LANE = {"From": "fromplant supplier source sourceplant sender", "To": "toplant customer destination receiver", "Item": ITEM}
+DATES = "date duedate delivery deliverydate"
+EXPECTED = f"{DATES} arrival arrivaldate eta expected expecteddate"
+UNITS = {"period": 0, "week": 7, "day": 1}
+LEADS = itertools.product(("lead", "leadtime", "transit", "transittime"), ("", "in"), UNITS, ("", "s"))
+WANTED = {"Plant": PLANT, "Item": ITEM, "Due": f"{DATES} needby needdate required requireddate", "Quantity": "pieces orderquantity openquantity"}
+# The columns of each sheet, and what else they are headed, as `key` has it.
+SHEETS = {
+    "firm.csv": {"First day": "first start startdate", "Days": "daysperperiod perioddays", "Periods": "numberofperiods noofperiods"},
+    "plants.csv": {"Plant": PLANT},
+    "items.csv": {
+        "Plant": PLANT,
+        "Item": ITEM,
+        "Supply": "source sourcing procurement makeorbuy makebuy",
+        "Lot rule": "rule lotsize lotsizing lotsizingrule orderpolicy",
+        "Lead": " ".join(map("".join, LEADS)),
+        "On hand": "stock stockonhand quantityonhand onhandquantity inventory",
+        "Safety stock": "safety safetystockquantity",
+    },
+    "bills.csv": {"Plant": PLANT, "Parent": "parentitem assembly", "Component": "componentitem child", "Per": "quantityper quantityperparent quantity usage"},
+    "demands.csv": WANTED,
+    "receipts.csv": {**WANTED, "Due": f"arrives {EXPECTED}"},
+    "shipments.csv": {**LANE, "Arrives": f"due {EXPECTED}", "Quantity": "pieces"},
+    "cums.csv": {**LANE, "Cum received": "cumulativereceived received figure"},
+    "resets.csv": {**LANE, "Date": "day resetdate"},
+}
+DESCRIBED = ("description", "itemdescription", "partdescription", "materialdescription", "itemname", "partname", "name", "text")
+# Headings that could mean two things, and what is asked of them.
+UNCLEAR = {
+    "Lead": ("lead leadtime transit transittime", "in which unit? Head it Lead (periods), Lead (weeks) or Lead (days)"),
+    "Cum received": ("cum cumulative cumshipped cumulativeshipped", "with what is on its way? Give the figure without it, headed Cum received"),
+}
+
+
+class Slip(Exception):
+    """A cell can't be taken. The text says why."""
+
+
+class Slips:
+    """What is wrong in the sheets of a folder: lines in the order of the sheets and their rows, each once."""
+
+    def __init__(self):
+        self.found = {}
+
+    def add(self, sheet, row, text):
+        """Takes a slip of a row, or of a whole sheet where the row is 0."""
+        place = [*SHEETS].index(sheet) if sheet in SHEETS else -1
+        self.found[place, row, f"{sheet}{f' row {row}' if row else ''}{text}"] = None
+
+    def nearest(self, text, names, least=0.5):
+        """Returns the name that is most like a text, as a question in brackets, or nothing. It is looked for while slips are few."""
+        plain, wanted = {it.casefold(): it for it in names} if len(self.found) < MOST_SLIPS else {}, text.casefold()
+        # (of many names those that share the most pairs of letters, for matching takes long)
+        likely = heapq.nlargest(30, plain, key=lambda it: len({*zip(it, it[1:])} & {*zip(wanted, wanted[1:])}))
+        found = difflib.get_close_matches(wanted, likely, 1, least)
+        return f" ({plain[found[0]]}?)" if found else ""
+
+    def lines(self):
+        return [text for _, _, text in sorted(self.found, key=lambda it: it[:2])]
+
+
+def key(heading):
+    """Returns what is compared of a heading: letters and digits, without a word as number at the end."""
+    word = "".join(it for it in heading.casefold() if it.isalnum()).replace("qty", "quantity")
+    return re.sub("(?<=.)(number|no|nr|code|id)$", "", word)
+
+
+def number(least, most):
+    """Returns what reads a whole number between two."""
+
+    def read(text):
+        if not DIGITS.fullmatch(text):
+            raise Slip(f"{text!r} is no whole number; write its digits alone")
+        if not least <= int(text) <= most:
+            raise Slip(f"{text!r} is not from {least} to {most}")
+        return int(text)
+
+    return read
+
+
+@functools.lru_cache(maxsize=10_000)
+def day(text, slashes):
+    """Returns the day that a date says. What stands first between slashes is the day or month as d/m/y or m/d/y says."""
+    iso = re.fullmatch(r"(\d{4})-(\d\d)-(\d\d)(?:[ T]00:00(?::00(?:\.0+)?)?)?", text, re.ASCII)
+    other = re.fullmatch(r"(\d\d?)([./])(\d\d?)\2(\d{4})", text, re.ASCII)
+    try:
+        if iso:
+            return datetime.date(*map(int, iso.groups()))
+        if other and (other[2] == "." or slashes):
+            first, second = int(other[1]), int(other[3])
+            return datetime.date(int(other[4]), *((first, second) if other[2] == "/" and slashes == "m/d/y" else (second, first)))
+    except ValueError:
+        raise Slip(f"{text!r} is on no calendar") from None
+    raise Slip(f"{text!r} may have day or month first; --dates says which" if other else f"{text!r} is no date; write it as 2026-12-01")
+
+
+class Row:
+    """A row of a sheet, with its number there."""
+
+    def __init__(self, sheet, place, cells):
+        self.sheet, self.place, self.cells = sheet, place, cells
+
+    def text(self, column):
+        return self.cells[self.sheet.places[column]]
+
+    def slip(self, column, text):
+        self.sheet.slip(self.place, f", {self.sheet.heading(column)}: {text}")
+
+    def read(self, column, read=str):
+        """Returns what a cell says, or nothing where that is a slip."""
+        text = self.cells[self.sheet.places[column]]
+        try:
+            if not text:
+                raise Slip("nothing stands here")
+            return read(text)
+        except Slip as why:
+            self.slip(column, why if not text or repr(text) in str(why) else f"{text!r}: {why}")
+            return None
+
+    def rest(self):
+        """Returns what the other columns say: descriptions, and the others, each behind its heading."""
+        taken, parts = {*self.sheet.places.values()}, ([], [])
+        for place, (head, text) in enumerate(zip(self.sheet.heads, self.cells)):
+            if text and place not in taken:
+                described = key(head) in DESCRIBED
+                parts[not described].append(text if described else f"{head} {text}".strip())
+        return tuple(", ".join(it) for it in parts)
+
+
+class Sheet:
+    """A sheet of a folder. Where it can't be read it has no columns and no rows, and slips."""
+
+    def __init__(self, folder, name, slips):
+        self.name, self.slips, self.places, self.heads, self.records, self.is_whole = name, slips, {}, [], iter(()), False
+        if os.path.exists(f"{folder}/{name}"):
+            with open(f"{folder}/{name}", "rb") as file:
+                self.open(file.read())
+
+    def slip(self, place, text):
+        self.slips.add(self.name, place, text)
+
+    def heading(self, column):
+        return self.heads[self.places[column]]
+
+    def open(self, found):
+        """Finds the columns, with the separator by which most are found."""
+        try:
+            text = found.decode("utf-16" if found[:2] in (b"\xff\xfe", b"\xfe\xff") else "utf-8-sig")
+        except UnicodeDecodeError as fault:
+            self.slip(found[: fault.start].count(b"\n") + 1, ": its text isn't UTF-8; save the sheet as CSV UTF-8")
+            return
+        known = {key(it) for column, others in SHEETS[self.name].items() for it in (column, *others.split())}
+        heads = {mark: next(csv.reader(io.StringIO(text[:100_000], newline=""), delimiter=mark), []) for mark in ",;\t"}
+        mark = max(heads, key=lambda it: (sum(key(head) in known for head in heads[it]), len(heads[it])))
+        self.heads = [it.strip() for it in heads[mark]]
+        if not any(self.heads):
+            self.slip(0, ": it has no headings")
+        elif all([self.find(*it) for it in SHEETS[self.name].items()]):
+            self.records, self.is_whole = csv.reader(io.StringIO(text, newline=""), delimiter=mark, strict=True), True
+            self.next(1)
+        else:
+            self.places = {}
+
+    def find(self, column, others):
+        """Finds a column by its headings, and returns whether there is one."""
+        unclear, question = UNCLEAR.get(column, ("", ""))
+        headings = {key(column), *others.split()} - {*unclear.split()}
+        found = [place for place, head in enumerate(self.heads) if key(head) in headings]
+        if len(found) == 1:
+            self.places[column] = found[0]
+        elif found:
+            self.slip(1, f": {column} stands twice, as {' and '.join(self.heads[it] for it in found)}")
+        elif asked := [it for it in self.heads if key(it) in unclear.split()]:
+            self.slip(1, f", {asked[0]}: {question}")
+        else:
+            self.slip(1, f": it has no column {column}{self.slips.nearest(column, (it for it in self.heads if it))}")
+        return len(found) == 1
+
+    def next(self, place):
+        """Returns the next row, or nothing where there is none or its quotes are wrong."""
+        try:
+            return next(self.records, None)
+        except csv.Error as fault:
+            self.slip(place, f": its quotes are wrong ({fault})")
+            self.is_whole = False
+            return None
+
+    def rows(self):
+        """Yields the rows that aren't empty."""
+        place, wide = 1, len(self.heads)
+        while (cells := self.next(place + 1)) is not None:
+            place, cells = place + 1, [it.strip() for it in cells]
+            if any(cells[wide:]):
+                self.slip(place, f": it has more cells than headings, as {next(filter(None, cells[wide:]))!r}; a separator within a cell wants quotes")
+            if any(cells):
+                yield Row(self, place, cells + [""] * (wide - len(cells)))
