@@ -114,20 +114,21 @@ class Firm:
     def waits(self, pair, waits):
         """Returns how many periods the requirements of a pair wait at worst, by period, each with the place of the pair whose late order makes it so.
 
-        A requirement waits until as many pieces have come as it and those before it ask for; it waits for an order that was due by then and comes first.
+        A requirement waits until as many pieces have come as it and those before it ask for. It waits for the order that bin/why has below it: the last
+        one due by then; where a split source let that one come before, for the last one that comes later.
         """
         end, coming = self.ends[pair], []
         came = [self.comes_in[pair].get(period, 0) for period in range(end + 1)]
         for due, quantity, release, late in self.orders.rows(pair):
             held, place = self.held(pair, release, waits)
-            if due + late + held <= end:
-                coming.append((due + late + held, place if held else self.places[pair], due))
+            if due < end:
+                coming.append((due, due + late + held, place if held else self.places[pair]))
                 came[due + late + held] += quantity
         supply, found = [*accumulate(came)], {}
         for period, required in enumerate(accumulate(self.gross[pair])):
             until = bisect_left(supply, required) if self.gross[pair][period] else 0
             if until > period:
-                found[period] = until - period, min((it[:2] for it in coming if it[2] <= period and it[0] >= until))[1]
+                found[period] = until - period, max(it for it in coming if it[0] <= period and it[1] >= until)[2]
         return found
 
     def held(self, pair, release, waits):
