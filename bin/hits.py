@@ -67,7 +67,7 @@ class Firm:
             below = max((self.ends[it] for it in self.takes[pair]), default=0)
             self.ends[pair] = self.leads[pair] + below if below or pair in orders.late else 0
         self.gross = {pair: array("q", [0]) * end for pair, end in self.ends.items() if end}
-        self.demand = {pair: {} for pair in self.gross}
+        self.demand = {pair: array("q", [0]) * end for pair, end in self.ends.items() if end}
 
     def take(self, kind, first, second, third, fourth, fifth, on_hand, _):
         """Takes over a row of the table."""
@@ -106,13 +106,13 @@ class Firm:
             if not self.ends[pair]:
                 continue
             waits[pair] = self.waits(pair, waits)
-            for period, (periods, place) in waits[pair].items():
-                if period in self.demand[pair]:
+            for period, (quantity, periods, place) in enumerate(zip(self.demand[pair], *waits[pair])):
+                if quantity and periods:
                     day = self.first + timedelta(days=self.days * period)
-                    yield reports.Hit(*pair, period, str(day), self.demand[pair][period], periods, *self.pairs[place])
+                    yield reports.Hit(*pair, period, str(day), quantity, periods, *self.pairs[place])
 
     def waits(self, pair, waits):
-        """Returns how many periods the requirements of a pair wait at worst, by period, each with the place of the pair whose late order makes it so.
+        """Returns how many periods the requirements of a pair wait at worst, by period, and the place of the pair whose late order makes it so.
 
         A requirement waits until as many pieces have come as it and those before it ask for. It waits for the order that bin/why has below it: the last
         one due by then; where a split source let that one come before, for the last one that comes later.
@@ -120,18 +120,19 @@ class Firm:
         end, coming = self.ends[pair], []
         came = [self.comes_in[pair].get(period, 0) for period in range(end + 1)]
         for due, quantity, release, late in self.orders.rows(pair):
-            held, place = self.held(pair, release, waits)
             if due < end:
+                held, place = self.held(pair, release, waits)
                 coming.append((due, due + late + held, place if held else self.places[pair]))
                 came[due + late + held] += quantity
-        supply, found = [*accumulate(came)], {}
+        supply, found = [*accumulate(came)], (array("q", [0]) * end, array("q", [0]) * end)
         for period, required in enumerate(accumulate(self.gross[pair])):
             until = bisect_left(supply, required) if self.gross[pair][period] else 0
             if until > period:
-                found[period] = until - period, max(it for it in coming if it[0] <= period and it[1] >= until)[2]
+                found[0][period] = until - period
+                found[1][period] = max(it for it in coming if it[0] <= period and it[1] >= until)[2]
         return found
 
     def held(self, pair, release, waits):
         """Returns how long a release of a pair waits at worst for what it takes, and the place of the pair whose late order makes it so."""
-        taken = (waits[it].get(release) for it, periods in self.takes[pair].items() if periods >> release & 1 and it in waits)
-        return max((it for it in taken if it), key=lambda it: (it[0], -it[1]), default=(0, 0))
+        taken = [waits[it] for it, periods in self.takes[pair].items() if periods >> release & 1]
+        return max(((periods[release], places[release]) for periods, places in taken), key=lambda it: (it[0], -it[1]), default=(0, 0))
