@@ -66,13 +66,12 @@ class Firm:
             # (nothing waits longer than the lead times from a late order up to it)
             below = max((self.ends[it] for it in self.takes[pair]), default=0)
             self.ends[pair] = self.leads[pair] + below if below or pair in orders.late else 0
-        self.gross = {pair: array("q", [0]) * end for pair, end in self.ends.items() if end}
-        self.demand = {pair: array("q", [0]) * end for pair, end in self.ends.items() if end}
+        self.gross, self.demand = ({pair: array("q", [0]) * min(end, self.periods) for pair, end in self.ends.items() if end} for _ in "12")
 
     def take(self, kind, first, second, third, fourth, fifth, on_hand, _):
         """Takes over a row of the table."""
         if kind == "run":
-            self.first, self.days = date.fromisoformat(first), int(second)
+            self.first, self.days, self.periods = date.fromisoformat(first), int(second), int(third)
         elif kind == "pair":
             self.leads[first, second], self.comes_in[first, second] = int(fifth), {0: int(on_hand)}
             self.takes[first, second] = {(plant, second): 0 for plant in third.split(":")[1::2]}
@@ -117,16 +116,17 @@ class Firm:
         A requirement waits until as many pieces have come as it and those before it ask for. It waits for the order that bin/why has below it: the last
         one due by then; where a split source let that one come before, for the last one that comes later.
         """
-        end, coming = self.ends[pair], []
-        came = [self.comes_in[pair].get(period, 0) for period in range(end + 1)]
+        came, coming = self.comes_in[pair], []
         for due, quantity, release, late in self.orders.rows(pair):
-            if due < end:
+            if due < self.ends[pair]:
                 held, place = self.held(pair, release, waits)
-                coming.append((due, due + late + held, place if held else self.places[pair]))
-                came[due + late + held] += quantity
-        supply, found = [*accumulate(came)], (array("q", [0]) * end, array("q", [0]) * end)
+                comes = due + late + held
+                coming.append((due, comes, place if held else self.places[pair]))
+                came[comes] = came.get(comes, 0) + quantity
+        times = sorted(came)
+        supply, found = [*accumulate(map(came.get, times))], [array("q", [0]) * len(self.gross[pair]) for _ in "12"]
         for period, required in enumerate(accumulate(self.gross[pair])):
-            until = bisect_left(supply, required) if self.gross[pair][period] else 0
+            until = times[bisect_left(supply, required)] if self.gross[pair][period] else 0
             if until > period:
                 found[0][period] = until - period
                 found[1][period] = max(it for it in coming if it[0] <= period and it[1] >= until)[2]
