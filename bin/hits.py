@@ -129,7 +129,8 @@ class Firm:
             until = times[bisect_left(supply, required)] if self.gross[pair][period] else 0
             if until > period:
                 found[0][period] = until - period
-                found[1][period] = max(it for it in coming if it[0] <= period and it[1] >= until)[2]
+                due_by_then = coming[: bisect_left(coming, (period + 1,))]
+                found[1][period] = next(place for _, comes, place in reversed(due_by_then) if comes >= until)
         return found
 
     def held(self, pair, release, waits):
