@@ -31,6 +31,7 @@ ORDER = row("order", NAME, NAME, SUPPLY, NUMBER, NUMBER, DATE, NUMBER, DATE, NUM
 SCHEDULE = row("schedule", "(opening|call|reset)", NAME, NAME, NAME, f"{NUMBER}?", f"{DATE}?", f"{NUMBER}?", NUMBER)
 PEGS = row("pegs", NAME, NAME, NUMBER, "(demand|bill|plant)", NAME, NAME, NUMBER, NUMBER, NUMBER)
 ADVICE = row("advice", "(expedite|defer|cancel)", "(receipt|ship)", NAME, NAME, f"{NAME}?", NUMBER, DATE, NUMBER, f"{NUMBER}?", f"{DATE}?")
+HIT = row("hit", NAME, NAME, NUMBER, DATE, NUMBER, NUMBER, NAME, NAME)
 
 
 class Refused(Exception):
@@ -141,9 +142,22 @@ class Advice(NamedTuple):
     needed_date: str
 
 
+class Hit(NamedTuple):
+    """A demand that late orders delay by so many periods at worst, and the pair whose late order makes it so: a row of bin/hit."""
+
+    plant: str
+    item: str
+    period: int
+    date: str
+    quantity: int
+    late_at_worst: int
+    by_plant: str
+    by_item: str
+
+
 # The rows but those of a plan, by their first word.
 ROWS = {b"late": (LATE, Late), b"lane": (LANE, Lane), b"order": (ORDER, Order)}
-ROWS |= {b"schedule": (SCHEDULE, Schedule), b"pegs": (PEGS, Peg), b"advice": (ADVICE, Advice)}
+ROWS |= {b"schedule": (SCHEDULE, Schedule), b"pegs": (PEGS, Peg), b"advice": (ADVICE, Advice), b"hit": (HIT, Hit)}
 # The names of their columns, as --header writes them above a report.
 HEADERS = {",".join(("row", *kind._fields)).encode() for _, kind in ROWS.values() if kind is not Late}
 

@@ -1,0 +1,139 @@
+"""Which demands late orders hit: what waits for what, from each late order up to the demands. For bin/hit and bin/page."""
+import csv
+import graphlib
+import subprocess
+import sys
+from array import array
+from bisect import bisect_left
+from datetime import date, timedelta
+from itertools import accumulate
+
+import reports
+
+# How the rows of a table begin that are read of it; one may begin with a quote.
+READ = ("run,", "pair,", "bill,", "receipt,", "ship,", '"')
+
+
+def report(word, table):
+    """Yields the rows of a report that the program makes of the table at a path. Where it refuses, it has said why, and the tool ends."""
+    with open(table, "rb") as file, subprocess.Popen([reports.program(), word], stdin=file, stdout=subprocess.PIPE) as child:
+        yield from child.stdout
+    if child.returncode:
+        sys.exit(1)
+
+
+def hits(table):
+    """Returns the demands that late orders of the table at a path hit, each a reports.Hit: the worst first, then by period, then in table order."""
+    orders = Orders(report("orders", table))
+    with open(table, encoding="utf-8-sig", newline="") as rows:
+        firm = Firm(rows, orders)
+    firm.take_pegs(report("pegs", table))
+    return sorted(firm.hits(), key=lambda it: (-it.late_at_worst, it.period, firm.places[it.plant, it.item]))
+
+
+class Orders:
+    """The planned orders of each pair, four figures each: due, quantity, release, and periods late. And the pairs that have late ones."""
+
+    def __init__(self, rows):
+        self.of, self.late = {}, set()
+        for number, row in enumerate(rows, 1):
+            plant, item, _, quantity, release, _, due, _, late = reports.fields(reports.ORDER, row, number)
+            pair = plant.decode(), item.decode()
+            self.of.setdefault(pair, array("q")).extend((int(due), int(quantity), int(release), int(late)))
+            if late != b"0":
+                self.late.add(pair)
+
+    def rows(self, pair):
+        figures = iter(self.of.get(pair, ()))
+        return zip(figures, figures, figures, figures)
+
+
+class Firm:
+    """What a table says of its pairs, their planned orders, and their gross requirements as far as these can wait for a late order.
+
+    `takes` has of each pair what goes into it: the components and the suppliers' pairs, each with the periods, as bits, in which a release takes of it.
+    """
+
+    def __init__(self, rows, orders):
+        self.orders, self.leads, self.comes_in, self.takes = orders, {}, {}, {}
+        for row in csv.reader(it for it in rows if it.startswith(READ)):
+            self.take(*row)
+        self.pairs = [*self.leads]
+        self.places = {pair: place for place, pair in enumerate(self.pairs)}
+        self.order = [*graphlib.TopologicalSorter(self.takes).static_order()]
+        self.ends = {}
+        for pair in self.order:
+            # (nothing waits longer than the lead times from a late order up to it)
+            below = max((self.ends[it] for it in self.takes[pair]), default=0)
+            self.ends[pair] = self.leads[pair] + below if below or pair in orders.late else 0
+        self.gross, self.demand = ({pair: array("q", [0]) * min(end, self.periods) for pair, end in self.ends.items() if end} for _ in "12")
+
+    def take(self, kind, first, second, third, fourth, fifth, on_hand, _):
+        """Takes over a row of the table."""
+        if kind == "run":
+            self.first, self.days, self.periods = date.fromisoformat(first), int(second), int(third)
+        elif kind == "pair":
+            self.leads[first, second], self.comes_in[first, second] = int(fifth), {0: int(on_hand)}
+            self.takes[first, second] = {(plant, second): 0 for plant in third.split(":")[1::2]}
+        elif kind == "bill":
+            self.takes[first, second][first, third] = 0
+        elif kind in ("receipt", "ship"):
+            pair, period, quantity = ((first, second), third, fourth) if kind == "receipt" else ((second, third), fourth, fifth)
+            self.comes_in[pair][int(period)] = self.comes_in[pair].get(int(period), 0) + int(quantity)
+
+    def take_pegs(self, rows):
+        """Takes over the report of pegging, and passes over what can't wait."""
+        passed = None
+        for number, row in enumerate(rows, 1):
+            if passed and row.startswith(passed):
+                continue
+            plant, item, period, source, by_plant, by_item, _, _, quantity = reports.fields(reports.PEGS, row, number)
+            pair, period = (plant.decode(), item.decode()), int(period)
+            if period >= self.ends[pair]:
+                passed = b"pegs,%s,%s," % (plant, item)
+                continue
+            self.gross[pair][period] += int(quantity)
+            if source == b"demand":
+                self.demand[pair][period] = int(quantity)
+            else:
+                self.takes[by_plant.decode(), by_item.decode()][pair] |= 1 << period
+
+    def hits(self):
+        """Yields the demands that wait, from components and suppliers up."""
+        waits = {}
+        for pair in self.order:
+            if not self.ends[pair]:
+                continue
+            waits[pair] = self.waits(pair, waits)
+            for period, (quantity, periods, place) in enumerate(zip(self.demand[pair], *waits[pair])):
+                if quantity and periods:
+                    day = self.first + timedelta(days=self.days * period)
+                    yield reports.Hit(*pair, period, str(day), quantity, periods, *self.pairs[place])
+
+    def waits(self, pair, waits):
+        """Returns how many periods the requirements of a pair wait at worst, by period, and the place of the pair whose late order makes it so.
+
+        A requirement waits until as many pieces have come as it and those before it ask for. It waits for the order that bin/why has below it: the last
+        one due by then; where a split source let that one come before, for the last one that comes later.
+        """
+        came, coming = self.comes_in[pair], []
+        for due, quantity, release, late in self.orders.rows(pair):
+            if due < self.ends[pair]:
+                held, place = self.held(pair, release, waits)
+                comes = due + late + held
+                coming.append((due, comes, place if held else self.places[pair]))
+                came[comes] = came.get(comes, 0) + quantity
+        times = sorted(came)
+        supply, found = [*accumulate(map(came.get, times))], [array("q", [0]) * len(self.gross[pair]) for _ in "12"]
+        for period, required in enumerate(accumulate(self.gross[pair])):
+            until = times[bisect_left(supply, required)] if self.gross[pair][period] else 0
+            if until > period:
+                found[0][period] = until - period
+                due_by_then = coming[: bisect_left(coming, (period + 1,))]
+                found[1][period] = next(place for _, comes, place in reversed(due_by_then) if comes >= until)
+        return found
+
+    def held(self, pair, release, waits):
+        """Returns how long a release of a pair waits at worst for what it takes, and the place of the pair whose late order makes it so."""
+        taken = [waits[it] for it, periods in self.takes[pair].items() if periods >> release & 1]
+        return max(((periods[release], places[release]) for periods, places in taken), key=lambda it: (it[0], -it[1]), default=(0, 0))

@@ -1,0 +1,86 @@
+"""When the demands of a firm are met, by other ways than bin/hits.py: for tools/test-tools, which compares.
+
+A firm is tools/oracle.py's, with its plans.
+"""
+
+
+class Waits:
+    """How many periods requirements wait at worst, found from a demand down: by questions that are asked again and again."""
+
+    def __init__(self, firm):
+        self.firm, self.known = firm, {}
+
+    def demands(self):
+        """Returns how many periods each demand waits that does."""
+        asked = ((*pair, t) for pair, demands in self.firm.demand.items() for t, quantity in enumerate(demands) if quantity)
+        waits = {it: self.until(it[:2], it[2]) - it[2] for it in asked}
+        return {it: periods for it, periods in waits.items() if periods}
+
+    def comes(self, pair, due):
+        """Returns when an order comes: a lead time after all that its release takes is there."""
+        lead = self.firm.pairs[pair].lead
+        release = max(0, due - lead)
+        edges = ((it, edge) for it, edges in self.firm.demanders.items() for edge in edges if edge.pair == pair)
+        return lead + max([release, *(self.until(it, release) for it, edge in edges if edge.part(self.firm.plans[pair].release[release]))])
+
+    def until(self, pair, period):
+        """Returns when all that is required up to a period is there."""
+        if (pair, period) not in self.known:
+            plan, until = self.firm.plans[pair], period
+            orders = [(self.comes(pair, due), quantity) for due, quantity in enumerate(plan.order) if quantity]
+            while self.there(pair, orders, until) < sum(plan.gross[: period + 1]):
+                until += 1
+            self.known[pair, period] = until
+        return self.known[pair, period]
+
+    def there(self, pair, orders, period):
+        """Returns how many pieces have been there up to a period."""
+        return self.firm.pairs[pair].on_hand + sum(self.firm.plans[pair].incoming[: period + 1]) + sum(it for comes, it in orders if comes <= period)
+
+
+def played(firm, chance):
+    """Plays a plan period by period, and returns when each demand is met. Of a period's requirements chance says which is served first.
+
+    A release waits for all that it takes, and keeps what it has got of it.
+    """
+    pairs = sorted(firm.pairs, key=lambda it: -firm.codes[it])
+    stock, coming, waiting = {it: firm.pairs[it].on_hand for it in pairs}, {}, {it: [] for it in pairs}
+    missing, met = {}, {}
+    for now in range(firm.periods + sum(it.lead for it in firm.pairs.values()) + 1):
+        for pair in pairs if now < firm.periods else ():
+            stock[pair] += firm.plans[pair].incoming[now]
+            asked = [(None, firm.demand[pair][now])] + [(it.pair, it.per * it.part(firm.plans[it.pair].release[now])) for it in firm.demanders[pair]]
+            waiting[pair] += [[now, chance.random(), *it] for it in asked if it[1]]
+            for by, quantity in asked:
+                missing[by, now] = missing.get((by, now), 0) + quantity
+        for pair in pairs:
+            if now < firm.periods and not missing.get((pair, now)):
+                coming.setdefault((pair, now + firm.pairs[pair].lead), []).append(firm.plans[pair].release[now])
+            stock[pair] += sum(coming.get((pair, now), ()))
+            for it in sorted(waiting[pair], key=lambda it: it[:2]):
+                asked, _, by, quantity = it
+                served = min(stock[pair], quantity)
+                stock[pair], it[3], missing[by, asked] = stock[pair] - served, quantity - served, missing[by, asked] - served
+                if by and served and not missing[by, asked]:
+                    coming.setdefault((by, now + firm.pairs[by].lead), []).append(firm.plans[by].release[asked])
+                elif not by and it[3] == 0:
+                    met[*pair, asked] = now
+            waiting[pair] = [it for it in waiting[pair] if it[3]]
+    return met
+
+
+def demands_above(firm, pair):
+    """Returns the demands that are found from what a pair releases in period 0 up: an order is for the requirements up to the next one."""
+    found, seen, left = set(), set(), [(pair, 0)]
+    while left:
+        pair, release = left.pop()
+        if (pair, release) in seen:
+            continue
+        seen.add((pair, release))
+        due = [t for t, quantity in enumerate(firm.plans[pair].order) if quantity]
+        for first, end in zip(due, [*due[1:], firm.periods]):
+            if max(0, first - firm.pairs[pair].lead) == release:
+                terms = [(t, *it) for t in range(first, end) for it in firm.terms(pair, t)]
+                found.update((*pair, t) for t, source, *_ in terms if source == "demand")
+                left += [((plant, item), t) for t, source, plant, item, *_ in terms if source != "demand"]
+    return found
