@@ -1,0 +1,70 @@
+-- Reads the reports of mrp into PostgreSQL, version 15 or later: psql -qd firm -f report.postgresql.sql
+-- The files are those of report.sql, which has the same tables and views. The first run makes these.
+-- All or nothing: where a report is missing or empty, plan.csv has no rows, or another has other names of columns, the database is
+-- as it was, and the status is 3. Others read the old plan until the new one is whole; a second run waits.
+\set ON_ERROR_STOP on
+BEGIN;
+SELECT to_regclass('plan_rows') IS NULL AS is_first \gset
+\if :is_first
+CREATE TABLE plan_rows (kind TEXT, plant TEXT, item TEXT, period INTEGER, date DATE,
+    gross BIGINT, incoming BIGINT, "order" BIGINT, release BIGINT, available BIGINT);
+CREATE TABLE lane_rows (kind TEXT, lane TEXT, sender TEXT, receiver TEXT, item TEXT,
+    opening BIGINT, shipped BIGINT, received BIGINT, transit BIGINT);
+CREATE TABLE order_rows ("row" TEXT, plant TEXT, item TEXT, supply TEXT, quantity BIGINT,
+    release INTEGER, release_date DATE, due INTEGER, due_date DATE, late INTEGER);
+CREATE TABLE schedule_rows ("row" TEXT, kind TEXT, supplier TEXT, customer TEXT, item TEXT,
+    period INTEGER, date DATE, quantity BIGINT, cumulative BIGINT);
+CREATE TABLE pegs_rows ("row" TEXT, plant TEXT, item TEXT, period INTEGER, source TEXT, by_plant TEXT, by_item TEXT,
+    release BIGINT, per BIGINT, quantity BIGINT);
+CREATE TABLE advice_rows ("row" TEXT, action TEXT, kind TEXT, plant TEXT, item TEXT, supplier TEXT,
+    period INTEGER, date DATE, quantity BIGINT, needed INTEGER, needed_date DATE);
+CREATE INDEX late_orders ON order_rows (plant, item) WHERE late > 0;
+
+CREATE VIEW record AS
+SELECT plant, item, period, date AS first_day, gross AS gross_requirements, incoming AS scheduled_receipts, available AS projected_available,
+    available - (
+        SELECT coalesce(sum(quantity), 0)
+        FROM order_rows
+        WHERE order_rows.plant = plan_rows.plant AND order_rows.item = plan_rows.item AND late > 0
+            AND plan_rows.period BETWEEN due AND due + late - 1
+    ) AS available_with_delays,
+    "order" AS planned_order_receipts, release AS planned_order_releases
+FROM plan_rows;
+CREATE VIEW planned_order AS
+SELECT plant, item, supply, quantity, release AS release_period, release_date, due AS due_period, due_date, late AS periods_late
+FROM order_rows;
+CREATE VIEW to_release AS
+SELECT plant, item, supply, quantity, due_date, periods_late FROM planned_order WHERE release_period = 0;
+CREATE VIEW late AS
+SELECT plant, item, due AS period, due_date AS due, quantity, late AS periods_late, due + late AS comes_in
+FROM order_rows
+WHERE late > 0;
+CREATE VIEW in_transit AS
+SELECT despatch.sender AS supplier, despatch.receiver AS customer, despatch.item, despatch.opening AS received,
+    despatch.shipped - despatch.opening AS in_transit, schedule.shipped - despatch.shipped AS still_to_be_shipped
+FROM lane_rows AS despatch
+JOIN lane_rows AS schedule ON schedule.sender = despatch.receiver AND schedule.receiver = despatch.sender AND schedule.item = despatch.item
+WHERE despatch.lane = 'despatch' AND schedule.lane = 'schedule';
+CREATE VIEW delivery_schedule AS
+SELECT supplier, customer, item, kind, date AS leaves, quantity, cumulative FROM schedule_rows;
+CREATE VIEW pegging AS
+SELECT plant, item, period, source, by_plant, by_item, release, per, quantity FROM pegs_rows;
+CREATE VIEW exception_message AS
+SELECT action, kind, plant, item, supplier, quantity, date AS comes, needed_date AS needed FROM advice_rows;
+\endif
+
+LOCK TABLE plan_rows IN EXCLUSIVE MODE;
+DELETE FROM plan_rows;
+DELETE FROM lane_rows;
+DELETE FROM order_rows;
+DELETE FROM schedule_rows;
+DELETE FROM pegs_rows;
+DELETE FROM advice_rows;
+-- (grep fails where it finds nothing, and then so does the run)
+\copy plan_rows FROM PROGRAM 'grep ^plan, plan.csv' (FORMAT csv)
+\copy lane_rows FROM 'cums.csv' (FORMAT csv)
+\copy order_rows FROM PROGRAM 'grep . orders.csv' (FORMAT csv, HEADER MATCH)
+\copy schedule_rows FROM PROGRAM 'grep . schedule.csv' (FORMAT csv, HEADER MATCH)
+\copy pegs_rows FROM PROGRAM 'grep . pegs.csv' (FORMAT csv, HEADER MATCH)
+\copy advice_rows FROM PROGRAM 'grep . advice.csv' (FORMAT csv, HEADER MATCH)
+COMMIT;

@@ -1,0 +1,42 @@
+-- Writes the table of mrp from PostgreSQL: psql -qd firm -f table.postgresql.sql
+-- What was due before the first day counts in period 0, and what is due after the last period is left out.
+\set ON_ERROR_STOP on
+CREATE TEMP VIEW wanted AS
+SELECT 'demand' AS kind, plant, item, greatest(0, (due::date - first_day::date) / days) AS period, quantity
+FROM forecasts, calendar
+UNION ALL
+SELECT 'receipt', plant, item, greatest(0, (due::date - first_day::date) / days), quantity
+FROM open_orders, calendar;
+
+CREATE TEMP VIEW under_way AS
+SELECT supplier, customer, item, greatest(0, (arrives::date - first_day::date) / days) AS period, quantity
+FROM shipments, calendar
+WHERE received IS NULL;
+
+-- the kinds in their order, and within a kind by names
+COPY (
+    SELECT kind, b, c, d, e, f, g, h
+    FROM (
+        SELECT 1 AS place, 'run' AS kind, first_day AS b, days::text AS c, periods::text AS d, NULL AS e, NULL AS f, NULL AS g, NULL AS h FROM calendar
+        UNION ALL
+        SELECT 2, 'plant', plant, NULL, NULL, NULL, NULL, NULL, NULL FROM plants
+        UNION ALL
+        SELECT 3, 'pair', plant, item, supply, lot_rule, lead_time::text,
+            (SELECT coalesce(sum(quantity), 0)::text FROM stock WHERE stock.plant = items.plant AND stock.item = items.item), safety_stock::text
+        FROM items
+        UNION ALL
+        SELECT 4, 'bill', plant, parent, component, per::text, NULL, NULL, NULL FROM bills
+        UNION ALL
+        SELECT CASE kind WHEN 'demand' THEN 5 ELSE 6 END, kind, plant, item, period::text, quantity::text, NULL, NULL, NULL
+        FROM wanted, calendar
+        WHERE period < periods
+        UNION ALL
+        SELECT 7, 'ship', supplier, customer, item, period::text, quantity::text, NULL, NULL FROM under_way, calendar WHERE period < periods
+        UNION ALL
+        SELECT 8, 'cum', supplier, customer, item, sum(quantity)::text, NULL, NULL, NULL
+        FROM shipments
+        WHERE received IS NOT NULL
+        GROUP BY supplier, customer, item
+    ) AS rows
+    ORDER BY place, b, c, d, e
+) TO STDOUT (FORMAT csv);
