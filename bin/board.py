@@ -1,0 +1,299 @@
+"""The parts of the page that bin/page writes: lists of what is to be done, and records, as HTML."""
+import functools
+import html
+from datetime import date
+
+import reports
+
+MOST_ROWS, MOST_LINES = 1000, 20
+# The days of a month: what is released in it is unfolded, and what is late by as much is marked most.
+MONTH = 31
+RULES = {"lot": "lot for lot", "fixed": "lots of {}", "periods": "for {} {}s", "min": "at least {}, by {}"}
+IN_TIME = (
+    f'<p id="delays">{reports.LABELS[2]} counts late orders as if they came when they are due; '
+    f"{reports.WITH_DELAYS.lower()} counts each one from when it comes, and is red where it is below zero.</p>"
+)
+
+
+@functools.lru_cache
+def calendar_day(text):
+    """Returns the day that a report says."""
+    try:
+        return date.fromisoformat(text)
+    except ValueError:
+        raise reports.Refused(f"the report has a day {text}, which is none") from None
+
+
+def grouped(rows, *columns):
+    """Returns the rows by the values of some columns."""
+    found = {}
+    for it in rows:
+        found.setdefault(tuple(getattr(it, column) for column in columns), []).append(it)
+    return found
+
+
+def sortable(heads, rows, kind=""):
+    """Returns a table that can be sorted, of texts, of figures, and of texts with what they are sorted by. It says how many rows it leaves out."""
+
+    def cell(it):
+        shown, by = it if isinstance(it, tuple) else (it, None)
+        style = "" if isinstance(shown if by is None else by, int) else ' class="name"'
+        value = "" if by is None else f' data-by="{by}"'
+        return f"<td{style}{value}>{f'{shown:,}' if isinstance(shown, int) else shown}</td>"
+
+    styles = [' class="name"' if cell(it).startswith('<td class="name"') else "" for it in rows[0]]
+    head = "".join(f'<th{style}><button type="button">{it}</button></th>' for style, it in zip(styles, heads))
+    body = "\n".join(f"<tr>{''.join(map(cell, row))}</tr>" for row in rows[:MOST_ROWS])
+    left_out = f"<p>{len(rows) - MOST_ROWS:,} more are left out.</p>" if len(rows) > MOST_ROWS else ""
+    return f'<div class="list{kind}"><table><thead><tr>{head}</tr></thead><tbody>\n{body}\n</tbody></table></div>{left_out}'
+
+
+def folded(lines):
+    """Returns lines of which the first is seen, and the others when they are asked for."""
+    if len(lines) < 2:
+        return "".join(lines)
+    more = [f"and {len(lines) - MOST_LINES:,} more"] if len(lines) > MOST_LINES else []
+    return f"<details><summary>{lines[0]}</summary>{'<br>'.join(lines[1:MOST_LINES] + more)}</details>"
+
+
+class Board:
+    """What the page says of an outline, with the days of its plan."""
+
+    def __init__(self, outline, dates):
+        self.outline, self.names, self.dates = outline, outline.names, dates
+        length = (calendar_day(dates[1]) - calendar_day(dates[0])).days if len(dates) > 1 else 0
+        self.unit, self.month = {1: "day", 7: "week"}.get(length, "period"), -(-MONTH // length) if length else 1
+        self.late, self.messages, self.released, self.hit = (
+            grouped(outline.rows[it], "plant", "item") for it in (reports.Late, reports.Advice, reports.Order, reports.Hit)
+        )
+        self.hits = grouped(outline.rows[reports.Hit], "by_plant", "by_item")
+
+    # What parts are made of.
+
+    def first(self):
+        """Returns the first day in full."""
+        day = calendar_day(self.dates[0])
+        return f"{day.day} {day:%B} {self.dates[0][:4]}, W{day.isocalendar().week:02}"
+
+    def day(self, text):
+        """Returns a day with its week, and with its year where the same day of the plan's first year could be meant."""
+        day = calendar_day(text)
+        year = f" {day.year}" if (day - calendar_day(self.dates[0])).days > 330 else ""
+        return f'<time datetime="{text}">{day.day} {day:%b}{year} <small>W{day.isocalendar().week:02}</small></time>'
+
+    def dated(self, text):
+        """Returns a cell with a day, that is sorted by it."""
+        return self.day(text), text
+
+    def lateness(self, periods):
+        """Returns a cell that says by how much something is late, marked, and from a month on with the strongest mark."""
+        mark = "late worst" if periods >= self.month else "late"
+        return f'<b class="{mark}">{reports.counted(periods, self.unit)}</b>' if periods else "", periods
+
+    def plant(self, plant):
+        return html.escape(self.names.plant(plant))
+
+    def item(self, plant, item):
+        """Returns the item as a link to its record, where the page has it."""
+        place, name = self.outline.places.get((plant, item)), html.escape(self.names.item(plant, item))
+        return name if place is None else f'<a href="#r{place}">{name}</a>'
+
+    def notes(self, kind, plant, item, period):
+        """Returns what the sheets say of a demand or of an open order."""
+        return "".join(f"<br><small>{html.escape(it)}</small>" for it in self.names.of(kind, plant, item, period))
+
+    def supply(self, text):
+        """Returns how an item is supplied: make, buy, or from which plants."""
+        word, *rest = text.split(":")
+        shares = [f" {int(it) / 10:g}%" for it in rest[1::2]] or [""]
+        return f"{word} " + ", ".join(f"{self.plant(plant)}{share}" for plant, share in zip(rest[::2], shares)) if rest else word
+
+    def section(self, name, title, content, empty):
+        """Returns a section. One without content says so, where the reports would have had it."""
+        if not content and self.outline.facts is None and name != "late":
+            return ""
+        return f'<section id="{name}">\n<h2>{title}</h2>\n{content or f"<p>{empty}</p>"}\n</section>'
+
+    # The lists.
+
+    def summary(self):
+        """Returns how many there are of what the page is about."""
+        rows = self.outline.rows
+        counts = [(len(self.outline.pairs), "pair"), (len(self.dates), self.unit), (len(rows[reports.Late]), "late order")]
+        counts += [(len(rows[kind]), word) for kind, word in ((reports.Hit, "demand"), (reports.Order, "order"), (reports.Advice, "open order"))]
+        ends = ["", "", "", " hit", " to release", " to be moved"]
+        return ", ".join(reports.counted(*it) + end for it, end in zip(counts, ends) if it[0] or not end)
+
+    def releases(self):
+        """Returns the orders to release now, a list for each plant, the late ones first."""
+        lists = []
+        for (plant,), orders in grouped(self.outline.rows[reports.Order], "plant").items():
+            orders.sort(key=lambda it: -it.late)
+            rows = [[self.item(plant, it.item), it.quantity, self.lateness(it.late), self.dated(it.due_date), self.supply(it.supply)] for it in orders]
+            lists.append(f'<div><h3>{self.plant(plant)}</h3>{sortable(["Item", "Quantity", "Late", "Due", "Supply"], rows)}</div>')
+        when = {"week": "this week", "day": "today"}.get(self.unit, "now")
+        return self.section("release", f"To release {when}", f'<div class="lists">{"".join(lists)}</div>' if lists else "", "Nothing.")
+
+    def late_orders(self):
+        """Returns the pairs with late orders, and with each the demands that wait for it."""
+        rows, hits_known = [], self.outline.facts is not None or bool(self.hits)
+        for pair, orders in self.late.items():
+            lines = [f"{it.quantity:,} due {self.day(reports.day(self.dates, it.period))}" for it in orders]
+            if len(orders) > 1:
+                lines = [f"{line}, {reports.counted(it.by, self.unit)}" for line, it in zip(lines, orders)]
+            lines += [f"or expedite {it.quantity:,} of {self.day(it.date)}" for it in self.messages.get(pair, []) if it.action == "expedite"]
+            hits = self.hits.get(pair, [])
+            ends = [len(hits), folded([self.demand(it) for it in hits])] if hits_known else []
+            rows.append([self.plant(pair[0]), self.item(*pair), self.lateness(orders[0].by), "<br>".join(lines), *ends])
+        if not rows:
+            return self.section("late", "Late orders", "", "No order is late.")
+        title, heads = ("Late orders, and the demands that they hit", ["Demands", "Worst first"]) if hits_known else ("Late orders", [])
+        note = "<p>A demand stands by the late order that delays it most, with how late it is at worst.</p>" if hits_known else ""
+        return self.section("late", title, sortable(["Plant", "Item", "Late", "Orders", *heads], rows, " stack") + note, "")
+
+    def demand(self, it):
+        """Returns a demand that is hit, and how late it is at worst."""
+        text = f"{it.quantity:,} {self.plant(it.plant)} {self.item(it.plant, it.item)} of {self.day(it.date)}, {self.lateness(it.late_at_worst)[0]}"
+        return text + self.notes("demand", it.plant, it.item, it.period)
+
+    def moves(self):
+        """Returns the open orders that are to be moved."""
+        rows = []
+        for it in self.outline.rows[reports.Advice]:
+            comes = self.day(it.date) + self.notes(it.kind, it.plant, it.item, it.period)
+            needed = self.dated(it.needed_date) if it.needed_date else ("never", "never")
+            kind = f"in transit from {self.plant(it.supplier)}" if it.supplier else "receipt"
+            rows.append([f"<b>{it.action}</b>", self.plant(it.plant), self.item(it.plant, it.item), it.quantity, (comes, it.date), needed, kind])
+        heads = ["Message", "Plant", "Item", "Quantity", "Comes", "Needed", "Kind"]
+        return self.section("moves", "Open orders to expedite, defer, cancel", sortable(heads, rows, " stack") if rows else "", "Each comes when it is needed.")
+
+    def deliveries(self):
+        """Returns the next deliveries, a list for each lane, by when they leave."""
+        lanes = {}
+        for (supplier, customer, item), rows in self.outline.calls.items():
+            closed = ""
+            for it in rows:
+                cumulative = f"{it.cumulative:,}{closed}", it.cumulative
+                if it.kind == "reset":
+                    closed = f"<br><small>{it.cumulative:,} closed</small>"
+                elif it.quantity:
+                    leaves = self.dated(it.date) if it.date else ("in transit", "")
+                    lanes.setdefault((supplier, customer), []).append([self.item(customer, item), leaves, it.quantity, cumulative])
+                    closed = "" if it.date else closed
+        lists = []
+        for plants, rows in lanes.items():
+            rows.sort(key=lambda it: it[1][1])
+            head = " to ".join(map(self.plant, plants))
+            lists.append(f'<div><h3>{head}</h3>{sortable(["Item", "Leaves", "Quantity", "Cumulative"], rows)}</div>')
+        return self.section("deliveries", "Next deliveries", f'<div class="lists">{"".join(lists)}</div>' if lists else "", "There are none.")
+
+    def lanes(self):
+        """Returns the figures between plants: what the despatch lane and the schedule lane of a supplier and a customer say of an item."""
+        lanes = self.outline.rows[reports.Lane]
+        schedule = {(it.receiver, it.sender, it.item): it for it in lanes if it.kind == "schedule"}
+        rows = []
+        for out in lanes:
+            call = schedule.get((out.sender, out.receiver, out.item)) if out.kind == "despatch" else None
+            if call:
+                figures = [out.opening, out.shipped - out.opening, call.shipped - out.shipped, call.shipped]
+                rows.append([self.plant(out.sender), self.plant(out.receiver), self.item(out.receiver, out.item), *figures])
+        heads = ["Supplier", "Customer", "Item", "Received", "In transit", "Still to be shipped", "Called for in all"]
+        return self.section("lanes", "Between plants", sortable(heads, rows), "") if rows else ""
+
+    # The records.
+
+    def picture(self, record, late):
+        """Returns what is available over the periods as a drawing: with delays, projected, safety stock, and a line where a late order is due."""
+        delayed, periods, safety = record.with_delays(late), len(record.dates), self.safety(record)
+        most, least = max(*record.available, safety), min(0, *delayed)
+
+        def height(quantity):
+            return round(100 * (most - quantity) / (most - least), 2) if most > least else 100
+
+        def steps(quantities):
+            return "".join(f"V{height(it)}H{period}" for period, it in enumerate(quantities, 1))
+
+        def path(kind, way):
+            return f'<path class="{kind}" d="M0 {way}"/>'
+
+        zero, words = height(0), f"Projected available, at most {max(record.available):,}" + (f"; safety stock {safety:,}" if safety else "")
+        drawn = path("area", f"{zero}{steps([max(it, 0) for it in delayed])}V{zero}Z") + path("edge", f"{height(record.available[0])}{steps(record.available)}")
+        drawn += path("zero", f"{zero}H{periods}") + (path("safety", f"{height(safety)}H{periods}") if safety else "")
+        if late:
+            words += f"; {reports.WITH_DELAYS.lower()}, at least {min(delayed):,}"
+            drawn += path("delayed", f"{height(delayed[0])}{steps(delayed)}") + path("short", f"{zero}{steps([min(it, 0) for it in delayed])}V{zero}Z")
+            drawn += "".join(f'<path class="due" d="M{it.period + 0.5} 0V100"/>' for it in late)
+        figures = f"at most<br>{max(record.available):,}" + (f'<br><span class="late">at least<br>{least:,}</span>' if least < 0 else "")
+        return (
+            f'<figure><figcaption>{figures}</figcaption><svg viewBox="0 0 {periods} 100" preserveAspectRatio="none" role="img">'
+            f"<title>{words}</title>{drawn}</svg></figure>"
+        )
+
+    def safety(self, record):
+        """Returns the safety stock of a pair, or 0 where it isn't known."""
+        *_, safety = (self.outline.facts or {}).get((record.plant, record.item), "0")
+        return int(safety)
+
+    def facts(self, record):
+        """Returns what is known of a pair, in a line."""
+        found, stock = (self.outline.facts or {}).get((record.plant, record.item)), f"{record.on_hand():,} on hand"
+        if not found:
+            return stock
+        supply, rule, lead, _, safety = found
+        kind, *sizes = rule.split(":")
+        rule = RULES[kind].format(*(f"{int(it):,}" for it in sizes), self.unit)
+        ends = [f"safety stock {int(safety):,}"] if safety != "0" else []
+        return ", ".join([self.supply(supply), rule, f"lead time {reports.counted(int(lead), self.unit)}", stock, *ends])
+
+    def to_do(self, record):
+        """Returns what is to be done about a pair: its orders to release, else its late orders, and its messages."""
+        pair = record.plant, record.item
+        orders = [(f"{it.quantity:,} to release,", it.due_date, it.late) for it in self.released.get(pair, [])]
+        orders = orders or [(f"{it.quantity:,}", reports.day(record.dates, it.period), it.by) for it in self.late.get(pair, [])]
+        lines = [f"{what} due {self.day(day)}" + (f", {self.lateness(late)[0]} late" if late else "") for what, day, late in orders]
+        for it in self.messages.get(pair, []):
+            needed = f", needed {self.day(it.needed_date)}" if it.needed_date else ""
+            lines.append(f"{it.action} {it.quantity:,} of {self.day(it.date)}{needed}")
+        return "<br>".join(lines)
+
+    def heads(self):
+        """Returns the heads of the periods: the year where it is another one, the week and the day."""
+        heads, year = [], ""
+        for period, text in enumerate(self.dates):
+            day, front = calendar_day(text), f"{text[:4]}<br>" if text[:4] != year else ""
+            heads.append(f'<th title="period {period}, {text}">{front}W{day.isocalendar().week:02}<br>{day.day} {day:%b}</th>')
+            year = text[:4]
+        return "".join(heads)
+
+    def lines(self, record, late):
+        """Returns the rows of a record. Late orders are marked where they are due, demands that are hit, and what is below zero."""
+
+        def line(label, figures, kind="", late=None):
+            cells = []
+            for period, it in enumerate(figures):
+                mark = f"<small>{late[period]} late</small>" if late and period in late else ""
+                style = ' class="late"' if mark or it < 0 else ""
+                cells.append(f"<td{style}>{f'{it:,}' if it or kind else ''}{mark}</td>")
+            return f'<tr{kind}><th class="name">{label}</th>{"".join(cells)}</tr>'
+
+        stock = ' class="stock"'
+        hit = {it.period: it.late_at_worst for it in self.hit.get((record.plant, record.item), [])}
+        lines = [line(reports.LABELS[0], record.gross, late=hit), line(reports.LABELS[1], record.incoming), line(reports.LABELS[2], record.available, stock)]
+        if late:
+            # (below projected available)
+            lines.append(line(reports.WITH_DELAYS, record.with_delays(late), stock))
+        due = {it.period: it.by for it in late}
+        return "\n".join([*lines, line(reports.LABELS[3], record.order, late=due), line(reports.LABELS[4], record.release)])
+
+    def article(self, record):
+        """Returns the record of a pair as a part of the page."""
+        pair = record.plant, record.item
+        late, plant, item = self.late.get(pair, []), self.plant(pair[0]), html.escape(self.names.item(*pair))
+        unfolded = " open" if any(record.release[: self.month]) else ""
+        return (
+            f'<article id="r{self.outline.places[pair]}" data-plant="{plant}" data-item="{item}"{" data-late" if late else ""}><details{unfolded}>\n'
+            f"<summary><h3>{plant} {item}</h3><span>{self.facts(record)}</span></summary>\n"
+            f'<div class="top"><p>{self.to_do(record)}</p>{self.picture(record, late)}</div>\n'
+            f'<div class="scroll"><table><thead><tr><th class="name">{self.unit.capitalize()}</th>{self.heads()}</tr></thead><tbody>\n'
+            f"{self.lines(record, late)}\n</tbody></table></div>\n</details></article>"
+        )
