@@ -5,7 +5,8 @@ from datetime import date
 
 import reports
 
-MOST_ROWS, MOST_LINES = 1000, 20
+# At most so many rows of a list, so many late orders of a pair in it, and so many demands that are hit.
+MOST_ROWS, MOST_ORDERS, MOST_LINES = 1000, 4, 20
 # The days of a month: what is released in it is unfolded, and what is late by as much is marked most.
 MONTH = 31
 RULES = {"lot": "lot for lot", "fixed": "lots of {}", "periods": "for {} {}s", "min": "at least {}, by {}"}
@@ -140,7 +141,8 @@ class Board:
         for pair, orders in self.late.items():
             lines = [f"{it.quantity:,} due {self.day(reports.day(self.dates, it.period))}" for it in orders]
             if len(orders) > 1:
-                lines = [f"{line}, {reports.counted(it.by, self.unit)}" for line, it in zip(lines, orders)]
+                lines = [f"{line}, {reports.counted(it.by, self.unit)}" for line, it in zip(lines[:MOST_ORDERS], orders)]
+                lines += [f"and {len(orders) - MOST_ORDERS:,} more"] if len(orders) > MOST_ORDERS else []
             lines += [f"or expedite {it.quantity:,} of {self.day(it.date)}" for it in self.messages.get(pair, []) if it.action == "expedite"]
             hits = self.hits.get(pair, [])
             ends = [len(hits), folded([self.demand(it) for it in hits])] if hits_known else []
