@@ -12,7 +12,8 @@ MONTH = 31
 RULES = {"lot": "lot for lot", "fixed": "lots of {}", "periods": "for {} {}s", "min": "at least {}, by {}"}
 IN_TIME = (
     f'<p id="delays">{reports.LABELS[2]} counts late orders as if they came when they are due; '
-    f"{reports.WITH_DELAYS.lower()} counts each one from when it comes, and is red where it is below zero.</p>"
+    f"{reports.WITH_DELAYS.lower()} counts each one from when it comes, and is red where it is below zero. "
+    "Late orders are marked where they are due, and requirements by how late a demand in them is at worst.</p>"
 )
 
 
@@ -273,7 +274,7 @@ class Board:
         def line(label, figures, kind="", late=None):
             cells = []
             for period, it in enumerate(figures):
-                mark = f"<small>{late[period]} late</small>" if late and period in late else ""
+                mark = f"<small>{reports.counted(late[period], self.unit).replace(' ', '&nbsp;')} late</small>" if late and period in late else ""
                 style = ' class="late"' if mark or it < 0 else ""
                 cells.append(f"<td{style}>{f'{it:,}' if it or kind else ''}{mark}</td>")
             return f'<tr{kind}><th class="name">{label}</th>{"".join(cells)}</tr>'
@@ -291,10 +292,13 @@ class Board:
         """Returns the record of a pair as a part of the page."""
         pair = record.plant, record.item
         late, plant, item = self.late.get(pair, []), self.plant(pair[0]), html.escape(self.names.item(*pair))
-        unfolded = " open" if any(record.release[: self.month]) else ""
+        released = next((day for day, it in zip(self.dates, record.release) if it), None)
+        facts, unfolded = self.facts(record), " open"
+        if not any(record.release[: self.month]):
+            facts, unfolded = facts + (f", next release {self.day(released)}" if released else ", no order"), ""
         return (
             f'<article id="r{self.outline.places[pair]}" data-plant="{plant}" data-item="{item}"{" data-late" if late else ""}><details{unfolded}>\n'
-            f"<summary><h3>{plant} {item}</h3><span>{self.facts(record)}</span></summary>\n"
+            f"<summary><h3>{plant} {item}</h3><span>{facts}</span></summary>\n"
             f'<div class="top"><p>{self.to_do(record)}</p>{self.picture(record, late)}</div>\n'
             f'<div class="scroll"><table><thead><tr><th class="name">{self.unit.capitalize()}</th>{self.heads()}</tr></thead><tbody>\n'
             f"{self.lines(record, late)}\n</tbody></table></div>\n</details></article>"
