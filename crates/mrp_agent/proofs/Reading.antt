@@ -33,7 +33,7 @@ use Rattle.mrp_agent.specs.Kept.{Indexes, IsKept}
 use Rattle.mrp_agent.specs.Reading.{HasDone, OwnIsPlanned, ReceivedFiguresAreCumulative, carried_by, incoming_of, received_over, unplanned_pairs}
 use Rattle.mrp_agent.proofs.Looking.{place_at, place_found, place_is_only, place_known}
 
--- ---- figures received_over
+-- ---- figures received
 
 -- an item that is found in the form is found among the lane's items
 found_item : (n : ℕ) (items : List IncomingItem) → find (λ i. i.item == n) (map book.book_form_item (map book_item items)) ≡ option_map (λ i. book.book_form_item (book_item i)) (find (λ i. i.item.0 == n) items)

@@ -31,7 +31,7 @@ OwnIsPlanned V planned x = IsOwnPair V x × (planned x.0 ≡ true)
 abbrev pub unplanned_pairs : PlantRows → (ℕ → Bool) → ℕ
 unplanned_pairs V planned = count_by (λ p. not (planned p.number.0)) V.pairs
 
--- ---- figures received_over
+-- ---- figures received
 
 -- the lane of a number that comes in, and the item that a lane carries
 abbrev pub incoming_of : PlantRows → LaneNo → Option IncomingLane
@@ -40,7 +40,7 @@ incoming_of V lane = find (λ z. z.number.0 == lane.0) V.incoming
 abbrev pub carried_by : ItemNo → IncomingLane → Option IncomingItem
 carried_by item lane = find (λ i. i.item.0 == item.0) lane.items
 
--- the cumulative figure received_over of an item over a lane, closed years added, where the lane comes in and
+-- the cumulative figure received of an item over a lane, closed years added, where the lane comes in and
 -- carries the item
 abbrev pub received_over : PlantRows → (ℕ → List Record) → LaneNo → ItemNo → Option ℕ
 received_over V taken lane item =

@@ -10,7 +10,7 @@ use Rattle.mrp_events.specs.Loads.{loads}
 use Rattle.mrp_events.specs.State.{State}
 
 -- what has been taken is a front of what has been sent, and the mailbox, the rest of it, is within the
--- capacity; both are legal beginnings, so each record has the number of its place; nothing is sent
+-- capacity. Both are legal beginnings, so each record has the number of its place. Nothing is sent
 -- after the closing record
 pub record KeepsOrder (N : Table) (capacity : ℕ) (s : State) (l : ℕ) : Type 0 where
   pub mailbox : List Record

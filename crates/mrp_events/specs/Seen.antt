@@ -34,7 +34,7 @@ use Rattle.mrp_events.specs.Local.{AreLegal, AreLocal, brought}
 abbrev pub despatch_load : seen.OutgoingLoad → Load
 despatch_load i = record { item = i.item.0; opening = i.figure; reset = i.reset; lines = map delivery_of i.shipments }
 
--- a schedule lane's load, from an opening figure on: the share that is called for of what is release_at for the pair
+-- a schedule lane's load, from an opening figure on: the share that is called for of what is released for the pair
 abbrev pub share_of : ℕ → ℕ → ℕ → ℕ
 share_of low high release = (release * high) / 1000 - (release * low) / 1000
 

@@ -1,4 +1,4 @@
--- What the joined_pass pass of a mailbox holds, and what is left over once all is taken.
+-- What the joined pass of a mailbox holds, and what is left over once all is taken.
 use Rattle.std.proofs.Common.{◌≡◌, ℕ, ◌+◌, ◌<◌, ◌≤◌, true, List, [], ◌∷◌, ◌++◌, drop, length, take, refl, sym, ap, subst, ◌∙◌, append_assoc, append-nil, length-append, arith, All}
 use Rattle.std.proofs.Math.Seq.{take-append_seam}
 use Rattle.std.proofs.lemmas.List.{drop_at, length-map, nil_from_length, take-append-drop, take_at}
@@ -31,7 +31,7 @@ pub both_ours : {Q A : Type 0} (box box' there : Box Q A) (p p' : Pass Record La
 both_ours box box' there p p' l l' sent taken sent_at taken_at s t is is' same ours ours' at =
     (sym (ap (λ (n : Name). n.mailbox) (names_agree box box' p p' l l' sent taken sent_at taken_at s t is is' same)) ∙ ours.0 ∙ ap (λ b. b.table.shared.table_id) (sym at), ours'.1)
 
--- what an end holds the joined_pass pass holds
+-- what an end holds the joined pass holds
 joins : {Q A : Type 0} {box : Box Q A} {p : Pass Record LaneView} {l : ℕ} {list : List Record} {counts : Counts} → Holds box p l list counts
     → (there : Box Q A) (q : Pass Record LaneView) (l' : ℕ) → IsPassOf there q → (view q).named ≡ true → (view q).lane ≡ l' → l ≡ l' → (view q).network ≡ (view p).network
     → Holds there q l' list counts
@@ -111,7 +111,7 @@ took_is_all v now left left_at so_far all whole =
     so_far ∙ ap (λ (z : List Record). record v { taken = z; taken_at = v.taken_at ++ left_at }) (sym (took_all v now left left_at so_far all))
     ∙ ap (λ (z : List ℕ). record v { taken = v.sent; taken_at = z }) (sym (took_all_at v now left left_at so_far whole))
 
--- ---- what the joined_pass pass's counts come to
+-- ---- what the joined pass's counts come to
 
 pub small_figures : {Q A : Type 0} {box : Box Q A} {p : Pass Record LaneView} {l : ℕ} {list : List Record} {counts : Counts} → Holds box p l list counts
     → All (λ i. i.opening + i.pieces ≤ MOST) counts.items

@@ -5,7 +5,7 @@ use mrp_rows::ItemNo;
 /// One record of a lane.
 ///
 /// The records of a lane are numbered from 1. Those of an item stand together, as its block: its
-/// lines, at most one reset among or after them, and the item end. The closing record is the last of all.
+/// lines, at most one reset before, among or after them, and the item end. The closing record is the last of all.
 /// The figure of an item is cumulative: it counts the pieces of all its lines so far, on top of the
 /// figure that the item opened with, and after a reset from 0 on.
 #[derive(Clone, Copy, Debug, PartialEq, Eq)]

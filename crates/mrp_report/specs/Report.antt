@@ -21,7 +21,7 @@ unfoldable pub pair_text : List ℕ → List ℕ → List (List ℕ) → PlanRow
 pair_text plant item dates rows =
     flat_map (λ t. row (plan_fields plant item (slice_index_or dates t []) rows t)) (range_with_len 0 (length dates))
 
--- the plan report: the rows of each pair, in table order
+-- the plan rows of the plan report: the rows of each pair, in table order
 unfoldable pub plan_text : Table → List PlanRows → List ℕ
 plan_text N table =
     flat_map (λ x. pair_text (plant_of N x) (item_of N x) (dates_of N.calendar) (rows_at table x)) (pairs_of N)

@@ -92,7 +92,7 @@ worst_by_rule Rule before backs fault first each worst =
 
 -- ---- what the threads of all plants come to
 
--- of the plants some front was started_plants, and all of them unless one was refused
+-- of the plants some front was started, and all of them unless one was refused
 pub record AreStarted (plants front : List Plant) (refused : Option RunFault) : Type 0 where
   pub rest : List Plant
   pub parts : plants ≡ front ++ rest

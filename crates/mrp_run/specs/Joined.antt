@@ -27,11 +27,11 @@ pub record FulfilsDuty {G S : Type 0} (Open : ℕ → ℕ → Type 0) (Rule : Ru
   pub turned : OnOk back (HasTurned Open duty.turns duty.number.0)
   pub fault : IfErr back Rule
 
--- it is what the thread was started_plants for
+-- it is what the thread was started for
 abbrev pub HasKept : {G S : Type 0} → (ℕ → ℕ → Type 0) → (RunFault → Type 0) → PromisedHandle Back (Duty G S) → Back → Type 0
 HasKept Open Rule thread back = FulfilsDuty Open Rule thread.promise back
 
--- the plants that threads were started_plants for
+-- the plants that threads were started for
 abbrev pub started_plants : {G S : Type 0} → List (PromisedHandle Back (Duty G S)) → List Plant
 started_plants threads = map (λ thread. thread.promise.plant.value) threads
 

@@ -11,7 +11,7 @@ use Rattle.mrp_run.specs.declared.network.Outcome.{Outcome}
 use Rattle.mrp_run.specs.Ends.{EachAt}
 
 -- A lane of the network carried its whole text: the list that its sending end showed when the ends were joined is a
--- whole text of the lane, the list that its taking end showed is the same, nothing is left, and the figures are those
+-- whole text of the lane. The list that its taking end showed is the same, nothing is left, and the figures are those
 -- of these lists.
 pub record IsSettled (N : Table) (l : ℕ) (r : Carried) : Type 0 where
   pub network : r.network ≡ N

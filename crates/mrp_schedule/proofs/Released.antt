@@ -97,7 +97,7 @@ schedule_calls N table s there t =
     first ∙ pieces_called from t (block load) ∙ ap (quantity_in t) (block_delivers load)
     ∙ ap (λ (r : SourceRow). quantity_in t (by_period (called_in N r) (horizon N))) (source_of_schedule N table s there)
 
--- ---- past the last period nothing is release_at
+-- ---- past the last period nothing is released
 
 rounds_length : (N : Table) (k x : ℕ) → IsPair N x → length (rows_at (rounds N (suc k)) x).release ≡ horizon N
 rounds_length N k x pair =

@@ -7,7 +7,7 @@ use Rattle.csv.specs.Machine.{line_feed}
 use Rattle.csv.specs.Writing.{comma}
 use Rattle.mrp_stream.specs.Rows.{Grows, record_line}
 
--- a record_line is its first field, then each other field with a comma before it, and the line feed
+-- a row is its first field, then each other field with a comma before it, and the line feed
 joined : {X : Type 0} (see : X → List ℕ) (word : List ℕ) (fields : List X) → join_with_byte comma (word ∷ map see fields) ≡ word ++ flat_map (λ f. comma ∷ see f) fields
 joined see word [] = sym (append-nil word)
 joined see word (f ∷ fs) = ap (λ t. word ++ comma ∷ t) (joined see (see f) fs)

@@ -1,4 +1,4 @@
--- The record_line of a record, read back.
+-- The row of a record, read back.
 use Rattle.std.proofs.Common.{◌≡◌, ◌<◌, ℕ, true, List, [], ◌∷◌, ◌++◌, length, map, codes, Some, Ok, refl, sym, ap, ◌∙◌, append-nil}
 use Rattle.std.specs.List.{All, join_with_byte, list_all}
 use Rattle.std.specs.Str.{is_utf8}
@@ -21,7 +21,7 @@ use Rattle.mrp_stream.specs.Grammar.{spelled_close, spelled_end, item_named, spe
 use Rattle.mrp_stream.proofs.Bytes.{IsPlain, name_plain, number_text_plain, plain_unquoted, plain_utf8}
 use Rattle.mrp_stream.proofs.Names.{item_of_name}
 
--- ---- the record of its own record_line
+-- ---- the record of its own row
 
 -- each field has bytes of names alone
 abbrev pub AllPlain : List (List ℕ) → Type 0
@@ -92,7 +92,7 @@ pub record_read : (N : Table) (r : Record) → IsTable N → HasRow N r → reco
 unfolding record_of
 record_read N r is has = rw (plain_text (record_fields N r) (record_plain N r is has)) (spelled_read N r is has)
 
--- ---- the record_line as csv writes it
+-- ---- the row as csv writes it
 
 fields_plain : (first : List ℕ) (fields : List (List ℕ)) → AllPlain fields → first ++ fields_text default_writer fields ≡ join_with_byte comma (first ∷ fields)
 unfolding fields_text

@@ -29,7 +29,7 @@ record_fields_used kind.ItemEnd = 5
 record_fields_used kind.Reset = 4
 record_fields_used kind.Close = 2
 
--- the fields that are not record_fields_used are empty
+-- the fields that are not used are empty
 abbrev pub record_is_empty_from : List (List ℕ) → ℕ → Bool
 record_is_empty_from row used = is_free row used 2 && is_free row used 3 && is_free row used 4 && is_free row used 5
 

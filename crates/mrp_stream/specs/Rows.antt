@@ -1,4 +1,4 @@
--- The record_line of a record: its fields, and its bytes.
+-- The row of a record: its fields, and its bytes.
 use Rattle.std.specs.Prelude.{◌≡◌, ℕ, ◌<◌, List, [], ◌∷◌, ◌++◌, length, slice_index_or, codes, All, Option, Some, None, IfSome}
 use Rattle.std.specs.List.{flat_map, join_with_byte}
 use Rattle.csv.specs.Machine.{line_feed}
@@ -36,15 +36,15 @@ record_fields N (ItemEnd number item lines cumulative) = end_fields number (reco
 record_fields N (Reset number item closed) = reset_record_fields number (record_item_name N item) closed
 record_fields N (Close number) = close_fields number
 
--- a record_line: fields with commas between them, and a line feed at the end
+-- a row: fields with commas between them, and a line feed at the end
 unfoldable pub record_line : List (List ℕ) → List ℕ
 record_line fields = join_with_byte comma fields ++ line_feed ∷ []
 
--- the record_line of a record
+-- the row of a record
 abbrev pub record_text : Table → Record → List ℕ
 record_text N r = record_line (record_fields N r)
 
--- the text of records, a record_line each
+-- the text of records, a row each
 abbrev pub records_text : Table → List Record → List ℕ
 records_text N records = flat_map (record_text N) records
 
@@ -62,7 +62,7 @@ item_in_record (ItemEnd number item lines cumulative) = Some item
 item_in_record (Reset number item closed) = Some item
 item_in_record (Close number) = None
 
--- a record that has a record_line: each number is below 10^16, and its item is one of the network
+-- a record that has a row: each number is below 10^16, and its item is one of the network
 pub record HasRow (N : Table) (r : Record) : Type 0 where
   pub numbers : All IsShort (numbers_of r)
   pub item : IfSome (item_in_record r) (λ item. item.0 < length N.items)

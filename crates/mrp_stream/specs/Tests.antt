@@ -62,6 +62,6 @@ abbrev pub record_refusal : {A : Type 0} → Result A RecordFaultKind → Option
 record_refusal (Ok r) = None
 record_refusal (Err e) = Some e
 
--- a row is refused for the first fault of the list whose test it fails, and taken where it record_passes all of them
+-- a row is refused for the first fault of the list whose test it fails, and taken where it passes all of them
 abbrev pub RowsHaveTheirFirstFault : Type 0
 RowsHaveTheirFirstFault = (N : Table) (row : List (List ℕ)) → record_refusal (record_of N row) ≡ find (λ e. not (record_passes N row e)) row_faults

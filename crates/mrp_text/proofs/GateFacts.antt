@@ -1,5 +1,5 @@
 -- What a fault of a run says of its gate, and that a gate that is always open is never answered as shut.
-use Rattle.std.proofs.Common.{◌≡◌, ℕ, Bool, true, false, length, List, Option, Result, Ok, Err, IfErr, IsErrAnd, OnOk, ⊎_elim, subst, sym, refl}
+use Rattle.std.proofs.Common.{◌≡◌, ℕ, ◌≤◌, arith, Bool, true, false, length, List, Option, Result, Ok, Err, IfErr, IsErrAnd, OnOk, ⊎_elim, subst, sym, refl}
 use Rattle.std.proofs.lemmas.Bool.{false≢true}
 use Rattle.mrp_rows.specs.Table.{Table}
 use Rattle.mrp_run.specs.declared.fault.RunFault.{RunFault}
@@ -13,7 +13,7 @@ use Rattle.mrp_text.specs.Answer.{IsNoShutGate, question_of}
 use Rattle.mrp_text.specs.Fault.{IsLate}
 use Rattle.mrp_text.specs.Gates.{GateExplains, IsGateFault}
 use Rattle.mrp_text.specs.Runs.{IsInNetwork, IsOfRun, IsRunFault}
-use Rattle.mrp_text.specs.Refusals.{IsThreaded, OfPlan, OfThreads, Question, Refuses, RefusesTable}
+use Rattle.mrp_text.specs.Refusals.{IsThreaded, AskWhole, AskByThreads, Question, Refuses, RefusesTable}
 use Rattle.mrp_text.specs.Text.{IsTableOf, OfTable}
 
 pub in_network : (Shut Spent : ℕ → Type 0) (N : Table) (f : RunFault) → IsFaultIn Shut Spent N f → IsInNetwork N f
@@ -23,12 +23,14 @@ in_network Shut Spent N (run.GateShut plant) is = is.0
 in_network Shut Spent N run.Stopped is = tt
 
 -- the fault that a run's fault is
-pub run_fault : (N : Table) (f : RunFault) (said : TextFault) → IsOfRun N f said → IsRunFault N said
-run_fault N run.Memory said of = subst (IsRunFault N) (sym of) tt
-run_fault N run.ThreadRefused said of = subst (IsRunFault N) (sym of) tt
-run_fault N (run.GateShut plant) (fault.GateShut name) of = (plant.0, of)
-run_fault N (run.GateShut plant) _ of = absurd of
-run_fault N run.Stopped said of = subst (IsRunFault N) (sym of) tt
+pub run_fault : (Shut Spent : ℕ → Type 0) (N : Table) (f : RunFault) (said : TextFault) → IsFaultIn Shut Spent N f → IsOfRun N f said → IsRunFault N said
+run_fault Shut Spent N run.Memory said is of = subst (IsRunFault N) (sym of) tt
+run_fault Shut Spent N run.ThreadRefused said is of = subst (IsRunFault N) (sym of) tt
+run_fault Shut Spent N (run.GateShut plant) (fault.GateShut name) is of = (plant.0, of)
+run_fault Shut Spent N (run.GateShut plant) _ is of = absurd of
+run_fault Shut Spent N run.Stopped said is of =
+    let some : 1 ≤ length N.plants = omega (arith, is.1) in
+    subst (IsRunFault N) (sym of) some
 
 -- ---- what the gate explains
 
@@ -48,7 +50,7 @@ late_fault Shut Spent N (fault.GateShut name) late = absurd late
 late_fault Shut Spent N fault.Stopped late = absurd late
 late_fault Shut Spent N _ late = tt
 
-refused_fault : (Shut Spent : ℕ → Type 0) (N : Table) (f : TextFault) → RefusesTable OfPlan N f → IsGateFault Shut Spent (InTable N) f
+refused_fault : (Shut Spent : ℕ → Type 0) (N : Table) (f : TextFault) → RefusesTable AskWhole N f → IsGateFault Shut Spent (InTable N) f
 refused_fault Shut Spent N (fault.GateShut name) said = absurd said.1
 refused_fault Shut Spent N fault.Stopped said = absurd said.1
 refused_fault Shut Spent N _ said = tt
@@ -58,7 +60,7 @@ text_fault Shut Spent known N (fault.GateShut name) is said = (N, is, said)
 text_fault Shut Spent known N fault.Stopped is said = (N, is, said)
 text_fault Shut Spent known N _ is said = tt
 
-text_refused : (Shut Spent : ℕ → Type 0) (known : Option (List ℕ)) (f : TextFault) → Refuses known OfPlan f → IsGateFault Shut Spent (OfTable known) f
+text_refused : (Shut Spent : ℕ → Type 0) (known : Option (List ℕ)) (f : TextFault) → Refuses known AskWhole f → IsGateFault Shut Spent (OfTable known) f
 text_refused Shut Spent known (fault.GateShut name) said = absurd said.2.1
 text_refused Shut Spent known fault.Stopped said = absurd said.2.1
 text_refused Shut Spent known _ said = tt
@@ -85,10 +87,10 @@ module _ (Open Shut Worker : ℕ → ℕ → Type 0) (workers turns : ℕ) where
   gate_late N (Err f) turned late = record { turned = tt; shut = late_fault Was Spent N f late }
 
   -- one that was refused before
-  pub gate_refused : {U : Type 0} (N : Table) (f : TextFault) → RefusesTable OfPlan N f → GateExplains {U = U} Open Shut Worker workers turns (InTable N) (Err f)
+  pub gate_refused : {U : Type 0} (N : Table) (f : TextFault) → RefusesTable AskWhole N f → GateExplains {U = U} Open Shut Worker workers turns (InTable N) (Err f)
   gate_refused N f said = record { turned = tt; shut = refused_fault Was Spent N f said }
 
-  pub gate_unread : {U : Type 0} (known : Option (List ℕ)) (f : TextFault) → Refuses known OfPlan f → GateExplains {U = U} Open Shut Worker workers turns (OfTable known) (Err f)
+  pub gate_unread : {U : Type 0} (known : Option (List ℕ)) (f : TextFault) → Refuses known AskWhole f → GateExplains {U = U} Open Shut Worker workers turns (OfTable known) (Err f)
   gate_unread known f said = record { turned = tt; shut = text_refused Was Spent known f said }
 
   -- a fault that is handed on
@@ -123,7 +125,7 @@ open_gate Open crew turns known (Ok u) gate = tt
 open_gate Open crew turns known (Err f) gate = open_fault Open crew turns (WasSpent Open turns) known f gate.shut
 
 -- a plan that isn't asked for on one thread
-pub asks_threads : (workers capacity : ℕ) (single : Bool) → single ≡ false → question_of (Plan workers capacity single) ≡ OfThreads
+pub asks_threads : (workers capacity : ℕ) (single : Bool) → single ≡ false → question_of (Plan workers capacity single) ≡ AskByThreads
 asks_threads workers capacity true e = absurd (false≢true (sym e))
 asks_threads workers capacity false e = refl
 

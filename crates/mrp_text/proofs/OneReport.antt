@@ -35,7 +35,7 @@ use Rattle.mrp_text.specs.Answer.{IsAnswer, question_of}
 use Rattle.mrp_text.specs.Fault.{status_of, table_status_of}
 use Rattle.mrp_text.specs.Laws.{BytesMakeOneTable, ReportsAreOne, ReportsExcludeRefusals}
 use Rattle.mrp_text.specs.Text.{IsPlanReport}
-use Rattle.mrp_text.specs.Refusals.{IsPairUnknown, IsPeriodUnknown, IsPlantUnknown, IsUnknownPlant, RefusesTable}
+use Rattle.mrp_text.specs.Refusals.{LacksPair, LacksPeriod, LacksPlant, IsNoPlant, RefusesTable}
 use Rattle.mrp_text.specs.Reports.{IsHeaded, IsCodeReport, IsCumReport, IsPegReport, IsPlanRows}
 use Rattle.mrp_text.proofs.TableFacts.{tables_are_read}
 use Rattle.mrp_text.specs.Reports.{IsChosenPlant, IsPegsReport, IsScheduleReport, name_of}
@@ -126,7 +126,7 @@ answer_sized (Pegs heading) N text is = is.1.0
 answer_sized (Advice heading) N text is = is.0
 
 -- a report about a pair and a period is of a pair and a period that are there
-pair_known : (choice : Choice) (N : Table) (text : List ℕ) → IsAnswer choice N text → IsPairUnknown (question_of choice) N → ⊥
+pair_known : (choice : Choice) (N : Table) (text : List ℕ) → IsAnswer choice N text → LacksPair (question_of choice) N → ⊥
 pair_known (Plan workers capacity true) N text is unknown = unknown
 pair_known (Plan workers capacity false) N text is unknown = unknown
 pair_known (Check heading) N text is unknown = unknown
@@ -137,7 +137,7 @@ pair_known (Schedule from to heading) N text is unknown = unknown
 pair_known (Pegs heading) N text is unknown = unknown
 pair_known (Advice heading) N text is unknown = unknown
 
-period_known : (choice : Choice) (N : Table) (text : List ℕ) → IsAnswer choice N text → IsPeriodUnknown (question_of choice) N → ⊥
+period_known : (choice : Choice) (N : Table) (text : List ℕ) → IsAnswer choice N text → LacksPeriod (question_of choice) N → ⊥
 period_known (Plan workers capacity true) N text is unknown = unknown
 period_known (Plan workers capacity false) N text is unknown = unknown
 period_known (Check heading) N text is unknown = unknown
@@ -149,13 +149,13 @@ period_known (Pegs heading) N text is unknown = unknown
 period_known (Advice heading) N text is unknown = unknown
 
 -- one about plants is of plants that are there
-name_known : (N : Table) (name : Option (List ℕ)) (f : Option PlantNo) → IsChosenPlant N name f → IsUnknownPlant N name → ⊥
+name_known : (N : Table) (name : Option (List ℕ)) (f : Option PlantNo) → IsChosenPlant N name f → IsNoPlant N name → ⊥
 name_known N None f is unknown = unknown
 name_known N (Some name) None is unknown = is
 name_known N (Some name) (Some p) is unknown =
     unknown (p.0, slice_get_within N.plants p.0 name is, get_or_from_slice_get N.plants p.0 name name is)
 
-plant_known : (choice : Choice) (N : Table) (text : List ℕ) → IsAnswer choice N text → IsPlantUnknown (question_of choice) N → ⊥
+plant_known : (choice : Choice) (N : Table) (text : List ℕ) → IsAnswer choice N text → LacksPlant (question_of choice) N → ⊥
 plant_known (Plan workers capacity true) N text is unknown = unknown
 plant_known (Plan workers capacity false) N text is unknown = unknown
 plant_known (Check heading) N text is unknown = unknown

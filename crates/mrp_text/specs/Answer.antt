@@ -9,7 +9,7 @@ use Rattle.mrp_text.specs.Fault.{IsBeforeWriting, status_of}
 use Rattle.mrp_report.specs.Headings.{code_names, lane_names, peg_names, pegs_names}
 use Rattle.mrp_text.specs.Text.{IsPlanReport}
 use Rattle.mrp_text.specs.Reports.{IsCodeReport, IsPegReport, IsCumReport, IsOrderReport, IsHeaded}
-use Rattle.mrp_text.specs.Refusals.{Question, OfPlan, OfThreads, OfPair, OfPlants}
+use Rattle.mrp_text.specs.Refusals.{Question, AskWhole, AskByThreads, AskPair, AskPlants}
 use Rattle.mrp_text.specs.Reports.{IsScheduleReport, IsPegsReport, IsAdviceReport, name_of}
 
 -- the report that a choice asks for
@@ -25,15 +25,15 @@ IsAnswer (Advice heading) = IsAdviceReport heading
 
 -- what a choice asks of a table
 abbrev pub question_of : Choice → Question
-question_of (Plan workers capacity true) = OfPlan
-question_of (Plan workers capacity false) = OfThreads
-question_of (Check heading) = OfPlan
-question_of (Peg plant item period heading) = OfPair plant.now item.now period
-question_of (Cums heading) = OfPlan
-question_of (Orders until heading) = OfPlan
-question_of (Schedule from to heading) = OfPlants (name_of from) (name_of to)
-question_of (Pegs heading) = OfPlan
-question_of (Advice heading) = OfPlan
+question_of (Plan workers capacity true) = AskWhole
+question_of (Plan workers capacity false) = AskByThreads
+question_of (Check heading) = AskWhole
+question_of (Peg plant item period heading) = AskPair plant.now item.now period
+question_of (Cums heading) = AskWhole
+question_of (Orders until heading) = AskWhole
+question_of (Schedule from to heading) = AskPlants (name_of from) (name_of to)
+question_of (Pegs heading) = AskWhole
+question_of (Advice heading) = AskWhole
 
 -- the faults after which nothing of the report is written: of a plan those that are met before its first byte,
 -- of every other report all but a failed write

@@ -39,25 +39,25 @@ IsOfBound N _ _ = ⊥
 -- ---- the faults of each step
 
 -- reading answers the first fault of the rows
-abbrev pub IsRowFault : Option (List ℕ) → TextFault → Type 0
-IsRowFault known (fault.Table e) = OfRecords (option_map strip_bom known) (TellsRows (Err e))
-IsRowFault known _ = ⊥
+abbrev pub RowsAnswer : Option (List ℕ) → TextFault → Type 0
+RowsAnswer known (fault.Table e) = OfRecords (option_map strip_bom known) (TellsRows (Err e))
+RowsAnswer known _ = ⊥
 
 -- or that memory was wanting for the network
-abbrev pub IsReadFault : Option (List ℕ) → TextFault → Type 0
-IsReadFault known (fault.Table e) = OfRecords (option_map strip_bom known) (TellsRows (Err e))
-IsReadFault known fault.Memory = Unit {0}
-IsReadFault known _ = ⊥
+abbrev pub NetworkAnswers : Option (List ℕ) → TextFault → Type 0
+NetworkAnswers known (fault.Table e) = OfRecords (option_map strip_bom known) (TellsRows (Err e))
+NetworkAnswers known fault.Memory = Unit {0}
+NetworkAnswers known _ = ⊥
 
--- the loop check answers a loop
-abbrev pub IsLoopFault : Table → TextFault → Type 0
-IsLoopFault N (fault.Loop names) = IsLoopNamed N names.items
-IsLoopFault N fault.Memory = Unit {0}
-IsLoopFault N _ = ⊥
+-- the loop check answers a loop, or that memory was wanting
+abbrev pub LoopCheckAnswers : Table → TextFault → Type 0
+LoopCheckAnswers N (fault.Loop names) = IsLoopNamed N names.items
+LoopCheckAnswers N fault.Memory = Unit {0}
+LoopCheckAnswers N _ = ⊥
 
--- the bound answers a pair past it
-abbrev pub IsBoundFault : Table → List ℕ → TextFault → Type 0
-IsBoundFault N codes (fault.SupplyTooLarge name) = IsSupplyNamed N name
-IsBoundFault N codes (fault.NeedTooLarge name) = IsNeedNamed N codes name
-IsBoundFault N codes fault.Memory = Unit {0}
-IsBoundFault N codes _ = ⊥
+-- the bound answers a pair past it, or that memory was wanting
+abbrev pub BoundAnswers : Table → List ℕ → TextFault → Type 0
+BoundAnswers N codes (fault.SupplyTooLarge name) = IsSupplyNamed N name
+BoundAnswers N codes (fault.NeedTooLarge name) = IsNeedNamed N codes name
+BoundAnswers N codes fault.Memory = Unit {0}
+BoundAnswers N codes _ = ⊥

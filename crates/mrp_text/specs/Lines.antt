@@ -18,8 +18,8 @@ abbrev pub SendsText : {U E : Type 0} → Option (List ℕ) → Option (List ℕ
 SendsText old new result text = MatchResult result (λ _. Appends old new text) (λ _. AppendsFront old new text)
 
 -- pieces of text one after the other
-abbrev pub in_one : List (List ℕ) → List ℕ
-in_one pieces = flat_map (λ piece. piece) pieces
+abbrev pub concatenated : List (List ℕ) → List ℕ
+concatenated pieces = flat_map (λ piece. piece) pieces
 
 -- what a fault of the calendar is called
 abbrev pub calendar_word : CalFault → List ℕ
@@ -51,7 +51,7 @@ table_fault_word kind.Memory = codes "Memory"
 table_fault_word kind.ResetOrder = codes "ResetOrder"
 
 unfoldable pub row_line : TableFault → List ℕ
-row_line fault = in_one (codes "mrp: row " ∷ decimal fault.row ∷ codes ": " ∷ table_fault_word fault.kind ∷ codes "\n" ∷ [])
+row_line fault = concatenated (codes "mrp: row " ∷ decimal fault.row ∷ codes ": " ∷ table_fault_word fault.kind ∷ codes "\n" ∷ [])
 
 -- the line of a fault of the table: want of memory has no row
 abbrev pub table_line_of : TableFault → TableFaultKind → List ℕ
@@ -63,18 +63,18 @@ table_line fault = table_line_of fault fault.kind
 
 -- a fault that names a pair
 unfoldable pub pair_line : List ℕ → PairName → List ℕ
-pair_line words pair = in_one (words ∷ string_bytes pair.plant ∷ codes "/" ∷ string_bytes pair.item ∷ codes "\n" ∷ [])
+pair_line words pair = concatenated (words ∷ string_bytes pair.plant ∷ codes "/" ∷ string_bytes pair.item ∷ codes "\n" ∷ [])
 
 -- a pair of a loop
 unfoldable pub loop_word : PairName → List ℕ
-loop_word pair = in_one (codes " " ∷ string_bytes pair.plant ∷ codes "/" ∷ string_bytes pair.item ∷ [])
+loop_word pair = concatenated (codes " " ∷ string_bytes pair.plant ∷ codes "/" ∷ string_bytes pair.item ∷ [])
 
 unfoldable pub loop_line : List PairName → List ℕ
 loop_line pairs = codes "mrp: loop" ++ (flat_map loop_word pairs ++ codes "\n")
 
 -- the line of a gate that was shut for a plant
 unfoldable pub gate_line : List ℕ → List ℕ
-gate_line plant = in_one (codes "mrp: GateShut " ∷ plant ∷ codes "\n" ∷ [])
+gate_line plant = concatenated (codes "mrp: GateShut " ∷ plant ∷ codes "\n" ∷ [])
 
 -- the line of each fault
 abbrev pub fault_line : TextFault → List ℕ

@@ -41,34 +41,34 @@ IsNeedNamed N codes name = (x : ℕ) × IsNeedTooLarge N codes x × IsPairName N
 
 -- what is asked of a table: its plan, or a report of all of it; the plan by threads; a pair in a period; plants by their names
 pub data Question : Type 0 where
-  OfPlan : Question
-  OfThreads : Question
-  OfPair : (plant item : List ℕ) (period : ℕ) → Question
-  OfPlants : (from to : Option (List ℕ)) → Question
+  AskWhole : Question
+  AskByThreads : Question
+  AskPair : (plant item : List ℕ) (period : ℕ) → Question
+  AskPlants : (from to : Option (List ℕ)) → Question
 
 -- a pair is asked for, and the table has none of these names
-abbrev pub IsPairUnknown : Question → Table → Type 0
-IsPairUnknown (OfPair plant item period) N = (x : ℕ) → ¬ (IsNamed N x plant item)
-IsPairUnknown _ N = ⊥
+abbrev pub LacksPair : Question → Table → Type 0
+LacksPair (AskPair plant item period) N = (x : ℕ) → ¬ (IsNamed N x plant item)
+LacksPair _ N = ⊥
 
 -- the table has the pair that is asked for, and no such period
-abbrev pub IsPeriodUnknown : Question → Table → Type 0
-IsPeriodUnknown (OfPair plant item period) N = (x : ℕ) × IsNamed N x plant item × (horizon N ≤ period)
-IsPeriodUnknown _ N = ⊥
+abbrev pub LacksPeriod : Question → Table → Type 0
+LacksPeriod (AskPair plant item period) N = (x : ℕ) × IsNamed N x plant item × (horizon N ≤ period)
+LacksPeriod _ N = ⊥
 
 -- a name is given, and no plant has it
-abbrev pub IsUnknownPlant : Table → Option (List ℕ) → Type 0
-IsUnknownPlant N None = ⊥
-IsUnknownPlant N (Some name) = ¬ Contains N.plants name
+abbrev pub IsNoPlant : Table → Option (List ℕ) → Type 0
+IsNoPlant N None = ⊥
+IsNoPlant N (Some name) = ¬ Contains N.plants name
 
 -- plants are asked for, and one of the names that are given is no plant's
-abbrev pub IsPlantUnknown : Question → Table → Type 0
-IsPlantUnknown (OfPlants from to) N = IsUnknownPlant N from ⊎ IsUnknownPlant N to
-IsPlantUnknown _ N = ⊥
+abbrev pub LacksPlant : Question → Table → Type 0
+LacksPlant (AskPlants from to) N = IsNoPlant N from ⊎ IsNoPlant N to
+LacksPlant _ N = ⊥
 
 -- plants run in threads
 abbrev pub IsThreaded : Question → Type 0
-IsThreaded OfThreads = Unit {0}
+IsThreaded AskByThreads = Unit {0}
 IsThreaded _ = ⊥
 
 -- a plant of the network has the name
@@ -76,19 +76,19 @@ abbrev pub IsPlantName : Table → List ℕ → Type 0
 IsPlantName N name = (p : ℕ) × (slice_get N.plants p ≡ Some name)
 
 -- What a fault says of a table that was read. All but a loop and a quantity past the bound come of a table that can be
--- planned. Of a failed write and of refused memory it says nothing; why a thread was refused, a gate was shut or a run
--- was stopped, `GateExplains` says
+-- planned. Of a failed write and of refused memory it says nothing, and of a refused thread that threads were asked for.
+-- For whom a gate was shut, and that turns were used, `GateExplains` says
 abbrev pub RefusesTable : Question → Table → TextFault → Type 0
 RefusesTable asked N (fault.Table e) = ⊥
 RefusesTable asked N (fault.Loop names) = IsLoopNamed N names.items
 RefusesTable asked N (fault.SupplyTooLarge name) = IsLoopFree N × IsSupplyNamed N name
 RefusesTable asked N (fault.NeedTooLarge name) = IsLoopFree N × ((codes : List ℕ) × AreCodes N codes × IsNeedNamed N codes name)
-RefusesTable asked N fault.NoPair = IsSized N × IsPairUnknown asked N
-RefusesTable asked N fault.NoPeriod = IsSized N × IsPeriodUnknown asked N
-RefusesTable asked N fault.NoPlant = IsSized N × IsPlantUnknown asked N
+RefusesTable asked N fault.NoPair = IsSized N × LacksPair asked N
+RefusesTable asked N fault.NoPeriod = IsSized N × LacksPeriod asked N
+RefusesTable asked N fault.NoPlant = IsSized N × LacksPlant asked N
 RefusesTable asked N fault.ThreadRefused = IsSized N × IsThreaded asked
 RefusesTable asked N (fault.GateShut name) = IsSized N × IsThreaded asked × IsPlantName N (string_bytes name)
-RefusesTable asked N fault.Stopped = IsSized N × IsThreaded asked
+RefusesTable asked N fault.Stopped = IsSized N × IsThreaded asked × (1 ≤ length N.plants)
 RefusesTable asked N fault.WriteFault = Unit {0}
 RefusesTable asked N fault.Memory = Unit {0}
 

@@ -34,7 +34,7 @@ IsPlanReport N text = IsSized N × (text ≡ plan_text N (plan_of N) ++ late_tex
 -- what became of a text: all of it was written; a prefix that lacks something, at a failed write; nothing or some
 -- prefix, out of memory; nothing, at every other fault
 abbrev pub Writes : {U : Type 0} → Option (List ℕ) → Option (List ℕ) → Result U TextFault → (List ℕ → Type 0) → Type 0
-Writes old new (Ok _) IsText = (text : List ℕ) × IsText text × Appends old new text
-Writes old new (Err fault.WriteFault) IsText = (text : List ℕ) × IsText text × AppendsFront old new text
-Writes old new (Err fault.Memory) IsText = Keeps old new ⊎ ((text : List ℕ) × IsText text × AppendsSome old new text)
-Writes old new (Err _) IsText = Keeps old new
+Writes old new (Ok _) IsReport = (text : List ℕ) × IsReport text × Appends old new text
+Writes old new (Err fault.WriteFault) IsReport = (text : List ℕ) × IsReport text × AppendsFront old new text
+Writes old new (Err fault.Memory) IsReport = Keeps old new ⊎ ((text : List ℕ) × IsReport text × AppendsSome old new text)
+Writes old new (Err _) IsReport = Keeps old new

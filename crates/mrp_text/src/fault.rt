@@ -19,7 +19,7 @@ pub struct PairName {
 }
 
 /// Why a text was not written whole. Of the table, its loops and quantities and the question the first fault
-/// that holds, in this order, is answered; what plants that run in threads meet comes behind all of these, and
+/// that holds, in this order, is answered. What plants that run in threads meet comes behind all of these, and
 /// of several such faults any may be answered. A refused growth ends the work where it happens.
 #[derive(Debug, Drop, Error)]
 pub enum TextFault {

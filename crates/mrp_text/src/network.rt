@@ -10,7 +10,7 @@ ghost use Rattle.mrp_loops.specs.Loop.{IsLoopFree};
 ghost use Rattle.mrp_loops.specs.Codes.{AreCodes};
 ghost use Rattle.mrp_text.specs.Text.{IsTableOf};
 ghost use Rattle.mrp_text.specs.Refusals.{IsPairName, AreCalled};
-ghost use Rattle.mrp_text.specs.Checks.{AreLoopPairs, IsBoundFault, IsBoundPair, IsLoopFault, IsOfBound, IsOfLoop, IsReadFault, IsRowFault};
+ghost use Rattle.mrp_text.specs.Checks.{AreLoopPairs, BoundAnswers, IsBoundPair, LoopCheckAnswers, IsOfBound, IsOfLoop, NetworkAnswers, RowsAnswer};
 
 use crate::fault::{PairName, TextFault};
 use mrp_loops::{BoundFault, Levels, LoopFault, SizedNet, bound, check};
@@ -23,7 +23,7 @@ use std::io::Read;
 /// The network of the table.
 pub(crate) fn network_of<R: Read + Drop>(alloc: Global, reader: R) -> Result<Network, TextFault>
     ensures rows { IfOk result (IsTableOf (R.remaining reader)) }
-    ensures refusal { IfErr result (IsReadFault (R.remaining reader)) }
+    ensures refusal { IfErr result (NetworkAnswers (R.remaining reader)) }
 {
     let tables = tables_of(alloc, reader)?;
     let network = Network::of(alloc, tables)?;
@@ -35,7 +35,7 @@ pub(crate) fn network_of<R: Read + Drop>(alloc: Global, reader: R) -> Result<Net
 /// The table.
 fn tables_of<R: Read + Drop>(alloc: Global, reader: R) -> Result<Tables, TextFault>
     ensures rows { IfOk result (λ tables. OfRecords (option_map strip_bom (R.remaining reader)) (TellsRows (Ok tables))) }
-    ensures refusal { IfErr result (IsRowFault (R.remaining reader)) }
+    ensures refusal { IfErr result (RowsAnswer (R.remaining reader)) }
 {
     match read_tables_uncounted(alloc, reader) {
         Ok(tables) => Ok(tables),
@@ -53,7 +53,7 @@ fn table_fault(fault: TableFault) -> TextFault
 /// The low-level codes of a network without loops.
 pub(crate) fn levels_of(alloc: Global, network: &Network) -> Result<Levels, TextFault>
     ensures codes { IfOk result (λ levels. AreCodes network.now levels × IsLoopFree network.now) }
-    ensures refusal { IfErr result (IsLoopFault network.now) }
+    ensures refusal { IfErr result (LoopCheckAnswers network.now) }
 {
     // Every table has what its edges name, so the pairs of a loop have names.
     let _pairs = network.pairs();
@@ -86,7 +86,7 @@ pub(crate) fn sized_of<'a>(
     requires loop_free { IsLoopFree network.now }
     ensures network { IfOk result (λ net. net.network ≡ network.now) }
     ensures plannable { IfOk result (λ _. IsSized network.now) }
-    ensures refusal { IfErr result (IsBoundFault network.now levels.now) }
+    ensures refusal { IfErr result (BoundAnswers network.now levels.now) }
 {
     match bound(alloc, network, levels) {
         Ok(net) => {

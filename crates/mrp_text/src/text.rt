@@ -15,7 +15,7 @@ ghost use Rattle.mrp_text.specs.Reports.{WritesRows, IsPlanRows, IsCodeReport};
 ghost use Rattle.mrp_report.specs.Headings.{code_names, lane_names, peg_names, pegs_names};
 ghost use Rattle.mrp_text.specs.Reports.{IsPegReport, IsCumReport, IsOrderReport, IsHeaded};
 ghost use Rattle.mrp_text.specs.Reports.{IsAdviceReport, IsPegsReport, IsScheduleReport, name_of};
-ghost use Rattle.mrp_text.specs.Refusals.{Refuses, OfPlan, OfThreads, OfPair, OfPlants};
+ghost use Rattle.mrp_text.specs.Refusals.{Refuses, AskWhole, AskByThreads, AskPair, AskPlants};
 ghost use Rattle.mrp_text.specs.Gates.{GateExplains};
 ghost use Rattle.mrp_choice.specs.declared.choice.TheConstants.{MOST_CAPACITY};
 
@@ -36,8 +36,8 @@ use std::thread::Threads;
 /// workers: a row for each pair and period, then a row for each late order.
 ///
 /// The text is that of [`drive_text`], for every number of workers and every capacity. Before each turn
-/// of a plant and the work of each worker `gate` is asked; where the call ends well, the gate was open to the
-/// first turns of each plant, one or more. The call may wait, and it isn't claimed that it returns.
+/// of a plant and the work of each worker `gate` is asked (by construction; no clause says so). Where the call ends
+/// well, the gate was open to the first turns of each plant, one or more. The call may wait, and it isn't claimed that it returns.
 ///
 /// # Errors
 ///
@@ -55,7 +55,7 @@ pub fn plan_text<T: Threads + Wait + Sync, R: Read + Drop, W: Write, G: Gate>(
 ) -> Result<(), TextFault>
     ensures text { Writes (W.contents writer.old) (W.contents writer.new) result (λ text. OfTable (R.remaining reader) (λ N. IsPlanReport N text)) }
     ensures rows { WritesRows W.contents writer.old writer.new result (λ rows. OfTable (R.remaining reader) (λ N. IsPlanRows N rows)) }
-    ensures refusal { IfErr result (Refuses (R.remaining reader) OfThreads) }
+    ensures refusal { IfErr result (Refuses (R.remaining reader) AskByThreads) }
     ensures untouched { IfErr result (λ fault. IsBeforeWriting fault → writer.new ≡ writer.old) }
     ensures gate { GateExplains G.turn_open G.turn_shut G.worker_shut settings.workers MOST_TURNS (OfTable (R.remaining reader)) result }
 {
@@ -93,7 +93,7 @@ pub fn drive_text<R: Read + Drop, W: Write>(
     requires within { capacity ≤ MOST_CAPACITY }
     ensures text { Writes (W.contents writer.old) (W.contents writer.new) result (λ text. OfTable (R.remaining reader) (λ N. IsPlanReport N text)) }
     ensures rows { WritesRows W.contents writer.old writer.new result (λ rows. OfTable (R.remaining reader) (λ N. IsPlanRows N rows)) }
-    ensures refusal { IfErr result (Refuses (R.remaining reader) OfPlan) }
+    ensures refusal { IfErr result (Refuses (R.remaining reader) AskWhole) }
     ensures untouched { IfErr result (λ fault. IsBeforeWriting fault → writer.new ≡ writer.old) }
 {
     let network = network_of(alloc, reader)?;
@@ -114,7 +114,7 @@ pub fn check_text<R: Read + Drop, W: Write>(
     writer: &mut W,
 ) -> Result<(), TextFault>
     ensures text { Writes (W.contents writer.old) (W.contents writer.new) result (λ text. OfTable (R.remaining reader) (λ N. IsCodeReport N text)) }
-    ensures refusal { IfErr result (Refuses (R.remaining reader) OfPlan) }
+    ensures refusal { IfErr result (Refuses (R.remaining reader) AskWhole) }
     ensures untouched { IfErr result (λ fault. fault ≢ TextFault.WriteFault → writer.new ≡ writer.old) }
 {
     headed_check_text(alloc, reader, writer, Heading::Without)
@@ -133,7 +133,7 @@ pub fn headed_check_text<R: Read + Drop, W: Write>(
 ) -> Result<(), TextFault>
     ensures text { Writes (W.contents writer.old) (W.contents writer.new) result
         (λ text. OfTable (R.remaining reader) (λ N. IsHeaded heading code_names (IsCodeReport N) text)) }
-    ensures refusal { IfErr result (Refuses (R.remaining reader) OfPlan) }
+    ensures refusal { IfErr result (Refuses (R.remaining reader) AskWhole) }
     ensures untouched { IfErr result (λ fault. fault ≢ TextFault.WriteFault → writer.new ≡ writer.old) }
 {
     let network = network_of(alloc, reader)?;
@@ -160,7 +160,7 @@ pub fn peg_text<R: Read + Drop, W: Write>(
 ) -> Result<(), TextFault>
     ensures text { Writes (W.contents writer.old) (W.contents writer.new) result
         (λ text. OfTable (R.remaining reader) (λ N. IsPegReport plant.now item.now period N text)) }
-    ensures refusal { IfErr result (Refuses (R.remaining reader) (OfPair plant.now item.now period)) }
+    ensures refusal { IfErr result (Refuses (R.remaining reader) (AskPair plant.now item.now period)) }
     ensures untouched { IfErr result (λ fault. fault ≢ TextFault.WriteFault → writer.new ≡ writer.old) }
 {
     headed_peg_text(alloc, reader, writer, plant, item, period, Heading::Without)
@@ -182,7 +182,7 @@ pub fn headed_peg_text<R: Read + Drop, W: Write>(
 ) -> Result<(), TextFault>
     ensures text { Writes (W.contents writer.old) (W.contents writer.new) result
         (λ text. OfTable (R.remaining reader) (λ N. IsHeaded heading peg_names (IsPegReport plant.now item.now period N) text)) }
-    ensures refusal { IfErr result (Refuses (R.remaining reader) (OfPair plant.now item.now period)) }
+    ensures refusal { IfErr result (Refuses (R.remaining reader) (AskPair plant.now item.now period)) }
     ensures untouched { IfErr result (λ fault. fault ≢ TextFault.WriteFault → writer.new ≡ writer.old) }
 {
     let network = network_of(alloc, reader)?;
@@ -204,7 +204,7 @@ pub fn cums_text<R: Read + Drop, W: Write>(
     writer: &mut W,
 ) -> Result<(), TextFault>
     ensures text { Writes (W.contents writer.old) (W.contents writer.new) result (λ text. OfTable (R.remaining reader) (λ N. IsCumReport N text)) }
-    ensures refusal { IfErr result (Refuses (R.remaining reader) OfPlan) }
+    ensures refusal { IfErr result (Refuses (R.remaining reader) AskWhole) }
     ensures untouched { IfErr result (λ fault. fault ≢ TextFault.WriteFault → writer.new ≡ writer.old) }
 {
     headed_cums_text(alloc, reader, writer, Heading::Without)
@@ -223,7 +223,7 @@ pub fn headed_cums_text<R: Read + Drop, W: Write>(
 ) -> Result<(), TextFault>
     ensures text { Writes (W.contents writer.old) (W.contents writer.new) result
         (λ text. OfTable (R.remaining reader) (λ N. IsHeaded heading lane_names (IsCumReport N) text)) }
-    ensures refusal { IfErr result (Refuses (R.remaining reader) OfPlan) }
+    ensures refusal { IfErr result (Refuses (R.remaining reader) AskWhole) }
     ensures untouched { IfErr result (λ fault. fault ≢ TextFault.WriteFault → writer.new ≡ writer.old) }
 {
     let network = network_of(alloc, reader)?;
@@ -251,7 +251,7 @@ pub fn orders_text<R: Read + Drop, W: Write>(
 ) -> Result<(), TextFault>
     ensures text { Writes (W.contents writer.old) (W.contents writer.new) result
         (λ text. OfTable (R.remaining reader) (λ N. IsOrderReport until heading N text)) }
-    ensures refusal { IfErr result (Refuses (R.remaining reader) OfPlan) }
+    ensures refusal { IfErr result (Refuses (R.remaining reader) AskWhole) }
     ensures untouched { IfErr result (λ fault. fault ≢ TextFault.WriteFault → writer.new ≡ writer.old) }
 {
     let network = network_of(alloc, reader)?;
@@ -282,7 +282,7 @@ pub fn schedule_text<R: Read + Drop, W: Write>(
 ) -> Result<(), TextFault>
     ensures text { Writes (W.contents writer.old) (W.contents writer.new) result
         (λ text. OfTable (R.remaining reader) (λ N. IsScheduleReport (name_of from.entry) (name_of to.entry) heading N text)) }
-    ensures refusal { IfErr result (Refuses (R.remaining reader) (OfPlants (name_of from.entry) (name_of to.entry))) }
+    ensures refusal { IfErr result (Refuses (R.remaining reader) (AskPlants (name_of from.entry) (name_of to.entry))) }
     ensures untouched { IfErr result (λ fault. fault ≢ TextFault.WriteFault → writer.new ≡ writer.old) }
 {
     let network = network_of(alloc, reader)?;
@@ -307,7 +307,7 @@ pub fn pegs_text<R: Read + Drop, W: Write>(
 ) -> Result<(), TextFault>
     ensures text { Writes (W.contents writer.old) (W.contents writer.new) result
         (λ text. OfTable (R.remaining reader) (λ N. IsHeaded heading pegs_names (IsPegsReport N) text)) }
-    ensures refusal { IfErr result (Refuses (R.remaining reader) OfPlan) }
+    ensures refusal { IfErr result (Refuses (R.remaining reader) AskWhole) }
     ensures untouched { IfErr result (λ fault. fault ≢ TextFault.WriteFault → writer.new ≡ writer.old) }
 {
     let network = network_of(alloc, reader)?;
@@ -331,7 +331,7 @@ pub fn advice_text<R: Read + Drop, W: Write>(
     heading: Heading,
 ) -> Result<(), TextFault>
     ensures text { Writes (W.contents writer.old) (W.contents writer.new) result (λ text. OfTable (R.remaining reader) (λ N. IsAdviceReport heading N text)) }
-    ensures refusal { IfErr result (Refuses (R.remaining reader) OfPlan) }
+    ensures refusal { IfErr result (Refuses (R.remaining reader) AskWhole) }
     ensures untouched { IfErr result (λ fault. fault ≢ TextFault.WriteFault → writer.new ≡ writer.old) }
 {
     let network = network_of(alloc, reader)?;

@@ -13,7 +13,7 @@ ghost use Rattle.mrp_text.specs.Reports.{WritesRows, IsPlanRows, IsCodeReport};
 ghost use Rattle.mrp_report.specs.Headings.{code_names, lane_names, peg_names, pegs_names};
 ghost use Rattle.mrp_text.specs.Reports.{IsPegReport, IsCumReport, IsPegs, IsOrderReport, IsHeaded};
 ghost use Rattle.mrp_text.specs.Reports.{AreSchedules, IsAdviceReport, IsChosenPlant, IsPegsReport, IsScheduleReport, name_of};
-ghost use Rattle.mrp_text.specs.Refusals.{IsUnknownPlant, RefusesTable, OfPlan, OfThreads, OfPair, OfPlants};
+ghost use Rattle.mrp_text.specs.Refusals.{IsNoPlant, RefusesTable, AskWhole, AskByThreads, AskPair, AskPlants};
 ghost use Rattle.mrp_text.specs.Gates.{GateExplains};
 ghost use Rattle.mrp_choice.specs.declared.choice.TheConstants.{MOST_CAPACITY};
 
@@ -44,7 +44,7 @@ pub(crate) fn write_plan<W: Write>(
     requires capacity { (1 ≤ capacity) × (capacity ≤ MOST_CAPACITY) }
     ensures text { Writes (W.contents writer.old) (W.contents writer.new) result (IsPlanReport network.now) }
     ensures rows { WritesRows W.contents writer.old writer.new result (IsPlanRows network.now) }
-    ensures refusal { IfErr result (RefusesTable OfPlan network.now) }
+    ensures refusal { IfErr result (RefusesTable AskWhole network.now) }
     ensures untouched { IfErr result (λ fault. IsBeforeWriting fault → writer.new ≡ writer.old) }
 {
     let levels = levels_of(alloc, network)?;
@@ -64,7 +64,7 @@ pub(crate) fn write_run<T: Threads + Wait + Sync, W: Write, G: Gate>(
 ) -> Result<(), TextFault>
     ensures text { Writes (W.contents writer.old) (W.contents writer.new) result (IsPlanReport network.now) }
     ensures rows { WritesRows W.contents writer.old writer.new result (IsPlanRows network.now) }
-    ensures refusal { IfErr result (RefusesTable OfThreads network.now) }
+    ensures refusal { IfErr result (RefusesTable AskByThreads network.now) }
     ensures untouched { IfErr result (λ fault. IsBeforeWriting fault → writer.new ≡ writer.old) }
     ensures gate { GateExplains G.turn_open G.turn_shut G.worker_shut settings.workers MOST_TURNS (λ says. says network.now) result }
 {
@@ -100,7 +100,7 @@ pub(crate) fn write_codes<W: Write>(
     heading: Heading,
 ) -> Result<(), TextFault>
     ensures text { Writes (W.contents writer.old) (W.contents writer.new) result (IsHeaded heading code_names (IsCodeReport network.now)) }
-    ensures refusal { IfErr result (RefusesTable OfPlan network.now) }
+    ensures refusal { IfErr result (RefusesTable AskWhole network.now) }
     ensures untouched { IfErr result (λ fault. fault ≢ TextFault.WriteFault → writer.new ≡ writer.old) }
 {
     let levels = levels_of(alloc, network)?;
@@ -138,7 +138,7 @@ pub(crate) fn write_pegs<W: Write>(
 ) -> Result<(), TextFault>
     ensures text { Writes (W.contents writer.old) (W.contents writer.new) result
         (IsHeaded heading peg_names (IsPegReport plant.now item.now period network.now)) }
-    ensures refusal { IfErr result (RefusesTable (OfPair plant.now item.now period) network.now) }
+    ensures refusal { IfErr result (RefusesTable (AskPair plant.now item.now period) network.now) }
     ensures untouched { IfErr result (λ fault. fault ≢ TextFault.WriteFault → writer.new ≡ writer.old) }
 {
     let levels = levels_of(alloc, network)?;
@@ -182,7 +182,7 @@ pub(crate) fn write_cums<W: Write>(
     heading: Heading,
 ) -> Result<(), TextFault>
     ensures text { Writes (W.contents writer.old) (W.contents writer.new) result (IsHeaded heading lane_names (IsCumReport network.now)) }
-    ensures refusal { IfErr result (RefusesTable OfPlan network.now) }
+    ensures refusal { IfErr result (RefusesTable AskWhole network.now) }
     ensures untouched { IfErr result (λ fault. fault ≢ TextFault.WriteFault → writer.new ≡ writer.old) }
 {
     let levels = levels_of(alloc, network)?;
@@ -216,7 +216,7 @@ pub(crate) fn write_orders<W: Write>(
     heading: Heading,
 ) -> Result<(), TextFault>
     ensures text { Writes (W.contents writer.old) (W.contents writer.new) result (IsOrderReport until heading network.now) }
-    ensures refusal { IfErr result (RefusesTable OfPlan network.now) }
+    ensures refusal { IfErr result (RefusesTable AskWhole network.now) }
     ensures untouched { IfErr result (λ fault. fault ≢ TextFault.WriteFault → writer.new ≡ writer.old) }
 {
     let levels = levels_of(alloc, network)?;
@@ -254,7 +254,7 @@ pub(crate) fn write_schedule<W: Write>(
 ) -> Result<(), TextFault>
     ensures text { Writes (W.contents writer.old) (W.contents writer.new) result
         (IsScheduleReport (name_of from.entry) (name_of to.entry) heading network.now) }
-    ensures refusal { IfErr result (RefusesTable (OfPlants (name_of from.entry) (name_of to.entry)) network.now) }
+    ensures refusal { IfErr result (RefusesTable (AskPlants (name_of from.entry) (name_of to.entry)) network.now) }
     ensures untouched { IfErr result (λ fault. fault ≢ TextFault.WriteFault → writer.new ≡ writer.old) }
 {
     let levels = levels_of(alloc, network)?;
@@ -267,7 +267,7 @@ pub(crate) fn write_schedule<W: Write>(
 /// The plant of a name, where one is given.
 fn plant_named(network: &Network, name: Option<&str>) -> Result<Option<PlantNo>, TextFault>
     ensures plant { IfOk result (IsChosenPlant network.now (name_of name.entry)) }
-    ensures unknown { IfErr result (λ fault. (fault ≡ TextFault.NoPlant) × IsUnknownPlant network.now (name_of name.entry)) }
+    ensures unknown { IfErr result (λ fault. (fault ≡ TextFault.NoPlant) × IsNoPlant network.now (name_of name.entry)) }
 {
     let Some(name) = name else {
         return Ok(None);
@@ -305,7 +305,7 @@ pub(crate) fn write_all_pegs<W: Write>(
     heading: Heading,
 ) -> Result<(), TextFault>
     ensures text { Writes (W.contents writer.old) (W.contents writer.new) result (IsHeaded heading pegs_names (IsPegsReport network.now)) }
-    ensures refusal { IfErr result (RefusesTable OfPlan network.now) }
+    ensures refusal { IfErr result (RefusesTable AskWhole network.now) }
     ensures untouched { IfErr result (λ fault. fault ≢ TextFault.WriteFault → writer.new ≡ writer.old) }
 {
     let levels = levels_of(alloc, network)?;
@@ -338,7 +338,7 @@ pub(crate) fn write_advice<W: Write>(
     heading: Heading,
 ) -> Result<(), TextFault>
     ensures text { Writes (W.contents writer.old) (W.contents writer.new) result (IsAdviceReport heading network.now) }
-    ensures refusal { IfErr result (RefusesTable OfPlan network.now) }
+    ensures refusal { IfErr result (RefusesTable AskWhole network.now) }
     ensures untouched { IfErr result (λ fault. fault ≢ TextFault.WriteFault → writer.new ≡ writer.old) }
 {
     let levels = levels_of(alloc, network)?;

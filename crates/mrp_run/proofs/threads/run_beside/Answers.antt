@@ -82,7 +82,7 @@ start_all-refused-requires-clause-room g c κs within = (c.in_ok-threads.ensures
 pub join_all-requires-clause-empty : goal.join_all-requires-clause-empty
 join_all-requires-clause-empty g c κs within = c.in_ok-rooms.ensures.no_backs
 
--- no more threads were started_plants than there are plants
+-- no more threads were started than there are plants
 pub join_all-requires-clause-room : goal.join_all-requires-clause-room
 join_all-requires-clause-room g c κs within =
     let start = c.start_all-refused in

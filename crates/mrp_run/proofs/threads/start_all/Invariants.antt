@@ -3,7 +3,7 @@ use Rattle.std.specs.Vec.Iter.{into_iter_items}
 use Rattle.mrp_run.specs.Joined.{AreNumberedThreads, started_plants}
 use Rattle.mrp_run.proofs.threads.start_all.Given as goal
 
--- a thread was started_plants for each of the plants so far
+-- a thread was started for each of the plants so far
 abbrev pub invariant-loop-plant : goal.invariant-loop-plant
 invariant-loop-plant g l = record {
   whole : l.yielded ++ into_iter_items l.plant-iterator ≡ l.fn.plants.items;

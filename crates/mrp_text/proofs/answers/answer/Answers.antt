@@ -1,5 +1,5 @@
 use Rattle.std.proofs.Common.{◌≡◌, false, IfErr, rules, subst, sym}
-use Rattle.mrp_text.specs.Refusals.{OfPair, OfPlan, OfPlants, Question, Refuses}
+use Rattle.mrp_text.specs.Refusals.{AskPair, AskWhole, AskPlants, Question, Refuses}
 use Rattle.mrp_text.specs.Reports.{name_of}
 use Rattle.mrp_text.proofs.GateFacts.{asks_threads, never_gate, open_gate}
 use Rattle.mrp_text.proofs.RowFacts.{rows-kept}
@@ -28,19 +28,19 @@ returns-in-Some-clause-refusal g c =
     c.plan_text.ensures.refusal)
 
 pub returns-in-Plan-default-default-true-clause-gate : goal.returns-in-Plan-default-default-true-clause-gate
-returns-in-Plan-default-default-true-clause-gate g c = never_gate _ OfPlan c.drive_text.result (λ said. said) c.drive_text.ensures.refusal
+returns-in-Plan-default-default-true-clause-gate g c = never_gate _ AskWhole c.drive_text.result (λ said. said) c.drive_text.ensures.refusal
 
 pub returns-in-Some-clause-gate : goal.returns-in-Some-clause-gate
 returns-in-Some-clause-gate g c = open_gate _ _ _ _ c.plan_text.result c.plan_text.ensures.gate
 
 pub returns-in-Check-clause-gate : goal.returns-in-Check-clause-gate
-returns-in-Check-clause-gate g c = never_gate _ OfPlan c.headed_check_text.result (λ said. said) c.headed_check_text.ensures.refusal
+returns-in-Check-clause-gate g c = never_gate _ AskWhole c.headed_check_text.result (λ said. said) c.headed_check_text.ensures.refusal
 
 pub returns-in-Peg-clause-gate : goal.returns-in-Peg-clause-gate
-returns-in-Peg-clause-gate g c = never_gate _ (OfPair c.in-Peg.plant.now c.in-Peg.item.now c.in-Peg.period) c.headed_peg_text.result (λ said. said) c.headed_peg_text.ensures.refusal
+returns-in-Peg-clause-gate g c = never_gate _ (AskPair c.in-Peg.plant.now c.in-Peg.item.now c.in-Peg.period) c.headed_peg_text.result (λ said. said) c.headed_peg_text.ensures.refusal
 
 pub returns-in-Cums-clause-gate : goal.returns-in-Cums-clause-gate
-returns-in-Cums-clause-gate g c = never_gate _ OfPlan c.headed_cums_text.result (λ said. said) c.headed_cums_text.ensures.refusal
+returns-in-Cums-clause-gate g c = never_gate _ AskWhole c.headed_cums_text.result (λ said. said) c.headed_cums_text.ensures.refusal
 
 pub returns-in-Plan-default-default-true-clause-rows : goal.returns-in-Plan-default-default-true-clause-rows
 returns-in-Plan-default-default-true-clause-rows g c = c.drive_text.ensures.rows
@@ -61,7 +61,7 @@ pub returns-in-Orders-clause-text : goal.returns-in-Orders-clause-text
 returns-in-Orders-clause-text g c = rw (c.in-Orders.is) c.orders_text.ensures.text
 
 pub returns-in-Orders-clause-gate : goal.returns-in-Orders-clause-gate
-returns-in-Orders-clause-gate g c = never_gate _ OfPlan c.orders_text.result (λ said. said) c.orders_text.ensures.refusal
+returns-in-Orders-clause-gate g c = never_gate _ AskWhole c.orders_text.result (λ said. said) c.orders_text.ensures.refusal
 
 pub returns-in-Orders-clause-rows : goal.returns-in-Orders-clause-rows
 returns-in-Orders-clause-rows g c = rows-kept g.W.Write.contents _ _ c.orders_text.result _ c.orders_text.ensures.untouched
@@ -70,7 +70,7 @@ pub returns-in-Schedule-clause-text : goal.returns-in-Schedule-clause-text
 returns-in-Schedule-clause-text g c = rw (c.in-Schedule.is) c.schedule_text.ensures.text
 
 pub returns-in-Schedule-clause-gate : goal.returns-in-Schedule-clause-gate
-returns-in-Schedule-clause-gate g c = never_gate _ (OfPlants (name_of c.in-Schedule.from) (name_of c.in-Schedule.to)) c.schedule_text.result (λ said. said) c.schedule_text.ensures.refusal
+returns-in-Schedule-clause-gate g c = never_gate _ (AskPlants (name_of c.in-Schedule.from) (name_of c.in-Schedule.to)) c.schedule_text.result (λ said. said) c.schedule_text.ensures.refusal
 
 pub returns-in-Schedule-clause-rows : goal.returns-in-Schedule-clause-rows
 returns-in-Schedule-clause-rows g c = rows-kept g.W.Write.contents _ _ c.schedule_text.result _ c.schedule_text.ensures.untouched
@@ -79,7 +79,7 @@ pub returns-in-Pegs-clause-text : goal.returns-in-Pegs-clause-text
 returns-in-Pegs-clause-text g c = rw (c.in-Pegs.is) c.pegs_text.ensures.text
 
 pub returns-in-Pegs-clause-gate : goal.returns-in-Pegs-clause-gate
-returns-in-Pegs-clause-gate g c = never_gate _ OfPlan c.pegs_text.result (λ said. said) c.pegs_text.ensures.refusal
+returns-in-Pegs-clause-gate g c = never_gate _ AskWhole c.pegs_text.result (λ said. said) c.pegs_text.ensures.refusal
 
 pub returns-in-Pegs-clause-rows : goal.returns-in-Pegs-clause-rows
 returns-in-Pegs-clause-rows g c = rows-kept g.W.Write.contents _ _ c.pegs_text.result _ c.pegs_text.ensures.untouched
@@ -88,7 +88,7 @@ pub returns-in-Advice-clause-text : goal.returns-in-Advice-clause-text
 returns-in-Advice-clause-text g c = rw (c.in-Advice.is) c.advice_text.ensures.text
 
 pub returns-in-Advice-clause-gate : goal.returns-in-Advice-clause-gate
-returns-in-Advice-clause-gate g c = never_gate _ OfPlan c.advice_text.result (λ said. said) c.advice_text.ensures.refusal
+returns-in-Advice-clause-gate g c = never_gate _ AskWhole c.advice_text.result (λ said. said) c.advice_text.ensures.refusal
 
 pub returns-in-Advice-clause-rows : goal.returns-in-Advice-clause-rows
 returns-in-Advice-clause-rows g c = rows-kept g.W.Write.contents _ _ c.advice_text.result _ c.advice_text.ensures.untouched

@@ -1,4 +1,4 @@
-use Rattle.mrp_text.specs.Refusals.{OfPlan}
+use Rattle.mrp_text.specs.Refusals.{AskWhole}
 use Rattle.mrp_text.specs.Reports.{IsAdviceReport}
 use Rattle.mrp_text.proofs.TextFacts.{refuses-of, writes-of}
 use Rattle.mrp_text.proofs.text.advice_text.Goals as goal
@@ -10,4 +10,4 @@ returns-clause-text g c =
 
 pub returns-clause-refusal : goal.returns-clause-refusal
 returns-clause-refusal g c =
-    refuses-of _ OfPlan c.in_ok-network.network c.write_advice-written.result c.in_ok-network.ensures.rows c.write_advice-written.ensures.refusal
+    refuses-of _ AskWhole c.in_ok-network.network c.write_advice-written.result c.in_ok-network.ensures.rows c.write_advice-written.ensures.refusal

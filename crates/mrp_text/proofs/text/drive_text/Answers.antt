@@ -1,5 +1,5 @@
 use Rattle.mrp_text.specs.Text.{IsPlanReport}
-use Rattle.mrp_text.specs.Refusals.{OfPlan}
+use Rattle.mrp_text.specs.Refusals.{AskWhole}
 use Rattle.mrp_text.specs.Reports.{IsPlanRows}
 use Rattle.mrp_text.proofs.RowFacts.{rows-of}
 use Rattle.mrp_text.proofs.TextFacts.{refuses-of, writes-of}
@@ -12,7 +12,7 @@ returns-clause-text g c =
 
 pub returns-clause-refusal : goal.returns-clause-refusal
 returns-clause-refusal g c =
-    refuses-of _ OfPlan c.in_ok-network.network c.write_plan-written.result c.in_ok-network.ensures.rows c.write_plan-written.ensures.refusal
+    refuses-of _ AskWhole c.in_ok-network.network c.write_plan-written.result c.in_ok-network.ensures.rows c.write_plan-written.ensures.refusal
 
 pub returns-clause-rows : goal.returns-clause-rows
 returns-clause-rows g c =

@@ -1,5 +1,5 @@
 use Rattle.mrp_report.specs.Headings.{lane_names}
-use Rattle.mrp_text.specs.Refusals.{OfPlan}
+use Rattle.mrp_text.specs.Refusals.{AskWhole}
 use Rattle.mrp_text.specs.Reports.{IsCumReport, IsHeaded}
 use Rattle.mrp_text.proofs.TextFacts.{refuses-of, writes-of}
 use Rattle.mrp_text.proofs.text.headed_cums_text.Goals as goal
@@ -11,4 +11,4 @@ returns-clause-text g c =
 
 pub returns-clause-refusal : goal.returns-clause-refusal
 returns-clause-refusal g c =
-    refuses-of _ OfPlan c.in_ok-network.network c.write_cums-written.result c.in_ok-network.ensures.rows c.write_cums-written.ensures.refusal
+    refuses-of _ AskWhole c.in_ok-network.network c.write_cums-written.result c.in_ok-network.ensures.rows c.write_cums-written.ensures.refusal

@@ -1,5 +1,5 @@
 use Rattle.mrp_report.specs.Headings.{peg_names}
-use Rattle.mrp_text.specs.Refusals.{OfPair}
+use Rattle.mrp_text.specs.Refusals.{AskPair}
 use Rattle.mrp_text.specs.Reports.{IsHeaded, IsPegReport}
 use Rattle.mrp_text.proofs.TextFacts.{refuses-of, writes-of}
 use Rattle.mrp_text.proofs.text.headed_peg_text.Goals as goal
@@ -11,5 +11,5 @@ returns-clause-text g c =
 
 pub returns-clause-refusal : goal.returns-clause-refusal
 returns-clause-refusal g c =
-    refuses-of _ (OfPair c.args.plant.now c.args.item.now c.args.period) c.in_ok-network.network c.write_pegs-written.result
+    refuses-of _ (AskPair c.args.plant.now c.args.item.now c.args.period) c.in_ok-network.network c.write_pegs-written.result
     c.in_ok-network.ensures.rows c.write_pegs-written.ensures.refusal

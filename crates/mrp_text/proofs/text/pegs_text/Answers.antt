@@ -1,5 +1,5 @@
 use Rattle.mrp_report.specs.Headings.{pegs_names}
-use Rattle.mrp_text.specs.Refusals.{OfPlan}
+use Rattle.mrp_text.specs.Refusals.{AskWhole}
 use Rattle.mrp_text.specs.Reports.{IsHeaded, IsPegsReport}
 use Rattle.mrp_text.proofs.TextFacts.{refuses-of, writes-of}
 use Rattle.mrp_text.proofs.text.pegs_text.Goals as goal
@@ -11,4 +11,4 @@ returns-clause-text g c =
 
 pub returns-clause-refusal : goal.returns-clause-refusal
 returns-clause-refusal g c =
-    refuses-of _ OfPlan c.in_ok-network.network c.write_all_pegs-written.result c.in_ok-network.ensures.rows c.write_all_pegs-written.ensures.refusal
+    refuses-of _ AskWhole c.in_ok-network.network c.write_all_pegs-written.result c.in_ok-network.ensures.rows c.write_all_pegs-written.ensures.refusal

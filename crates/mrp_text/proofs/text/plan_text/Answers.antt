@@ -1,6 +1,6 @@
 use Rattle.mrp_qty.specs.declared.limits.TheConstants.{MOST_TURNS}
 use Rattle.mrp_text.specs.Text.{IsPlanReport}
-use Rattle.mrp_text.specs.Refusals.{OfThreads}
+use Rattle.mrp_text.specs.Refusals.{AskByThreads}
 use Rattle.mrp_text.specs.Reports.{IsPlanRows}
 use Rattle.mrp_text.proofs.GateFacts.{gate_of}
 use Rattle.mrp_text.proofs.RowFacts.{rows-of}
@@ -14,7 +14,7 @@ returns-clause-text g c =
 
 pub returns-clause-refusal : goal.returns-clause-refusal
 returns-clause-refusal g c =
-    refuses-of _ OfThreads c.in_ok-network.network c.write_run-written.result
+    refuses-of _ AskByThreads c.in_ok-network.network c.write_run-written.result
     c.in_ok-network.ensures.rows c.write_run-written.ensures.refusal
 
 pub returns-clause-rows : goal.returns-clause-rows

@@ -1,4 +1,4 @@
-use Rattle.mrp_text.specs.Refusals.{OfPlants}
+use Rattle.mrp_text.specs.Refusals.{AskPlants}
 use Rattle.mrp_text.specs.Reports.{IsScheduleReport, name_of}
 use Rattle.mrp_text.proofs.TextFacts.{refuses-of, writes-of}
 use Rattle.mrp_text.proofs.text.schedule_text.Goals as goal
@@ -10,4 +10,4 @@ returns-clause-text g c =
 
 pub returns-clause-refusal : goal.returns-clause-refusal
 returns-clause-refusal g c =
-    refuses-of _ (OfPlants (name_of c.args.from) (name_of c.args.to)) c.in_ok-network.network c.write_schedule-written.result c.in_ok-network.ensures.rows c.write_schedule-written.ensures.refusal
+    refuses-of _ (AskPlants (name_of c.args.from) (name_of c.args.to)) c.in_ok-network.network c.write_schedule-written.result c.in_ok-network.ensures.rows c.write_schedule-written.ensures.refusal
