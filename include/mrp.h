@@ -1,0 +1,59 @@
+/* The planner for C: a table's bytes in, a report or the line of a fault out, in the caller's buffer.
+ *
+ * Each call returns a status, as the program mrp ends with one, and writes a text:
+ *
+ *   0  the text is the report, byte by byte what mrp writes to standard output
+ *   1  the table or a name is refused; the text is the line that mrp writes to standard error
+ *   2  a name of mrp_schedule isn't UTF-8; the text is "mrp: a name is not UTF-8\n", whatever the table
+ *   3  memory was refused; the text is "mrp: Memory\n"
+ *
+ * *size is the length of the text in bytes; there is no 0 behind it. Where *size is at most buffer_size, the buffer
+ * begins with the text, and the bytes behind the text are as they were. Else the whole buffer is as it was: call again
+ * with a buffer of *size bytes.
+ *
+ * No pointer is null, also where a length is 0, and neither the buffer nor *size overlaps with anything else that is
+ * handed in. A call plans on one thread and keeps nothing: several threads may call at once, each with buffers of its
+ * own. It takes memory by malloc and gives it back; it isn't for a signal handler, nor for the forked child of a
+ * process with threads.
+ *
+ * With `header` the names of the columns stand above the rows. That the text is this is proved of the library that a
+ * caller links (crates/mrp_c); that a caller keeps to this page isn't.
+ */
+#ifndef MRP_H
+#define MRP_H
+
+#include <stdbool.h>
+#include <stddef.h>
+#include <stdint.h>
+
+#ifdef __cplusplus
+extern "C" {
+#endif
+
+/* The plan, as mrp plan: a row for each pair and period, then a row for each late order. */
+uint32_t mrp_plan(const uint8_t *table, size_t table_size, uint8_t *buffer, size_t buffer_size, size_t *size);
+
+/* The planned orders, as mrp orders: where `limited` those alone that are released in period `until`, counted from 0,
+ * or before it. */
+uint32_t mrp_orders(const uint8_t *table, size_t table_size, bool limited, uint64_t until, bool header,
+                    uint8_t *buffer, size_t buffer_size, size_t *size);
+
+/* The delivery schedules, as mrp schedule: from the plant `from` alone and to the plant `to` alone, where their names
+ * aren't empty. */
+uint32_t mrp_schedule(const uint8_t *table, size_t table_size, const uint8_t *from, size_t from_size,
+                      const uint8_t *to, size_t to_size, bool header,
+                      uint8_t *buffer, size_t buffer_size, size_t *size);
+
+/* The low-level code of each pair, as mrp check. */
+uint32_t mrp_check(const uint8_t *table, size_t table_size, bool header,
+                   uint8_t *buffer, size_t buffer_size, size_t *size);
+
+/* The cumulative figures of the lanes between plants, as mrp cums. */
+uint32_t mrp_cums(const uint8_t *table, size_t table_size, bool header,
+                  uint8_t *buffer, size_t buffer_size, size_t *size);
+
+#ifdef __cplusplus
+}
+#endif
+
+#endif
