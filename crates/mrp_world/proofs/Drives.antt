@@ -9,14 +9,14 @@ use Rattle.mrp_events.specs.State.{State, opening_state, Run, IsReached, IsFinis
 use Rattle.mrp_events.proofs.Counting.{runs_begin_with_steps, events_are_steps, none_is_left_at_the_end}
 use Rattle.mrp_events.proofs.Finishing.{no_schedule_sticks}
 use Rattle.mrp_events.proofs.Keeping.{opening_is_reached, reached_goes_on, runs_go_on}
-use Rattle.mrp_world.specs.Driving.{LeadOn}
+use Rattle.mrp_world.specs.Driving.{LeadOn, LeadOneAndOn}
 use Rattle.mrp_plant.specs.Showing.{Showing}
 use Rattle.mrp_mailbox.specs.Mailbox.{Held}
 use Rattle.mrp_world.specs.World.{PlantsShow, WorldState}
 use Rattle.mrp_world.specs.Moves.{BoxesHold, AreAt, AreSomewhere, Lead, Acts, MayLead, AllRests, WorldShows, IsWorld, Runs}
 use Rattle.mrp_world.proofs.Counts.{texts_are_few}
 use Rattle.mrp_world.proofs.Makes.{is_world}
-use Rattle.mrp_world.proofs.Worlds.{world}
+use Rattle.mrp_world.proofs.Worlds.{world, run_append}
 
 -- ---- steps
 
@@ -53,9 +53,67 @@ counted_more shows N plants boxes event new_plants new_boxes k counted leads =
     let few : steps_left N counted.state + k ≤ steps N = counted.few in
     record { capacity = counted.capacity; state = next.0; shown = next.2; few = omega (arith, falls, few) }
 
+counted_on : {A : Type 0} (shows : Showing A) (N : Table) (plants : List A) (boxes : List Held) (events : List Event) (new_plants : List A) (new_boxes : List Held) (k : ℕ)
+    → Counted shows N plants boxes k → LeadOn shows N plants boxes events new_plants new_boxes → Counted shows N new_plants new_boxes k
+counted_on shows N plants boxes events new_plants new_boxes k counted leads =
+    let next = leads.runs counted.capacity counted.state counted.shown in
+    let fewer : steps_left N next.0 ≤ steps_left N counted.state = run_leaves_no_more N counted.capacity counted.state next.0 events counted.shown.reached next.1 in
+    let few : steps_left N counted.state + k ≤ steps N = counted.few in
+    record { capacity = counted.capacity; state = next.0; shown = next.2; few = omega (arith, fewer, few) }
+
 -- no run has as many steps
 pub never_so_many : {A : Type 0} (shows : Showing A) (N : Table) (plants : List A) (boxes : List Held) (k : ℕ) → Counted shows N plants boxes k → 18446744073709551615 ≤ k → ⊥
 never_so_many shows N plants boxes k counted many = omega (arith, counted.few, many, texts_are_few N counted.shown.sized.table)
+
+-- ---- on and on
+
+abbrev pub LeadsOn : {A : Type 0} → Showing A → Table → List A → List Held → List A → List Held → Type 0
+LeadsOn shows N plants boxes new_plants new_boxes = (events : List Event) × LeadOn shows N plants boxes events new_plants new_boxes
+
+pub on_nowhere : {A : Type 0} (shows : Showing A) (N : Table) (plants : List A) (boxes : List Held) → LeadsOn shows N plants boxes plants boxes
+on_nowhere shows N plants boxes = ([], record { runs = λ capacity s at. (s, refl, at) })
+
+pub on_by_one : {A : Type 0} (shows : Showing A) (N : Table) (plants : List A) (boxes : List Held) (event : Event) (new_plants : List A) (new_boxes : List Held)
+    → Lead shows N plants boxes event new_plants new_boxes → LeadsOn shows N plants boxes new_plants new_boxes
+on_by_one shows N plants boxes event new_plants new_boxes leads = (
+  event ∷ [],
+  record {
+    runs = λ capacity s at. let next = leads capacity s at in (next.0, (next.0, inl next.1, refl), next.2);
+  },
+)
+
+pub on_and_on : {A : Type 0} (shows : Showing A) (N : Table) (plants : List A) (boxes : List Held) (now_plants : List A) (now_boxes : List Held) (new_plants : List A) (new_boxes : List Held)
+    → LeadsOn shows N plants boxes now_plants now_boxes → LeadsOn shows N now_plants now_boxes new_plants new_boxes → LeadsOn shows N plants boxes new_plants new_boxes
+on_and_on shows N plants boxes now_plants now_boxes new_plants new_boxes before after = (
+  before.0 ++ after.0,
+  record {
+    runs = λ capacity s at.
+        let now = before.1.runs capacity s at in
+        let next = after.1.runs capacity now.0 now.2 in
+        (next.0, run_append N capacity s now.0 next.0 before.0 after.0 now.1 next.1, next.2);
+  },
+)
+
+-- one event more
+pub on_more : {A : Type 0} (shows : Showing A) (N : Table) (plants : List A) (boxes : List Held) (now_plants : List A) (now_boxes : List Held) (new_plants : List A) (new_boxes : List Held)
+    → LeadsOn shows N plants boxes now_plants now_boxes → (event : Event) × Lead shows N now_plants now_boxes event new_plants new_boxes → LeadsOn shows N plants boxes new_plants new_boxes
+on_more shows N plants boxes now_plants now_boxes new_plants new_boxes before one =
+    on_and_on shows N plants boxes now_plants now_boxes new_plants new_boxes before (on_by_one shows N now_plants now_boxes one.0 new_plants new_boxes one.1)
+
+pub on_somewhere : {A : Type 0} (shows : Showing A) (N : Table) (plants : List A) (boxes : List Held) (now_plants : List A) (now_boxes : List Held)
+    → AreSomewhere shows N plants boxes → LeadsOn shows N plants boxes now_plants now_boxes → AreSomewhere shows N now_plants now_boxes
+on_somewhere shows N plants boxes now_plants now_boxes here leads =
+    let next = leads.1.runs here.0 here.1 here.2 in
+    (here.0, next.0, next.2)
+
+-- the same lists by other names
+pub on_to : {A : Type 0} (shows : Showing A) (N : Table) (plants : List A) (boxes : List Held) (now_plants : List A) (now_boxes : List Held) (new_plants : List A) (new_boxes : List Held)
+    → LeadsOn shows N plants boxes now_plants now_boxes → new_plants ≡ now_plants → new_boxes ≡ now_boxes → LeadsOn shows N plants boxes new_plants new_boxes
+on_to {A} shows N plants boxes now_plants now_boxes new_plants new_boxes leads same_plants same_boxes = (
+  leads.0,
+  subst (λ (p : List A). LeadOn shows N plants boxes leads.0 p new_boxes) (sym same_plants)
+      (subst (λ (b : List Held). LeadOn shows N plants boxes leads.0 now_plants b) (sym same_boxes) leads.1),
+)
 
 -- ---- so far
 
@@ -73,17 +131,18 @@ driven_first shows N plants boxes here = record {
 }
 
 pub driven_more : {A : Type 0} (shows : Showing A) (N : Table) (plants : List A) (boxes : List Held) (now_plants : List A) (now_boxes : List Held) (new_plants : List A) (new_boxes : List Held) (k : ℕ)
-    → Driven shows N plants boxes now_plants now_boxes k → (event : Event) × Lead shows N now_plants now_boxes event new_plants new_boxes → Driven shows N plants boxes new_plants new_boxes (k + 1)
-driven_more shows N plants boxes now_plants now_boxes new_plants new_boxes k driven one = record {
-  events = driven.events ++ one.0 ∷ [];
-  on = record {
-    runs = λ capacity s at.
-        let before = driven.on.runs capacity s at in
-        let next = one.1 capacity before.0 before.2 in
-        (next.0, runs_go_on N capacity s before.0 next.0 driven.events one.0 before.1 (inl next.1), next.2);
-  };
-  counted = counted_more shows N now_plants now_boxes one.0 new_plants new_boxes k driven.counted one.1;
-}
+    → Driven shows N plants boxes now_plants now_boxes k → LeadOneAndOn shows N now_plants now_boxes new_plants new_boxes → Driven shows N plants boxes new_plants new_boxes (k + 1)
+driven_more {A} shows N plants boxes now_plants now_boxes new_plants new_boxes k driven far =
+    let one : LeadsOn shows N now_plants now_boxes far.plants_then far.boxes_then = on_by_one shows N now_plants now_boxes far.event far.plants_then far.boxes_then far.one in
+    let more : LeadsOn shows N now_plants now_boxes new_plants new_boxes =
+    on_and_on shows N now_plants now_boxes far.plants_then far.boxes_then new_plants new_boxes one (far.events, far.on) in
+    let all : LeadsOn shows N plants boxes new_plants new_boxes = on_and_on shows N plants boxes now_plants now_boxes new_plants new_boxes (driven.events, driven.on) more in
+    record {
+      events = all.0;
+      on = all.1;
+      counted = counted_on shows N far.plants_then far.boxes_then far.events new_plants new_boxes (k + 1)
+          (counted_more shows N now_plants now_boxes far.event far.plants_then far.boxes_then k driven.counted far.one) far.on;
+    }
 
 pub driven_somewhere : {A : Type 0} (shows : Showing A) (N : Table) (plants : List A) (boxes : List Held) (k : ℕ) → Counted shows N plants boxes k → AreSomewhere shows N plants boxes
 driven_somewhere shows N plants boxes k counted = (counted.capacity, counted.state, counted.shown)
@@ -118,6 +177,25 @@ goes_on {A} shows N plants plants_too boxes boxes_too event acted new_plants new
     subst (λ (p : List A). MayLead shows N p boxes event) same_plants (subst (λ (b : List Held). MayLead shows N plants_too b event) same_boxes may) in
     (event, acts_leads shows N plants boxes event acted new_plants new_boxes here own acts)
 
+pub one_and_on : {A : Type 0} (shows : Showing A) (N : Table) (plants : List A) (boxes : List Held) (plants_then : List A) (boxes_then : List Held) (new_plants : List A) (new_boxes : List Held)
+    → (event : Event) × Lead shows N plants boxes event plants_then boxes_then → LeadsOn shows N plants_then boxes_then new_plants new_boxes → LeadOneAndOn shows N plants boxes new_plants new_boxes
+one_and_on shows N plants boxes plants_then boxes_then new_plants new_boxes one on =
+    record { event = one.0; plants_then = plants_then; boxes_then = boxes_then; one = one.1; events = on.0; on = on.1 }
+
+-- what leads from lists that are the same
+pub leads_from : {A : Type 0} (shows : Showing A) (N : Table) (plants plants_too : List A) (boxes boxes_too : List Held) (event : Event) (new_plants : List A) (new_boxes : List Held)
+    → plants_too ≡ plants → boxes_too ≡ boxes → Lead shows N plants_too boxes_too event new_plants new_boxes → (found : Event) × Lead shows N plants boxes found new_plants new_boxes
+leads_from {A} shows N plants plants_too boxes boxes_too event new_plants new_boxes same_plants same_boxes leads = (
+  event,
+  subst (λ (p : List A). Lead shows N p boxes event new_plants new_boxes) same_plants
+      (subst (λ (b : List Held). Lead shows N plants_too b event new_plants new_boxes) same_boxes leads),
+)
+
+pub same_somewhere : {A : Type 0} (shows : Showing A) (N : Table) (plants plants_too : List A) (boxes boxes_too : List Held) → plants_too ≡ plants → boxes_too ≡ boxes
+    → AreSomewhere shows N plants boxes → AreSomewhere shows N plants_too boxes_too
+same_somewhere {A} shows N plants plants_too boxes boxes_too same_plants same_boxes here =
+    subst (λ (p : List A). AreSomewhere shows N p boxes_too) (sym same_plants) (subst (λ (b : List Held). AreSomewhere shows N plants b) (sym same_boxes) here)
+
 -- ---- worlds
 
 -- plants and mailboxes that rest have finished
@@ -136,9 +214,6 @@ rest_shown shows N capacity plants boxes s holds rests at = record {
   parts = at;
   left = sym ((none_is_left_at_the_end N capacity s at.reached).1 (rest_finished shows N capacity plants boxes s holds rests at));
 }
-
-abbrev pub LeadsOn : {A : Type 0} → Showing A → Table → List A → List Held → List A → List Held → Type 0
-LeadsOn shows N plants boxes new_plants new_boxes = (events : List Event) × LeadOn shows N plants boxes events new_plants new_boxes
 
 pub world_driven : {A : Type 0} (shows : Showing A) (N : Table) (capacity : ℕ) (plants : List A) (boxes : List Held) (left : ℕ) (new_plants : List A) (new_boxes : List Held)
     → IsWorld shows (world N capacity plants boxes left) → LeadsOn shows N plants boxes new_plants new_boxes → AllRests shows N new_plants new_boxes

@@ -1,14 +1,15 @@
 //! Plants and mailboxes, driven until nothing moves.
-ghost use Rattle.std.specs.Prelude.{◌≡◌, true, false, List};
+ghost use Rattle.std.specs.Prelude.{◌≡◌, ◌<◌, true, false, length, List};
+ghost use Rattle.mrp_net.specs.Lanes.{lanes};
 ghost use Rattle.mrp_events.specs.declared.event.Event.{Event};
 ghost use Rattle.mrp_world.specs.Moves.{AreSomewhere, Lead, AllRests};
-ghost use Rattle.mrp_world.specs.Driving.{LeadOn};
+ghost use Rattle.mrp_world.specs.Driving.{LeadOn, LeadOneAndOn};
 
-use crate::acting::act_on;
-use crate::looking::look;
+use crate::acting::{act_on, receive, send};
+use crate::looking::{look, ready_at};
 use mrp_events::Event;
 use mrp_mailbox::Mailbox;
-use mrp_net::Network;
+use mrp_net::{LaneNo, Network};
 use mrp_plant::Plant;
 
 /// Where the last event happened: the next one is looked for from there on.
@@ -69,7 +70,7 @@ pub(crate) fn drive_on<P: Plant>(
     near
 }
 
-/// Lets an enabled event happen, and answers whether there was one.
+/// Lets an enabled event happen, and those that follow at its place, and answers whether there was one.
 fn go_on<P: Plant>(
     network: &Network,
     plants: &mut Vec<P>,
@@ -77,7 +78,7 @@ fn go_on<P: Plant>(
     near: &mut Place,
 ) -> bool
     requires shown { AreSomewhere P.shows network.now plants.old.items boxes.old.items }
-    ensures leads { result ≡ true → (event : Event) × Lead P.shows network.now plants.old.items boxes.old.items event plants.new.items boxes.new.items }
+    ensures leads { result ≡ true → LeadOneAndOn P.shows network.now plants.old.items boxes.old.items plants.new.items boxes.new.items }
     ensures rests { result ≡ false → AllRests P.shows network.now plants.new.items boxes.new.items }
     ensures plants { result ≡ false → plants.new.items ≡ plants.old.items }
     ensures boxes { result ≡ false → boxes.new.items ≡ boxes.old.items }
@@ -95,5 +96,80 @@ fn go_on<P: Plant>(
     // What is found is enabled.
     let _acted = act_on(network, plants, boxes, event);
     *near = place_of(network, event, *near);
+    follow(network, plants, boxes, event, near.plant);
     true
+}
+
+/// Lets the events happen that follow one at its place: more records over its lane, or more pairs of the
+/// plant.
+fn follow<P: Plant>(
+    network: &Network,
+    plants: &mut Vec<P>,
+    boxes: &mut Vec<Mailbox>,
+    event: Event,
+    plant: usize,
+)
+    requires shown { AreSomewhere P.shows network.now plants.old.items boxes.old.items }
+    ensures runs { (events : List Event) × LeadOn P.shows network.now plants.old.items boxes.old.items events plants.new.items boxes.new.items }
+{
+    match event {
+        Event::Send(lane) | Event::Receive(lane) => {
+            if lane.0 < network.lanes() {
+                move_all(network, plants.as_mut_slice(), boxes.as_mut_slice(), lane);
+            }
+        }
+        Event::Plan(_) => plan_ready(network, plants, boxes, plant),
+    }
+}
+
+/// Lets records move over a lane until its receiver has none to take, and its sender none to send.
+fn move_all<P: Plant>(network: &Network, plants: &mut [P], boxes: &mut [Mailbox], lane: LaneNo)
+    requires lane { lane.0 < length (lanes network.now) }
+    requires shown { AreSomewhere P.shows network.now plants.old boxes.old }
+    ensures runs { (events : List Event) × LeadOn P.shows network.now plants.old boxes.old events plants.new boxes.new }
+{
+    for _record in 0..u64::MAX {
+        if !move_one(network, plants, boxes, lane) {
+            return;
+        }
+    }
+}
+
+/// Lets the receiver of a lane take what waits first, or else its sender send what comes next, and answers
+/// whether there was something.
+fn move_one<P: Plant>(
+    network: &Network,
+    plants: &mut [P],
+    boxes: &mut [Mailbox],
+    lane: LaneNo,
+) -> bool
+    requires lane { lane.0 < length (lanes network.now) }
+    requires shown { AreSomewhere P.shows network.now plants.old boxes.old }
+    ensures leads { result ≡ true → (event : Event) × Lead P.shows network.now plants.old boxes.old event plants.new boxes.new }
+    ensures plants { result ≡ false → plants.new ≡ plants.old }
+    ensures boxes { result ≡ false → boxes.new ≡ boxes.old }
+{
+    if receive(network, plants, boxes, lane) {
+        return true;
+    }
+    send(network, plants, boxes, lane)
+}
+
+/// Plans the pairs of a plant that can be planned, until there is none.
+fn plan_ready<P: Plant>(
+    network: &Network,
+    plants: &mut Vec<P>,
+    boxes: &mut Vec<Mailbox>,
+    plant: usize,
+)
+    requires shown { AreSomewhere P.shows network.now plants.old.items boxes.old.items }
+    ensures runs { (events : List Event) × LeadOn P.shows network.now plants.old.items boxes.old.items events plants.new.items boxes.new.items }
+{
+    for _pair in 0..u64::MAX {
+        let ready = ready_at(network, plants.as_slice(), boxes.as_slice(), plant);
+        let Some(event) = ready else {
+            return;
+        };
+        let _acted = act_on(network, plants, boxes, event);
+    }
 }

@@ -78,6 +78,22 @@ fn ready_among<P: Plant>(
     None
 }
 
+/// A pair of the plant of that number that can be planned.
+pub(crate) fn ready_at<P: Plant>(
+    network: &Network,
+    plants: &[P],
+    boxes: &[Mailbox],
+    plant: usize,
+) -> Option<Event>
+    requires shown { AreSomewhere P.shows network.now plants.now boxes.now }
+    ensures some { IfSome result (λ event. MayLead P.shows network.now plants.now boxes.now event) }
+{
+    let all = plants.len();
+    let at = plant.min(all);
+    let next = at.saturating_add(1).min(all);
+    ready_among(network, plants, boxes, at, next)
+}
+
 /// An event that is enabled: a pair of the plant `plant` that can be planned, else one over the lanes from
 /// `lane` on and round, else a pair of any plant.
 pub(crate) fn look<P: Plant>(
@@ -91,10 +107,7 @@ pub(crate) fn look<P: Plant>(
     ensures some { IfSome result (λ event. MayLead P.shows network.now plants.now boxes.now event) }
     ensures none { IfNone result (AllRests P.shows network.now plants.now boxes.now) }
 {
-    let all = plants.len();
-    let at = plant.min(all);
-    let next = at.saturating_add(1).min(all);
-    if let Some(event) = ready_among(network, plants, boxes, at, next) {
+    if let Some(event) = ready_at(network, plants, boxes, plant) {
         return Some(event);
     }
     let lanes = network.lanes();
@@ -105,5 +118,5 @@ pub(crate) fn look<P: Plant>(
     if let Some(event) = moving_among(network, plants, boxes, 0, from) {
         return Some(event);
     }
-    ready_among(network, plants, boxes, 0, all)
+    ready_among(network, plants, boxes, 0, plants.len())
 }
