@@ -19,3 +19,4 @@ pub mod Arriving
 pub mod Lengths
 pub mod Ends
 pub mod Growing
+pub mod Awaiting

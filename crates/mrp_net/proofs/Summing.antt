@@ -1,6 +1,6 @@
 -- Sums of a table's rows are within 64 bits, so nothing is cut off them.
 use Rattle.std.proofs.Common.{◌≡◌, ℕ, ◌+◌, ◌-◌, ◌*◌, ◌^◌, ◌<◌, ◌≤◌, ◌&&◌, Bool, true, false, cond, eqb, List, [], ◌∷◌, ◌++◌, length, get_or, map, take, drop, min, replicate, refl, sym, subst, ap, ◌∙◌, inl, inr, arith}
-use Rattle.std.specs.List.{All, AllByRecursion, IsDistinct, sum_by}
+use Rattle.std.specs.List.{All, AllByRecursion, IsDistinct, range_with_len, sum_by}
 use Rattle.std.proofs.lemmas.Bool.{cond_both, cases_Bool, and_from, and_parts, eq-eqb, eqb-true, false_from_ne_true, true≢false}
 use Rattle.std.proofs.lemmas.Grind.{same_number_lists}
 use Rattle.std.proofs.lemmas.List.{get_or_read, take_at, get_or-replicate, get_or-map, get_or-take, get_or-drop, length-replicate, length-map, length-take-le, length-drop}
@@ -19,7 +19,7 @@ use Rattle.mrp_rows.specs.declared.rows.CumRow.{CumRow}
 use Rattle.mrp_rows.specs.Table.{Table, IsTable, IsPair, horizon, is_same_cum}
 use Rattle.mrp_group.specs.Added.{AddsTotals, AddsAmounts, sum_in, sum_of}
 use Rattle.mrp_group.proofs.Adding.{AddsAmounts-same, AddsTotals-same}
-use Rattle.mrp_net.specs.Sums.{pair_at, no_pair, row_of, demand, demand_total, received, shipped, incoming}
+use Rattle.mrp_net.specs.Sums.{pair_at, no_pair, row_of, demand, demand_total, received, shipped}
 use Rattle.mrp_net.specs.Lanes.{figure, shipped_from}
 use Rattle.mrp_net.specs.Built.{AreTotals, ArePeriods, capped_supply}
 
@@ -59,17 +59,21 @@ place_fits N x n is pair width =
     let few : x + 1 ≤ MOST_PAIRS = omega (arith, is.read.limits.pairs) in
     omega (arith, mul-le-mul_left n few, width, is.read.limits.periods)
 
+-- amounts that stand together are a row
+pub row_at : (amounts : List ℕ) (from n : ℕ) (amount : ℕ → ℕ) → from + n ≤ length amounts → ((t : ℕ) → t < n → get_or amounts (from + t) 0 ≡ amount t) → take n (drop from amounts) ≡ map amount (range_with_len 0 n)
+row_at amounts from n amount end each =
+    let size : length (take n (drop from amounts)) ≡ n = omega (arith, length-take-le n (drop from amounts), length-drop from amounts) in
+    same_number_lists (take n (drop from amounts)) (map amount (range_with_len 0 n)) (size ∙ sym (length-map-range_with_len amount 0 n))
+    (λ t lt. let g : t < n = omega (arith, size) in
+    get_or-take n (drop from amounts) t 0 g
+    ∙ get_or-drop from amounts t 0
+    ∙ each t g
+    ∙ sym (get_or-map-range_with_len amount 0 n t t 0 g (omega arith)))
+
 -- the amounts of a pair are its row
 row_in_periods : (N : Table) (amount : ℕ → ℕ → ℕ) (amounts : List ℕ) (x : ℕ) → ArePeriods N amount amounts → IsPair N x → take (horizon N) (drop (x * horizon N) amounts) ≡ row_of N (amount x)
 row_in_periods N amount amounts x are h =
-    let end : x * horizon N + horizon N ≤ length amounts = omega (arith, are.size, mul-le-mul_left (horizon N) h) in
-    let size : length (take (horizon N) (drop (x * horizon N) amounts)) ≡ horizon N = omega (arith, length-take-le (horizon N) (drop (x * horizon N) amounts), length-drop (x * horizon N) amounts) in
-    same_number_lists (take (horizon N) (drop (x * horizon N) amounts)) (row_of N (amount x)) (size ∙ sym (length-map-range_with_len (amount x) 0 (horizon N)))
-    (λ t lt. let g : t < horizon N = omega (arith, size) in
-    get_or-take (horizon N) (drop (x * horizon N) amounts) t 0 g
-    ∙ get_or-drop (x * horizon N) amounts t 0
-    ∙ are.each x t h g
-    ∙ sym (get_or-map-range_with_len (amount x) 0 (horizon N) t t 0 g (omega arith)))
+    row_at amounts (x * horizon N) (horizon N) (amount x) (omega (arith, are.size, mul-le-mul_left (horizon N) h)) (λ t g. are.each x t h g)
 
 -- the amounts of a pair end within those of all
 pub row_ends : (N M : Table) (sums : Table → ℕ → ℕ → ℕ) (amounts : List ℕ) (x : ℕ) → N ≡ M → ArePeriods N (sums N) amounts → IsPair M x → (x + 1) * horizon M ≤ length amounts
@@ -114,17 +118,6 @@ sums_built pair period amount N periods rows first slice after n zeros width sam
           let within = place_within N first x t room h g in
           let was : get_or first (x * horizon N + t) 0 ≡ 0 = ap (λ (z : List ℕ). get_or z (x * horizon N + t) 0) zeros ∙ get_or-replicate (length N.pairs * horizon N) (x * horizon N + t) 0 0 (omega arith) in
           omega (arith, added x t g within, was, few x t);
-    })
-
--- what is added to the receipts is what comes in
-pub incoming_built : (N : Table) (periods : ℕ) (read : List ShipRow) (first slice after : List ℕ) (n : ℕ)
-    → IsTable N → ArePeriods N (received N) first → periods ≡ horizon N → read ≡ N.ships → slice ≡ first → length after ≡ length slice → length after ≡ n
-    → AddsAmounts (λ (s : ShipRow). s.pair.0) (λ s. s.period) (λ s. s.quantity) periods read slice after → ArePeriods N (incoming N) (take n (after ++ drop (length after) first))
-incoming_built N periods read first slice after n is are width same_rows same long back adds =
-    let added = AddsAmounts-same (λ (s : ShipRow). s.pair.0) (λ s. s.period) (λ s. s.quantity) periods (horizon N) read N.ships slice first after width same_rows same adds in
-    rw (take_at after (drop (length after) first) n back) (record {
-      size = long ∙ ap length same ∙ are.size;
-      each = λ x t h g. omega (arith, added x t g (place_within N first x t are.size h g), are.each x t h g, received_within N is x t, shipped_within N is x t);
     })
 
 -- the totals of rows by a key below n; one past 2^64 - 1 stays there

@@ -6,10 +6,11 @@ use Rattle.mrp_net.specs.declared.build.Edges.{Edges}
 use Rattle.mrp_net.specs.declared.build.Amounts.{Amounts}
 use Rattle.mrp_net.specs.declared.lanes.LaneLists.{LaneLists}
 use Rattle.mrp_net.specs.Edges.{edges}
+use Rattle.mrp_net.specs.Incoming.{IsIncoming}
 use Rattle.mrp_group.specs.Groups.{sorted_by}
 use Rattle.mrp_group.specs.Starts.{IsGrouped}
 use Rattle.mrp_net.specs.Routes.{AreLaneLists}
-use Rattle.mrp_net.specs.Sums.{demand, demand_total, incoming, received, supply}
+use Rattle.mrp_net.specs.Sums.{demand, demand_total, received, supply}
 
 -- all edges in order of their demanders, and then in order of their pairs
 abbrev pub by_demander : Table → List Edge
@@ -48,7 +49,7 @@ pub record AreEdges (N : Table) (e : Edges) : Type 0 where
 pub record AreAmounts (N : Table) (a : Amounts) : Type 0 where
   pub demanded : ArePeriods N (demand N) a.demand.items
   pub receipts : ArePeriods N (received N) a.received.items
-  pub coming : ArePeriods N (incoming N) a.incoming.items
+  pub coming : IsIncoming N a.incoming
   pub total : AreTotals N (demand_total N) a.demand_totals.items
   pub supplied : AreTotals N (capped_supply N) a.supplies.items
 

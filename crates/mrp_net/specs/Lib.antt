@@ -1,6 +1,7 @@
 pub mod Built
 pub mod EdgeLaws
 pub mod Edges
+pub mod Incoming
 pub mod LaneLaws
 pub mod Lanes
 pub mod Names

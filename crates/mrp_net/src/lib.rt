@@ -6,6 +6,7 @@
 
 mod build;
 mod edge;
+mod incoming;
 mod lane;
 mod lanes;
 pub mod laws;

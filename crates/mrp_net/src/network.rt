@@ -253,7 +253,7 @@ impl Network {
         requires period { t < horizon self.now }
         ensures { result ≡ incoming self.now x.0 t }
     {
-        self.amounts.incoming[self.place_of(x, t)]
+        self.incoming_row(x)[t]
     }
 
     /// What comes in for the pair, period by period: its receipt rows and the shipments to it, each at most 2 * 10^18 pieces.
@@ -261,7 +261,11 @@ impl Network {
         requires { IsPair self.now x.0 }
         ensures { result.now ≡ row_of self.now (incoming self.now x.0) }
     {
-        &self.amounts.incoming[self.places_of(x)]
+        let periods = self.tables.horizon().get() as usize;
+        match self.amounts.incoming.places[x.0] {
+            0 => self.received_row(x),
+            place => &self.amounts.incoming.rows[(place - 1) * periods..place * periods],
+        }
     }
 
     /// The sums of the pair's receipt rows, period by period, without shipments, each at most 10^18 pieces.

@@ -1,3 +1,4 @@
+pub mod Fewer
 pub mod Grow
 pub mod Keys
 pub mod Lists

@@ -1,3 +1,4 @@
+pub mod Dropping
 pub mod Growing
 pub mod Names
 pub mod Rows

@@ -13,7 +13,7 @@ use std::marker::Model;
 /// An accepted table: the calendar, and the rows of each kind in table order, with names as numbers.
 #[derive(Drop)]
 pub struct Tables {
-    lists: RowLists,
+    pub(crate) lists: RowLists,
 }
 
 impl Model for Tables {

@@ -1,14 +1,19 @@
-use Rattle.std.proofs.Common.{arith}
+use Rattle.std.proofs.Common.{length, arith, ap}
+use Rattle.std.proofs.lemmas.List.FromFn.{length-map-range_with_len}
+use Rattle.mrp_rows.specs.Table.{horizon}
 use Rattle.mrp_net.specs.Sums.{incoming}
-use Rattle.mrp_net.proofs.Summing.{amount_read, amount_within}
+use Rattle.mrp_net.proofs.Periods.{row_reads}
 use Rattle.mrp_net.proofs.network.Network.incoming.Goals as goal
 
-pub index-requires : goal.index-requires
-index-requires c =
-    let inside = amount_within _ c.args.self.now incoming c.self.inside.amounts.incoming.items c.args.x.0 c.args.t c.self.view_is c.self.invariant.amounts.coming c.requires.pair c.requires.period in
-    omega (arith, c.self.inside.amounts.incoming.ok.0, c.place_of.ensures, inside)
+pub offset_bounds-incoming_row-t : goal.offset_bounds-incoming_row-t
+offset_bounds-incoming_row-t c =
+    let N = c.args.self.now in
+    omega (arith, ap length c.incoming_row.ensures, length-map-range_with_len (incoming N c.args.x.0) 0 (horizon N), c.requires.period, c.incoming_row.type_inv)
+
+pub bounds-incoming_row-t : goal.bounds-incoming_row-t
+bounds-incoming_row-t c =
+    let N = c.args.self.now in
+    omega (arith, ap length c.incoming_row.ensures, length-map-range_with_len (incoming N c.args.x.0) 0 (horizon N), c.requires.period)
 
 pub returns : goal.returns
-returns c =
-    amount_read _ c.args.self.now incoming c.self.inside.amounts.incoming.items c.args.x.0 c.args.t c.place_of.result c.index.result.now c.self.view_is c.self.invariant.amounts.coming
-    c.place_of.ensures c.requires.pair c.requires.period c.index.ensures
+returns c = row_reads c.args.self.now (incoming c.args.self.now c.args.x.0) c.incoming_row.result.now c.args.t c.incoming_row.ensures c.requires.period
