@@ -7,6 +7,7 @@
 mod build;
 mod edge;
 mod incoming;
+mod kept;
 mod lane;
 mod lanes;
 pub mod laws;

@@ -13,6 +13,7 @@ ghost use Rattle.mrp_net.specs.Sources.{source_no, source_on};
 ghost use Rattle.mrp_net.specs.Texts.{longest_block, longest_text};
 
 use crate::build::{Amounts, Edges};
+use crate::kept::Kept;
 use crate::lane::{Lane, LaneKind, LaneNo, Shipment};
 use crate::lanes::{LaneLists, source_of};
 use crate::{Edge, build, lanes};
@@ -30,7 +31,7 @@ use std::ops::Range;
 /// counted from 0, quantities in pieces.
 #[derive(Drop)]
 pub struct Network {
-    tables: Tables,
+    tables: Kept,
     edges: Edges,
     amounts: Amounts,
     lanes: LaneLists,
@@ -76,7 +77,7 @@ impl Parts {
     }
 
     /// The network of the table that they were built of.
-    fn join(self, tables: Tables) -> Network
+    fn join(self, alloc: Global, tables: Tables) -> Network
         requires table { IsTable tables }
         requires edges { AreEdges tables self.edges }
         requires amounts { AreAmounts tables self.amounts }
@@ -84,7 +85,7 @@ impl Parts {
         ensures { result ≡ tables }
     {
         Network {
-            tables,
+            tables: Kept::of(alloc, tables),
             edges: self.edges,
             amounts: self.amounts,
             lanes: self.lanes,
@@ -93,7 +94,7 @@ impl Parts {
 }
 
 impl Network {
-    /// The network of a table, which it keeps.
+    /// The network of a table, of which it keeps what is read later.
     ///
     /// # Errors
     ///
@@ -103,7 +104,7 @@ impl Network {
     {
         let _pairs = tables.pairs();
         match Parts::of(alloc, &tables) {
-            Ok(parts) => Ok(parts.join(tables)),
+            Ok(parts) => Ok(parts.join(alloc, tables)),
             Err(memory) => {
                 mem::drop(tables);
                 Err(memory)
@@ -462,6 +463,6 @@ impl Network {
     {
         let x = self.tables.find_pair(lane.customer(), item).unwrap();
         let starts = self.lanes.sources.as_slice();
-        source_of(&self.tables, starts, x, lane.supplier())
+        source_of(self.tables.rows(), starts, x, lane.supplier())
     }
 }
