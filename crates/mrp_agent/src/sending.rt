@@ -5,12 +5,14 @@ ghost use Rattle.std.specs.List.{position_or_len};
 ghost use Rattle.mrp_view.specs.Loads.{load_at};
 ghost use Rattle.mrp_local.specs.Goods.{share};
 ghost use Rattle.mrp_agent.specs.Sending.{next_shipment, next_called, left_to_ship, left_to_call, figure_in, IsCallShare};
+ghost use Rattle.mrp_agent.specs.After.{gone_on};
 ghost use Rattle.mrp_agent.specs.Kept.{IsShowing};
+ghost use Rattle.mrp_cursor.specs.Next.{next_record};
 
 use crate::Agent;
 use crate::booking::incoming_place;
 use mrp_book::Book;
-use mrp_cursor::{NextLine, Remainder};
+use mrp_cursor::{NextLine, OutCursor, Remainder};
 use mrp_net::{LaneKind, LaneNo, Shipment};
 use mrp_netting::PairPlan;
 use mrp_qty::{Qty, Row};
@@ -53,6 +55,26 @@ impl Agent {
         let k = outgoing_place(self.view.outgoing(), lane);
         let left = self.left_at(k);
         self.lanes.outs[k].step(left);
+    }
+
+    /// Sends the record that a lane that goes out is to be sent next, or answers `None` where there is none;
+    /// then nothing has changed.
+    ///
+    /// It is [`Agent::next_out`] and then, where that gives a record, [`Agent::sent`], and looks but once for
+    /// the lane and for what is left.
+    pub fn send(&mut self, lane: LaneNo) -> Option<Record>
+        requires outgoing { outgoing_place self.old.view lane.0 < length self.old.view.outgoing }
+        ensures view { self.new.view ≡ self.old.view }
+        ensures exact { result ≡ next_out self.old (outgoing_place self.old.view lane.0) }
+        ensures given { IfSome result (λ r. GivenIsLegal self.old (outgoing_place self.old.view lane.0) r) }
+        ensures none { IfNone result (NoneCanBeSent self.old (outgoing_place self.old.view lane.0)) }
+        ensures sent { IfSome result (λ _. self.new ≡ after_sent self.old (outgoing_place self.old.view lane.0)) }
+        ensures appended { IfSome result (λ r. IsAppended self.old self.new (outgoing_place self.old.view lane.0) r) }
+        ensures unchanged { IfNone result (self.new ≡ self.old) }
+    {
+        let k = outgoing_place(self.view.outgoing(), lane);
+        let left = self.left_at(k);
+        send_next(&mut self.lanes.outs[k], left)
     }
 
     /// What is left of the item at the head of a lane's queue.
@@ -100,6 +122,16 @@ impl Agent {
             mark,
         )
     }
+}
+
+/// Gives a lane's next record, where there is one, and goes on after it.
+fn send_next(out: &mut OutCursor, left: Option<Remainder>) -> Option<Record>
+    ensures record { result ≡ next_record out.old left }
+    ensures after { out.new ≡ gone_on result out.old left }
+{
+    let entry = out.next_record(left)?;
+    out.step(left);
+    Some(entry)
 }
 
 /// What a schedule lane has left to call for of an item, by the book of the despatch lane before it and
