@@ -15,16 +15,18 @@ pub struct Places<K: Eq + Hash> {
 impl<K: Eq + Hash> Model for Places<K> {
     ghost use Rattle.std.specs.Prelude.{◌≡◌, List, position};
     ghost use Rattle.std.specs.HashMap.{get};
+    ghost use Rattle.std.specs.List.{IsDistinct};
 
     ghost Value = { List K };
 
     ghost view = { λ p. p.keys.items };
 
-    ghost invariant = { λ p. (key : K) → get K.eq p.places key ≡ position (K.eq key) p.keys.items };
+    ghost invariant = { λ p. IsDistinct K.eq p.keys.items
+        × ((key : K) → get K.eq p.places key ≡ position (K.eq key) p.keys.items) };
 }
 
 impl<K: Eq + Hash + Copy + Drop> Places<K> {
-    ghost use Rattle.std.specs.Prelude.{◌≡◌, ◌<◌, ◌++◌, ◌∷◌, [], length, position, false, IfSome, OnErr, OnOk};
+    ghost use Rattle.std.specs.Prelude.{◌≡◌, ◌<◌, ◌++◌, ◌∷◌, [], length, position, false, IfSome, IsTrue, OnErr, OnOk, Some};
     ghost use Rattle.std.specs.List.{list_any};
 
     /// No keys.
@@ -62,5 +64,30 @@ impl<K: Eq + Hash + Copy + Drop> Places<K> {
         ensures within { IfSome result (λ place. place < length self.now) }
     {
         self.places.get(&key).copied()
+    }
+
+    /// The place of a key, which is looked for at `near` and right behind it first.
+    pub fn find_near(&self, key: K, near: usize) -> Option<usize>
+        ensures place { result ≡ position (K.eq key) self.now }
+        ensures within { IfSome result (λ place. place < length self.now) }
+    {
+        let next = near.saturating_add(1);
+        if self.is_at(key, near) {
+            Some(near)
+        } else if self.is_at(key, next) {
+            Some(next)
+        } else {
+            self.find(key)
+        }
+    }
+
+    /// Whether a key stands at a place.
+    fn is_at(&self, key: K, place: usize) -> bool
+        ensures { IsTrue result → position (K.eq key) self.now ≡ Some place }
+    {
+        match self.keys.get(place) {
+            Some(known) => key == *known,
+            None => false,
+        }
     }
 }
