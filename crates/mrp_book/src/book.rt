@@ -24,6 +24,7 @@ pub struct Book {
     next: u64,
     closed: bool,
     begun: Option<ItemNo>,
+    near: usize,
     places: Places<ItemNo>,
     items: Vec<ItemFigure>,
 }
@@ -89,6 +90,7 @@ impl Book {
             next: 1,
             closed: false,
             begun: None,
+            near: 0,
             places,
             items: figures,
         })
@@ -116,7 +118,15 @@ impl Book {
         ensures { (F : LaneForm) (records : List Record) → BookShows F self.now records
             → result ≡ option_map (λ i. cum i.opening i.item (contents records)) (item_on F item.0) }
     {
-        match self.find(item) {
+        self.cumulative_near(item, self.near)
+    }
+
+    /// The same of an item that is looked for at the place `near` among the lane's, and right behind it, first.
+    pub fn cumulative_near(&self, item: ItemNo, near: usize) -> Option<Qty>
+        ensures { (F : LaneForm) (records : List Record) → BookShows F self.now records
+            → result ≡ option_map (λ i. cum i.opening i.item (contents records)) (item_on F item.0) }
+    {
+        match self.find_near(item, near) {
             Some(place) => {
                 let known = self.items[place];
                 Some(Qty::of(known.figure + known.closed))
@@ -219,6 +229,14 @@ impl Book {
         self.places.find(item)
     }
 
+    /// The same of an item that is looked for at the place `near` and right behind it first.
+    fn find_near(&self, item: ItemNo, near: usize) -> Option<usize>
+        ensures place { result ≡ position (λ g. g.item.0 == item.0) self.now.items }
+        ensures within { IfSome result (λ place. place < length self.now.items) }
+    {
+        self.places.find_near(item, near)
+    }
+
     /// Whether the block of another item has begun and isn't ended.
     fn is_other_begun(&self, item: ItemNo) -> bool
         ensures { result ≡ is_other_begun self.now.begun item.0 }
@@ -233,7 +251,7 @@ impl Book {
     fn place_in_turn(&self, item: ItemNo) -> Result<usize, BookFault>
         ensures { IsInTurn result self.now item.0 }
     {
-        let Some(place) = self.find(item) else {
+        let Some(place) = self.find_near(item, self.near) else {
             return Err(BookFault::NotOnLane);
         };
         let figure = self.items[place];
@@ -267,6 +285,7 @@ impl Book {
         )?;
         self.items[place].add_line(period, quantity);
         self.begun = Some(item);
+        self.near = place;
         self.next += 1;
         Ok(())
     }
@@ -287,6 +306,7 @@ impl Book {
         figure.check_end(number, lines, cumulative)?;
         self.items[place].add_end();
         self.begun = None;
+        self.near = place;
         self.next += 1;
         Ok(())
     }
@@ -301,6 +321,7 @@ impl Book {
         figure.check_reset(number, closed)?;
         self.items[place].add_reset();
         self.begun = Some(item);
+        self.near = place;
         self.next += 1;
         Ok(())
     }
