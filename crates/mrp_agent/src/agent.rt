@@ -6,6 +6,7 @@ ghost use Rattle.mrp_agent.specs.Kept.{IsShowing};
 
 use crate::booking::incoming_place;
 use crate::parts::{Amounts, Lanes, Structure};
+use crate::places::LastPlaces;
 use mrp_book::Book;
 use mrp_cursor::OutCursor;
 use mrp_net::{ItemNo, LaneNo, PairNo};
@@ -25,6 +26,7 @@ pub struct Agent {
     pub(crate) structure: Structure,
     pub(crate) lanes: Lanes,
     pub(crate) amounts: Amounts,
+    pub(crate) last: LastPlaces,
 }
 
 impl Model for Agent {
@@ -94,6 +96,7 @@ impl Agent {
             structure,
             lanes,
             amounts,
+            last: LastPlaces::new(),
         })
     }
 
@@ -160,6 +163,7 @@ impl Agent {
             structure,
             lanes,
             amounts,
+            last: _,
         } = self;
         drop(view);
         drop(structure);
