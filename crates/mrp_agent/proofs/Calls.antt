@@ -1,7 +1,7 @@
 -- What an agent's methods of sending know.
 use Rattle.std.proofs.Common.{◌≡◌, ℕ, ◌-◌, ◌<◌, ◌≤◌, Option, Some, None, IfSome, IfNone, List, length, get_or, set, sym, ap, ◌∙◌, subst, arith, rules}
 use Rattle.std.specs.List.{Contains}
-use Rattle.std.proofs.lemmas.List.{get_or_default}
+use Rattle.std.proofs.lemmas.List.{get_or_default, set-get_or}
 use Rattle.std.proofs.lemmas.List.Elements.{All-contains}
 use Rattle.mrp_lot.specs.One.{PlanRows}
 use Rattle.mrp_net.specs.declared.lane.LaneKind.{LaneKind}
@@ -17,7 +17,7 @@ use Rattle.mrp_cursor.specs.declared.remainder.Remainder.{Remainder}
 use Rattle.mrp_cursor.specs.Cursor.{OutFigures}
 use Rattle.mrp_cursor.specs.Next.{next_record, stepped}
 use Rattle.mrp_agent.specs.State.{AgentState, book_at, incoming_at, incoming_place, out_at, pair_place, plans_of, no_out}
-use Rattle.mrp_agent.specs.After.{after_sent}
+use Rattle.mrp_agent.specs.After.{after_sent, gone_on}
 use Rattle.mrp_agent.specs.Kept.{HasTaken, Indexes, IsKept, IsShowing}
 use Rattle.mrp_agent.specs.Sending.{IsCallShare, left_at, left_to_call, next_out, remainder, remainder_by}
 use Rattle.mrp_agent.specs.Sent.{GivenIsLegal, NoneCanBeSent, IsAppended}
@@ -110,3 +110,33 @@ next_is A k j o left r same within is e s =
     let inside : k < length A.outs = omega arith in
     let is' : o ≡ out_at A k = read_is A.outs k o no_out is inside in
     s ∙ ap (λ (z : OutFigures). next_record z left) is' ∙ ap (λ (z : Option Remainder). next_record (out_at A k) z) e ∙ ap (next_out A) same
+
+-- ---- where a record is given the cursor has gone on after it, and nothing has changed where there is none
+
+-- the cursors after a lane was asked
+pub gone_outs : (A : AgentState) (k j : ℕ) (o new : OutFigures) (left : Option Remainder) (r : Option Record) → k ≡ j → j < length A.outs → o ≡ get_or A.outs k o → left ≡ left_at A k → new ≡ gone_on r o left
+    → set A.outs k new ≡ set A.outs j (gone_on r (out_at A j) (left_at A j))
+gone_outs A k j o new left r same within is e s =
+    let inside : k < length A.outs = omega arith in
+    let is' : o ≡ out_at A k = read_is A.outs k o no_out is inside in
+    let step : new ≡ gone_on r (out_at A k) (left_at A k) = s ∙ ap (λ (z : OutFigures). gone_on r z left) is' ∙ ap (λ (z : Option Remainder). gone_on r (out_at A k) z) e in
+    ap (λ (z : OutFigures). set A.outs k z) step ∙ ap (λ (z : ℕ). set A.outs z (gone_on r (out_at A z) (left_at A z))) same
+
+pub kept_gone : (A : AgentState) {I : Indexes} (k : ℕ) (outs : List OutFigures) (r : Option Record) → k < length A.view.outgoing → IsKept A I → outs ≡ set A.outs k (gone_on r (out_at A k) (left_at A k)) → IsKept (record A { outs = outs }) I
+kept_gone A {I} k outs None within kept is =
+    let P : List OutFigures → Type 0 = λ z. IsKept (record A { outs = z }) I in
+    subst P (sym (is ∙ set-get_or A.outs k no_out)) kept
+kept_gone A k outs (Some r) within kept is = kept_outs A k outs within kept is
+
+pub record_gone : (A B : AgentState) (k : ℕ) (r : Option Record) → B ≡ record A { outs = set A.outs k (gone_on r (out_at A k) (left_at A k)) } → IfSome r (λ _. B ≡ after_sent A k)
+record_gone A B k None is = tt
+record_gone A B k (Some r) is = is
+
+pub none_gone : (A B : AgentState) (k : ℕ) (r : Option Record) → B ≡ record A { outs = set A.outs k (gone_on r (out_at A k) (left_at A k)) } → IfNone r (B ≡ A)
+none_gone A B k None is = is ∙ ap (λ (z : List OutFigures). record A { outs = z }) (set-get_or A.outs k no_out)
+none_gone A B k (Some r) is = tt
+
+pub record_appended : (A B : AgentState) {I : Indexes} → IsKept A I → (k : ℕ) → k < length A.view.outgoing → (r : Option Record) → r ≡ next_out A k
+    → B ≡ record A { outs = set A.outs k (gone_on r (out_at A k) (left_at A k)) } → IfSome r (λ r. IsAppended A B k r)
+record_appended A B kept k within None given is = tt
+record_appended A B kept k within (Some r) given is = appended A B kept k within is r (sym given)

@@ -10,6 +10,7 @@ use Rattle.mrp_view.specs.View.{PlantRows}
 use Rattle.mrp_record.specs.declared.record.Record.{Record}
 use Rattle.mrp_record.specs.declared.record.Record.TheVariants.{Line, ItemEnd, Reset, Close}
 use Rattle.mrp_book.specs.Figures.{Figures}
+use Rattle.mrp_cursor.specs.declared.remainder.Remainder.{Remainder}
 use Rattle.mrp_cursor.specs.Cursor.{OutFigures}
 use Rattle.mrp_cursor.specs.Next.{stepped, queued}
 use Rattle.mrp_ready.specs.declared.join.Join.{Join}
@@ -24,6 +25,11 @@ use Rattle.mrp_agent.specs.Shows.{up_to_last}
 -- the cursor of a lane has gone on
 abbrev pub after_sent : AgentState → ℕ → AgentState
 after_sent A k = record A { outs = slice_set A.outs k (stepped (out_at A k) (left_at A k)) }
+
+-- the cursor of a lane after its next record, where there is one
+abbrev pub gone_on : Option Record → OutFigures → Option Remainder → OutFigures
+gone_on None o left = o
+gone_on (Some r) o left = stepped o left
 
 -- ---- booked
 

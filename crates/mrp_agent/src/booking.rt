@@ -1,6 +1,6 @@
 //! How an agent books a record that has come to it.
 
-ghost use Rattle.std.specs.Prelude.{◌≡◌, ◌==◌, ◌*◌, ◌<◌, ◌≤◌, length, position, IfSome};
+ghost use Rattle.std.specs.Prelude.{◌≡◌, ◌==◌, ◌*◌, ◌<◌, ◌≤◌, count_by, length, position, IfSome};
 ghost use Rattle.std.specs.List.{position_or_len};
 ghost use Rattle.mrp_agent.specs.After.{came_by, called_after, items_of, with_line, added_at, ended_place, BlockEnded, IsAwaited};
 
@@ -10,7 +10,7 @@ use mrp_book::BookFault;
 use mrp_net::{LaneKind, LaneNo};
 use mrp_ready::Readiness;
 use mrp_record::Record;
-use mrp_view::{IncomingLane, PlantView};
+use mrp_view::{IncomingLane, PlantFrame};
 
 impl Agent {
     ghost use Rattle.std.specs.Prelude.{ℕ, List, [], ◌∷◌, ◌++◌, Bool, Some, IfErr, OnErr, OnOk};
@@ -38,18 +38,27 @@ impl Agent {
             × (IsInForm (form_of self.old.view (incoming_at self.old.view (incoming_place self.old.view lane.0))) (taken lane.0 ++ entry.now ∷ []) → ⊥)) }
         ensures unchanged { OnErr result (self.new ≡ self.old) }
     {
-        let k = incoming_place(self.view.incoming(), lane);
+        let k = incoming_near(self.view.incoming(), lane, self.last.booked);
         self.lanes.books[k].book(entry)?;
         let kind = self.view.incoming()[k].kind;
+        let near = pair_near(&self.structure.items, entry, self.last.pair);
+        self.last.booked = k;
+        self.last.pair = near;
         add_entry(
             &mut self.amounts.came,
             &mut self.amounts.called,
             &self.view,
             &self.structure.items,
+            near,
             kind,
             entry,
         );
-        end_block(&mut self.structure.progress, &self.structure.items, entry);
+        end_block(
+            &mut self.structure.progress,
+            &self.structure.items,
+            near,
+            entry,
+        );
         Ok(())
     }
 }
@@ -61,6 +70,17 @@ pub(crate) fn incoming_place(lanes: &[IncomingLane], lane: LaneNo) -> usize
     find_incoming(lanes, lane).unwrap_or(lanes.len())
 }
 
+/// The same of a lane that is looked for at the place `near` first.
+pub(crate) fn incoming_near(lanes: &[IncomingLane], lane: LaneNo, near: usize) -> usize
+    requires { count_by (λ l. l.number.0 == lane.0) lanes.now ≤ 1 }
+    ensures { result ≡ position_or_len (λ l. l.number.0 == lane.0) lanes.now }
+{
+    match lanes.get(near) {
+        Some(known) if known.number.0 == lane.0 => near,
+        _ => incoming_place(lanes, lane),
+    }
+}
+
 /// The place of a lane among those that come in.
 fn find_incoming(lanes: &[IncomingLane], lane: LaneNo) -> Option<usize>
     ensures { result ≡ position (λ l. l.number.0 == lane.0) lanes.now }
@@ -68,13 +88,25 @@ fn find_incoming(lanes: &[IncomingLane], lane: LaneNo) -> Option<usize>
     lanes.iter().position(|known| known.number.0 == lane.0)
 }
 
+/// Where the item of a record stands among those of the plant's pairs, by a look at the place `near` and
+/// right behind it first. It is `near` where the record has no item.
+fn pair_near(items: &ItemPlaces, entry: &Record, near: usize) -> usize {
+    match *entry {
+        Record::Line { item, .. } | Record::ItemEnd { item, .. } | Record::Reset { item, .. } => {
+            items.find_near(item, near).unwrap_or(near)
+        }
+        Record::Close { .. } => near,
+    }
+}
+
 /// Adds the pieces of a line where they belong: on a despatch lane they come in, on a schedule lane they
-/// are called for.
+/// are called for. Their pair is looked for at the place `near` first.
 fn add_entry(
     came: &mut Vec<u64>,
     called: &mut Vec<u64>,
-    view: &PlantView,
+    view: &PlantFrame,
     items: &ItemPlaces,
+    near: usize,
     kind: LaneKind,
     entry: &Record,
 )
@@ -86,13 +118,13 @@ fn add_entry(
 {
     let periods = view.horizon().get() as usize;
     match kind {
-        LaneKind::Despatch => add_line(came, items, periods, entry),
-        LaneKind::Schedule => add_line(called, items, periods, entry),
+        LaneKind::Despatch => add_line(came, items, near, periods, entry),
+        LaneKind::Schedule => add_line(called, items, near, periods, entry),
     }
 }
 
 /// Adds the pieces of a line at its pair and period; another record adds nothing.
-fn add_line(amounts: &mut [u64], items: &ItemPlaces, periods: usize, entry: &Record)
+fn add_line(amounts: &mut [u64], items: &ItemPlaces, near: usize, periods: usize, entry: &Record)
     requires room { length items.now * periods ≤ length amounts.old }
     ensures { amounts.new ≡ with_line items.now periods amounts.old entry.now }
 {
@@ -105,7 +137,7 @@ fn add_line(amounts: &mut [u64], items: &ItemPlaces, periods: usize, entry: &Rec
     else {
         return;
     };
-    let Some(place) = items.find(item) else {
+    let Some(place) = items.find_near(item, near) else {
         return;
     };
     if period < periods as u64 {
@@ -122,14 +154,14 @@ fn add_at(amounts: &mut [u64], at: usize, quantity: u64)
 }
 
 /// Counts the block of an item as ended at the item's end.
-fn end_block(progress: &mut Readiness, items: &ItemPlaces, entry: &Record)
+fn end_block(progress: &mut Readiness, items: &ItemPlaces, near: usize, entry: &Record)
     requires { IfSome (ended_place items.now entry.now) (λ y. IsAwaited progress.old y) }
     ensures { BlockEnded (ended_place items.now entry.now) progress.old progress.new }
 {
     let Record::ItemEnd { item, .. } = *entry else {
         return;
     };
-    let Some(place) = items.find(item) else {
+    let Some(place) = items.find_near(item, near) else {
         return;
     };
     progress.arrive(place);

@@ -7,7 +7,7 @@ ghost use Rattle.mrp_view.specs.Seen.{IsPlantEdge};
 
 use mrp_group::KeyOf;
 use mrp_ready::Join;
-use mrp_view::{PlantEdge, PlantView};
+use mrp_view::{PlantEdge, PlantFrame};
 use std::alloc::{AllocError, Global};
 
 /// An edge of the plant by the places of its pairs.
@@ -35,7 +35,7 @@ impl KeyOf<ParentEdge> for ByComponent {
 /// The edges of a plant by places.
 pub(crate) fn parent_edges(
     alloc: Global,
-    view: &PlantView,
+    view: &PlantFrame,
     edges: &[PlantEdge],
 ) -> Result<Vec<ParentEdge>, AllocError>
     requires { All (IsPlantEdge view.now) edges.now }
@@ -49,7 +49,7 @@ pub(crate) fn parent_edges(
 }
 
 /// An edge by places.
-fn parent_edge(view: &PlantView, edge: &PlantEdge) -> ParentEdge
+fn parent_edge(view: &PlantFrame, edge: &PlantEdge) -> ParentEdge
     requires { IsPlantEdge view.now edge.now }
     ensures { result ≡ parent_edge view.now edge.now }
 {

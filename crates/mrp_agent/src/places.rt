@@ -36,6 +36,14 @@ impl ItemPlaces {
         self.items.find(item)
     }
 
+    /// The same of an item that is looked for at the place `near` and right behind it first.
+    pub(crate) fn find_near(&self, item: ItemNo, near: usize) -> Option<usize>
+        ensures place { result ≡ place_of self.now item }
+        ensures within { IfSome result (λ place. place < length self.now) }
+    {
+        self.items.find_near(item, near)
+    }
+
     /// The items of a plant's pairs, which has each of them once.
     pub(crate) fn of_pairs(alloc: Global, pairs: &[PlantPair]) -> Result<ItemPlaces, AllocError>
         requires { (item : ℕ) → count_by (λ p. p.item.0 == item) pairs.now ≤ 1 }
@@ -58,6 +66,29 @@ impl ItemPlaces {
             items.push(lane.get(j).item)?;
         }
         Ok(ItemPlaces { items })
+    }
+}
+
+/// Where the lanes and the pair of the last records stood. The next ones are looked for there first, and
+/// then everywhere, so these places change no answer. Contracts don't see them.
+#[derive(Clone, Copy)]
+pub(crate) struct LastPlaces {
+    /// The place of the lane that a record was sent on.
+    pub(crate) sent: usize,
+    /// The place of the lane that a record was booked on.
+    pub(crate) booked: usize,
+    /// The place of the pair whose item was booked.
+    pub(crate) pair: usize,
+}
+
+impl LastPlaces {
+    /// Those before the first record.
+    pub(crate) fn new() -> LastPlaces {
+        LastPlaces {
+            sent: 0,
+            booked: 0,
+            pair: 0,
+        }
     }
 }
 

@@ -1,16 +1,18 @@
 //! What an agent sends next on a lane, and how it goes on once that is sent.
 
-ghost use Rattle.std.specs.Prelude.{◌≡◌, ◌==◌, ◌<◌, length, position};
+ghost use Rattle.std.specs.Prelude.{◌≡◌, ◌==◌, ◌<◌, ◌≤◌, count_by, length, position};
 ghost use Rattle.std.specs.List.{position_or_len};
 ghost use Rattle.mrp_view.specs.Loads.{load_at};
 ghost use Rattle.mrp_local.specs.Goods.{share};
 ghost use Rattle.mrp_agent.specs.Sending.{next_shipment, next_called, left_to_ship, left_to_call, figure_in, IsCallShare};
+ghost use Rattle.mrp_agent.specs.After.{gone_on};
 ghost use Rattle.mrp_agent.specs.Kept.{IsShowing};
+ghost use Rattle.mrp_cursor.specs.Next.{next_record};
 
 use crate::Agent;
-use crate::booking::incoming_place;
+use crate::booking::incoming_near;
 use mrp_book::Book;
-use mrp_cursor::{NextLine, Remainder};
+use mrp_cursor::{NextLine, OutCursor, Remainder};
 use mrp_net::{LaneKind, LaneNo, Shipment};
 use mrp_netting::PairPlan;
 use mrp_qty::{Qty, Row};
@@ -55,6 +57,27 @@ impl Agent {
         self.lanes.outs[k].step(left);
     }
 
+    /// Sends the record that a lane that goes out is to be sent next, or answers `None` where there is none;
+    /// then nothing has changed.
+    ///
+    /// It is [`Agent::next_out`] and then, where that gives a record, [`Agent::sent`], and looks but once for
+    /// the lane and for what is left.
+    pub fn send(&mut self, lane: LaneNo) -> Option<Record>
+        requires outgoing { outgoing_place self.old.view lane.0 < length self.old.view.outgoing }
+        ensures view { self.new.view ≡ self.old.view }
+        ensures exact { result ≡ next_out self.old (outgoing_place self.old.view lane.0) }
+        ensures given { IfSome result (λ r. GivenIsLegal self.old (outgoing_place self.old.view lane.0) r) }
+        ensures none { IfNone result (NoneCanBeSent self.old (outgoing_place self.old.view lane.0)) }
+        ensures sent { IfSome result (λ _. self.new ≡ after_sent self.old (outgoing_place self.old.view lane.0)) }
+        ensures appended { IfSome result (λ r. IsAppended self.old self.new (outgoing_place self.old.view lane.0) r) }
+        ensures unchanged { IfNone result (self.new ≡ self.old) }
+    {
+        let k = outgoing_near(self.view.outgoing(), lane, self.last.sent);
+        let left = self.left_at(k);
+        self.last.sent = k;
+        send_next(&mut self.lanes.outs[k], left)
+    }
+
     /// What is left of the item at the head of a lane's queue.
     fn left_at(&self, k: usize) -> Option<Remainder>
         requires { k < length self.now.view.outgoing }
@@ -62,29 +85,38 @@ impl Agent {
     {
         let place = self.lanes.outs[k].head()?;
         let mark = self.lanes.outs[k].mark();
-        Some(self.left_of(&self.view.outgoing()[k], place, mark))
+        Some(self.left_of(&self.view.outgoing()[k], k, place, mark))
     }
 
-    /// What is left of the item at a place of a lane that goes out, from a mark on.
-    fn left_of(&self, lane: &OutgoingLane, place: usize, mark: usize) -> Remainder
+    /// What is left of the item at a place of a lane that goes out, from a mark on. The lane stands at `near`.
+    fn left_of(&self, lane: &OutgoingLane, near: usize, place: usize, mark: usize) -> Remainder
         requires lane { Contains self.now.view.outgoing lane.now }
         requires place { place < length lane.now.items }
         ensures { result ≡ remainder self.now lane.now mark place }
     {
         match lane.kind {
             LaneKind::Despatch => left_to_ship(&lane.items, place, mark),
-            LaneKind::Schedule => self.schedule_left(lane, place, mark),
+            LaneKind::Schedule => self.schedule_left(lane, near, place, mark),
         }
     }
 
     /// What a schedule lane has left to call for of an item.
-    fn schedule_left(&self, lane: &OutgoingLane, place: usize, mark: usize) -> Remainder
+    ///
+    /// The despatch lane before it is looked for at the schedule lane's own place first: a plant receives a
+    /// lane from each plant that it sends one to. It has the same items in the same order.
+    fn schedule_left(
+        &self,
+        lane: &OutgoingLane,
+        near: usize,
+        place: usize,
+        mark: usize,
+    ) -> Remainder
         requires lane { Contains self.now.view.outgoing lane.now }
         requires schedule { lane.now.kind ≡ Schedule }
         requires place { place < length lane.now.items }
         ensures { result ≡ remainder self.now lane.now mark place }
     {
-        let before = incoming_place(self.view.incoming(), LaneNo(lane.number.0 - 1));
+        let before = incoming_near(self.view.incoming(), LaneNo(lane.number.0 - 1), near);
         let item = lane.items.get(place);
         let Some(call) = item.call else {
             unreachable!()
@@ -97,9 +129,20 @@ impl Agent {
             &self.amounts.plans[customer],
             &item,
             &call,
+            place,
             mark,
         )
     }
+}
+
+/// Gives a lane's next record, where there is one, and goes on after it.
+fn send_next(out: &mut OutCursor, left: Option<Remainder>) -> Option<Record>
+    ensures record { result ≡ next_record out.old left }
+    ensures after { out.new ≡ gone_on result out.old left }
+{
+    let entry = out.next_record(left)?;
+    out.step(left);
+    Some(entry)
 }
 
 /// What a schedule lane has left to call for of an item, by the book of the despatch lane before it and
@@ -109,6 +152,7 @@ fn left_to_call(
     plan: &PairPlan,
     item: &OutgoingItem,
     call: &Call,
+    near: usize,
     mark: usize,
 ) -> Remainder
     requires book { IsShowing book.now }
@@ -117,18 +161,19 @@ fn left_to_call(
 {
     Remainder {
         item: item.item,
-        opening: figure_in(book, item.item),
+        opening: figure_in(book, item.item, near),
         reset: item.reset,
         line: next_call(plan.release(), call, mark),
     }
 }
 
-/// The cumulative figure of an item in a book, or 0 where the lane doesn't have it.
-fn figure_in(book: &Book, item: ItemNo) -> u64
+/// The cumulative figure of an item in a book, or 0 where the lane doesn't have it. The item is looked for
+/// at the place `near` first.
+fn figure_in(book: &Book, item: ItemNo, near: usize) -> u64
     requires { IsShowing book.now }
     ensures { result ≡ figure_in book.now item.0 }
 {
-    match book.cumulative(item) {
+    match book.cumulative_near(item, near) {
         Some(figure) => figure.get(),
         None => 0,
     }
@@ -139,6 +184,17 @@ fn outgoing_place(lanes: &[OutgoingLane], lane: LaneNo) -> usize
     ensures { result ≡ position_or_len (λ l. l.number.0 == lane.0) lanes.now }
 {
     find_outgoing(lanes, lane).unwrap_or(lanes.len())
+}
+
+/// The same of a lane that is looked for at the place `near` first.
+fn outgoing_near(lanes: &[OutgoingLane], lane: LaneNo, near: usize) -> usize
+    requires { count_by (λ l. l.number.0 == lane.0) lanes.now ≤ 1 }
+    ensures { result ≡ position_or_len (λ l. l.number.0 == lane.0) lanes.now }
+{
+    match lanes.get(near) {
+        Some(known) if known.number.0 == lane.0 => near,
+        _ => outgoing_place(lanes, lane),
+    }
 }
 
 /// The place of a lane among those that go out.

@@ -138,7 +138,7 @@ pub none_next : (A : AgentState) (l : ℕ) (o : Option Record) → IfNone o (Non
 none_next A l None none = none_is_next A l none
 none_next A l (Some r) none = tt
 
--- what holds whatever is answered
-pub none_given : (o : Option Record) (P : Type 0) → P → IfNone o P
-none_given None P h = h
-none_given (Some r) P h = tt
+pub sent_next : (A B : AgentState) (l : ℕ) (o : Option Record) → B.view ≡ A.view → IfSome o (λ r. IsAppended A B (outgoing_place A.view l) r)
+    → IfSome o (λ r. (m : Moment) (p : ℕ) → IsAt ShowsAgent m p A → IsOut m.network p l → ShowsAgent m.network p (after_send m.state l r) B)
+sent_next A B l None same appended = tt
+sent_next A B l (Some r) same appended = sent_shows A B l r same appended

@@ -28,9 +28,7 @@ impl Plant for Agent {
     }
 
     fn send(&mut self, lane: LaneNo) -> Option<Record> {
-        let entry = Agent::next_out(self, lane)?;
-        self.sent(lane);
-        Some(entry)
+        Agent::send(self, lane)
     }
 
     fn book(&mut self, lane: LaneNo, entry: &Record) -> Result<(), BookFault> {

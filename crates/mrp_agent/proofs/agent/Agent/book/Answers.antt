@@ -1,5 +1,5 @@
-use Rattle.std.proofs.Common.{◌≡◌, ◌<◌, ◌==◌, Some, List, [], ◌∷◌, ◌++◌, ℕ, length, set, sym, ap, ◌∙◌, subst, arith}
-use Rattle.std.specs.List.{position_or_len}
+use Rattle.std.proofs.Common.{◌≡◌, ◌<◌, ◌≤◌, ◌==◌, Some, List, [], ◌∷◌, ◌++◌, ℕ, length, set, sym, ap, ◌∙◌, subst, arith}
+use Rattle.std.specs.List.{count_by, position_or_len}
 use Rattle.std.proofs.lemmas.Result.{err_from_is_err_and}
 use Rattle.std.proofs.lemmas.List.{set-get_or}
 use Rattle.mrp_view.specs.declared.view.IncomingLane.{IncomingLane}
@@ -17,15 +17,15 @@ use Rattle.mrp_agent.proofs.BookCalls.{HasAdded, IsOnLane, ends, kept_now, shows
 use Rattle.mrp_agent.proofs.agent.Agent.book.Goals as goal
 use Rattle.mrp_agent.proofs.agent.Agent.book.Goals.{After-end_block, After-index_mut, In_err-book}
 
-on_lane : (c : After-index_mut) → IsOnLane (the_view c.self.inside) (indexes_of c.self.inside) c.args.lane.0 c.incoming_place-k.result c.index_mut.result.now
+on_lane : (c : After-index_mut) → IsOnLane (the_view c.self.inside) (indexes_of c.self.inside) c.args.lane.0 c.incoming_near-k.result c.index_mut.result.now
 on_lane c = record {
   kept = c.self.invariant;
   within = subst (λ (a : AgentState). incoming_place a.view c.args.lane.0 < length a.view.incoming) (sym c.self.view_is) c.requires.incoming;
-  at = c.incoming_place-k.ensures ∙ ap (λ (z : List IncomingLane). position_or_len (λ (k : IncomingLane). k.number.0 == c.args.lane.0) z) c.incoming.ensures;
+  at = c.incoming_near-k.ensures ∙ ap (λ (z : List IncomingLane). position_or_len (λ (k : IncomingLane). k.number.0 == c.args.lane.0) z) c.incoming.ensures;
   read = c.index_mut.ensures.value;
 }
 
-added : (c : After-end_block) → HasAdded (the_view c.self.inside) (indexes_of c.self.inside) c.incoming_place-k.result c.args.entry.now c.incoming-2.result.now c.index-incoming-k.result
+added : (c : After-end_block) → HasAdded (the_view c.self.inside) (indexes_of c.self.inside) c.incoming_near-k.result c.args.entry.now c.incoming-2.result.now c.index-incoming-k.result
     c.add_entry.new.came.items c.add_entry.new.called.items c.end_block.new.progress
 added c = record { lanes_are = c.incoming-2.ensures; comes = c.add_entry.ensures.came; calls = c.add_entry.ensures.called; ended = c.end_block.ensures }
 
@@ -56,8 +56,8 @@ returns-in_err-book-clause-refused c =
 
 pub index_mut-requires : goal.index_mut-requires
 index_mut-requires c =
-    let at : c.incoming_place-k.result ≡ incoming_place (the_view c.self.inside).view c.args.lane.0 =
-    c.incoming_place-k.ensures ∙ ap (λ (z : List IncomingLane). position_or_len (λ (k : IncomingLane). k.number.0 == c.args.lane.0) z) c.incoming.ensures in
+    let at : c.incoming_near-k.result ≡ incoming_place (the_view c.self.inside).view c.args.lane.0 =
+    c.incoming_near-k.ensures ∙ ap (λ (z : List IncomingLane). position_or_len (λ (k : IncomingLane). k.number.0 == c.args.lane.0) z) c.incoming.ensures in
     let within : incoming_place (the_view c.self.inside).view c.args.lane.0 < length (the_view c.self.inside).view.incoming =
     subst (λ (a : AgentState). incoming_place a.view c.args.lane.0 < length a.view.incoming) (sym c.self.view_is) c.requires.incoming in
     omega (arith, at, within, c.self.invariant.rooms.books, c.self.inside.lanes.books.ok.0)
@@ -65,13 +65,13 @@ index_mut-requires c =
 pub bounds-incoming-k : goal.bounds-incoming-k
 bounds-incoming-k c =
     let on = on_lane (goal.at.bounds-incoming-k c).After-index_mut in
-    subst (λ (z : List IncomingLane). c.incoming_place-k.result < length z) (sym c.incoming-2.ensures)
+    subst (λ (z : List IncomingLane). c.incoming_near-k.result < length z) (sym c.incoming-2.ensures)
     (subst (λ (n : ℕ). n < length (the_view c.self.inside).view.incoming) (sym on.at) on.within)
 
 pub bounds-incoming-k-in_ok-book : goal.bounds-incoming-k-in_ok-book
 bounds-incoming-k-in_ok-book c =
     let on = on_lane (goal.at.bounds-incoming-k-in_ok-book c).After-index_mut in
-    subst (λ (z : List IncomingLane). c.incoming_place-k.result < length z) (sym c.incoming-2.ensures)
+    subst (λ (z : List IncomingLane). c.incoming_near-k.result < length z) (sym c.incoming-2.ensures)
     (subst (λ (n : ℕ). n < length (the_view c.self.inside).view.incoming) (sym on.at) on.within)
 
 pub add_entry-requires-clause-items : goal.add_entry-requires-clause-items
@@ -84,10 +84,10 @@ pub add_entry-requires-clause-called : goal.add_entry-requires-clause-called
 add_entry-requires-clause-called c = c.self.invariant.rooms.called
 
 -- a book that refuses a record is as it was
-unchanged : (c : In_err-book) → record (the_view c.self.inside) { books = set c.self.inside.lanes.books.items c.incoming_place-k.result c.book.new.self } ≡ the_view c.self.inside
+unchanged : (c : In_err-book) → record (the_view c.self.inside) { books = set c.self.inside.lanes.books.items c.incoming_near-k.result c.book.new.self } ≡ the_view c.self.inside
 unchanged c =
     let A : AgentState = the_view c.self.inside in
-    let j : ℕ = c.incoming_place-k.result in
+    let j : ℕ = c.incoming_near-k.result in
     let same : set A.books j c.book.new.self ≡ A.books =
     ap (λ (b : Figures). set A.books j b) (c.in_err-book.ensures.unchanged ∙ c.index_mut.ensures.value) ∙ set-get_or A.books j c.index_mut.result.now in
     ap (λ (z : List Figures). record A { books = z }) same
@@ -106,3 +106,7 @@ pub returns-in_err-book-clause-unchanged : goal.returns-in_err-book-clause-uncha
 returns-in_err-book-clause-unchanged c =
     let p = err_from_is_err_and c.from_residual.result c.from_residual.ensures.1 in
     rw p.1 (unchanged (goal.at.returns-in_err-book-clause-unchanged c).In_err-book ∙ c.self.view_is)
+
+pub incoming_near-k-requires : goal.incoming_near-k-requires
+incoming_near-k-requires c =
+    subst (λ (z : List IncomingLane). count_by (λ l. l.number.0 == c.args.lane.0) z ≤ 1) (sym c.incoming.ensures) (c.self.invariant.view.incoming_once c.args.lane.0)

@@ -1,4 +1,4 @@
-use Rattle.std.proofs.Common.{◌≡◌, ◌≤◌, ◌==◌, ap, arith, false, refl, sym, subst}
+use Rattle.std.proofs.Common.{◌≡◌, ap, arith, false, refl, sym, subst}
 use Rattle.std.specs.List.{list_any}
 use Rattle.mrp_rows.specs.contracts.numbers.ItemNoPartialEq.TheImpl.{eq-value}
 use Rattle.mrp_view.specs.declared.view.OutgoingItem.{OutgoingItem}
