@@ -136,7 +136,7 @@ fn add_edge(edge: &ParentEdge, plans: &[PairPlan], gross: &mut Row)
     ensures each { (t : ℕ) → t < length gross.old → slice_index gross.new t ≡ slice_index gross.old t + asked_on plans.now t edge.now }
     ensures size { length gross.new ≡ length gross.old }
 {
-    let plan = &plans[edge.parent];
+    let plan = &plans[edge.parent as usize];
     let _periods = plan.len();
-    gross.add_times(edge.per, plan.release());
+    gross.add_times(edge.per as u64, plan.release());
 }

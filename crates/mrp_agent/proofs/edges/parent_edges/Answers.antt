@@ -11,8 +11,8 @@ loop-edge-preserved c =
 pub loop-edge-init : goal.loop-edge-init
 loop-edge-init c = c.new-parents.ensures.items
 
-pub parent_edge-requires : goal.parent_edge-requires
-parent_edge-requires c = c.requires c.loop-edge.edge-index _ c.loop-edge-test.true
+pub parent_edge-requires-clause-edge : goal.parent_edge-requires-clause-edge
+parent_edge-requires-clause-edge c = c.requires.edges c.loop-edge.edge-index _ c.loop-edge-test.true
 
 pub returns : goal.returns
 returns c = c.loop-edge.invariant ∙ ap (map (parent_edge c.args.view.now)) (take_all c.loop-edge.edge-index c.args.edges.now c.loop-edge-test.false)

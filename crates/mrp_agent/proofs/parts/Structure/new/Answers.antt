@@ -4,5 +4,5 @@ use Rattle.mrp_view.specs.declared.view.PlantEdge.{PlantEdge}
 use Rattle.mrp_view.specs.Seen.{IsPlantEdge}
 use Rattle.mrp_agent.proofs.parts.Structure.new.Goals as goal
 
-pub parent_edges-requires : goal.parent_edges-requires
-parent_edges-requires c = subst (λ (z : List PlantEdge). All (IsPlantEdge c.args.view.now) z) (sym c.edges.ensures) c.requires.seen.edges
+pub parent_edges-requires-clause-edges : goal.parent_edges-requires-clause-edges
+parent_edges-requires-clause-edges c = subst (λ (z : List PlantEdge). All (IsPlantEdge c.args.view.now) z) (sym c.edges.ensures) c.requires.seen.edges
