@@ -125,7 +125,9 @@ fn is_answered(
 
 /// Whether a book has these figures of an item: in force, and with the closed years.
 fn has_figures(book: &Book, item: ItemNo, (in_force, cumulative): (u64, u64)) -> bool {
-    book.in_force(item) == Qty::new(in_force) && book.cumulative(item) == Qty::new(cumulative)
+    book.in_force(item) == Qty::new(in_force)
+        && book.cumulative(item) == Qty::new(cumulative)
+        && book.cumulative_near(item, 1) == Qty::new(cumulative)
 }
 
 /// The first item of a lane.
