@@ -1,4 +1,6 @@
+pub mod Found
 pub mod Grow
 pub mod Keys
 pub mod Lists
 pub mod Naming
+pub mod Words

@@ -1,4 +1,5 @@
 pub mod Growing
+pub mod Keys
 pub mod Names
 pub mod Rows
 pub mod Table

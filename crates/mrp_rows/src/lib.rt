@@ -3,6 +3,7 @@
 //! [`RowLists`] grows row by row while a table is read; [`Tables`] is the whole of it.
 #![tactic(auto)]
 
+mod name_key;
 mod names;
 mod numbers;
 mod row_lists;
