@@ -1,5 +1,5 @@
 -- Names as numbers, and what finds a pair by them.
-use Rattle.std.specs.Prelude.{◌≡◌, ℕ, ◌+◌, ◌*◌, ◌∷◌, [], List, map, take, drop, All}
+use Rattle.std.specs.Prelude.{◌≡◌, ℕ, ◌+◌, ◌*◌, ◌%◌, ◌∷◌, [], List, map, take, drop, All}
 use Rattle.std.specs.List.{IsDistinct, slice_index_or}
 use Rattle.std.specs.Str.{bytes_eq}
 use Rattle.mrp_rows.specs.Table.{IsName}
@@ -15,6 +15,13 @@ word_of (b ∷ bs) = word_of bs * 257 + b + 1
 -- the bytes of a name, seven to a word
 abbrev pub key_of : List ℕ → NameKey
 key_of text = record { first = word_of (take 7 text); second = word_of (take 7 (drop 7 text)); third = word_of (drop 14 text) }
+
+-- words as one, for a hash
+abbrev pub mixed_with : ℕ → ℕ → ℕ
+mixed_with word other = ((word * 11400714819323198485) % 18446744073709551616 + other) % 18446744073709551616
+
+abbrev pub mixed : NameKey → ℕ
+mixed k = mixed_with (mixed_with k.third k.second) k.first
 
 -- the key of a pair: its plant, and the key of its item's name
 abbrev pub pair_key : List (List ℕ) → PairRow → PairKey

@@ -1,6 +1,7 @@
 //! The names of a table in their order.
 
 use crate::name_key::NameKey;
+use crate::texts::is_same_text;
 use mrp_group::Places;
 use std::alloc::{AllocError, Global};
 use std::marker::Model;
@@ -82,7 +83,7 @@ impl Names {
         ensures within { IfSome result (λ place. place < length self.now) }
     {
         match self.names.get(near) {
-            Some(known) if known.as_str() == name => Some(near),
+            Some(known) if is_same_text(known.as_str(), name) => Some(near),
             _ => self.find(name),
         }
     }

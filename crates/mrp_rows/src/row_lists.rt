@@ -1,6 +1,6 @@
 //! The lists of a table as they grow, row by row.
 
-use crate::name_key::NameKey;
+use crate::name_key::{NameKey, mixed_with};
 use crate::names::Names;
 use crate::{
     BillRow, CumRow, DemandRow, ItemNo, PairNo, PairRow, PlantNo, ReceiptRow, ResetRow, ShipRow,
@@ -9,13 +9,29 @@ use crate::{
 use mrp_cal::Calendar;
 use mrp_group::Places;
 use std::alloc::{AllocError, Global};
+use std::hash::{Hash, Hasher};
 use std::marker::Model;
 
 /// A pair by its plant and the name of its item.
-#[derive(Clone, Copy, PartialEq, Eq, Hash)]
+#[derive(Clone, Copy, PartialEq, Eq)]
 pub(crate) struct PairKey {
     plant: PlantNo,
     item: NameKey,
+}
+
+impl Hash for PairKey {
+    ghost use Rattle.std.specs.Hash as fed;
+    ghost use Rattle.mrp_rows.specs.Keys.{mixed, mixed_with};
+    ghost use Rattle.std.specs.Cmp.Rules.{hashing};
+    ghost use Rattle.std.proofs.Common.{rules};
+
+    ghost hash_input = { λ k. fed.u64 (mixed_with (mixed k.item) k.plant.0) };
+
+    ghost respects_eq = { Prim.search (hashing, rules) };
+
+    fn hash<H: Hasher>(&self, state: &mut H) {
+        state.write_u64(mixed_with(self.item.mixed(), self.plant.0 as u64));
+    }
 }
 
 /// The rows read so far by their kinds, each in table order, with what finds a name or a pair. Where a growth
