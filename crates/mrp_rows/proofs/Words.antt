@@ -2,7 +2,7 @@
 use Rattle.std.proofs.Common.{◌≡◌, ◌<◌, ◌≤◌, ℕ, Bool, true, false, nat_le, ◌==◌, ◌&&◌, eq-eqb, if◌then◌else◌, Option, Some, None, zero, suc, ◌+◌, ◌*◌, List, [], ◌∷◌, ◌++◌, length, take, drop, get_or, refl, ap, sym, ◌∙◌, subst, arith, Fits, w8}
 use Rattle.std.specs.List.{All}
 use Rattle.std.proofs.lemmas.List.Elements.{All-cons, All-head, All-tail, All-take, All-drop}
-use Rattle.std.proofs.lemmas.List.{take-append-drop, drop-drop}
+use Rattle.std.proofs.lemmas.List.{take-append-drop, take_all, drop_all, drop-drop}
 use Rattle.std.proofs.lemmas.Bool.{and_parts}
 use Rattle.std.proofs.lemmas.Bool.Decides.{nat_tests}
 use Rattle.std.proofs.lemmas.Slice.Eq.{bytes_eq-Decides}
@@ -78,6 +78,22 @@ key_same s t hs ht e =
     (ap (λ (k : NameKey). k.second) e) in
     let third = word_same (drop 14 s) (drop 14 t) (All-drop IsByte 14 s hs) (All-drop IsByte 14 t ht) (ap (λ (k : NameKey). k.third) e) in
     sym (parts_of s) ∙ (λ i. first i ++ (second i ++ third i)) ∙ parts_of t
+
+-- the key of a text of one word
+pub key_short : (s : List ℕ) → length s ≤ 7 → key_of s ≡ record { first = word_of s; second = 0; third = 0 }
+unfolding word_of
+key_short s few =
+    let first : take 7 s ≡ s = take_all 7 s few in
+    let second : take 7 (drop 7 s) ≡ [] = ap (take 7) (drop_all 7 s few) in
+    let third : drop 14 s ≡ [] = drop_all 14 s (omega (arith, few)) in
+    λ i. record { first = word_of (first i); second = word_of (second i); third = word_of (third i) }
+
+pub short_key_is : (s : List ℕ) (word : ℕ) → length s ≤ 7 → word ≡ word_of s
+    → (Some (let k : NameKey = record { first = word; second = 0; third = 0 } in k)) ≡ (if nat_le (length s) 20 then Some (key_of s) else None)
+short_key_is s word few is = rw (within (length s) few) (ap (λ (k : NameKey). Some k) ((λ i. record { first = is i; second = 0; third = 0 }) ∙ sym (key_short s few)))
+  where
+    within : (n : ℕ) → n ≤ 7 → nat_le n 20 ≡ true
+    within n le = grind (arith, nat_tests)
 
 -- ---- names
 

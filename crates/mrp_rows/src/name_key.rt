@@ -51,15 +51,30 @@ impl NameKey {
     {
         let bytes = text.as_bytes();
         if bytes.len() > LONGEST {
-            return None;
+            None
+        } else if bytes.len() > IN_WORD {
+            Some(NameKey::of_words(bytes))
+        } else {
+            Some(NameKey {
+                first: word_of(bytes),
+                second: 0,
+                third: 0,
+            })
         }
+    }
+
+    /// The key of up to three words.
+    fn of_words(bytes: &[u8]) -> NameKey
+        requires few { length bytes.now ≤ 20 }
+        ensures { result ≡ key_of bytes.now }
+    {
         let (first, rest) = bytes.split_at(bytes.len().min(IN_WORD));
         let (second, third) = rest.split_at(rest.len().min(IN_WORD));
-        Some(NameKey {
+        NameKey {
             first: word_of(first),
             second: word_of(second),
             third: word_of(third),
-        })
+        }
     }
 }
 
