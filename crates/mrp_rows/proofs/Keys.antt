@@ -1,5 +1,5 @@
 -- The places of keys.
-use Rattle.std.proofs.Common.{◌≡◌, ◌<◌, ℕ, get_or, ◌==◌, ◌&&◌, Bool, cond, true, false, not, ltb, List, [], ◌∷◌, map, length, position, unwrap_or, option_map, Option, None, Some, IsSome, IfSome, is_some, ◌↔◌, refl, ap, ◌∙◌, subst, arith, rules}
+use Rattle.std.proofs.Common.{◌≡◌, ◌<◌, ℕ, get_or, ◌==◌, ◌&&◌, Bool, cond, true, false, not, ltb, List, [], ◌∷◌, map, length, position, unwrap_or, option_map, Option, None, Some, IsSome, IfSome, is_some, ◌↔◌, refl, ◌∙◌, subst, arith, rules}
 use Rattle.std.specs.List.{All, position_or_len, list_any}
 use Rattle.std.proofs.lemmas.List.{length-map}
 use Rattle.std.proofs.lemmas.Bool.Decides.{nat_tests}
@@ -7,14 +7,9 @@ use Rattle.std.proofs.lemmas.List.Folds.{list_any_at, list_any_none}
 use Rattle.std.proofs.lemmas.List.Quantifiers.{position-Some}
 use Rattle.std.proofs.lemmas.List.Sums.{fails_before_first, position_or_len_is}
 use Rattle.std.proofs.lemmas.Bool.{lt-ltb}
-use Rattle.mrp_rows.specs.Growing.{key_of}
-use Rattle.mrp_rows.specs.contracts.row_lists.PairKeyPartialEq.TheImpl.{eq-value}
-use Rattle.mrp_rows.specs.declared.rows.PairRow.{PairRow}
-use Rattle.mrp_rows.specs.declared.row_lists.PairKey.{PairKey}
-use Rattle.mrp_rows.specs.declared.numbers.PlantNo.{PlantNo}
-use Rattle.mrp_rows.specs.declared.numbers.ItemNo.{ItemNo}
-use Rattle.mrp_rows.specs.declared.numbers.PairNo.{PairNo}
+use Rattle.std.proofs.lemmas.List.Elements.{All-head, All-tail}
 use Rattle.mrp_spell.proofs.Mapped.{list_any_keys}
+use Rattle.mrp_rows.specs.declared.numbers.PairNo.{PairNo}
 
 pub position_or_len_keys : {X K : Type 0} (f : X → K) (p : K → Bool) (q : X → Bool) → ((x : X) → p (f x) ≡ q x) → (xs : List X) → position_or_len p (map f xs) ≡ position_or_len q xs
 position_or_len_keys f p q same [] = refl
@@ -35,16 +30,6 @@ found_pair None o n e h =
 found_pair (Some x) o n e h =
     let P : Option ℕ → Type 0 = λ q. (IsSome (Some x) ↔ (unwrap_or q n < n)) × (x.0 ≡ unwrap_or q n) in
     subst P e ((λ s. h, λ s. refl), refl)
-
--- the place of a pair by its key
-pub place_of_key : (plant : PlantNo) (item : ItemNo) (keys : List PairKey) (pairs : List PairRow) → keys ≡ map key_of pairs
-    → position (eq-value.it (record { plant = plant; item = item })) keys ≡ position (λ p. (p.plant.0 == plant.0) && (p.item.0 == item.0)) pairs
-place_of_key plant item keys pairs same =
-    ap (position (eq-value.it (record { plant = plant; item = item }))) same
-    ∙ position_keys key_of _ (λ p. (p.plant.0 == plant.0) && (p.item.0 == item.0)) (λ p. by plant.0 p.plant.0 item.0 p.item.0) pairs
-  where
-    by : (a b c d : ℕ) → ((a == b) && (c == d)) ≡ ((b == a) && (d == c))
-    by a b c d = rw (same_test a b, same_test c d) refl
 
 -- whether a look-up of a place finds none
 pub lacks-found : {X : Type 0} (p : X → Bool) (xs : List X) (r : Option PairNo) → option_map (λ x. x.0) r ≡ position p xs
@@ -74,13 +59,6 @@ position_is p xs i d lt before here =
 pub swap : (a b c d : ℕ) → ((a == b) && (c == d)) ≡ ((b == a) && (d == c))
 swap a b c d = rw (same_test a b, same_test c d) refl
 
--- whether there is a row of a pair
-pub any_pair : (plant : PlantNo) (item : ItemNo) (keys : List PairKey) (pairs : List PairRow) → keys ≡ map key_of pairs
-    → list_any (eq-value.it (record { plant = plant; item = item })) keys ≡ list_any (λ p. (p.plant.0 == plant.0) && (p.item.0 == item.0)) pairs
-any_pair plant item keys pairs same =
-    ap (list_any (eq-value.it (record { plant = plant; item = item }))) same
-    ∙ list_any_keys key_of _ (λ p. (p.plant.0 == plant.0) && (p.item.0 == item.0)) (λ p. swap plant.0 p.plant.0 item.0 p.item.0) pairs
-
 -- whether a test passes, by the first place at which it does
 pub any-from_position : {X : Type 0} (p : X → Bool) (xs : List X) (i : ℕ) → position p xs ≡ Some i → list_any p xs ≡ true
 any-from_position p [] i e = absurd (cc)
@@ -97,3 +75,37 @@ is_some-position p xs = by (position p xs) refl
     by : (o : Option ℕ) → position p xs ≡ o → is_some (position p xs) ≡ list_any p xs
     by None none = rw (none, any-from_no_position p xs none) refl
     by (Some i) at = rw (at, any-from_position p xs i at) refl
+
+pub no_position : {X : Type 0} (p : X → Bool) (xs : List X) → list_any p xs ≡ false → position p xs ≡ None
+no_position p xs e = by (position p xs) (is_some-position p xs ∙ e)
+  where
+    by : (o : Option ℕ) → is_some o ≡ false → o ≡ None
+    by None e = refl
+    by (Some i) e = absurd (cc)
+
+-- ---- tests that agree on the elements of a list
+
+pub map_within : {X Y : Type 0} (f g : X → Y) (xs : List X) → All (λ x. f x ≡ g x) xs → map f xs ≡ map g xs
+map_within f g [] same = refl
+map_within f g (x ∷ xs) same =
+    let here = All-head (λ x. f x ≡ g x) x xs same in
+    let rest = map_within f g xs (All-tail (λ x. f x ≡ g x) x xs same) in
+    λ i. here i ∷ rest i
+
+first_within : {X : Type 0} (p q : X → Bool) (xs : List X) → All (λ x. p x ≡ q x) xs → position_or_len p xs ≡ position_or_len q xs
+first_within p q [] same = refl
+first_within p q (x ∷ xs) same = rw (All-head (λ x. p x ≡ q x) x xs same, first_within p q xs (All-tail (λ x. p x ≡ q x) x xs same)) refl
+
+pub position_within : {X : Type 0} (p q : X → Bool) (xs : List X) → All (λ x. p x ≡ q x) xs → position p xs ≡ position q xs
+position_within p q xs same = rw (first_within p q xs same) refl
+
+pub any_within : {X : Type 0} (p q : X → Bool) (xs : List X) → All (λ x. p x ≡ q x) xs → list_any p xs ≡ list_any q xs
+any_within p q [] same = refl
+any_within p q (x ∷ xs) same = rw (All-head (λ x. p x ≡ q x) x xs same, any_within p q xs (All-tail (λ x. p x ≡ q x) x xs same)) refl
+
+-- a look-up among the keys of rows is one among the rows
+pub position_of_keys : {X K : Type 0} (f : X → K) (p : K → Bool) (q : X → Bool) (xs : List X) → All (λ x. p (f x) ≡ q x) xs → position p (map f xs) ≡ position q xs
+position_of_keys f p q xs same = position_keys f p (λ x. p (f x)) (λ x. refl) xs ∙ position_within (λ x. p (f x)) q xs same
+
+pub any_of_keys : {X K : Type 0} (f : X → K) (p : K → Bool) (q : X → Bool) (xs : List X) → All (λ x. p (f x) ≡ q x) xs → list_any p (map f xs) ≡ list_any q xs
+any_of_keys f p q xs same = list_any_keys f p (λ x. p (f x)) (λ x. refl) xs ∙ any_within (λ x. p (f x)) q xs same

@@ -12,7 +12,6 @@ use Rattle.mrp_rows.specs.declared.rows.ReceiptRow.{ReceiptRow}
 use Rattle.mrp_rows.specs.declared.rows.ShipRow.{ShipRow}
 use Rattle.mrp_rows.specs.declared.rows.CumRow.{CumRow}
 use Rattle.mrp_rows.specs.declared.rows.ResetRow.{ResetRow}
-use Rattle.mrp_rows.specs.declared.row_lists.PairKey.{PairKey}
 
 -- the table of these rows
 abbrev pub table_of : CalendarTerms → List (List ℕ) → List (List ℕ) → List PairRow → List SourceRow → List BillRow → List DemandRow
@@ -30,9 +29,6 @@ table_of calendar plants items pairs sources bills demands receipts ships cums r
   cums = cums;
   resets = resets;
 }
-
-abbrev pub key_of : PairRow → PairKey
-key_of p = record { plant = p.plant; item = p.item }
 
 -- whether the pair behind a source has no row
 abbrev pub lacks_pair : Table → SourceRow → Bool

@@ -4,11 +4,13 @@
 #![tactic(auto)]
 
 mod dropping;
+mod name_key;
 mod names;
 mod numbers;
 mod row_lists;
 mod rows;
 mod tables;
+mod texts;
 
 pub use mrp_qty::{
     MOST_BILLS, MOST_IN_ROW, MOST_OF_A_KIND, MOST_PAIRS, MOST_PER, MOST_PLANTS, MOST_SHARE,
@@ -20,3 +22,4 @@ pub use rows::{
     BillRow, CumRow, DemandRow, PairRow, ReceiptRow, ResetRow, ShipRow, SourceRow, Supply,
 };
 pub use tables::Tables;
+pub use texts::is_same_text;

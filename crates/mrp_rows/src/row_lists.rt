@@ -1,5 +1,6 @@
 //! The lists of a table as they grow, row by row.
 
+use crate::name_key::{NameKey, mixed_with};
 use crate::names::Names;
 use crate::{
     BillRow, CumRow, DemandRow, ItemNo, PairNo, PairRow, PlantNo, ReceiptRow, ResetRow, ShipRow,
@@ -8,13 +9,29 @@ use crate::{
 use mrp_cal::Calendar;
 use mrp_group::Places;
 use std::alloc::{AllocError, Global};
+use std::hash::{Hash, Hasher};
 use std::marker::Model;
 
-/// A pair by its plant and its item.
-#[derive(Clone, Copy, PartialEq, Eq, Hash)]
+/// A pair by its plant and the name of its item.
+#[derive(Clone, Copy, PartialEq, Eq)]
 pub(crate) struct PairKey {
     plant: PlantNo,
-    item: ItemNo,
+    item: NameKey,
+}
+
+impl Hash for PairKey {
+    ghost use Rattle.std.specs.Hash as fed;
+    ghost use Rattle.mrp_rows.specs.Keys.{mixed, mixed_with};
+    ghost use Rattle.std.specs.Cmp.Rules.{hashing};
+    ghost use Rattle.std.proofs.Common.{rules};
+
+    ghost hash_input = { λ k. fed.u64 (mixed_with (mixed k.item) k.plant.0) };
+
+    ghost respects_eq = { Prim.search (hashing, rules) };
+
+    fn hash<H: Hasher>(&self, state: &mut H) {
+        state.write_u64(mixed_with(self.item.mixed(), self.plant.0 as u64));
+    }
 }
 
 /// The rows read so far by their kinds, each in table order, with what finds a name or a pair. Where a growth
@@ -36,8 +53,8 @@ pub struct RowLists {
 }
 
 impl Model for RowLists {
-    ghost use Rattle.std.specs.Prelude.{◌≡◌, map};
-    ghost use Rattle.mrp_rows.specs.Growing.{key_of, table_of};
+    ghost use Rattle.mrp_rows.specs.Growing.{table_of};
+    ghost use Rattle.mrp_rows.specs.Keys.{FindsPairs};
     ghost use Rattle.mrp_rows.specs.Table.{IsRead, Table};
 
     ghost Value = { Table };
@@ -48,7 +65,7 @@ impl Model for RowLists {
     // the rows are in range, and the keys are those of the pairs in their order
     ghost invariant = { λ r. IsRead (table_of r.calendar r.plants r.items r.pairs.items r.sources.items r.bills.items r.demands.items
         r.receipts.items r.ships.items r.cums.items r.resets.items)
-        × (r.pair_places ≡ map key_of r.pairs.items) };
+        × FindsPairs r.items r.pairs.items r.pair_places };
 }
 
 impl RowLists {
@@ -123,12 +140,12 @@ impl RowLists {
         ensures rows { OnOk result (IsRead self.new) }
         ensures table { OnOk result (self.new ≡ with_pair self.old row) }
     {
-        let key = PairKey {
-            plant: row.plant,
-            item: row.item,
+        let Some(item) = NameKey::of(self.items.at(row.item.0)) else {
+            unreachable!();
         };
         self.pairs.reserve(1)?;
-        self.pair_places.push(key)?;
+        let plant = row.plant;
+        self.pair_places.push(PairKey { plant, item })?;
         let Ok(()) = self.pairs.push(row) else {
             unreachable!();
         };
@@ -224,9 +241,13 @@ impl RowLists {
         ensures exact { option_map (λ x. x.0) result ≡ pair_named self.now (option_map (λ p. p.0) plant) item.now }
         ensures within { IfSome result (λ pair. pair.0 < length self.now.pairs) }
     {
+        let places = &self.pair_places;
         let plant = plant?;
-        let item = self.find_item(item)?;
-        self.find_pair(plant, item)
+        let item = NameKey::of(item)?;
+        match places.find(PairKey { plant, item }) {
+            Some(place) => Some(PairNo(place)),
+            None => None,
+        }
     }
 
     /// Whether there is a row of the pair of these names.
@@ -242,11 +263,10 @@ impl RowLists {
         ensures place { option_map (λ x. x.0) result ≡ position (λ p. (p.plant.0 == plant.0) && (p.item.0 == item.0)) self.now.pairs }
         ensures within { IfSome result (λ pair. pair.0 < length self.now.pairs) }
     {
-        let key = PairKey { plant, item };
-        match self.pair_places.find(key) {
-            Some(place) => Some(PairNo(place)),
-            None => None,
+        if item.0 >= self.items.len() {
+            return None;
         }
+        self.find_named_pair(Some(plant), self.items.at(item.0))
     }
 
     /// Whether the pair behind a source has no row.

@@ -19,7 +19,7 @@ use mrp_cal::Calendar;
 use mrp_grammar::{Kind, TableFaultKind};
 use mrp_lot::{LONGEST_LEAD, Rule};
 use mrp_qty::{Horizon, LONGEST, MOST};
-use mrp_rows::{MOST_IN_ROW, MOST_PER};
+use mrp_rows::{MOST_IN_ROW, MOST_PER, is_same_text};
 use mrp_spell::{SpelledSupply, number, rule, supply};
 use std::alloc::Global;
 
@@ -37,23 +37,23 @@ fn field(row: &StringRecord, i: usize) -> &str
 fn kind_of(word: &str) -> Option<Kind>
     ensures { result ≡ kind_of word.now }
 {
-    if word == "demand" {
+    if is_same_text(word, "demand") {
         Some(Kind::Demand)
-    } else if word == "receipt" {
+    } else if is_same_text(word, "receipt") {
         Some(Kind::Receipt)
-    } else if word == "ship" {
+    } else if is_same_text(word, "ship") {
         Some(Kind::Ship)
-    } else if word == "bill" {
+    } else if is_same_text(word, "bill") {
         Some(Kind::Bill)
-    } else if word == "pair" {
+    } else if is_same_text(word, "pair") {
         Some(Kind::Pair)
-    } else if word == "cum" {
+    } else if is_same_text(word, "cum") {
         Some(Kind::Cum)
-    } else if word == "reset" {
+    } else if is_same_text(word, "reset") {
         Some(Kind::Reset)
-    } else if word == "plant" {
+    } else if is_same_text(word, "plant") {
         Some(Kind::Plant)
-    } else if word == "run" {
+    } else if is_same_text(word, "run") {
         Some(Kind::Run)
     } else {
         None

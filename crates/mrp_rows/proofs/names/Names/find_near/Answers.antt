@@ -13,7 +13,7 @@ returns-in-Some-clause-place c =
     let is = c.deref.ensures.value in
     let within = subst (λ (xs : List (String Global)). near < length xs) is c.in-Some.ensures.lookup.3.0 in
     let there = subst (λ (xs : List (String Global)). k ≡ get_or xs near k) is c.in-Some.ensures.lookup.1 in
-    let same = subst (λ (text : List ℕ). bytes_eq text c.args.name.now ≡ true) c.as_str.ensures.value (sym c.eq.ensures ∙ c.if-eq.true) in
-    sym (place_near (map string_bytes names) c.args.name.now (string_bytes k) near c.self.invariant.0 (omega (arith, within, length-map names string_bytes))
+    let same = subst (λ (text : List ℕ). bytes_eq text c.args.name.now ≡ true) c.as_str.ensures.value (sym c.is_same_text.ensures ∙ c.if-is_same_text.true) in
+    sym (place_near (map string_bytes names) c.args.name.now (string_bytes k) near c.self.invariant.apart (omega (arith, within, length-map names string_bytes))
     (ap string_bytes there ∙ sym (get_or-map string_bytes names near k (string_bytes k) within)) same)
     ∙ ap (position (bytes_eq c.args.name.now)) c.self.view_is

@@ -7,7 +7,7 @@ use Rattle.mrp_rows.proofs.Grow.{read-pushed_plant}
 use Rattle.mrp_rows.proofs.row_lists.RowLists.add_plant.Goals as goal
 
 pub push-requires : goal.push-requires
-push-requires c = record { fresh = subst (λ (N : Table). has_plant N c.args.name.now ≡ false) (sym c.self.view_is) c.requires.fresh }
+push-requires c = record { named = c.requires.named; fresh = subst (λ (N : Table). has_plant N c.args.name.now ≡ false) (sym c.self.view_is) c.requires.fresh }
 
 pub invariant_of-self : goal.invariant_of-self
 invariant_of-self c = (

@@ -1,7 +1,9 @@
 use Rattle.std.proofs.Common.{rules, ◌∙◌, ap, sym, subst, List, ℕ}
 use Rattle.mrp_rows.specs.contracts.row_lists.RowLists.{the_view}
 use Rattle.mrp_rows.specs.Growing.{with_item}
+use Rattle.mrp_rows.specs.Keys.{FindsPairs}
 use Rattle.mrp_rows.specs.Table.{IsRead, Table}
+use Rattle.mrp_rows.proofs.Found.{pairs_with_item}
 use Rattle.mrp_rows.proofs.Grow.{read-with_item}
 use Rattle.mrp_rows.proofs.Naming.{item_added, item_known, item_place, item_unknown}
 use Rattle.mrp_rows.proofs.row_lists.RowLists.item_no.Goals as goal
@@ -12,7 +14,7 @@ returns-in-Some-clause-table c =
     ∙ ap (λ (N : Table). with_item N c.args.name.now) c.self.view_is
 
 pub push-requires : goal.push-requires
-push-requires c = record { fresh = item_unknown (the_view c.self.inside) c.args.name.now c.find.result c.find.ensures.place c.in-None.is }
+push-requires c = record { named = c.requires.named; fresh = item_unknown (the_view c.self.inside) c.args.name.now c.find.result c.find.ensures.place c.in-None.is }
 
 pub returns-in_ok-push-in-None-clause-table : goal.returns-in_ok-push-in-None-clause-table
 returns-in_ok-push-in-None-clause-table c =
@@ -31,12 +33,19 @@ returns-in_ok-push-in-None-clause-rows c =
     (read-with_item c.args.self.now c.args.name.now (subst IsRead c.self.view_is c.self.invariant.0) c.requires.named c.requires.room)
 
 pub invariant_of-self-in-None : goal.invariant_of-self-in-None
-invariant_of-self-in-None c = (returns-in_ok-push-in-None-clause-rows c, c.self.invariant.1)
+invariant_of-self-in-None c =
+    let N = the_view c.self.inside in
+    let name = c.args.name.now in
+    let fresh = item_unknown N name c.find.result c.find.ensures.place c.in-None.is in (
+      returns-in_ok-push-in-None-clause-rows c,
+      subst (λ (items : List (List ℕ)). FindsPairs items N.pairs c.self.inside.pair_places) (sym c.in_ok-push-in-None.ensures.names)
+          (pairs_with_item N c.self.inside.pair_places name c.self.invariant.1 c.self.invariant.0 fresh),
+    )
 
 pub invariant_of-self : goal.invariant_of-self
 invariant_of-self c = (
   subst (λ (items : List (List ℕ)). let N : Table = record (the_view c.self.inside) { items = items } in IsRead N) (sym c.in_err-push-in-None.ensures.unchanged) c.self.invariant.0,
-  c.self.invariant.1,
+  subst (λ (items : List (List ℕ)). FindsPairs items c.self.inside.pairs.items c.self.inside.pair_places) (sym c.in_err-push-in-None.ensures.unchanged) c.self.invariant.1,
 )
 
 pub returns-in-Some-clause-rows : goal.returns-in-Some-clause-rows

@@ -1,0 +1,39 @@
+-- Names as numbers, and what finds a pair by them.
+use Rattle.std.specs.Prelude.{◌≡◌, ℕ, ◌+◌, ◌*◌, ◌%◌, ◌∷◌, [], List, map, take, drop, All}
+use Rattle.std.specs.List.{IsDistinct, slice_index_or}
+use Rattle.std.specs.Str.{bytes_eq}
+use Rattle.mrp_rows.specs.Table.{IsName}
+use Rattle.mrp_rows.specs.declared.name_key.NameKey.{NameKey}
+use Rattle.mrp_rows.specs.declared.row_lists.PairKey.{PairKey}
+use Rattle.mrp_rows.specs.declared.rows.PairRow.{PairRow}
+
+-- the number whose digits to the base 257 are one more than the bytes, the first of them the lowest
+unfoldable pub word_of : List ℕ → ℕ
+word_of [] = 0
+word_of (b ∷ bs) = word_of bs * 257 + b + 1
+
+-- the bytes of a name, seven to a word
+abbrev pub key_of : List ℕ → NameKey
+key_of text = record { first = word_of (take 7 text); second = word_of (take 7 (drop 7 text)); third = word_of (drop 14 text) }
+
+-- words as one, for a hash
+abbrev pub mixed_with : ℕ → ℕ → ℕ
+mixed_with word other = ((word * 11400714819323198485) % 18446744073709551616 + other) % 18446744073709551616
+
+abbrev pub mixed : NameKey → ℕ
+mixed k = mixed_with (mixed_with k.third k.second) k.first
+
+-- the key of a pair: its plant, and the key of its item's name
+abbrev pub pair_key : List (List ℕ) → PairRow → PairKey
+pair_key items p = record { plant = p.plant; item = key_of (slice_index_or items p.item.0 []) }
+
+-- names, each once, and their keys in their order
+pub record FindsNames (names : List (List ℕ)) (keys : List NameKey) : Type 0 where
+  pub named : All IsName names
+  pub apart : IsDistinct bytes_eq names
+  pub in_order : keys ≡ map key_of names
+
+-- each item's name stands once, and the keys are those of the pairs in their order
+pub record FindsPairs (items : List (List ℕ)) (pairs : List PairRow) (keys : List PairKey) : Type 0 where
+  pub apart : IsDistinct bytes_eq items
+  pub in_order : keys ≡ map (pair_key items) pairs
