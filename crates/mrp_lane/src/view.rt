@@ -2,8 +2,8 @@
 
 use crossbeam_queue::protocol::{Join, Lesson, Outcome, Protocol, Split};
 use crossbeam_queue::{Pass, RuledArrayQueue};
-use mrp_net::Network;
 use mrp_record::Record;
+use mrp_rows::Tables;
 use std::collections::LinkedList;
 use std::marker::{Brand, PhantomData};
 
@@ -15,8 +15,8 @@ pub struct LaneView {
     pub takes: bool,
     /// Whether it knows the network and the lane.
     pub named: bool,
-    /// The network.
-    pub network: Network,
+    /// The network, as its table.
+    pub network: Tables,
     /// The lane's number.
     pub lane: usize,
     /// What was sent, if it may push.
