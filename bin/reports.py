@@ -282,8 +282,8 @@ class Names:
     COLUMNS = ["row", "plant", "item", "period", "date", "quantity", "name", "description", "note"]
 
     def __init__(self, path=None):
-        self.plants, self.pairs, self.rows = {}, {}, {}
-        if path:
+        self.plants, self.pairs, self.rows, self.is_given = {}, {}, {}, path is not None
+        if self.is_given:
             sys.stdout.reconfigure(encoding="utf-8")
             try:
                 with open(path, encoding="utf-8", newline="") as file:
