@@ -8,40 +8,68 @@ import io
 import itertools
 import os
 import re
+import unicodedata
 
 MOST_SLIPS, DIGITS = 100, re.compile("-?[0-9]{1,99}")
-PLANT, ITEM = "site location facility works warehouse", "part material article sku product"
-LANE = {"From": "fromplant supplier source sourceplant sender", "To": "toplant customer destination receiver", "Item": ITEM}
-DATES = "date duedate delivery deliverydate"
-EXPECTED = f"{DATES} arrival arrivaldate eta expected expecteddate"
-UNITS = {"period": 0, "week": 7, "day": 1}
-LEADS = itertools.product(("lead", "leadtime", "transit", "transittime"), ("", "in"), UNITS, ("", "s"))
-WANTED = {"Plant": PLANT, "Item": ITEM, "Due": f"{DATES} needby needdate required requireddate", "Quantity": "pieces orderquantity openquantity"}
-# The columns of each sheet, and what else they are headed, as `key` has it.
+# What is written for letters where a keyboard hasn't them, if that isn't the letter without its mark.
+LETTERS = {"ä": "ae", "ö": "oe", "ü": "ue", "ß": "ss", "æ": "ae", "œ": "oe", "þ": "th", **dict(zip("øłđðħŧı", "olddhti"))}
+# What columns are headed too, in English, German, French and Spanish, as `key` has it.
+PLANT = "site location facility works warehouse werk standort fabrik usine etablissement planta centro fabrica"
+ITEM = "part material article sku product artikel teil teile sach produkt codearticle produit codeproduit articulo codigodearticulo producto"
+PIECES = "pieces menge stueck stueckzahl quantite qte cantidad"
+DATES = "date duedate delivery deliverydate datum termin liefertermin lieferdatum datelivraison datedelivraison fecha fechaentrega fechadeentrega"
+EXPECTED = f"{DATES} arrival arrivaldate eta expected expecteddate ankunft arrivee datedarrivee llegada fechadellegada"
+NEEDED = f"{DATES} needby needdate required requireddate faellig bedarfstermin bedarfsdatum echeance datedecheance datedebesoin fechadenecesidad fecharequerida"
+LANE = {
+    "From": "fromplant supplier source sourceplant sender von vonwerk lieferant lieferwerk de fournisseur expediteur desde proveedor origen",
+    "To": "toplant customer destination receiver nach nachwerk kunde empfaenger vers client destinataire hasta cliente destino destinatario",
+    "Item": ITEM,
+}
+WANTED = {"Plant": PLANT, "Item": ITEM, "Due": NEEDED, "Quantity": f"orderquantity openquantity bedarfsmenge bestellmenge offenemenge {PIECES}"}
+# How lead times are headed in front of their unit, and the days of each unit.
+LEAD = "lead leadtime transit transittime vorlauf vorlaufzeit wiederbeschaffungszeit lieferzeit planlieferzeit durchlaufzeit"
+LEAD += " delai delaidelivraison delaidapprovisionnement plazo plazodeentrega tiempodeentrega"
+UNITS = {"period periods periode perioden periodes periodo periodos": 0, "week weeks woche wochen semaine semaines semana semanas": 7}
+UNITS |= {"day days tag tage tagen jour jours dia dias": 1}
+LEADS = {front + link + unit: days for units, days in UNITS.items() for front, link, unit in itertools.product(LEAD.split(), ("", "in", "en"), units.split())}
+# The columns of each sheet, and what else they are headed.
 SHEETS = {
-    "firm.csv": {"First day": "first start startdate", "Days": "daysperperiod perioddays", "Periods": "numberofperiods noofperiods"},
+    "firm.csv": {
+        "First day": "first start startdate erstertag beginn startdatum premierjour debut datededebut primerdia inicio fechadeinicio",
+        "Days": "daysperperiod perioddays tage tagejeperiode tageproperiode jours joursparperiode dias diasporperiodo",
+        "Periods": "numberofperiods noofperiods perioden anzahlperioden periodes nombredeperiodes periodos numerodeperiodos",
+    },
     "plants.csv": {"Plant": PLANT},
     "items.csv": {
         "Plant": PLANT,
         "Item": ITEM,
-        "Supply": "source sourcing procurement makeorbuy makebuy",
-        "Lot rule": "rule lotsize lotsizing lotsizingrule orderpolicy",
-        "Lead": " ".join(map("".join, LEADS)),
-        "On hand": "stock stockonhand quantityonhand onhandquantity inventory",
-        "Safety stock": "safety safetystockquantity",
+        "Supply": "source sourcing procurement makeorbuy makebuy beschaffung beschaffungsart bezug approvisionnement aprovisionamiento abastecimiento",
+        "Lot rule": "rule lotsize lotsizing lotsizingrule orderpolicy losgroesse losregel tailledelot regledelot tamanodelote regladelote",
+        "Lead": " ".join(LEADS),
+        "On hand": "stock stockonhand quantityonhand onhandquantity inventory bestand lagerbestand enstock quantiteenstock existencias inventario",
+        "Safety stock": "safety safetystockquantity sicherheitsbestand stockdesecurite stockdeseguridad existenciasdeseguridad",
     },
-    "bills.csv": {"Plant": PLANT, "Parent": "parentitem assembly", "Component": "componentitem child", "Per": "quantityper quantityperparent quantity usage"},
+    "bills.csv": {
+        "Plant": PLANT,
+        "Parent": "parentitem assembly baugruppe oberteil ensemble articleparent conjunto padre articulopadre",
+        "Component": "componentitem child komponente unterteil composant componente",
+        "Per": f"quantityper quantityperparent quantity usage mengeje mengepro quantitepar cantidadpor {PIECES}",
+    },
     "demands.csv": WANTED,
     "receipts.csv": {**WANTED, "Due": f"arrives {EXPECTED}"},
-    "shipments.csv": {**LANE, "Arrives": f"due {EXPECTED}", "Quantity": "pieces"},
-    "cums.csv": {**LANE, "Cum received": "cumulativereceived received figure"},
-    "resets.csv": {**LANE, "Date": "day resetdate"},
+    "shipments.csv": {**LANE, "Arrives": f"due {EXPECTED}", "Quantity": PIECES},
+    "cums.csv": {**LANE, "Cum received": "cumulativereceived received figure empfangen eingangsfortschrittszahl recu cumulrecu recibido acumuladorecibido"},
+    "resets.csv": {**LANE, "Date": "day resetdate datum tag jour fecha dia"},
 }
-DESCRIBED = ("description", "itemdescription", "partdescription", "materialdescription", "itemname", "partname", "name", "text")
+DESCRIBED = "description itemdescription partdescription materialdescription itemname partname name text bezeichnung beschreibung benennung".split()
+DESCRIBED += "artikelbezeichnung materialkurztext designation libelle descripcion denominacion".split()
 # Headings that could mean two things, and what is asked of them.
 UNCLEAR = {
-    "Lead": ("lead leadtime transit transittime", "in which unit? Head it Lead (periods), Lead (weeks) or Lead (days)"),
-    "Cum received": ("cum cumulative cumshipped cumulativeshipped", "with what is on its way? Give the figure without it, headed Cum received"),
+    "Lead": (LEAD, "in which unit? Head it Lead (periods), Lead (weeks) or Lead (days)"),
+    "Cum received": (
+        "cum cumulative cumshipped cumulativeshipped fortschrittszahl lieferfortschrittszahl cumul acumulado",
+        "with what is on its way? Give the figure without it, headed Cum received",
+    ),
 }
 
 
@@ -72,10 +100,24 @@ class Slips:
         return [text for _, _, text in sorted(self.found, key=lambda it: it[:2])]
 
 
+def plain(text):
+    """Returns a text with letters of ASCII for those with marks, as far as there are some."""
+    if text.isascii():
+        return text
+    first = str.upper if text.isupper() else str.capitalize
+    parts = (first(LETTERS[it.lower()]) if it.isupper() and it.lower() in LETTERS else LETTERS.get(it, it) for it in unicodedata.normalize("NFC", text))
+    return "".join(it for it in unicodedata.normalize("NFKD", "".join(parts)) if not unicodedata.combining(it))
+
+
 def key(heading):
-    """Returns what is compared of a heading: letters and digits, without a word as number at the end."""
-    word = "".join(it for it in heading.casefold() if it.isalnum()).replace("qty", "quantity")
-    return re.sub("(?<=.)(number|no|nr|code|id)$", "", word)
+    """Returns what is compared of a heading: letters and digits, without marks, and without a word as number at the end."""
+    word = "".join(it for it in plain(heading).casefold() if it.isalnum()).replace("qty", "quantity")
+    return re.sub("(?<=.)(number|nummer|no|nr|code|id)$", "", word)
+
+
+def keys(column, others):
+    """Returns what the headings of a column are compared with."""
+    return {key(it) for it in (column, *others.split())}
 
 
 def number(least, most):
@@ -158,11 +200,12 @@ class Sheet:
     def open(self, found):
         """Finds the columns, with the separator by which most are found."""
         try:
-            text = found.decode("utf-16" if found[:2] in (b"\xff\xfe", b"\xfe\xff") else "utf-8-sig")
+            # (a letter and its mark are one, in whatever way the sheet has them)
+            text = unicodedata.normalize("NFC", found.decode("utf-16" if found[:2] in (b"\xff\xfe", b"\xfe\xff") else "utf-8-sig"))
         except UnicodeDecodeError as fault:
             self.slip(found[: fault.start].count(b"\n") + 1, ": its text isn't UTF-8; save the sheet as CSV UTF-8")
             return
-        known = {key(it) for column, others in SHEETS[self.name].items() for it in (column, *others.split())}
+        known = set().union(*itertools.starmap(keys, SHEETS[self.name].items()))
         heads = {mark: next(csv.reader(io.StringIO(text[:100_000], newline=""), delimiter=mark), []) for mark in ",;\t"}
         mark = max(heads, key=lambda it: (sum(key(head) in known for head in heads[it]), len(heads[it])))
         self.heads = [it.strip() for it in heads[mark]]
@@ -177,7 +220,7 @@ class Sheet:
     def find(self, column, others):
         """Finds a column by its headings, and returns whether there is one."""
         unclear, question = UNCLEAR.get(column, ("", ""))
-        headings = {key(column), *others.split()} - {*unclear.split()}
+        headings = keys(column, others) - {*unclear.split()}
         found = [place for place, head in enumerate(self.heads) if key(head) in headings]
         if len(found) == 1:
             self.places[column] = found[0]
