@@ -115,6 +115,7 @@ def key(heading):
     return re.sub("(?<=.)(number|nummer|no|nr|code|id)$", "", word)
 
 
+@functools.cache
 def keys(column, others):
     """Returns what the headings of a column are compared with."""
     return {key(it) for it in (column, *others.split())}
