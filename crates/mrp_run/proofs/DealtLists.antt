@@ -1,9 +1,10 @@
 -- Lists of plants and of ends: one element changed, one more at the end, the last one taken.
-use Rattle.std.proofs.Common.{◌≡◌, ◌≢◌, ◌⊎◌, inl, inr, ℕ, ◌-◌, ◌<◌, ◌==◌, Bool, true, false, cond, List, [], ◌∷◌, ◌++◌, length, get_or, set, map, reverse, Option, None, Some, refl, sym, ap, subst, ◌∙◌, arith, length-append, All}
+use Rattle.std.proofs.Common.{◌≡◌, ◌≢◌, ◌⊎◌, inl, inr, ℕ, ◌-◌, ◌<◌, ◌==◌, Bool, true, false, cond, List, [], ◌∷◌, ◌++◌, length, get_or, set, map, reverse, Option, None, Some, Result, Ok, refl, sym, ap, subst, ◌∙◌, arith, length-append, All}
 use Rattle.std.specs.List.{filter}
 use Rattle.std.specs.Option.{option_to_list, IsSomeAnd}
+use Rattle.std.specs.Result.{IfOk}
 use Rattle.std.proofs.lemmas.Bool.{cases_Bool, cond-true, eqb-true, eq-eqb, false≢true}
-use Rattle.std.proofs.lemmas.List.{map-append, length-set, length-reverse, reverse-append, reverse-reverse, get_or-set_same, get_or-set_other, get_or-reverse, get_or_append_left, get_or_at, length_push}
+use Rattle.std.proofs.lemmas.List.{map-append, length-map, length-set, length-reverse, reverse-append, reverse-reverse, get_or-set_same, get_or-set_other, get_or-reverse, get_or-map, get_or_append_left, get_or_at, length_push}
 use Rattle.std.proofs.lemmas.List.Elements.{All-pop, All-head, All-tail, All-cons, All-nil}
 use Rattle.mrp_run.specs.Ends.{EachAt}
 
@@ -38,6 +39,12 @@ each_push P xs x n size each here k d h =
 -- what a push that succeeded leaves
 pub pushed : {X : Type 0} (now new : List X) (x : X) (ok : Bool) → new ≡ cond ok (now ++ x ∷ []) now → ok ≡ true → new ≡ now ++ x ∷ []
 pushed now new x ok is done = is ∙ cond-true ok (now ++ x ∷ []) now done
+
+-- where each was made, each is as it was made
+pub each_made : {X E : Type 0} (P : ℕ → X → Type 0) (xs : List X) (made : List (Result X E)) → made ≡ map Ok xs → ((k : ℕ) (d : Result X E) → k < length made → IfOk (get_or made k d) (P k)) → EachAt P xs
+each_made {X} {E} P xs made is each k d within =
+    let at : get_or made k (Ok d) ≡ Ok (get_or xs k d) = ap (λ (z : List (Result X E)). get_or z k (Ok d)) is ∙ get_or-map Ok xs k d (Ok d) within in
+    subst (λ (z : Result X E). IfOk z (P k)) at (each k (Ok d) (omega (arith, ap length is, length-map {B = Result X E} xs Ok, within)))
 
 -- from the last to the first
 pub each_turned : {X : Type 0} (P : ℕ → X → Type 0) (xs : List X) (n : ℕ) → length xs ≡ n → EachAt (λ k. P (n - 1 - k)) xs → EachAt P (reverse xs)

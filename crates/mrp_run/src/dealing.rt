@@ -1,5 +1,5 @@
 //! How the plants of a network are made, and the ends of its lanes dealt to them.
-ghost use Rattle.std.specs.Prelude.{◌≡◌, ◌+◌, ◌≤◌, ◌<◌, [], ◌∷◌, ◌++◌, List, All, IfOk, OnOk, length};
+ghost use Rattle.std.specs.Prelude.{◌≡◌, ◌+◌, ◌≤◌, ◌<◌, [], ◌∷◌, ◌++◌, List, All, IfOk, OnOk, Ok, length, map};
 ghost use Rattle.mrp_rows.specs.Table.{Table};
 ghost use Rattle.mrp_net.specs.Lanes.{lanes, lane_at};
 ghost use Rattle.mrp_loops.specs.Sized.{IsSized};
@@ -15,6 +15,8 @@ use mrp_net::{LaneNo, Network, PlantNo};
 use mrp_qty::Memory;
 use mrp_view::PlantView;
 use std::alloc::Global;
+use std::thread;
+use std::thread::Threads;
 
 /// The plants of a network before the first turn, each with its agent and the ends of its lanes. A mailbox
 /// has room for `capacity` records, or for the longest text of its lane where that is less.
@@ -22,7 +24,8 @@ use std::alloc::Global;
 /// # Errors
 ///
 /// [`Memory`] where a growth is refused.
-pub(crate) fn ready_plants(
+pub(crate) fn ready_plants<R: Threads + Sync>(
+    rt: &R,
     alloc: Global,
     net: &SizedNet<'_>,
     capacity: u64,
@@ -32,23 +35,37 @@ pub(crate) fn ready_plants(
     ensures rooms { IfOk result (λ plants. All (HaveMailboxRoom net.now.network capacity) plants.items) }
 {
     let network = net.network();
-    let mut plants = idle_plants(alloc, network)?;
+    let mut plants = idle_plants(rt, alloc, network)?;
     for l in 0..network.lanes() {
         deal(alloc, net, LaneNo(l), capacity, &mut plants)?;
     }
     Ok(plants)
 }
 
-/// The plants, with no ends yet.
-fn idle_plants(alloc: Global, network: &Network) -> Result<Vec<Plant>, Memory>
+/// The plants, with no ends yet. All processors make them, and where no thread can be made one makes them all.
+fn idle_plants<R: Threads + Sync>(
+    rt: &R,
+    alloc: Global,
+    network: &Network,
+) -> Result<Vec<Plant>, Memory>
     requires sized { IsSized network.now }
     ensures { IfOk result (λ plants. AreIdle network.now [] [] plants.items) }
 {
-    let mut plants = Vec::with_capacity(alloc, network.plants())?;
-    for p in 0..network.plants() {
-        plants
-            .push(idle_plant(alloc, network, PlantNo(p))?)
-            .unwrap();
+    let idle = |p: usize| -> Result<Plant, Memory>
+        requires sized { IsSized network.now }
+        ensures { IfOk result (λ idle. IsIdle network.entry.now [] [] p idle) }
+    { idle_plant(alloc, network, PlantNo(p)) };
+    let made = thread::map_indices(rt, alloc, network.plants(), &idle)?;
+    all_made(alloc, made)
+}
+
+/// The plants, where each was made.
+fn all_made(alloc: Global, made: Vec<Result<Plant, Memory>>) -> Result<Vec<Plant>, Memory>
+    ensures { IfOk result (λ plants. made.items ≡ map Ok plants.items) }
+{
+    let mut plants = Vec::with_capacity(alloc, made.len())?;
+    for plant in made {
+        plants.push(plant?).unwrap();
     }
     Ok(plants)
 }

@@ -80,7 +80,7 @@ pub fn run_network_within<R: Threads + Wait + Sync, G: Gate>(
     ensures outcome { IfOk result (λ o. IsOutcome net.now.network o) }
     ensures gate { GateTells G.turn_open G.turn_shut G.worker_shut settings.workers turns net.now.network result }
 {
-    let ready = ready_plants(alloc, net, settings.capacity())?;
+    let ready = ready_plants(rt, alloc, net, settings.capacity())?;
     let through = run_plants::<R, G, Brand>(rt, alloc, ready, settings.workers(), gate, turns)?;
     outcome_of(rt, alloc, net.network(), through)
 }

@@ -16,10 +16,9 @@ use Rattle.mrp_run.proofs.network.run_network_within.Goals as goal
 pub run_plants-requires-clause-work : goal.run_plants-requires-clause-work
 run_plants-requires-clause-work g c κs within = ready_work c.args.net.now.network c.in_ok-ready.ready.items c.in_ok-ready.ensures.ready
 
-pub ready_plants-requires : goal.ready_plants-requires
-ready_plants-requires g c = record {
-  capacity = (omega (arith, c.capacity.ensures.value, c.capacity.ensures.limits.some_room), omega (arith, c.capacity.ensures.value, c.capacity.ensures.limits.little_room));
-}
+pub ready_plants-requires-clause-capacity : goal.ready_plants-requires-clause-capacity
+ready_plants-requires-clause-capacity g c κs within =
+    (omega (arith, c.capacity.ensures.value, c.capacity.ensures.limits.some_room), omega (arith, c.capacity.ensures.value, c.capacity.ensures.limits.little_room))
 
 pub returns-in_err-ready-clause-outcome : goal.returns-in_err-ready-clause-outcome
 returns-in_err-ready-clause-outcome g c = IfOk-from_err c.from_residual.result (λ o. IsOutcome c.args.net.now.network o) c.from_residual.ensures.0
