@@ -7,6 +7,7 @@
 //! the lane, and that of its taking end the same list.
 #![tactic(auto)]
 
+mod bells;
 mod booking;
 mod dealing;
 mod fault;

@@ -5,6 +5,8 @@ ghost use Rattle.mrp_run.specs.Steps.{PlantIsAtWork, KeepsPlant, lane_count};
 use crate::booking::book_next;
 use crate::offering::offer_next;
 use crate::plant::Plant;
+use crate::stop::{Stop, StopRule};
+use mrp_net::LaneNo;
 use std::sync::Wait;
 
 /// Which lanes of a plant: over those that come in it books, and over those that go out it offers.
@@ -14,14 +16,23 @@ pub(crate) enum Lanes {
     Outgoing,
 }
 
-/// Moves over each of the lanes what can be moved, and answers whether any record was.
-pub(crate) fn move_all<R: Wait>(rt: &R, plant: &mut Plant, lanes: Lanes) -> bool
+/// Moves over each of the lanes what can be moved, wakes who may wait for it, and answers whether any record was.
+pub(crate) fn move_all<R: Wait, S: StopRule>(
+    rt: &R,
+    plant: &mut Plant,
+    lanes: Lanes,
+    stop: &Stop<S>,
+) -> bool
     requires work { PlantIsAtWork plant.old }
     ensures kept { KeepsPlant plant.old plant.new }
 {
     let mut any = false;
     for k in 0..lane_count(plant, lanes) {
-        any |= move_lane(rt, plant, lanes, k);
+        let count = move_lane(rt, plant, lanes, k);
+        if count > 0 {
+            any = true;
+            stop.ring(lane_of(plant, lanes, k), lanes, count);
+        }
     }
     any
 }
@@ -36,20 +47,30 @@ fn lane_count(plant: &Plant, lanes: Lanes) -> usize
     }
 }
 
-/// Moves over a lane what can be moved, and answers whether any record was.
-fn move_lane<R: Wait>(rt: &R, plant: &mut Plant, lanes: Lanes, k: usize) -> bool
+/// The number of one of the lanes.
+fn lane_of(plant: &Plant, lanes: Lanes, k: usize) -> LaneNo
+    requires { k < lane_count lanes plant.now }
+{
+    match lanes {
+        Lanes::Incoming => plant.takes[k].lane(),
+        Lanes::Outgoing => plant.sends[k].lane(),
+    }
+}
+
+/// Moves over a lane what can be moved, and answers how many records were.
+fn move_lane<R: Wait>(rt: &R, plant: &mut Plant, lanes: Lanes, k: usize) -> u64
     requires work { PlantIsAtWork plant.old }
     requires lane { k < lane_count lanes plant.old }
     ensures kept { KeepsPlant plant.old plant.new }
 {
-    let mut any = false;
+    let mut count: u64 = 0;
     for _ in rt.forever() {
         if !move_next(rt, plant, lanes, k) {
             break;
         }
-        any = true;
+        count = count.saturating_add(1);
     }
-    any
+    count
 }
 
 /// Moves a record over a lane, and answers whether there was one that could be moved.

@@ -81,7 +81,15 @@ pub fn run_network_within<R: Threads + Wait + Sync, G: Gate>(
     ensures gate { GateTells G.turn_open G.turn_shut G.worker_shut settings.workers turns net.now.network result }
 {
     let ready = ready_plants(rt, alloc, net, settings.capacity())?;
-    let through = run_plants::<R, G, Brand>(rt, alloc, ready, settings.workers(), gate, turns)?;
+    let through = run_plants::<R, G, Brand>(
+        rt,
+        alloc,
+        ready,
+        settings.workers(),
+        settings.capacity(),
+        gate,
+        turns,
+    )?;
     outcome_of(rt, alloc, net.network(), through)
 }
 

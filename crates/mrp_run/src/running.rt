@@ -18,7 +18,6 @@ use mrp_lane::{SendEnd, TakeEnd};
 use mrp_net::PlantNo;
 use std::alloc::Global;
 use std::sync::Wait;
-use std::thread;
 use std::thread::Threads;
 
 /// Runs one plant until it is done.
@@ -134,12 +133,12 @@ fn work<R: Threads + Wait + Sync, G: Gate, S: StopRule>(
 {
     for turn in 0..turns {
         begin(number, turn + 1, gate, stop)?;
-        let moved = take_turn(rt, alloc, number, plant, crew, gate)?;
+        let moved = take_turn(rt, alloc, number, plant, crew, gate, stop)?;
         if plant.agent.done() {
             return Ok(());
         }
         if !moved {
-            thread::yield_now();
+            stop.rest(rt, number);
         }
     }
     Err(RunFault::Stopped)
@@ -166,13 +165,14 @@ fn begin<G: Gate, S: StopRule>(
 }
 
 /// One turn: books, then plans, then offers. Answers whether anything was booked, planned or sent.
-fn take_turn<R: Threads + Wait + Sync, G: Gate>(
+fn take_turn<R: Threads + Wait + Sync, G: Gate, S: StopRule>(
     rt: &R,
     alloc: Global,
     number: PlantNo,
     plant: &mut Plant,
     crew: &mut Crew,
     gate: &G,
+    stop: &Stop<S>,
 ) -> Result<bool, RunFault>
     requires work { PlantIsAtWork plant.old }
     requires horizon { crew.old.horizon ≡ plant.old.agent.view.horizon }
@@ -180,9 +180,9 @@ fn take_turn<R: Threads + Wait + Sync, G: Gate>(
     ensures kept { KeepsPlant plant.old plant.new }
     ensures fault { IfErr result (IsOf (WasWorkerShut G.worker_shut crew.old.workers) never_spent number) }
 {
-    let came = move_all(rt, plant, Lanes::Incoming);
+    let came = move_all(rt, plant, Lanes::Incoming, stop);
     let planned = plan_all(rt, alloc, number, plant, crew, gate)?;
-    let sent = move_all(rt, plant, Lanes::Outgoing);
+    let sent = move_all(rt, plant, Lanes::Outgoing, stop);
     Ok(came | planned | sent)
 }
 

@@ -2,9 +2,13 @@
 
 ghost use Rattle.std.specs.Prelude.{IfSome};
 
+use crate::bells::Bells;
 use crate::fault::RunFault;
+use crate::moving::Lanes;
+use mrp_net::{LaneNo, PlantNo};
 use std::marker::{Brand, Model, PhantomData};
-use std::sync::OnceLock;
+use std::sync::{OnceLock, Wait};
+use std::thread;
 
 /// What holds of each fault for which the plants of a run stop. Whoever begins the run says it.
 pub trait StopRule {
@@ -34,17 +38,43 @@ impl<S: StopRule> Model for Told<S> {
     ghost invariant = { λ told. S.holds told.fault };
 }
 
-/// What the plants of a run share: the first fault that one of them has told, for which all stop.
+/// What the plants of a run share: the first fault that one of them has told, for which all stop, and the bells by
+/// which they wake one another.
 #[derive(Drop)]
 pub struct Stop<S: StopRule> {
     told: OnceLock<Told<S>>,
+    bells: Option<Bells>,
 }
 
 impl<S: StopRule> Stop<S> {
-    /// No fault was told.
+    /// No fault was told. There are no bells: a plant that waits yields, and looks again.
     pub fn new() -> Stop<S> {
         Stop {
             told: OnceLock::new(),
+            bells: None,
+        }
+    }
+
+    /// The same, with bells: a plant that waits sleeps until its bell is rung, for a moment at most.
+    pub(crate) fn with_bells(bells: Bells) -> Stop<S> {
+        Stop {
+            told: OnceLock::new(),
+            bells: Some(bells),
+        }
+    }
+
+    /// Wakes the plant at the other end of a lane over which so many records were moved.
+    pub(crate) fn ring(&self, lane: LaneNo, lanes: Lanes, count: u64) {
+        if let Some(bells) = &self.bells {
+            bells.ring(lane, lanes, count);
+        }
+    }
+
+    /// Waits for a moment, or until the plant's bell is rung.
+    pub(crate) fn rest<R: Wait>(&self, rt: &R, plant: PlantNo) {
+        match &self.bells {
+            Some(bells) => bells.sleep(rt, plant),
+            None => thread::yield_now(),
         }
     }
 
@@ -56,6 +86,9 @@ impl<S: StopRule> Stop<S> {
             fault,
             rule: PhantomData,
         });
+        if let Some(bells) = &self.bells {
+            bells.ring_all();
+        }
     }
 
     /// The fault that was told, if one was.

@@ -10,6 +10,7 @@ ghost use Rattle.mrp_run.specs.Joined.{AreNumberedThreads, AreRooms, Finished, H
 ghost use Rattle.mrp_run.specs.Steps.{Finishes, PlantIsAtWork};
 ghost use Rattle.mrp_run.specs.Worst.{AllowsOfFirst};
 
+use crate::bells::Bells;
 use crate::fault::RunFault;
 use crate::plant::Plant;
 use crate::results::{Back, Duty, all_of};
@@ -47,6 +48,7 @@ pub(crate) fn run_plants<R: Threads + Wait + Sync, G: Gate, S: StopRule + Send +
     alloc: Global,
     plants: Vec<Plant>,
     workers: u64,
+    capacity: u64,
     gate: &G,
     turns: u64,
 ) -> Result<Vec<Plant>, RunFault>
@@ -58,7 +60,7 @@ pub(crate) fn run_plants<R: Threads + Wait + Sync, G: Gate, S: StopRule + Send +
     ensures turned { OnOk result (AllTurned G.turn_open turns (length plants.items)) }
     ensures fault { IfErr result S.holds }
 {
-    let stop = Stop::<S>::new();
+    let stop = Stop::<S>::with_bells(Bells::new(alloc, plants.as_slice(), capacity)?);
     run_until(rt, alloc, plants, workers, gate, &stop, turns)
 }
 
