@@ -1,6 +1,7 @@
 pub mod RowFacts
 pub mod PartFacts
 pub mod PieceFacts
+pub mod RoundFacts
 pub mod SheetFacts
 pub mod RoomFacts
 pub mod SupplyTexts

@@ -23,11 +23,15 @@ range-split a (suc m) n =
     ap (range_with_len a) more ∙ ap (λ xs. a ∷ xs) (range-split (a + 1) m n ∙ ap (λ k. range_with_len (a + 1) m ++ range_with_len k n) next)
 
 -- the rows of pairs, in two parts
-pairs-split : (N : Table) (table : List PlanRows) (m n : ℕ) → pairs_text N table 0 (m + n) ≡ pairs_text N table 0 m ++ pairs_text N table m n
+pub pairs-split_from : (N : Table) (table : List PlanRows) (first m n : ℕ) → pairs_text N table first (m + n) ≡ pairs_text N table first m ++ pairs_text N table (first + m) n
 unfolding pairs_text
+pairs-split_from N table first m n = ap (flat_map _) (range-split first m n) ∙ flat_map-append _ (range_with_len first m) (range_with_len (first + m) n)
+
+-- so those from the first pair on
+pairs-split : (N : Table) (table : List PlanRows) (m n : ℕ) → pairs_text N table 0 (m + n) ≡ pairs_text N table 0 m ++ pairs_text N table m n
 pairs-split N table m n =
     let next : 0 + m ≡ m = omega arith in
-    ap (flat_map _) (range-split 0 m n ∙ ap (λ k. range_with_len 0 m ++ range_with_len k n) next) ∙ flat_map-append _ (range_with_len 0 m) (range_with_len m n)
+    pairs-split_from N table 0 m n ∙ ap (λ k. pairs_text N table 0 m ++ pairs_text N table k n) next
 
 -- the rows of the first pairs begin the report
 report-split : (N : Table) (table : List PlanRows) (m : ℕ) → m ≤ length N.pairs → plan_text N table ≡ pairs_text N table 0 m ++ pairs_text N table m (length N.pairs - m)

@@ -4,6 +4,7 @@ pub mod Orders
 pub mod OrderLines
 pub mod Lanes
 pub mod Parts
+pub mod Rounds
 pub mod Gathering
 pub mod Pegs
 pub mod PegParts

@@ -16,6 +16,7 @@ mod pegging;
 mod pegs;
 mod plan;
 mod room;
+mod rounds;
 mod supply;
 
 pub use codes::code_rows;
@@ -27,3 +28,4 @@ pub use orders::order_rows;
 pub use pegging::pegs_rows;
 pub use pegs::peg_rows;
 pub use plan::plan_rows;
+pub use rounds::plan_rows_by_threads;

@@ -34,7 +34,7 @@ const LONGEST_PERIOD: usize = 116;
 
 /// The most bytes of a row: what all rows of its pair begin with, a comma, what it has of its period
 /// and the line feed.
-const LONGEST_ROW: usize = 164;
+pub(crate) const LONGEST_ROW: usize = 164;
 
 /// The figures of one period of a plan, in pieces.
 #[derive(Clone, Copy)]
@@ -49,10 +49,10 @@ pub(crate) struct Period {
 
 /// What the plan rows are of: a plan, its network, and the text of each period's date.
 #[derive(Clone, Copy)]
-struct PlanReport<'a> {
-    network: &'a Network,
-    plan: &'a Plan,
-    dates: &'a [[u8; 10]],
+pub(crate) struct PlanReport<'a> {
+    pub(crate) network: &'a Network,
+    pub(crate) plan: &'a Plan,
+    pub(crate) dates: &'a [[u8; 10]],
 }
 
 /// Writes a row for each pair in table order and each period in rising order: `plan`, plant, item,
@@ -139,7 +139,12 @@ fn send_piece<W: Write>(
 
 /// Writes the rows of the pairs from `first` on and before `end` at the beginning of the room, and
 /// returns how much of it they take.
-fn pairs_text(room: &mut [u8], report: &PlanReport<'_>, first: usize, end: usize) -> usize
+pub(crate) fn pairs_text(
+    room: &mut [u8],
+    report: &PlanReport<'_>,
+    first: usize,
+    end: usize,
+) -> usize
     requires table { IsTable report.now.network.now }
     requires fits { Fits report.now.network.now report.now.plan.now }
     requires dates { report.now.dates.now ≡ dates_of report.now.network.now.calendar }

@@ -1,18 +1,23 @@
-//! A network run by a thread for each plant, for its plan.
+//! A network run by a thread for each plant, for its plan and the report of it.
 
 ghost use Rattle.std.specs.Prelude.{◌<◌, IfOk, IfErr, length};
 ghost use Rattle.mrp_loops.specs.Sized.{IsSized};
 ghost use Rattle.mrp_net.specs.PlanLaws.{Fits};
 ghost use Rattle.mrp_qty.specs.declared.limits.TheConstants.{MOST_TURNS};
+ghost use Rattle.mrp_text.specs.Fault.{IsLate};
 ghost use Rattle.mrp_text.specs.Gates.{GateExplains};
+ghost use Rattle.mrp_text.specs.Reports.{IsPlanRows, WritesRows};
 ghost use Rattle.mrp_text.specs.Runs.{IsInNetwork, IsOfRun, IsRunFault, IsShutFor};
+ghost use Rattle.mrp_text.specs.Text.{IsPlanReport, Writes};
 
 use crate::fault::TextFault;
 use mrp_loops::SizedNet;
 use mrp_net::{Network, PlantNo};
 use mrp_plan::Plan;
+use mrp_report::{late_rows, plan_rows_by_threads};
 use mrp_run::{Gate, RunFault, Settings, run_network};
 use std::alloc::{AllocError, Global};
+use std::io::Write;
 use std::sync::Wait;
 use std::thread::Threads;
 
@@ -33,6 +38,25 @@ pub(crate) fn run_plan<T: Threads + Wait + Sync, G: Gate>(
         Ok(outcome) => Ok(Plan::gather(net, outcome.plans)),
         Err(fault) => Err(named(alloc, net.network(), fault)?),
     }
+}
+
+/// Writes the plan rows, by threads, and the late rows of a plan.
+pub(crate) fn report_run<T: Threads + Sync, W: Write>(
+    rt: &T,
+    alloc: Global,
+    net: &SizedNet<'_>,
+    plan: &Plan,
+    writer: &mut W,
+) -> Result<(), TextFault>
+    requires plannable { IsSized net.now.network }
+    requires fits { Fits net.now.network plan.now }
+    ensures text { Writes (W.contents writer.old) (W.contents writer.new) result (IsPlanReport net.now.network) }
+    ensures rows { WritesRows W.contents writer.old writer.new result (IsPlanRows net.now.network) }
+    ensures fault { IfErr result IsLate }
+{
+    plan_rows_by_threads(rt, alloc, net, plan, writer)?;
+    late_rows(alloc, net, plan, writer)?;
+    Ok(())
 }
 
 /// The fault of a text that a fault of a run is; an error where memory for the name of a plant is refused.

@@ -20,7 +20,7 @@ ghost use Rattle.mrp_choice.specs.declared.choice.TheConstants.{MOST_CAPACITY};
 use crate::fault::TextFault;
 use crate::firm::{driven_figures, driven_plan};
 use crate::network::{levels_of, sized_of};
-use crate::run::run_plan;
+use crate::run::{report_run, run_plan};
 use mrp_advice::advice_rows;
 use mrp_choice::{Heading, MOST_CAPACITY};
 use mrp_loops::{Levels, SizedNet};
@@ -71,7 +71,7 @@ pub(crate) fn write_run<T: Threads + Wait + Sync, W: Write, G: Gate>(
     let levels = levels_of(alloc, network)?;
     let net = sized_of(alloc, network, &levels)?;
     let plan = run_plan(rt, alloc, &net, settings, gate)?;
-    report_plan(alloc, &net, &plan, writer)
+    report_run(rt, alloc, &net, &plan, writer)
 }
 
 /// Writes the plan rows and the late rows of a plan.

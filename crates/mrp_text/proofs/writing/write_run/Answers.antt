@@ -9,18 +9,18 @@ use Rattle.mrp_text.proofs.writing.write_run.Goals as goal
 
 pub returns-clause-text : goal.returns-clause-text
 returns-clause-text g c =
-    subst (λ (N : Table). Writes (g.W.Write.contents c.args.writer.now) (g.W.Write.contents c.report_plan.new.writer) c.report_plan.result (IsPlanReport N))
-    c.in_ok-net.ensures.network c.report_plan.ensures.text
+    subst (λ (N : Table). Writes (g.W.Write.contents c.args.writer.now) (g.W.Write.contents c.report_run.new.writer) c.report_run.result (IsPlanReport N))
+    c.in_ok-net.ensures.network c.report_run.ensures.text
 
 pub returns-clause-rows : goal.returns-clause-rows
 returns-clause-rows g c =
-    subst (λ (N : Table). WritesRows g.W.Write.contents c.args.writer.now c.report_plan.new.writer c.report_plan.result (IsPlanRows N)) c.in_ok-net.ensures.network c.report_plan.ensures.rows
+    subst (λ (N : Table). WritesRows g.W.Write.contents c.args.writer.now c.report_run.new.writer c.report_run.result (IsPlanRows N)) c.in_ok-net.ensures.network c.report_run.ensures.rows
 
 pub returns-clause-gate : goal.returns-clause-gate
 returns-clause-gate g c =
     let Turned : Table → Type 0 = λ N. AllTurned g.G.Gate.turn_open MOST_TURNS (length N.plants) in
-    gate_late g.G.Gate.turn_open g.G.Gate.turn_shut g.G.Gate.worker_shut c.args.settings.workers MOST_TURNS c.args.network.now c.report_plan.result
-    (subst Turned c.in_ok-net.ensures.network c.in_ok-plan.ensures.gate.turned) c.report_plan.ensures.fault
+    gate_late g.G.Gate.turn_open g.G.Gate.turn_shut g.G.Gate.worker_shut c.args.settings.workers MOST_TURNS c.args.network.now c.report_run.result
+    (subst Turned c.in_ok-net.ensures.network c.in_ok-plan.ensures.gate.turned) c.report_run.ensures.fault
 
 -- the run's network is the one that was given
 pub returns-in_err-plan-clause-gate : goal.returns-in_err-plan-clause-gate
