@@ -6,6 +6,7 @@ pub mod Booked
 pub mod Bringing
 pub mod Calling
 pub mod Calls
+pub mod Crossing
 pub mod Desks
 pub mod DraftLaws
 pub mod DraftReads

@@ -12,7 +12,7 @@ use mrp_cursor::OutCursor;
 use mrp_net::{ItemNo, LaneNo, PairNo};
 use mrp_netting::PairPlan;
 use mrp_qty::{Memory, Qty};
-use mrp_view::PlantView;
+use mrp_view::{PlantFrame, PlantView};
 use std::alloc::Global;
 use std::marker::Model;
 
@@ -22,7 +22,7 @@ use std::marker::Model;
 /// takes memory (by construction; no clause says so).
 #[derive(Drop)]
 pub struct Agent {
-    pub(crate) view: PlantView,
+    pub(crate) view: PlantFrame,
     pub(crate) structure: Structure,
     pub(crate) lanes: Lanes,
     pub(crate) amounts: Amounts,
@@ -68,9 +68,29 @@ impl Agent {
         ensures opens { IfOk result
             (λ agent. ShowsHistory agent opening_state.sent opening_state.taken opening_state.planned) }
     {
+        let (frame, demands, receipts) = view.into_parts();
+        Agent::of_parts(alloc, frame, demands, receipts)
+    }
+
+    /// The same, by the parts of the view: the sums of its demand rows and receipt rows become what is
+    /// called for and what has come.
+    fn of_parts(
+        alloc: Global,
+        view: PlantFrame,
+        demands: Vec<u64>,
+        receipts: Vec<u64>,
+    ) -> Result<Agent, Memory>
+        requires seen { IsView view }
+        requires openings { HasSmallOpenings view }
+        requires demands { demands.items ≡ view.demands }
+        requires receipts { receipts.items ≡ view.receipts }
+        ensures view { IfOk result (λ agent. agent.view ≡ view) }
+        ensures opens { IfOk result
+            (λ agent. ShowsHistory agent opening_state.sent opening_state.taken opening_state.planned) }
+    {
         let structure = Structure::new(alloc, &view)?;
         let lanes = Lanes::new(alloc, &view)?;
-        let amounts = Amounts::new(alloc, &view)?;
+        let amounts = Amounts::new(alloc, &view, receipts, demands)?;
         Ok(Agent {
             view,
             structure,
@@ -81,7 +101,7 @@ impl Agent {
     }
 
     /// What the plant sees.
-    pub fn view(&self) -> &PlantView
+    pub fn view(&self) -> &PlantFrame
         ensures { result.now ≡ self.now.view }
     {
         &self.view

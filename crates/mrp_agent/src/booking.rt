@@ -10,7 +10,7 @@ use mrp_book::BookFault;
 use mrp_net::{LaneKind, LaneNo};
 use mrp_ready::Readiness;
 use mrp_record::Record;
-use mrp_view::{IncomingLane, PlantView};
+use mrp_view::{IncomingLane, PlantFrame};
 
 impl Agent {
     ghost use Rattle.std.specs.Prelude.{ℕ, List, [], ◌∷◌, ◌++◌, Bool, Some, IfErr, OnErr, OnOk};
@@ -104,7 +104,7 @@ fn pair_near(items: &ItemPlaces, entry: &Record, near: usize) -> usize {
 fn add_entry(
     came: &mut Vec<u64>,
     called: &mut Vec<u64>,
-    view: &PlantView,
+    view: &PlantFrame,
     items: &ItemPlaces,
     near: usize,
     kind: LaneKind,

@@ -16,7 +16,7 @@ use mrp_lot::PairParams;
 use mrp_net::PairNo;
 use mrp_netting::{PairPlan, plan_pair};
 use mrp_qty::Row;
-use mrp_view::PlantView;
+use mrp_view::PlantFrame;
 
 /// What the plan of a pair is drafted from, beside the plans of its parents: what it is planned by, what
 /// has come and what is called for by period, and the edges to its parents.
@@ -61,7 +61,7 @@ impl Agent {
 
 /// What the plan of the pair at a place is drafted from.
 pub(crate) fn pair_rows<'a>(
-    view: &'a PlantView,
+    view: &'a PlantFrame,
     edges: &'a Groups<ParentEdge>,
     came: &'a [u64],
     called: &'a [u64],

@@ -10,7 +10,7 @@ ghost use Rattle.mrp_view.specs.Seen.{IsOwnPair, IsPlantEdge};
 use mrp_group::KeyOf;
 use mrp_net::PairNo;
 use mrp_ready::Join;
-use mrp_view::{PlantEdge, PlantView};
+use mrp_view::{PlantEdge, PlantFrame};
 use std::alloc::{AllocError, Global};
 
 /// An edge of the plant by the places of its pairs. A plant has far fewer than 2^32 of them.
@@ -38,7 +38,7 @@ impl KeyOf<ParentEdge> for ByComponent {
 /// The edges of a plant by places.
 pub(crate) fn parent_edges(
     alloc: Global,
-    view: &PlantView,
+    view: &PlantFrame,
     edges: &[PlantEdge],
 ) -> Result<Vec<ParentEdge>, AllocError>
     requires edges { All (IsPlantEdge view.now) edges.now }
@@ -53,7 +53,7 @@ pub(crate) fn parent_edges(
 }
 
 /// An edge by places.
-fn parent_edge(view: &PlantView, edge: &PlantEdge) -> ParentEdge
+fn parent_edge(view: &PlantFrame, edge: &PlantEdge) -> ParentEdge
     requires edge { IsPlantEdge view.now edge.now }
     requires few { length view.now.pairs ≤ MOST_PAIRS }
     ensures { result ≡ parent_edge view.now edge.now }
@@ -68,7 +68,7 @@ fn parent_edge(view: &PlantView, edge: &PlantEdge) -> ParentEdge
 }
 
 /// The place of one of the plant's pairs.
-fn short_place(view: &PlantView, x: PairNo) -> u32
+fn short_place(view: &PlantFrame, x: PairNo) -> u32
     requires own { IsOwnPair view.now x }
     requires few { length view.now.pairs ≤ MOST_PAIRS }
     ensures { result ≡ pair_place view.now x.0 }

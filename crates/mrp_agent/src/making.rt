@@ -1,6 +1,6 @@
 //! The rooms that an agent is made of.
 
-ghost use Rattle.std.specs.Prelude.{◌≡◌, ℕ, ◌++◌, ◌<◌, ◌≤◌, ◌^◌, [], false, All, IfOk, length, map, replicate, slice_index};
+ghost use Rattle.std.specs.Prelude.{◌≡◌, ℕ, ◌++◌, ◌<◌, ◌≤◌, ◌^◌, [], false, All, IfOk, length, map, replicate};
 ghost use Rattle.std.specs.List.{flat_map};
 ghost use Rattle.mrp_qty.specs.declared.quantity.TheConstants.{MOST};
 ghost use Rattle.mrp_book.specs.Figures.{BookShows};
@@ -9,7 +9,7 @@ ghost use Rattle.mrp_ready.specs.Counts.{AreCounts};
 ghost use Rattle.mrp_ready.specs.Progress.{times};
 ghost use Rattle.mrp_view.specs.Seen.{IsIncomingItem, IsIncomingLane};
 ghost use Rattle.mrp_agent.specs.Kept.{HasSmallItems};
-ghost use Rattle.mrp_agent.specs.Making.{AreIdleOuts, new_figures, IsIdleOut, awaited_places, place_awaited};
+ghost use Rattle.mrp_agent.specs.Making.{AreFit, AreIdleOuts, new_figures, IsIdleOut, awaited_places, place_awaited};
 ghost use Rattle.mrp_agent.specs.Shows.{book_item, form_of};
 
 use mrp_book::{Book, BookItem};
@@ -18,13 +18,13 @@ use mrp_net::LaneKind;
 use mrp_netting::PairPlan;
 use mrp_qty::{Horizon, Memory, Qty};
 use mrp_ready::{Join, PairNo, Readiness, first_waits};
-use mrp_view::{IncomingItem, IncomingLane, OutgoingLane, PlantView};
+use mrp_view::{IncomingItem, IncomingLane, OutgoingLane, PlantFrame};
 use std::alloc::{AllocError, Global};
 
 /// The book of each lane that comes in.
 pub(crate) fn new_books(
     alloc: Global,
-    view: &PlantView,
+    view: &PlantFrame,
     lanes: &[IncomingLane],
 ) -> Result<Vec<Book>, AllocError>
     requires lanes { All (IsIncomingLane view.now) lanes.now }
@@ -39,7 +39,7 @@ pub(crate) fn new_books(
 }
 
 /// The book of one lane.
-fn new_book(alloc: Global, view: &PlantView, lane: &IncomingLane) -> Result<Book, AllocError>
+fn new_book(alloc: Global, view: &PlantFrame, lane: &IncomingLane) -> Result<Book, AllocError>
     requires lane { IsIncomingLane view.now lane.now }
     requires openings { HasSmallItems lane.now }
     ensures shows { IfOk result (λ b. BookShows (form_of view.now lane.now) b []) }
@@ -65,12 +65,11 @@ fn book_items(alloc: Global, items: &[IncomingItem]) -> Result<Vec<BookItem>, Al
     Ok(found)
 }
 
-/// The amounts, each of 64 bits.
-pub(crate) fn copy_of(alloc: Global, amounts: &[u64]) -> Result<Vec<u64>, AllocError>
-    ensures same { IfOk result (λ v. v.items ≡ amounts.now) }
-    ensures fits { IfOk result (λ v. (k : ℕ) → slice_index amounts.now k < 2 ^ 64) }
+/// Each amount has 64 bits.
+pub(crate) fn are_fit(amounts: &[u64])
+    ensures { AreFit amounts.now }
 {
-    Vec::from_slice(alloc, amounts)
+    let _count = amounts.len();
 }
 
 /// Room for the plan of each pair.
@@ -91,7 +90,7 @@ pub(crate) fn blank_plans(
 /// Nothing is planned, and each pair waits for its parents and for the blocks that are to come.
 pub(crate) fn first_progress(
     alloc: Global,
-    view: &PlantView,
+    view: &PlantFrame,
     joins: &[Join],
 ) -> Result<Readiness, Memory>
     requires lanes { All (IsIncomingLane view.now) view.now.incoming }
@@ -109,7 +108,7 @@ pub(crate) fn first_progress(
 }
 
 /// The numbers of the pairs.
-fn numbers(alloc: Global, view: &PlantView) -> Result<Vec<PairNo>, AllocError>
+fn numbers(alloc: Global, view: &PlantFrame) -> Result<Vec<PairNo>, AllocError>
     ensures { IfOk result (λ v. v.items ≡ map (λ p. p.number) view.now.pairs) }
 {
     view.pairs().iter().map(|pair| pair.number).collect(alloc)
@@ -118,7 +117,7 @@ fn numbers(alloc: Global, view: &PlantView) -> Result<Vec<PairNo>, AllocError>
 /// The place of the pair of each block that comes in.
 fn awaited_places(
     alloc: Global,
-    view: &PlantView,
+    view: &PlantFrame,
     lanes: &[IncomingLane],
 ) -> Result<Vec<usize>, AllocError>
     requires { All (IsIncomingLane view.now) lanes.now }
@@ -134,7 +133,7 @@ fn awaited_places(
 /// Adds the places of the pairs of a lane's items.
 fn add_awaited(
     places: &mut Vec<usize>,
-    view: &PlantView,
+    view: &PlantFrame,
     items: &[IncomingItem],
 ) -> Result<(), AllocError>
     requires { All (IsIncomingItem view.now) items.now }

@@ -10,7 +10,7 @@ ghost use Rattle.mrp_agent.specs.Shows.{joins_of};
 
 use crate::desk::Desk;
 use crate::edges::{ByComponent, ParentEdge, joins, parent_edges};
-use crate::making::{blank_plans, copy_of, first_progress, idle_outs, new_books};
+use crate::making::{are_fit, blank_plans, first_progress, idle_outs, new_books};
 use crate::places::{ItemPlaces, out_items};
 use mrp_book::Book;
 use mrp_cursor::OutCursor;
@@ -18,7 +18,7 @@ use mrp_group::{Groups, group};
 use mrp_netting::PairPlan;
 use mrp_qty::Memory;
 use mrp_ready::{Components, Join, Readiness};
-use mrp_view::PlantView;
+use mrp_view::PlantFrame;
 use std::alloc::Global;
 
 /// The pairs of a plant by their places: their items, their edges, and which of them can be planned.
@@ -34,7 +34,7 @@ impl Structure {
     ghost use Rattle.mrp_group.specs.Starts.{IsGrouped};
 
     /// The pairs of a plant where nothing is planned and nothing has come.
-    pub(crate) fn new(alloc: Global, view: &PlantView) -> Result<Structure, Memory>
+    pub(crate) fn new(alloc: Global, view: &PlantFrame) -> Result<Structure, Memory>
         requires seen { IsView view.now }
         ensures items { IfOk result (λ s. s.items ≡ map (λ p. p.item) view.now.pairs) }
         ensures edges { IfOk result (λ s. IsGrouped (λ e. e.component) (length view.now.pairs) (map (parent_edge view.now) view.now.edges)
@@ -50,7 +50,7 @@ impl Structure {
     /// The same, by the plant's edges.
     fn of_edges(
         alloc: Global,
-        view: &PlantView,
+        view: &PlantFrame,
         parents: &[ParentEdge],
     ) -> Result<Structure, Memory>
         requires seen { IsView view.now }
@@ -77,7 +77,7 @@ impl Structure {
 /// For each pair the components that wait for it, and what is planned at first, by the plant's edges.
 fn first_waiting(
     alloc: Global,
-    view: &PlantView,
+    view: &PlantFrame,
     parents: &[ParentEdge],
 ) -> Result<(Components, Readiness), Memory>
     requires seen { IsView view.now }
@@ -93,7 +93,7 @@ fn first_waiting(
 /// The same, by the joins of the edges.
 fn waiting_by(
     alloc: Global,
-    view: &PlantView,
+    view: &PlantFrame,
     joins: &[Join],
 ) -> Result<(Components, Readiness), Memory>
     requires seen { IsView view.now }
@@ -121,7 +121,7 @@ impl Lanes {
     ghost use Rattle.mrp_agent.specs.Making.{AreIdleOuts, new_figures};
 
     /// The lanes of a plant before the first record.
-    pub(crate) fn new(alloc: Global, view: &PlantView) -> Result<Lanes, Memory>
+    pub(crate) fn new(alloc: Global, view: &PlantFrame) -> Result<Lanes, Memory>
         requires seen { IsView view.now }
         requires openings { HasSmallOpenings view.now }
         ensures books { IfOk result (λ l. l.books.items ≡ map (new_figures view.now) view.now.incoming) }
@@ -152,8 +152,15 @@ impl Amounts {
     ghost use Rattle.mrp_netting.specs.Plan.{nothing_planned};
     ghost use Rattle.mrp_agent.specs.Making.{AreFit};
 
-    /// The amounts that the view has, and no plans.
-    pub(crate) fn new(alloc: Global, view: &PlantView) -> Result<Amounts, Memory>
+    /// What has come and what is called for by the view's sums, which are taken over, and no plans.
+    pub(crate) fn new(
+        alloc: Global,
+        view: &PlantFrame,
+        came: Vec<u64>,
+        called: Vec<u64>,
+    ) -> Result<Amounts, Memory>
+        requires came { came.items ≡ view.now.receipts }
+        requires called { called.items ≡ view.now.demands }
         ensures came { IfOk result (λ a. a.came.items ≡ view.now.receipts) }
         ensures called { IfOk result (λ a. a.called.items ≡ view.now.demands) }
         ensures plans { IfOk result (λ a. a.plans.items ≡ replicate (length view.now.pairs) (nothing_planned view.now.horizon)) }
@@ -161,8 +168,8 @@ impl Amounts {
         ensures receipts { IfOk result (λ _. AreFit view.now.receipts) }
         ensures demands { IfOk result (λ _. AreFit view.now.demands) }
     {
-        let came = copy_of(alloc, view.receipts())?;
-        let called = copy_of(alloc, view.demands())?;
+        are_fit(&came);
+        are_fit(&called);
         let plans = blank_plans(alloc, view.horizon(), view.pairs().len())?;
         let desk = Desk::new(alloc, view.horizon())?;
         Ok(Amounts {

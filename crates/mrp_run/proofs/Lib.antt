@@ -1,3 +1,4 @@
+pub mod Crossing
 pub mod Given
 pub mod Held
 pub mod Placed

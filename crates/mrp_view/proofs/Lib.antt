@@ -8,3 +8,4 @@ pub mod OwnEdges
 pub mod SeeingLanes
 pub mod Placing
 pub mod Views
+pub mod Crossing

@@ -3,10 +3,12 @@
 #![tactic(auto)]
 
 mod amounts;
+mod frame;
 pub mod laws;
 mod view;
 mod viewing;
 
+pub use frame::PlantFrame;
 pub use mrp_net::{ItemNo, LaneKind, LaneNo, PairNo, PlantNo, Shipment};
 pub use view::{
     Call, IncomingItem, IncomingItems, IncomingLane, OutgoingItem, OutgoingItems, OutgoingLane,

@@ -1,5 +1,6 @@
 //! What one plant sees of the network: its pairs, their rows, its lanes.
 
+use crate::frame::PlantFrame;
 use mrp_lot::PairParams;
 use mrp_net::{ItemNo, LaneKind, LaneNo, PairNo, Shipment};
 use mrp_qty::{Horizon, Memory};
@@ -207,90 +208,51 @@ pub struct OutgoingLane {
 /// of them.
 #[derive(Drop)]
 pub struct PlantView {
-    pub(crate) horizon: Horizon,
-    pub(crate) pairs: Vec<PlantPair>,
-    pub(crate) edges: Vec<PlantEdge>,
+    pub(crate) frame: PlantFrame,
     pub(crate) demands: Vec<u64>,
     pub(crate) receipts: Vec<u64>,
-    pub(crate) incoming: Vec<IncomingLane>,
-    pub(crate) outgoing: Vec<OutgoingLane>,
 }
 
 impl Model for PlantView {
+    ghost use Rattle.std.specs.Prelude.{◌≡◌};
     ghost use Rattle.mrp_view.specs.View.{PlantRows};
 
     ghost Value = { PlantRows };
 
-    ghost view = { λ v. record {
-      horizon = v.horizon;
-      pairs = v.pairs.items;
-      edges = v.edges.items;
-      demands = v.demands.items;
-      receipts = v.receipts.items;
-      incoming = v.incoming.items;
-      outgoing = v.outgoing.items;
-    } };
+    ghost view = { λ v. v.frame };
 
-    ghost use Rattle.mrp_view.specs.View.{NumbersRise};
-
-    ghost invariant = { λ v. NumbersRise v.pairs.items };
+    ghost invariant = { λ v. (v.frame.demands ≡ v.demands.items) × (v.frame.receipts ≡ v.receipts.items) };
 }
 
 impl PlantView {
-    ghost use Rattle.std.specs.Prelude.{◌≡◌, ◌==◌, position, Some, IfSome};
+    ghost use Rattle.std.specs.Prelude.{◌≡◌, ◌==◌, position};
 
     /// The number of periods.
     pub fn horizon(&self) -> Horizon
         ensures { result ≡ self.now.horizon }
     {
-        self.horizon
+        self.frame.horizon()
     }
 
     /// The plant's pairs, in table order. The place of a pair is its place in this list.
     pub fn pairs(&self) -> &[PlantPair]
         ensures { result.now ≡ self.now.pairs }
     {
-        self.pairs.as_slice()
+        self.frame.pairs()
     }
 
     /// The place of a pair among the plant's pairs, or `None` where it is another plant's.
     pub fn place(&self, x: PairNo) -> Option<usize>
         ensures { result ≡ position (λ p. p.number.0 == x.0) self.now.pairs }
     {
-        match self.following_place(x) {
-            Some(place) => Some(place),
-            None => self.searched_place(x),
-        }
-    }
-
-    /// The place of a pair where the plant's pairs up to it follow one another in the table, as they mostly
-    /// do.
-    fn following_place(&self, x: PairNo) -> Option<usize>
-        ensures { IfSome result (λ place. Some place ≡ position (λ p. p.number.0 == x.0) self.now.pairs) }
-    {
-        let first = self.pairs.first()?;
-        let place = x.0.checked_sub(first.number.0)?;
-        let pair = self.pairs.get(place)?;
-        if pair.number.0 == x.0 {
-            Some(place)
-        } else {
-            None
-        }
-    }
-
-    /// The place of a pair, wherever the plant's pairs stand in the table.
-    fn searched_place(&self, x: PairNo) -> Option<usize>
-        ensures { result ≡ position (λ p. p.number.0 == x.0) self.now.pairs }
-    {
-        let found = self.pairs.binary_search_by_key(&x.0, |pair| pair.number.0);
-        found.ok()
+        self.frame.place(x)
     }
 
     /// The components of its made pairs, by component in table order, and then by parent.
     pub fn edges(&self) -> &[PlantEdge]
         ensures { result.now ≡ self.now.edges }
     {
-        self.edges.as_slice()
+        self.frame.edges()
     }
 
     /// The sums of the demand rows, in pieces: pair by pair, period by period.
@@ -311,13 +273,27 @@ impl PlantView {
     pub fn incoming(&self) -> &[IncomingLane]
         ensures { result.now ≡ self.now.incoming }
     {
-        self.incoming.as_slice()
+        self.frame.incoming()
     }
 
     /// The lanes that the plant sends, in lane order.
     pub fn outgoing(&self) -> &[OutgoingLane]
         ensures { result.now ≡ self.now.outgoing }
     {
-        self.outgoing.as_slice()
+        self.frame.outgoing()
+    }
+
+    /// What the plant sees without the sums, the sums of the demand rows, and those of the receipt rows.
+    pub fn into_parts(self) -> (PlantFrame, Vec<u64>, Vec<u64>)
+        ensures frame { result.0 ≡ self }
+        ensures demands { result.1.items ≡ self.demands }
+        ensures receipts { result.2.items ≡ self.receipts }
+    {
+        let PlantView {
+            frame,
+            demands,
+            receipts,
+        } = self;
+        (frame, demands, receipts)
     }
 }

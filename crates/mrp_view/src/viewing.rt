@@ -11,6 +11,7 @@ ghost use Rattle.mrp_view.specs.View.{plant_pairs, plant_edge, edges_to, plant_r
 ghost use Rattle.mrp_view.specs.View.{sent_on, called_on, call_on, outgoing_item, outgoing_lanes};
 
 use crate::amounts::{Amounts, plant_amounts};
+use crate::frame::PlantFrame;
 use crate::view::{
     Call, IncomingItem, IncomingItems, IncomingLane, OutgoingItem, OutgoingItems, OutgoingLane,
     PlantEdge, PlantPair, PlantView,
@@ -18,6 +19,7 @@ use crate::view::{
 use mrp_net::{Edge, ItemNo, LaneKind, LaneNo, Network, PairNo, PlantNo, Shipment};
 use mrp_qty::Memory;
 use std::alloc::Global;
+use std::snapshot::Snapshot;
 
 impl PlantView {
     /// What a plant sees of the network. It is made in time linear in the plant's rows and in the
@@ -35,14 +37,19 @@ impl PlantView {
         let receipts = plant_amounts(alloc, network, pairs.as_slice(), Amounts::Receipts)?;
         let incoming = incoming_lanes(alloc, network, plant)?;
         let outgoing = outgoing_lanes(alloc, network, plant)?;
-        Ok(PlantView {
+        let frame = PlantFrame {
             horizon: network.horizon(),
             pairs,
             edges,
-            demands,
-            receipts,
+            demands: Snapshot::of(&demands),
+            receipts: Snapshot::of(&receipts),
             incoming,
             outgoing,
+        };
+        Ok(PlantView {
+            frame,
+            demands,
+            receipts,
         })
     }
 }

@@ -1,9 +1,11 @@
+use denote.Param.Send.{sendable}
 use Rattle.std.proofs.Common.{◌≡◌, [], Ok, Result, length, map, ap, arith}
 use Rattle.std.proofs.lemmas.List.{length-map}
 use Rattle.std.proofs.lemmas.Result.{IfOk-weaker}
 use Rattle.mrp_qty.specs.declared.memory.Memory.{Memory}
 use Rattle.mrp_run.specs.declared.plant.Plant.{Plant}
 use Rattle.mrp_run.specs.Ends.{AreIdle, IsIdle}
+use Rattle.mrp_run.proofs.Crossing.{made_send}
 use Rattle.mrp_run.proofs.DealtLists.{each_made}
 use Rattle.mrp_run.proofs.dealing.idle_plants.Goals as goal
 
@@ -16,3 +18,6 @@ returns g c =
       all_plants = omega (arith, ap length is, length-map {B = Result Plant Memory} plants.items Ok, c.in_ok-made.ensures.len, c.plants.ensures);
       each = each_made (IsIdle N [] []) plants.items made is (λ k d within. (c.in_ok-made.ensures.each k d (omega (arith, within, c.in_ok-made.ensures.len))).1.met);
     }) c.all_made.ensures
+
+pub map_indices-requires-send-X : goal.map_indices-requires-send-X
+map_indices-requires-send-X g c κs within = search (made_send, sendable)

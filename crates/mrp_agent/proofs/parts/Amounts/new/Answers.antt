@@ -5,10 +5,10 @@ use Rattle.mrp_agent.specs.Making.{AreFit}
 use Rattle.mrp_agent.proofs.parts.Amounts.new.Goals as goal
 
 pub returns-clause-came : goal.returns-clause-came
-returns-clause-came c = c.in_ok-came.ensures.same ∙ c.receipts.ensures
+returns-clause-came c = c.requires.came
 
 pub returns-clause-called : goal.returns-clause-called
-returns-clause-called c = c.in_ok-called.ensures.same ∙ c.demands.ensures
+returns-clause-called c = c.requires.called
 
 pub returns-clause-plans : goal.returns-clause-plans
 returns-clause-plans c =
@@ -20,7 +20,7 @@ pub returns-clause-desk : goal.returns-clause-desk
 returns-clause-desk c = c.in_ok-desk.ensures ∙ c.horizon-2.ensures
 
 pub returns-clause-receipts : goal.returns-clause-receipts
-returns-clause-receipts c = subst AreFit c.receipts.ensures c.in_ok-came.ensures.fits
+returns-clause-receipts c = subst AreFit (c.deref.ensures.value ∙ c.requires.came) c.are_fit.ensures
 
 pub returns-clause-demands : goal.returns-clause-demands
-returns-clause-demands c = subst AreFit c.demands.ensures c.in_ok-called.ensures.fits
+returns-clause-demands c = subst AreFit (c.deref-2.ensures.value ∙ c.requires.called) c.are_fit-2.ensures

@@ -1,5 +1,5 @@
 use Rattle.std.proofs.Common.{rules}
-use Rattle.mrp_view.proofs.view.PlantView.outgoing.Goals as goal
+use Rattle.mrp_view.proofs.frame.PlantFrame.outgoing.Goals as goal
 
 pub returns : goal.returns
 returns c = search rules

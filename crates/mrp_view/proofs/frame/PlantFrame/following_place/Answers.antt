@@ -3,7 +3,7 @@ use Rattle.std.specs.List.{position}
 use Rattle.mrp_view.specs.declared.view.PlantPair.{PlantPair}
 use Rattle.mrp_view.specs.View.{PlantRows, NumbersRise}
 use Rattle.mrp_view.proofs.Placing.{is_below, placed_at}
-use Rattle.mrp_view.proofs.view.PlantView.following_place.Goals as goal
+use Rattle.mrp_view.proofs.frame.PlantFrame.following_place.Goals as goal
 
 pub returns-then-pair-x : goal.returns-then-pair-x
 returns-then-pair-x c =

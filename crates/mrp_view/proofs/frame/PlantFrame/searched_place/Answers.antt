@@ -1,10 +1,10 @@
-use Rattle.std.proofs.Common.{◌≡◌, ℕ, List, Option, rules, eqb, sym, ap, ◌∙◌, subst}
+use Rattle.std.proofs.Common.{List, rules, eqb, sym, ap, ◌∙◌, subst}
 use Rattle.std.specs.List.{position}
 use Rattle.std.proofs.lemmas.List.Sorted.{answers_always}
 use Rattle.mrp_view.specs.declared.view.PlantPair.{PlantPair}
 use Rattle.mrp_view.specs.View.{PlantRows, NumbersRise}
 use Rattle.mrp_view.proofs.Placing.{placed}
-use Rattle.mrp_view.proofs.view.PlantView.searched_place.Goals as goal
+use Rattle.mrp_view.proofs.frame.PlantFrame.searched_place.Goals as goal
 
 pub returns : goal.returns
 returns c =
