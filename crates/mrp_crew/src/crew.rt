@@ -1,8 +1,9 @@
 //! The workers of a plant, and the rooms that they draft in.
 
-ghost use Rattle.std.specs.Prelude.{◌≡◌, ◌+◌, ◌<◌, ◌≤◌, true, false, min, length, reverse, All, IfErr, IfOk, OnOk};
+ghost use Rattle.std.specs.Prelude.{◌≡◌, ◌+◌, ◌<◌, ◌≤◌, true, false, min, List, length, reverse, All, IfErr, IfOk, OnOk};
+ghost use Rattle.mrp_rows.specs.declared.numbers.PairNo.{PairNo};
 ghost use Rattle.mrp_agent.specs.Drafts.{ready_numbers};
-ghost use Rattle.mrp_crew.specs.Planning.{IsPlannable};
+ghost use Rattle.mrp_crew.specs.Planning.{IsPlannable, PlansAll};
 ghost use Rattle.mrp_crew.specs.Rooms.{IsRoom};
 ghost use Rattle.mrp_crew.specs.Settled.{AreToSettle};
 ghost use Rattle.mrp_crew.specs.Shut.{AreLetIn, WasShutToWorker};
@@ -24,8 +25,8 @@ use std::thread::Threads;
 
 /// The workers of a plant.
 ///
-/// Contracts see how many they are and for how many periods they plan. The rooms in which they draft are
-/// kept from wave to wave (by construction; no clause says so).
+/// Contracts see how many they are and for how many periods they plan. The rooms in which they draft are made by
+/// the first wave of several pairs, and kept from wave to wave (by construction; no clause says so).
 #[derive(Drop)]
 pub struct Crew {
     workers: u64,
@@ -63,8 +64,7 @@ impl Crew {
         ensures workers { IfOk result (λ crew. crew.workers ≡ workers) }
         ensures horizon { IfOk result (λ crew. crew.horizon ≡ horizon) }
     {
-        let mut rooms = Vec::with_capacity(alloc, workers as usize)?;
-        refill(alloc, &mut rooms, horizon, workers)?;
+        let rooms = Vec::with_capacity(alloc, workers as usize)?;
         Ok(Crew {
             workers,
             horizon,
@@ -75,8 +75,8 @@ impl Crew {
     /// Plans the pairs of an agent in waves until none is ready, and answers how many it planned.
     ///
     /// A wave takes the ready pairs, at most the first as many as there are workers. The last of them is
-    /// drafted by the calling thread, and each of the others by a thread of its own; so one worker starts
-    /// none. Each worker, the calling thread too, first asks `gate.worker` with the plant and its number
+    /// drafted by the calling thread, and each of the others by a thread of its own; so a wave of one pair,
+    /// as all of one worker are, starts none, and is planned where the agent keeps its plans. Each worker, the calling thread too, first asks `gate.worker` with the plant and its number
     /// in the wave, from 1 on. The wave is over once all its threads have returned, and then the agent
     /// keeps all plans that were drafted.
     ///
@@ -114,8 +114,32 @@ impl Crew {
         Ok(before - agent.left())
     }
 
-    /// Plans a wave of ready pairs; there is one.
+    /// Plans a wave of ready pairs; there is one. A wave of one pair needs no threads, and no room.
     fn plan_wave<R: Threads + Wait + Sync, G: Gate>(
+        &mut self,
+        rt: &R,
+        alloc: Global,
+        agent: &mut Agent,
+        plant: usize,
+        gate: &G,
+    ) -> Result<(), CrewFault>
+        requires plannable { IsPlannable agent.old }
+        requires horizon { self.old.horizon ≡ agent.old.view.horizon }
+        requires ready { 0 < length (ready_numbers agent.old) }
+        ensures crew { self.new ≡ self.old }
+        ensures planned { (xs : List PairNo) × PlansAll agent.old agent.new xs × OnOk result (0 < length xs) }
+        ensures shut { IfErr result (λ fault. fault ≡ CrewFault.GateShut → WasShutToWorker G.worker_shut self.old.workers plant) }
+        ensures refused { IfErr result (λ fault. fault ≡ CrewFault.ThreadRefused → 2 ≤ self.old.workers) }
+    {
+        if self.workers == 1 || agent.ready_pairs().len() == 1 {
+            plan_alone(agent, plant, gate)
+        } else {
+            self.plan_by_threads(rt, alloc, agent, plant, gate)
+        }
+    }
+
+    /// Plans a wave of ready pairs by threads, where there is one; of several, each in a room of its own.
+    fn plan_by_threads<R: Threads + Wait + Sync, G: Gate>(
         &mut self,
         rt: &R,
         alloc: Global,
@@ -138,6 +162,22 @@ impl Crew {
         let open = settle_all(agent, works, &mut self.rooms);
         wave_end(all, open)
     }
+}
+
+/// Plans the first ready pair in the calling thread, the first worker; there is one.
+fn plan_alone<G: Gate>(agent: &mut Agent, plant: usize, gate: &G) -> Result<(), CrewFault>
+    requires plannable { IsPlannable agent.old }
+    requires ready { 0 < length (ready_numbers agent.old) }
+    ensures planned { (xs : List PairNo) × PlansAll agent.old agent.new xs × OnOk result (0 < length xs) }
+    ensures shut { IfErr result (λ _. G.worker_shut plant 1) }
+    ensures fault { IfErr result (λ fault. fault ≡ CrewFault.GateShut) }
+{
+    let pair = agent.ready_pairs()[0];
+    if !gate.worker(plant, 1) {
+        return Err(CrewFault::GateShut);
+    }
+    agent.plan(pair);
+    Ok(())
 }
 
 /// Drafts the plans of the first ready pairs, of as many as there are workers; for each there is a room.

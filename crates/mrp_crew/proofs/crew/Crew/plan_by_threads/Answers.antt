@@ -6,7 +6,7 @@ use Rattle.mrp_crew.proofs.ShutGates.{memory_is_no_gate, memory_is_no_thread, sh
 use Rattle.mrp_crew.specs.Rooms.{IsRoom}
 use Rattle.mrp_crew.specs.Shut.{WasShutToWorker}
 use Rattle.mrp_crew.specs.State.{CrewState}
-use Rattle.mrp_crew.proofs.crew.Crew.plan_wave.Goals as goal
+use Rattle.mrp_crew.proofs.crew.Crew.plan_by_threads.Goals as goal
 
 pub returns-in_err-refill-clause-planned : goal.returns-in_err-refill-clause-planned
 returns-in_err-refill-clause-planned g c =
