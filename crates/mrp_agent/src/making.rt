@@ -21,6 +21,12 @@ use mrp_ready::{Join, PairNo, Readiness, first_waits};
 use mrp_view::{IncomingItem, IncomingLane, OutgoingLane, PlantFrame};
 use std::alloc::{AllocError, Global};
 
+/// For so many plans the memory grows at once.
+const AT_ONCE: usize = 16;
+
+/// A plan of 104 periods takes fewer bytes.
+const ROOM: usize = 4_500;
+
 /// The book of each lane that comes in.
 pub(crate) fn new_books(
     alloc: Global,
@@ -81,10 +87,20 @@ pub(crate) fn blank_plans(
     ensures { IfOk result (λ v. v.items ≡ replicate pairs (nothing_planned horizon)) }
 {
     let mut plans = Vec::with_capacity(alloc, pairs)?;
-    for _ in 0..pairs {
+    for place in 0..pairs {
+        grow(alloc, place);
         plans.push(PairPlan::new(alloc, horizon)?)?;
     }
     Ok(plans)
+}
+
+/// Before each sixteenth plan takes room for as many and gives it back. The C library lets the memory of a thread grow
+/// by what it is asked for at once: so it grows for sixteen plans, and not page by page. A refusal is no fault, since
+/// what follows asks for less.
+fn grow(alloc: Global, place: usize) {
+    if place % AT_ONCE == 0 {
+        let _ = Vec::<u8>::with_capacity(alloc, AT_ONCE * ROOM);
+    }
 }
 
 /// Nothing is planned, and each pair waits for its parents and for the blocks that are to come.

@@ -57,10 +57,9 @@ impl SendEnd {
     ///
     /// # Errors
     ///
-    /// The same record, where the queue under the mailbox finds no room; nothing is changed then. What it tells
-    /// is that at one moment of the call as many records lay in it as it has room for, and that what was sent
-    /// is what had been taken by then and these records. Of the lists that says no more than that at least so
-    /// many were sent: which moment it was no clause says.
+    /// The same record, where the queue under the mailbox finds no room; nothing is changed then. By `full` at
+    /// least as many records were sent as it has room for. That so many lay in it at one moment of the call is
+    /// what the kit says of its queue, and no clause of this call.
     pub fn offer<S: Stamp, R: Wait>(&mut self, rt: &R, entry: Record) -> Result<(), Record>
         requires legal { IsNextRecord self.old entry }
         ensures name { self.new.name ≡ self.old.name }

@@ -1,11 +1,10 @@
 //! **The theorem.** A table has one plan by the rules of material requirements planning, or it is refused.
-//! Where it has one, what a text function writes is exactly the report of that plan. Where it is refused, the
-//! answer is the first fault that holds, and nothing is written. Where the machine fails, what was written is
-//! a front of the right report.
+//! On success what a text function has written is exactly the report of that plan. A refusal is the first fault
+//! that holds, and nothing is written. After any other fault what was written is a front of the right report.
 //!
 //! The planner as a library: a table from any reader, a report to any writer.
-//! [`plan_text`] writes the plan, each plant planned in a thread of its own, and [`drive_text`] the same
-//! plan on one thread; [`check_text`] writes the low-level codes, [`peg_text`] what a gross requirement
+//! [`plan_text`] writes the plan, each plant planned in a thread of its own (by construction; no clause says so),
+//! and [`drive_text`] the same plan on one thread; [`check_text`] writes the low-level codes, [`peg_text`] what a gross requirement
 //! consists of, and [`pegs_text`] so of the whole plan, [`cums_text`] the cumulative figures of the lanes
 //! between plants, [`orders_text`] the planned orders, [`schedule_text`] the delivery schedules between plants,
 //! and [`advice_text`] which open orders to move; [`answer`] does the one of them that the words of a command

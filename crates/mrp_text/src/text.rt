@@ -35,9 +35,10 @@ use std::thread::Threads;
 /// Reads a table and writes its plan, which every plant plans in a thread of its own with so many
 /// workers: a row for each pair and period, then a row for each late order.
 ///
-/// The text is that of [`drive_text`], for every number of workers and every capacity. Before each turn
-/// of a plant and the work of each worker `gate` is asked (by construction; no clause says so). Where the call ends
-/// well, the gate was open to the first turns of each plant, one or more. The call may wait, and it isn't claimed that it returns.
+/// The text is that of [`drive_text`], for every number of workers and every capacity. Threads, workers, and that
+/// `gate` is asked before each turn of a plant and the work of each worker, are by construction; no clause says so.
+/// Where the call ends well, the gate was open to the first turns of each plant, one or more. The call may wait, and
+/// it isn't claimed that it returns.
 ///
 /// # Errors
 ///

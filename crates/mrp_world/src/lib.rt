@@ -1,5 +1,5 @@
 //! **The headline.** On every network without a loop and within the bound, where memory was there to make the
-//! world, for every mailbox capacity and every list of events: each lane books its sender's records in order, at
+//! world, for capacities of 1 to 65,536 and every list of events: each lane books its sender's records in order, at
 //! most once, and none after the closing record; one whose closing record is booked has brought its whole text.
 //! Cumulative shipped less cumulative received is the sum in the mailbox, for each lane and item. What a plant
 //! keeps as the plan of a planned pair is that of the whole network. In a finished run every line of every lane

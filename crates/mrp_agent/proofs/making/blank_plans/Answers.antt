@@ -4,17 +4,17 @@ use Rattle.mrp_lot.specs.One.{PlanRows}
 use Rattle.mrp_netting.specs.Plan.{nothing_planned}
 use Rattle.mrp_agent.proofs.making.blank_plans.Goals as goal
 
-pub loop-init : goal.loop-init
-loop-init c = c.in_ok-plans.ensures.items
+pub loop-place-init : goal.loop-place-init
+loop-place-init c = c.in_ok-plans.ensures.items
 
-pub loop-preserved : goal.loop-preserved
-loop-preserved c =
+pub loop-place-preserved : goal.loop-place-preserved
+loop-place-preserved c =
     c.in_ok-push.ensures.items
-    ∙ ap (λ (z : List PlanRows). z ++ c.in_ok-new.field-0 ∷ []) c.loop.invariant
-    ∙ ap (λ (y : PlanRows). replicate c.loop.counter (nothing_planned c.args.horizon) ++ y ∷ []) c.in_ok-new.ensures
-    ∙ replicate_more c.loop.counter (nothing_planned c.args.horizon)
+    ∙ ap (λ (z : List PlanRows). z ++ c.in_ok-new.field-0 ∷ []) c.loop-place.invariant
+    ∙ ap (λ (y : PlanRows). replicate c.loop-place.place (nothing_planned c.args.horizon) ++ y ∷ []) c.in_ok-new.ensures
+    ∙ replicate_more c.loop-place.place (nothing_planned c.args.horizon)
 
 pub returns : goal.returns
 returns c =
-    let all : c.loop.counter ≡ c.args.pairs = omega (arith, c.loop-test.false, c.loop.auto.counter-end) in
-    c.loop.invariant ∙ ap (λ (n : ℕ). replicate n (nothing_planned c.args.horizon)) all
+    let all : c.loop-place.place ≡ c.args.pairs = omega (arith, c.loop-place-test.false, c.loop-place.auto.place-end) in
+    c.loop-place.invariant ∙ ap (λ (n : ℕ). replicate n (nothing_planned c.args.horizon)) all

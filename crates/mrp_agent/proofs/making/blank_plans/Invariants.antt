@@ -3,5 +3,5 @@ use Rattle.std.specs.Prelude.{replicate}
 use Rattle.mrp_netting.specs.Plan.{nothing_planned}
 use Rattle.mrp_agent.proofs.making.blank_plans.Given as goal
 
-abbrev pub invariant-loop : goal.invariant-loop
-invariant-loop l = l.plans.items ≡ replicate l.counter (nothing_planned l.horizon)
+abbrev pub invariant-loop-place : goal.invariant-loop-place
+invariant-loop-place l = l.plans.items ≡ replicate l.place (nothing_planned l.horizon)
