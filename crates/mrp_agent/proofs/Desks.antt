@@ -41,7 +41,7 @@ kept_written {A} {I} {x} {place} {desk} {plan} h is same =
     let kept : IsKept A I = h.kept in
     record {
       view = kept.view;
-      indexes = record { items = kept.indexes.items; edges = kept.indexes.edges; components = kept.indexes.components; out_items = kept.indexes.out_items; desk = same };
+      indexes = record { items = kept.indexes.items; edges = kept.indexes.edges; components = kept.indexes.components; queues = kept.indexes.queues; desk = same };
       rooms = record {
         books = kept.rooms.books;
         came = kept.rooms.came;

@@ -1,7 +1,7 @@
 -- A pair is counted as planned.
-use Rattle.std.proofs.Common.{◌≡◌, ℕ, ◌<◌, ◌≤◌, ◌==◌, ◌&&◌, nat_lt, if◌then◌else◌, Bool, true, false, [], ◌∷◌, ◌++◌, Option, Some, None, List, length, get_or, map, slice_index, slice_get, refl, sym, ap, ◌∙◌, subst, arith}
-use Rattle.std.specs.List.{All, filter}
-use Rattle.std.proofs.lemmas.List.{length-set, get_or_default}
+use Rattle.std.proofs.Common.{◌≡◌, ℕ, ◌+◌, ◌<◌, ◌≤◌, ◌==◌, ◌&&◌, nat_lt, if◌then◌else◌, Bool, true, false, [], ◌∷◌, ◌++◌, Option, Some, None, List, length, get_or, map, slice_index, slice_range, slice_get, refl, sym, ap, ◌∙◌, subst, arith}
+use Rattle.std.specs.List.{All, filter, fold}
+use Rattle.std.proofs.lemmas.List.{length-set}
 use Rattle.std.proofs.lemmas.List.Elements.{All-filter, All-map}
 use Rattle.std.proofs.lemmas.List.FromFn.{get_or-map-range_with_len, length-map-range_with_len}
 use Rattle.std.proofs.lemmas.Option.{get_or_from_slice_get}
@@ -10,18 +10,21 @@ use Rattle.mrp_net.specs.declared.lane.LaneKind.{LaneKind}
 use Rattle.mrp_net.specs.declared.lane.LaneKind.TheVariants.{Despatch, Schedule}
 use Rattle.mrp_view.specs.declared.view.OutgoingLane.{OutgoingLane}
 use Rattle.mrp_view.specs.declared.view.PlantEdge.{PlantEdge}
-use Rattle.mrp_view.specs.declared.view.PlantPair.{PlantPair}
 use Rattle.mrp_view.specs.Seen.{IsPlantEdge}
 use Rattle.mrp_cursor.specs.Cursor.{OutFigures}
+use Rattle.mrp_group.proofs.Sorting.{IsGrouped-within}
 use Rattle.mrp_ready.specs.declared.join.Join.{Join}
 use Rattle.mrp_ready.specs.Counts.{components_of, open_blocks}
 use Rattle.mrp_ready.specs.Progress.{IsFree, Progress, times}
 use Rattle.mrp_ready.proofs.Counting.{components_wait}
-use Rattle.mrp_agent.specs.After.{AreOutsSettled, PairSettled, place_of, queued_at, queued_by}
+use Rattle.mrp_agent.specs.declared.queues.QueuePlace.{QueuePlace}
+use Rattle.mrp_agent.specs.After.{AreOutsSettled, PairSettled, items_of, place_of, queued_at, queued_by}
 use Rattle.mrp_agent.specs.Kept.{Indexes, IsKept}
 use Rattle.mrp_agent.specs.Shows.{awaited, join_of, joins_of}
-use Rattle.mrp_agent.specs.State.{AgentState, no_plant_pair, out_at, outgoing_at}
+use Rattle.mrp_agent.specs.Queues.{queue_places, with_queued}
+use Rattle.mrp_agent.specs.State.{AgentState, out_at, outgoing_at, plant_pair_at}
 use Rattle.mrp_agent.proofs.Owning.{own_within}
+use Rattle.mrp_agent.proofs.Queueing.{all_queued, queues_at, queues_known}
 
 -- a pair that waits for nothing in the same state
 pub free_before : {A S : AgentState} {place : ℕ} → A ≡ S → IsFree S.progress.waits S.progress.planned place → IsFree A.progress.waits A.progress.planned place
@@ -61,6 +64,26 @@ module _ (A : AgentState) (I : Indexes) (kept : IsKept A I) (place : ℕ) (free 
   components_are_waiting components found y low =
       subst (λ (z : List ℕ). times y z ≤ slice_index A.progress.waits y) (sym (components_are components found))
       (components_wait A.progress.waits (joins_of A.view) A.progress.planned (open_blocks (awaited A.view kept.taken.taken)) kept.taken.waits place free.unplanned y low)
+
+  -- ---- where it is queued
+
+  pub queues_begin : place + 1 < length I.queue_starts
+  queues_begin = omega (arith, within, kept.indexes.queues.size)
+
+  pub queues_rise : (slice_index I.queue_starts place ≤ slice_index I.queue_starts (place + 1)) × (slice_index I.queue_starts (place + 1) ≤ length I.queues)
+  queues_rise = IsGrouped-within (λ (q : QueuePlace). q.pair) (length A.view.pairs) (queue_places (items_of A.view) A.view.outgoing) I.queues I.queue_starts place kept.indexes.queues within
+
+  pub queues_are : {places : List QueuePlace} → places ≡ slice_range I.queues (slice_index I.queue_starts place) (slice_index I.queue_starts (place + 1)) → places ≡ queues_at A.view place
+  queues_are is = is ∙ kept.indexes.queues.slices place within
+
+  pub lanes_known : {places : List QueuePlace} → places ≡ queues_at A.view place → All (λ q. q.lane < length A.outs) places
+  lanes_known are = subst (All (λ (q : QueuePlace). q.lane < length A.outs)) (sym are) (queues_known A.view A.outs place kept.rooms.cursors.count)
+
+  pub outs_settled : {places : List QueuePlace} {outs : List OutFigures} → places ≡ queues_at A.view place → outs ≡ fold with_queued A.outs places
+      → AreOutsSettled A.view.outgoing (plant_pair_at A.view place).item A.outs outs
+  outs_settled are e =
+      subst (AreOutsSettled A.view.outgoing (plant_pair_at A.view place).item A.outs) (sym (e ∙ ap (fold with_queued A.outs) are))
+      (all_queued A.view kept.view A.outs place kept.rooms.cursors.count within)
 
 -- ---- the cursors
 
@@ -104,10 +127,3 @@ kept_marked A I place item progress outs kept settled queued = record {
   };
   taken = record { taken = kept.taken.taken; books = kept.taken.books; waits = settled.counts (open_blocks (awaited A.view kept.taken.taken)) kept.taken.waits };
 }
-
--- the item whose pair was settled, and the lanes
-pub same_queued : (A : AgentState) (place : ℕ) (lanes : List OutgoingLane) (pairs : List PlantPair) (d : PlantPair) (old new : List OutFigures) → lanes ≡ A.view.outgoing → pairs ≡ A.view.pairs
-    → place < length A.view.pairs → AreOutsSettled lanes (get_or pairs place d).item old new → AreOutsSettled A.view.outgoing (get_or A.view.pairs place no_plant_pair).item old new
-same_queued A place lanes pairs d old new lanes_are pairs_are low queued =
-    let same : get_or pairs place d ≡ get_or A.view.pairs place no_plant_pair = ap (λ (z : List PlantPair). get_or z place d) pairs_are ∙ get_or_default A.view.pairs place d no_plant_pair low in
-    subst (λ (q : PlantPair). AreOutsSettled A.view.outgoing q.item old new) same (subst (λ (z : List OutgoingLane). AreOutsSettled z (get_or pairs place d).item old new) lanes_are queued)

@@ -1,6 +1,6 @@
 -- What an agent shows at first: nothing has come, nothing was sent, and no pair is planned.
 use Rattle.std.proofs.Common.{◌≡◌, ℕ, zero, suc, ◌+◌, ◌<◌, ◌≤◌, ◌^◌, ◌==◌, ◌&&◌, eqb, cond, not, Bool, false, List, [], ◌∷◌, ◌↔◌, inl, inr, length, get_or, map, replicate, refl, sym, ap, ◌∙◌, subst, arith}
-use Rattle.std.specs.List.{All, Contains, count_by, flat_map, range_with_len, sum_by}
+use Rattle.std.specs.List.{All, Contains, count_by, flat_map, sum_by}
 use Rattle.std.proofs.Math.Bool.{and-true}
 use Rattle.std.proofs.lemmas.Bool.{cases_lt}
 use Rattle.std.proofs.lemmas.List.{get_or-map, get_or-replicate, length-map, length-replicate}
@@ -26,15 +26,14 @@ use Rattle.mrp_book.specs.Figures.{Figures}
 use Rattle.mrp_book.proofs.Opening.{empty_in_form, items_once}
 use Rattle.mrp_cursor.specs.Cursor.{OutFigures}
 use Rattle.mrp_cursor.proofs.Lists.{range_below, range_has}
-use Rattle.mrp_group.specs.Starts.{IsGrouped}
 use Rattle.mrp_ready.specs.declared.join.Join.{Join}
-use Rattle.mrp_ready.specs.Counts.{Awaited, AreCounts, components_of, open_blocks}
+use Rattle.mrp_ready.specs.Counts.{Awaited, AreCounts, open_blocks}
 use Rattle.mrp_ready.specs.Progress.{Progress, is_planned, times}
 use Rattle.mrp_local.specs.Goods.{goods_of, IsSendable}
 use Rattle.mrp_local.specs.Local.{amount_at, booked_on, lanes_in}
 use Rattle.mrp_agent.specs.State.{AgentState, incoming_at, outgoing_at, book_at, out_at, no_book, no_incoming, pair_place, plans_of}
 use Rattle.mrp_agent.specs.Shows.{ShowsHistory, OutShows, BooksShow, awaited, awaited_on, block_awaited, book_item, form_of, join_of, joins_of, up_to_last}
-use Rattle.mrp_agent.specs.Kept.{parent_edge, HasItemsOnce, HasPlanRows, HasRooms, HasSmallItems, HasSmallOpenings, Indexes, AreIndexes, IsKept}
+use Rattle.mrp_agent.specs.Kept.{parent_edge, HasPlanRows, HasRooms, HasSmallItems, HasSmallOpenings, Indexes, AreIndexes, IsKept}
 use Rattle.mrp_agent.specs.Making.{AreFit, AreIdleOuts, IsFirstProgress, IsIdleLane, idle_queue, new_figures, place_awaited}
 use Rattle.mrp_agent.specs.declared.edges.ParentEdge.{ParentEdge}
 use Rattle.mrp_agent.proofs.Made.{books_once}
@@ -236,21 +235,6 @@ demander_joins_known V {pairs} {joins} h pairs_are is =
     let P : ℕ → Join → Type 0 = λ n j. j.demander < n in
     let known : All (P (length V.pairs)) (joins_of V) = All-map (P (length V.pairs)) (join_of V) V.edges (λ k d within. own_within V (get_or V.edges k d).parent (h k d within).parent) in
     subst (λ (z : List PlantPair). All (P (length z)) joins) (sym pairs_are) (subst (All (P (length V.pairs))) (sym is) known)
-
-pub lanes_once : (V : PlantRows) → IsView V → All HasItemsOnce V.outgoing
-lanes_once V view = λ k d within. record { once = (view.outgoing k d within).once }
-
-pub indexes_made : (V : PlantRows) (I : Indexes) (parents : List ParentEdge) (joins : List Join) (n : ℕ) → n ≡ length V.pairs → I.items ≡ map (λ p. p.item) V.pairs → parents ≡ map (parent_edge V) V.edges
-    → IsGrouped (λ e. e.component) n parents I.edges I.starts → joins ≡ joins_of V → I.components ≡ map (components_of joins) (range_with_len 0 n)
-    → I.out_items ≡ map (λ lane. map (λ i. i.item) lane.items) V.outgoing → I.desk ≡ V.horizon → AreIndexes V I
-indexes_made V I parents joins n size items are grouped joined components out desk = record {
-  items = items;
-  edges = subst (λ (m : ℕ). IsGrouped (λ (e : ParentEdge). e.component) m (map (parent_edge V) V.edges) I.edges I.starts) size
-      (subst (λ (z : List ParentEdge). IsGrouped (λ (e : ParentEdge). e.component) n z I.edges I.starts) are grouped);
-  components = components ∙ ap (λ (z : List Join). map (components_of z) (range_with_len 0 n)) joined ∙ ap (λ (m : ℕ). map (components_of (joins_of V)) (range_with_len 0 m)) size;
-  out_items = out;
-  desk = desk;
-}
 
 -- the books, sums and plans that are made are those of the opening
 pub record AreMade (V : PlantRows) (books : List Figures) (came called : List ℕ) (plans : List PlanRows) : Type 0 where

@@ -21,6 +21,7 @@ indexes_of a = record {
   edges = a.structure.edges.rows.items;
   starts = a.structure.edges.starts.items;
   components = a.structure.components;
-  out_items = a.lanes.out_items.items;
+  queues = a.lanes.queues.rows.items;
+  queue_starts = a.lanes.queues.starts.items;
   desk = length a.amounts.desk.gross;
 }

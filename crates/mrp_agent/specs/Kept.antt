@@ -1,11 +1,10 @@
 -- What stays true of an agent, and its indexes.
-use Rattle.std.specs.Prelude.{◌≡◌, ℕ, ◌*◌, ◌<◌, ◌≤◌, ◌==◌, List, length, map, count_by, slice_index_or, All}
+use Rattle.std.specs.Prelude.{◌≡◌, ℕ, ◌*◌, ◌<◌, ◌≤◌, List, length, map, slice_index_or, All}
 use Rattle.std.specs.List.{range_with_len}
 use Rattle.mrp_lot.specs.One.{PlanRows}
 use Rattle.mrp_rows.specs.declared.numbers.ItemNo.{ItemNo}
 use Rattle.mrp_group.specs.Starts.{IsGrouped}
 use Rattle.mrp_view.specs.declared.view.IncomingLane.{IncomingLane}
-use Rattle.mrp_view.specs.declared.view.OutgoingLane.{OutgoingLane}
 use Rattle.mrp_view.specs.declared.view.PlantEdge.{PlantEdge}
 use Rattle.mrp_view.specs.Seen.{IsView}
 use Rattle.mrp_view.specs.View.{PlantRows}
@@ -18,6 +17,9 @@ use Rattle.mrp_cursor.specs.Cursor.{OutFigures}
 use Rattle.mrp_ready.specs.Counts.{components_of}
 use Rattle.mrp_ready.specs.Progress.{Progress}
 use Rattle.mrp_agent.specs.declared.edges.ParentEdge.{ParentEdge}
+use Rattle.mrp_agent.specs.declared.queues.QueuePlace.{QueuePlace}
+use Rattle.mrp_agent.specs.After.{items_of}
+use Rattle.mrp_agent.specs.Queues.{queue_places}
 use Rattle.mrp_agent.specs.State.{AgentState, no_out, outgoing_at, pair_place}
 use Rattle.mrp_agent.specs.Shows.{BooksShow, Awaits, joins_of}
 
@@ -26,21 +28,22 @@ abbrev pub parent_edge : PlantRows → PlantEdge → ParentEdge
 parent_edge V e = record { component = pair_place V e.component.0; parent = pair_place V e.parent.0; per = e.per }
 
 -- The indexes: the items of the pairs by place, the edges in groups by their components, the places of
--- the components that go into each pair, and the items of each lane that goes out. With them stands how
--- many periods the desk has on which plans are drafted.
+-- the components that go into each pair, and where each pair is queued once it is planned, in groups by
+-- pair. With them stands how many periods the desk has on which plans are drafted.
 pub record Indexes : Type 0 where
   pub items : List ItemNo
   pub edges : List ParentEdge
   pub starts : List ℕ
   pub components : List (List ℕ)
-  pub out_items : List (List ItemNo)
+  pub queues : List QueuePlace
+  pub queue_starts : List ℕ
   pub desk : ℕ
 
 pub record AreIndexes (V : PlantRows) (I : Indexes) : Type 0 where
   pub items : I.items ≡ map (λ p. p.item) V.pairs
   pub edges : IsGrouped (λ e. e.component) (length V.pairs) (map (parent_edge V) V.edges) I.edges I.starts
   pub components : I.components ≡ map (components_of (joins_of V)) (range_with_len 0 (length V.pairs))
-  pub out_items : I.out_items ≡ map (λ lane. map (λ i. i.item) lane.items) V.outgoing
+  pub queues : IsGrouped (λ q. q.pair) (length V.pairs) (queue_places (items_of V) V.outgoing) I.queues I.queue_starts
   pub desk : I.desk ≡ V.horizon
 
 -- a plan has a row's amount for each period
@@ -97,7 +100,3 @@ HasSmallItems lane = All (λ i. i.opening ≤ MOST) lane.items
 
 abbrev pub HasSmallOpenings : PlantRows → Type 0
 HasSmallOpenings V = All HasSmallItems V.incoming
-
--- a lane has each item once
-pub record HasItemsOnce (lane : OutgoingLane) : Type 0 where
-  pub once : (item : ℕ) → count_by (λ i. i.item.0 == item) lane.items ≤ 1

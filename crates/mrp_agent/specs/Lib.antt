@@ -8,6 +8,7 @@ pub mod Laws
 pub mod Making
 pub mod Marking
 pub mod OwnPart
+pub mod Queues
 pub mod Reading
 pub mod Rows
 pub mod Sending

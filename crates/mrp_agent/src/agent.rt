@@ -89,7 +89,7 @@ impl Agent {
             (λ agent. ShowsHistory agent opening_state.sent opening_state.taken opening_state.planned) }
     {
         let structure = Structure::new(alloc, &view)?;
-        let lanes = Lanes::new(alloc, &view)?;
+        let lanes = Lanes::new(alloc, &view, &structure.items)?;
         let amounts = Amounts::new(alloc, &view, receipts, demands)?;
         Ok(Agent {
             view,

@@ -17,6 +17,7 @@ mod making;
 mod parts;
 mod places;
 mod planning;
+mod queues;
 mod sending;
 mod settling;
 

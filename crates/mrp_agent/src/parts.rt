@@ -11,7 +11,8 @@ ghost use Rattle.mrp_agent.specs.Shows.{joins_of};
 use crate::desk::Desk;
 use crate::edges::{ByComponent, ParentEdge, joins, parent_edges};
 use crate::making::{are_fit, blank_plans, first_progress, idle_outs, new_books};
-use crate::places::{ItemPlaces, out_items};
+use crate::places::ItemPlaces;
+use crate::queues::{QueuePlace, queues};
 use mrp_book::Book;
 use mrp_cursor::OutCursor;
 use mrp_group::{Groups, group};
@@ -107,33 +108,39 @@ fn waiting_by(
     Ok((components, progress))
 }
 
-/// The lanes of a plant: the book of each that comes in, and the items and the cursor of each that goes
-/// out.
+/// The lanes of a plant: the book of each that comes in, the cursor of each that goes out, and where on
+/// those each pair is queued once it is planned.
 #[derive(Drop)]
 pub(crate) struct Lanes {
     pub(crate) books: Vec<Book>,
-    pub(crate) out_items: Vec<ItemPlaces>,
+    pub(crate) queues: Groups<QueuePlace>,
     pub(crate) outs: Vec<OutCursor>,
 }
 
 impl Lanes {
+    ghost use Rattle.mrp_group.specs.Starts.{IsGrouped};
+    ghost use Rattle.mrp_agent.specs.After.{items_of};
     ghost use Rattle.mrp_agent.specs.Kept.{HasSmallOpenings};
     ghost use Rattle.mrp_agent.specs.Making.{AreIdleOuts, new_figures};
+    ghost use Rattle.mrp_agent.specs.Queues.{queue_places};
 
-    /// The lanes of a plant before the first record.
-    pub(crate) fn new(alloc: Global, view: &PlantFrame) -> Result<Lanes, Memory>
+    /// The lanes of a plant before the first record, where these are the items of its pairs.
+    pub(crate) fn new(alloc: Global, view: &PlantFrame, items: &ItemPlaces) -> Result<Lanes, Memory>
         requires seen { IsView view.now }
         requires openings { HasSmallOpenings view.now }
+        requires items { items.now ≡ items_of view.now }
         ensures books { IfOk result (λ l. l.books.items ≡ map (new_figures view.now) view.now.incoming) }
-        ensures items { IfOk result (λ l. l.out_items.items ≡ map (λ lane. map (λ i. i.item) lane.items) view.now.outgoing) }
+        ensures queues { IfOk result
+            (λ l. IsGrouped (λ q. q.pair) (length view.now.pairs) (queue_places (items_of view.now) view.now.outgoing)
+            l.queues.rows.items l.queues.starts.items) }
         ensures outs { IfOk result (λ l. AreIdleOuts view.now.outgoing l.outs.items) }
     {
         let books = new_books(alloc, view, view.incoming())?;
-        let out_items = out_items(alloc, view.outgoing())?;
+        let queues = queues(alloc, items, view.outgoing(), view.pairs().len())?;
         let outs = idle_outs(alloc, view.outgoing())?;
         Ok(Lanes {
             books,
-            out_items,
+            queues,
             outs,
         })
     }

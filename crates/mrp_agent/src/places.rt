@@ -1,11 +1,10 @@
-//! Where an item stands among those of a lane.
+//! Where an item stands among those of a plant.
 
-ghost use Rattle.std.specs.Prelude.{◌≡◌, All, IfOk, map};
-ghost use Rattle.mrp_agent.specs.Kept.{HasItemsOnce};
+ghost use Rattle.std.specs.Prelude.{◌≡◌, IfOk, map};
 
 use mrp_group::Places;
 use mrp_rows::ItemNo;
-use mrp_view::{OutgoingItems, OutgoingLane, PlantPair};
+use mrp_view::PlantPair;
 use std::alloc::{AllocError, Global};
 use std::marker::Model;
 
@@ -55,18 +54,6 @@ impl ItemPlaces {
         }
         Ok(ItemPlaces { items })
     }
-
-    /// The items of a lane, which has each of them once.
-    pub(crate) fn of_lane(alloc: Global, lane: &OutgoingItems) -> Result<ItemPlaces, AllocError>
-        requires { (item : ℕ) → count_by (λ i. i.item.0 == item) lane.now ≤ 1 }
-        ensures { IfOk result (λ places. places ≡ map (λ i. i.item) lane.now) }
-    {
-        let mut items = Places::new(alloc);
-        for j in 0..lane.len() {
-            items.push(lane.get(j).item)?;
-        }
-        Ok(ItemPlaces { items })
-    }
 }
 
 /// Where the lanes and the pair of the last records stood. The next ones are looked for there first, and
@@ -90,19 +77,4 @@ impl LastPlaces {
             pair: 0,
         }
     }
-}
-
-/// The items of each lane.
-pub(crate) fn out_items(
-    alloc: Global,
-    lanes: &[OutgoingLane],
-) -> Result<Vec<ItemPlaces>, AllocError>
-    requires { All HasItemsOnce lanes.now }
-    ensures { IfOk result (λ v. v.items ≡ map (λ lane. map (λ i. i.item) lane.items) lanes.now) }
-{
-    let mut places = Vec::new(alloc);
-    for lane in lanes {
-        places.push(ItemPlaces::of_lane(alloc, &lane.items)?)?;
-    }
-    Ok(places)
 }

@@ -76,12 +76,6 @@ impl Agent {
         self.structure
             .progress
             .settle(place, self.structure.components.of(place));
-        let item = self.view.pairs()[place].item;
-        queue_item(
-            &mut self.lanes.outs,
-            self.view.outgoing(),
-            &self.lanes.out_items,
-            item,
-        );
+        queue_item(&mut self.lanes.outs, self.lanes.queues.get(place));
     }
 }

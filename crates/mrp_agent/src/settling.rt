@@ -1,15 +1,13 @@
 //! How an agent keeps a plan that was drafted elsewhere.
 
-ghost use Rattle.std.specs.Prelude.{◌≡◌, length, map};
-ghost use Rattle.mrp_agent.specs.After.{AreOutsSettled, queued_by};
+ghost use Rattle.std.specs.Prelude.{◌≡◌, ◌<◌, All, fold, length};
+ghost use Rattle.mrp_agent.specs.Queues.{with_queued};
 
 use crate::Agent;
-use crate::places::ItemPlaces;
+use crate::queues::QueuePlace;
 use mrp_cursor::OutCursor;
-use mrp_net::{LaneKind, PairNo};
+use mrp_net::PairNo;
 use mrp_netting::PairPlan;
-use mrp_rows::ItemNo;
-use mrp_view::OutgoingLane;
 
 impl Agent {
     ghost use Rattle.std.specs.Prelude.{ℕ, Bool, true, List, Contains, ◌+◌};
@@ -42,32 +40,12 @@ impl Agent {
     }
 }
 
-/// Lets each schedule lane send what it has of an item.
-pub(crate) fn queue_item(
-    outs: &mut Vec<OutCursor>,
-    lanes: &[OutgoingLane],
-    items: &[ItemPlaces],
-    item: ItemNo,
-)
-    requires outs { length outs.old.items ≡ length lanes.now }
-    requires items { items.now ≡ map (λ lane. map (λ i. i.item) lane.items) lanes.now }
-    ensures { AreOutsSettled lanes.now item outs.old.items outs.new.items }
+/// Lets each lane that one of these places is on send the item there.
+pub(crate) fn queue_item(outs: &mut Vec<OutCursor>, places: &[QueuePlace])
+    requires { All (λ q. q.lane < length outs.old.items) places.now }
+    ensures { outs.new.items ≡ fold with_queued outs.old.items places.now }
 {
-    for k in 0..lanes.len() {
-        queue_on(&mut outs[k], lanes[k].kind, &items[k], item);
-    }
-}
-
-/// Lets a schedule lane with these items send what it has of an item.
-fn queue_on(out: &mut OutCursor, kind: LaneKind, items: &ItemPlaces, item: ItemNo)
-    ensures { out.new ≡ queued_by kind items.now out.old item }
-{
-    match kind {
-        LaneKind::Despatch => {}
-        LaneKind::Schedule => {
-            if let Some(place) = items.find(item) {
-                out.push(place);
-            }
-        }
+    for place in places {
+        outs[place.lane].push(place.item);
     }
 }

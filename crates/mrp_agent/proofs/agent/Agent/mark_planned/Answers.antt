@@ -1,10 +1,10 @@
-use Rattle.std.proofs.Common.{◌<◌, length, refl, subst, arith}
+use Rattle.std.proofs.Common.{refl, subst}
 use Rattle.mrp_agent.specs.Fields.{indexes_of}
 use Rattle.mrp_agent.specs.State.{AgentState}
 use Rattle.mrp_agent.specs.Marking.{IsMarked}
 use Rattle.mrp_agent.specs.Shows.{joins_of}
 use Rattle.mrp_agent.specs.contracts.agent.Agent.{the_view}
-use Rattle.mrp_agent.proofs.Marked.{components_known, components_are, components_within, components_are_waiting, free_before, kept_marked, same_queued}
+use Rattle.mrp_agent.proofs.Marked.{components_known, components_are, components_within, components_are_waiting, free_before, kept_marked, lanes_known, outs_settled, queues_are, queues_begin, queues_rise}
 use Rattle.mrp_agent.proofs.agent.Agent.mark_planned.Goals as goal
 use Rattle.mrp_agent.proofs.agent.Agent.mark_planned.Goals.{After-queue_item}
 
@@ -19,12 +19,26 @@ pub settle-requires-clause-waits : goal.settle-requires-clause-waits
 settle-requires-clause-waits c =
     components_are_waiting (the_view c.self.inside) (indexes_of c.self.inside) c.self.invariant c.args.place (free_before c.self.view_is c.requires.free) c.of.result.now c.of.ensures
 
+pub get-requires-clause-group : goal.get-requires-clause-group
+get-requires-clause-group c = queues_begin (the_view c.self.inside) (indexes_of c.self.inside) c.self.invariant c.args.place (free_before c.self.view_is c.requires.free)
+
+pub get-requires-clause-rises : goal.get-requires-clause-rises
+get-requires-clause-rises c = (queues_rise (the_view c.self.inside) (indexes_of c.self.inside) c.self.invariant c.args.place (free_before c.self.view_is c.requires.free)).0
+
+pub get-requires-clause-within : goal.get-requires-clause-within
+get-requires-clause-within c = (queues_rise (the_view c.self.inside) (indexes_of c.self.inside) c.self.invariant c.args.place (free_before c.self.view_is c.requires.free)).1
+
+pub queue_item-requires : goal.queue_item-requires
+queue_item-requires c =
+    let A : AgentState = the_view c.self.inside in
+    let free = free_before c.self.view_is c.requires.free in
+    lanes_known A (indexes_of c.self.inside) c.self.invariant c.args.place free (queues_are A (indexes_of c.self.inside) c.self.invariant c.args.place free c.get.ensures)
+
 marked : (c : After-queue_item) → IsMarked (the_view c.self.inside) c.args.place (record (the_view c.self.inside) { progress = c.settle.new.self; outs = c.queue_item.new.outs.items })
 marked c =
     let A : AgentState = the_view c.self.inside in
     let free = free_before c.self.view_is c.requires.free in
     let components = components_are A (indexes_of c.self.inside) c.self.invariant c.args.place free c.of.result.now c.of.ensures in
-    let within : c.args.place < length A.view.pairs = omega (arith, free.known, c.self.invariant.rooms.progress.waits) in
     record {
       same = refl;
       settled = record {
@@ -36,8 +50,8 @@ marked c =
         counts = λ blocks. c.settle.ensures.counts (joins_of A.view) blocks components;
       };
       queued =
-          same_queued A c.args.place c.outgoing.result.now c.pairs.result.now c.index-pairs-place.result A.outs c.queue_item.new.outs.items
-          c.outgoing.ensures c.pairs.ensures within c.queue_item.ensures;
+          outs_settled A (indexes_of c.self.inside) c.self.invariant c.args.place free
+          (queues_are A (indexes_of c.self.inside) c.self.invariant c.args.place free c.get.ensures) c.queue_item.ensures;
     }
 
 pub invariant_of-self : goal.invariant_of-self

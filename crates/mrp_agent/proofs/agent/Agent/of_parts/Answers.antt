@@ -29,14 +29,15 @@ invariant_of-result c =
       edges = structure.edges.rows.items;
       starts = structure.edges.starts.items;
       components = structure.components;
-      out_items = c.in_ok-lanes.lanes.out_items.items;
+      queues = c.in_ok-lanes.lanes.queues.rows.items;
+      queue_starts = c.in_ok-lanes.lanes.queues.starts.items;
       desk = length c.in_ok-amounts.amounts.desk.gross;
     } in
     let indexes : AreIndexes c.args.view I = record {
       items = c.in_ok-structure.ensures.items;
       edges = c.in_ok-structure.ensures.edges;
       components = c.in_ok-structure.ensures.components;
-      out_items = c.in_ok-lanes.ensures.items;
+      queues = c.in_ok-lanes.ensures.queues;
       desk = c.in_ok-amounts.ensures.desk;
     } in
     subst (λ (a : AgentState). IsKept a I) (sym (opens here))
