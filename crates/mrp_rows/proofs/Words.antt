@@ -35,7 +35,7 @@ word_same (b ∷ bs) (c ∷ cs) hs ht e =
 -- the largest word of so many bytes
 most : ℕ → ℕ
 most zero = 0
-most (suc n) = most n * 257 + 256
+most (suc n) = most n * 512 + 256
 
 word_within : (n : ℕ) (bs : List ℕ) → All IsByte bs → length bs ≤ n → word_of bs ≤ most n
 unfolding word_of most
@@ -47,12 +47,12 @@ word_within (suc n) (b ∷ bs) h le =
     omega (arith, below, All-head IsByte b bs h)
 
 -- the word of up to six bytes leaves room for one more
-pub word_room : (bs : List ℕ) → All IsByte bs → length bs ≤ 6 → word_of bs ≤ 288136807515648
+pub word_room : (bs : List ℕ) → All IsByte bs → length bs ≤ 6 → word_of bs ≤ 9024825867763968
 unfolding most
 word_room bs h le = word_within 6 bs h le
 
 -- the word of a byte more in front
-pub word_more : (bytes : List ℕ) (i : ℕ) (d : ℕ) → i < length bytes → word_of (drop i bytes) ≡ word_of (drop (suc i) bytes) * 257 + get_or bytes i d + 1
+pub word_more : (bytes : List ℕ) (i : ℕ) (d : ℕ) → i < length bytes → word_of (drop i bytes) ≡ word_of (drop (suc i) bytes) * 512 + get_or bytes i d + 1
 unfolding word_of
 word_more [] i d lt = absurd (omega (arith, lt))
 word_more (b ∷ bs) zero d lt = refl

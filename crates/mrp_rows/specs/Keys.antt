@@ -7,10 +7,10 @@ use Rattle.mrp_rows.specs.declared.name_key.NameKey.{NameKey}
 use Rattle.mrp_rows.specs.declared.row_lists.PairKey.{PairKey}
 use Rattle.mrp_rows.specs.declared.rows.PairRow.{PairRow}
 
--- the number whose digits to the base 257 are one more than the bytes, the first of them the lowest
+-- the number whose digits to the base 512 are one more than the bytes, the first of them the lowest
 unfoldable pub word_of : List ℕ → ℕ
 word_of [] = 0
-word_of (b ∷ bs) = word_of bs * 257 + b + 1
+word_of (b ∷ bs) = word_of bs * 512 + b + 1
 
 -- the bytes of a name, seven to a word
 abbrev pub key_of : List ℕ → NameKey

@@ -85,7 +85,7 @@ pub(crate) fn mixed_with(word: u64, other: u64) -> u64
     word.wrapping_mul(MIXER).wrapping_add(other)
 }
 
-/// Up to seven bytes as one number, whose digits to the base 257 are one more than the bytes, the first of
+/// Up to seven bytes as one number, whose digits to the base 512 are one more than the bytes, the first of
 /// them the lowest. So it tells how many bytes there are, too.
 fn word_of(bytes: &[u8]) -> u64
     requires few { length bytes.now ≤ 7 }
@@ -93,7 +93,7 @@ fn word_of(bytes: &[u8]) -> u64
 {
     let mut word = 0;
     for i in (0..bytes.len()).rev() {
-        word = word * 257 + bytes[i] as u64 + 1;
+        word = word * 512 + bytes[i] as u64 + 1;
     }
     word
 }

@@ -11,7 +11,7 @@ unfolding word_of
 loop-i-init c = sym (ap word_of (drop_all (length c.args.bytes.now) c.args.bytes.now (omega arith)))
 
 -- the word so far has room for one byte more
-room : (c : In-loop-i) → c.loop-i.word ≤ 288136807515648
+room : (c : In-loop-i) → c.loop-i.word ≤ 9024825867763968
 room c =
     let bytes = c.args.bytes.now in
     let rest = drop c.loop-i.i bytes in
@@ -34,4 +34,4 @@ loop-i-preserved c =
     let next : suc (i - 1) ≡ i = omega (arith, c.loop-i-test.true) in
     let step = word_more bytes (i - 1) 0 (omega (arith, c.loop-i.auto.i, c.loop-i-test.true)) in
     let so_far : c.loop-i.word ≡ word_of (drop (suc (i - 1)) bytes) = c.loop-i.invariant ∙ ap (λ (k : ℕ). word_of (drop k bytes)) (sym next) in
-    ap (λ (w : ℕ). w * 257 + get_or bytes (i - 1) 0 + 1) so_far ∙ sym step
+    ap (λ (w : ℕ). w * 512 + get_or bytes (i - 1) 0 + 1) so_far ∙ sym step
