@@ -150,25 +150,33 @@ class Firm:
         behind, found = self.behind({pair: 1 << place for place, pair in enumerate(late)}), {}
         for it in hits if late else ():
             found.setdefault(behind[it.plant, it.item][it.period], []).append(it)
-        return {pair: [it for bits, same in found.items() if bits >> place & 1 for it in same] for place, pair in enumerate(late)}
+        others = {it: [] for it in late}
+        for bits, same in found.items():
+            while bits:
+                others[late[bits.bit_length() - 1]] += same
+                bits ^= 1 << bits.bit_length() - 1
+        return others
 
     def behind(self, late):
-        """Returns which late pairs, as bits, the requirements of each pair wait for, by period."""
+        """Returns which of the late pairs, as bits, the requirements of each pair wait for, by period."""
         behind = {}
         for pair in self.order if late else ():
-            if not self.ends[pair]:
-                continue
-            found = behind[pair] = [0] * len(self.gross[pair])
-            for due, _, release, by in self.orders.rows(pair):
-                if due < self.ends[pair]:
-                    bits = late.get(pair, 0) if by else 0
-                    for it, periods in self.takes[pair].items():
-                        bits |= behind[it][release] if periods >> release & 1 else 0
-                    comes = due + by + self.held(pair, release, self.waiting)[0]
-                    # (what waits then would have had this order)
-                    for period in range(due, min(comes, len(found)) if bits else 0):
-                        found[period] |= bits if self.waiting[pair][0][period] else 0
+            if self.ends[pair]:
+                behind[pair] = self.behind_pair(pair, late, behind)
         return behind
+
+    def behind_pair(self, pair, late, behind):
+        """Returns which late pairs the requirements of a pair wait for. What waits between when an order is due and when it comes waits for it."""
+        found, waits = [0] * len(self.gross[pair]), self.waiting[pair][0]
+        for due, _, release, by in self.orders.rows(pair):
+            if due < self.ends[pair]:
+                bits = late.get(pair, 0) if by else 0
+                for it, periods in self.takes[pair].items():
+                    bits |= behind[it][release] if periods >> release & 1 else 0
+                comes = due + by + self.held(pair, release, self.waiting)[0]
+                for period in range(due, min(comes, len(found))):
+                    found[period] |= bits if waits[period] else 0
+        return found
 
     def held(self, pair, release, waits):
         """Returns how long a release of a pair waits at worst for what it takes, and the place of the pair whose late order makes it so."""
