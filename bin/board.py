@@ -132,7 +132,7 @@ class Board:
         for (plant,), orders in grouped(self.outline.rows[reports.Order], "plant").items():
             orders.sort(key=lambda it: -it.late)
             rows = [[self.item(plant, it.item), it.quantity, self.lateness(it.late), self.dated(it.due_date), self.supply(it.supply)] for it in orders]
-            lists.append(f'<div><h3>{self.plant(plant)}</h3>{sortable(["Item", "Quantity", "Late", "Due", "Supply"], rows)}</div>')
+            lists.append(f'<div><h3>{self.plant(plant)}</h3>{sortable(["Item", "Quantity", "Late", "Due", "Supply"], rows, " stack")}</div>')
         when = {"week": "this week", "day": "today"}.get(self.unit, "now")
         return self.section("release", f"To release {when}", f'<div class="lists">{"".join(lists)}</div>' if lists else "", "Nothing.")
 
@@ -147,12 +147,20 @@ class Board:
             lines += [f"or expedite {it.quantity:,} of {self.day(it.date)}" for it in self.messages.get(pair, []) if it.action == "expedite"]
             hits = self.hits.get(pair, [])
             ends = [len(hits), folded([self.demand(it) for it in hits])] if hits_known else []
+            if others := self.outline.others.get(pair):
+                ends = [("", 0), self.others(others)]
             rows.append([self.plant(pair[0]), self.item(*pair), self.lateness(orders[0].by), "<br>".join(lines), *ends])
         if not rows:
             return self.section("late", "Late orders", "", "No order is late.")
-        title, heads = ("Late orders, and the demands that they hit", ["Demands", "Worst first"]) if hits_known else ("Late orders", [])
-        note = "<p>A demand stands by the late order that delays it most, with how late it is at worst.</p>" if hits_known else ""
+        title, heads = ("Late orders, and the demands that they hit", ["Demands", "Worst by this order"]) if hits_known else ("Late orders", [])
+        note = "A demand stands by the late order that delays it most, with how late it is at worst; <em>also</em> counts those that wait for this one too."
+        note = f"<p>{note}</p>" if hits_known else ""
         return self.section("late", title, sortable(["Plant", "Item", "Late", "Orders", *heads], rows, " stack") + note, "")
+
+    def others(self, hits):
+        """Returns how many demands wait for a pair, and for which other ones they wait longer."""
+        by = [*dict.fromkeys((it.by_plant, it.by_item) for it in hits)]
+        return f"also {len(hits):,}, worse by {', '.join(self.item(*it) for it in by[:MOST_ORDERS])}{', ..' if len(by) > MOST_ORDERS else ''}"
 
     def demand(self, it):
         """Returns a demand that is hit, and how late it is at worst."""

@@ -25,6 +25,7 @@ LANE = {
     "To": "toplant customer destination receiver nach nachwerk kunde empfaenger vers client destinataire hasta cliente destino destinatario",
     "Item": ITEM,
 }
+CUM = "eingangsfortschrittszahl fortschrittszahlempfangen empfangenefortschrittszahl"
 WANTED = {"Plant": PLANT, "Item": ITEM, "Due": NEEDED, "Quantity": f"orderquantity openquantity bedarfsmenge bestellmenge offenemenge {PIECES}"}
 # How lead times are headed in front of their unit, and the days of each unit.
 LEAD = "lead leadtime transit transittime vorlauf vorlaufzeit wiederbeschaffungszeit lieferzeit planlieferzeit durchlaufzeit"
@@ -58,7 +59,7 @@ SHEETS = {
     "demands.csv": WANTED,
     "receipts.csv": {**WANTED, "Due": f"arrives {EXPECTED}"},
     "shipments.csv": {**LANE, "Arrives": f"due {EXPECTED}", "Quantity": PIECES},
-    "cums.csv": {**LANE, "Cum received": "cumulativereceived received figure empfangen eingangsfortschrittszahl recu cumulrecu recibido acumuladorecibido"},
+    "cums.csv": {**LANE, "Cum received": f"cumulativereceived received figure empfangen {CUM} recu cumulrecu recibido acumuladorecibido"},
     "resets.csv": {**LANE, "Date": "day resetdate datum tag jour fecha dia"},
 }
 DESCRIBED = "description itemdescription partdescription materialdescription itemname partname name text bezeichnung beschreibung benennung".split()
@@ -119,6 +120,12 @@ def key(heading):
 def keys(column, others):
     """Returns what the headings of a column are compared with."""
     return {key(it) for it in (column, *others.split())}
+
+
+@functools.cache
+def known_keys():
+    """Returns what the headings of all columns are compared with."""
+    return {it for columns in SHEETS.values() for column in columns.items() for it in keys(*column)}.union(DESCRIBED)
 
 
 def number(least, most):
@@ -230,8 +237,14 @@ class Sheet:
         elif asked := [it for it in self.heads if key(it) in unclear.split()]:
             self.slip(1, f", {asked[0]}: {question}")
         else:
-            self.slip(1, f": it has no column {column}{self.slips.nearest(column, (it for it in self.heads if it))}")
+            self.slip(1, f": it has no column {column}{self.nearest(headings)}")
         return len(found) == 1
+
+    def nearest(self, headings):
+        """Returns the heading that is most like those of a column, and is of no other one, as a question in brackets, or nothing."""
+        likely = [(it, difflib.get_close_matches(key(it), headings, 1, 0.65)) for it in self.heads[:100] if key(it) not in known_keys()]
+        found = max(((difflib.SequenceMatcher(None, key(it), same[0]).ratio(), it) for it, same in likely if same), default=None)
+        return f" ({found[1]}?)" if found else ""
 
     def next(self, place):
         """Returns the next row, or nothing where there is none or its quotes are wrong."""

@@ -24,11 +24,22 @@ def report(words, table):
 
 def hits(table):
     """Returns the demands that late orders of the table at a path hit, each a reports.Hit: the worst first, then by period, then in table order."""
+    return firm_and_hits(table)[1]
+
+
+def hits_and_others(table):
+    """Returns the hits of the table at a path, and of each pair with late orders that stands in no hit those that wait for it too, but longer for another."""
+    firm, found = firm_and_hits(table)
+    return found, firm.others(found)
+
+
+def firm_and_hits(table):
     orders = Orders(report("orders", table))
     with open(table, encoding="utf-8-sig", newline="") as rows:
         firm = Firm(rows, orders)
     firm.take_pegs(report("pegs", table))
-    return sorted(firm.hits(), key=lambda it: (-it.late_at_worst, it.period, firm.places[it.plant, it.item]))
+    found = sorted(firm.hits(), key=lambda it: (-it.late_at_worst, it.period, firm.places[it.plant, it.item]))
+    return firm, found
 
 
 class Orders:
@@ -100,7 +111,7 @@ class Firm:
 
     def hits(self):
         """Yields the demands that wait, from components and suppliers up."""
-        waits = {}
+        waits = self.waiting = {}
         for pair in self.order:
             if not self.ends[pair]:
                 continue
@@ -131,6 +142,40 @@ class Firm:
                 found[0][period] = until - period
                 due_by_then = coming[: bisect_left(coming, (period + 1,))]
                 found[1][period] = next(place for _, comes, place in reversed(due_by_then) if comes >= until)
+        return found
+
+    def others(self, hits):
+        """Returns of each pair with late orders that stands in no hit the hits whose demands wait for it too."""
+        late = sorted(self.orders.late - {(it.by_plant, it.by_item) for it in hits}, key=self.places.get)
+        behind, found = self.behind({pair: 1 << place for place, pair in enumerate(late)}), {}
+        for it in hits if late else ():
+            found.setdefault(behind[it.plant, it.item][it.period], []).append(it)
+        others = {it: [] for it in late}
+        for bits, same in found.items():
+            while bits:
+                others[late[bits.bit_length() - 1]] += same
+                bits ^= 1 << bits.bit_length() - 1
+        return others
+
+    def behind(self, late):
+        """Returns which of the late pairs, as bits, the requirements of each pair wait for, by period."""
+        behind = {}
+        for pair in self.order if late else ():
+            if self.ends[pair]:
+                behind[pair] = self.behind_pair(pair, late, behind)
+        return behind
+
+    def behind_pair(self, pair, late, behind):
+        """Returns which late pairs the requirements of a pair wait for. What waits between when an order is due and when it comes waits for it."""
+        found, waits = [0] * len(self.gross[pair]), self.waiting[pair][0]
+        for due, _, release, by in self.orders.rows(pair):
+            if due < self.ends[pair]:
+                bits = late.get(pair, 0) if by else 0
+                for it, periods in self.takes[pair].items():
+                    bits |= behind[it][release] if periods >> release & 1 else 0
+                comes = due + by + self.held(pair, release, self.waiting)[0]
+                for period in range(due, min(comes, len(found))):
+                    found[period] |= bits if waits[period] else 0
         return found
 
     def held(self, pair, release, waits):

@@ -1,15 +1,17 @@
 -- Writes the table of mrp from PostgreSQL: psql -qd firm -f table.postgresql.sql
--- What was due before the first day counts in period 0, and what is due after the last period is left out.
+-- What was due before the first day counts in period 0, and what is due after the last period is left out. A date is 2026-12-16:
+-- where it is NULL the period is empty, and where stock is of no item the row is a receipt of now. mrp refuses both.
 \set ON_ERROR_STOP on
+SET datestyle = ISO, YMD;
 CREATE TEMP VIEW wanted AS
-SELECT 'demand' AS kind, plant, item, greatest(0, (due::date - first_day::date) / days) AS period, quantity
+SELECT 'demand' AS kind, plant, item, CASE WHEN due IS NOT NULL THEN greatest(0, (due::date - first_day::date) / days) END AS period, quantity
 FROM forecasts, calendar
 UNION ALL
-SELECT 'receipt', plant, item, greatest(0, (due::date - first_day::date) / days), quantity
+SELECT 'receipt', plant, item, CASE WHEN due IS NOT NULL THEN greatest(0, (due::date - first_day::date) / days) END, quantity
 FROM open_orders, calendar;
 
 CREATE TEMP VIEW under_way AS
-SELECT supplier, customer, item, greatest(0, (arrives::date - first_day::date) / days) AS period, quantity
+SELECT supplier, customer, item, CASE WHEN arrives IS NOT NULL THEN greatest(0, (arrives::date - first_day::date) / days) END AS period, quantity
 FROM shipments, calendar
 WHERE received IS NULL;
 
@@ -29,9 +31,17 @@ COPY (
         UNION ALL
         SELECT CASE kind WHEN 'demand' THEN 5 ELSE 6 END, kind, plant, item, period::text, quantity::text, NULL, NULL, NULL
         FROM wanted, calendar
-        WHERE period < periods
+        WHERE coalesce(period, 0) < periods
         UNION ALL
-        SELECT 7, 'ship', supplier, customer, item, period::text, quantity::text, NULL, NULL FROM under_way, calendar WHERE period < periods
+        SELECT 6, 'receipt', plant, item, '0', sum(quantity)::text, NULL, NULL, NULL
+        FROM stock
+        WHERE NOT EXISTS (SELECT * FROM items WHERE items.plant = stock.plant AND items.item = stock.item)
+        GROUP BY plant, item
+        HAVING sum(quantity) <> 0
+        UNION ALL
+        SELECT 7, 'ship', supplier, customer, item, period::text, quantity::text, NULL, NULL
+        FROM under_way, calendar
+        WHERE coalesce(period, 0) < periods
         UNION ALL
         SELECT 8, 'cum', supplier, customer, item, sum(quantity)::text, NULL, NULL, NULL
         FROM shipments

@@ -1,14 +1,21 @@
 -- Writes the table of mrp: sqlite3 -list -separator , firm.db < table.sql
--- What was due before the first day counts in period 0, and what is due after the last period is left out.
+-- What was due before the first day counts in period 0, and what is due after the last period is left out. A date is 2026-12-16:
+-- where it is none the period is empty, and where stock is of no item the row is a receipt of now. mrp refuses both.
 CREATE TEMP VIEW wanted AS
-SELECT 'demand' AS kind, plant, item, max(0, CAST((julianday(due) - julianday(first_day)) / days AS INTEGER)) AS period, quantity, forecasts.rowid AS row
+SELECT 'demand' AS kind, plant, item,
+    CASE WHEN date(due, '+0 days') = substr(due, 1, 10) THEN max(0, CAST((julianday(due) - julianday(first_day)) / days AS INTEGER)) END AS period,
+    quantity, forecasts.rowid AS row
 FROM forecasts, calendar
 UNION ALL
-SELECT 'receipt', plant, item, max(0, CAST((julianday(due) - julianday(first_day)) / days AS INTEGER)), quantity, open_orders.rowid
+SELECT 'receipt', plant, item,
+    CASE WHEN date(due, '+0 days') = substr(due, 1, 10) THEN max(0, CAST((julianday(due) - julianday(first_day)) / days AS INTEGER)) END,
+    quantity, open_orders.rowid
 FROM open_orders, calendar;
 
 CREATE TEMP VIEW under_way AS
-SELECT supplier, customer, item, max(0, CAST((julianday(arrives) - julianday(first_day)) / days AS INTEGER)) AS period, quantity, shipments.rowid AS row
+SELECT supplier, customer, item,
+    CASE WHEN date(arrives, '+0 days') = substr(arrives, 1, 10) THEN max(0, CAST((julianday(arrives) - julianday(first_day)) / days AS INTEGER)) END AS period,
+    quantity, shipments.rowid AS row
 FROM shipments, calendar
 WHERE received IS NULL;
 
@@ -25,9 +32,19 @@ FROM (
     UNION ALL
     SELECT 4, rowid, 'bill', plant, parent, component, per, '', '', '' FROM bills
     UNION ALL
-    SELECT CASE kind WHEN 'demand' THEN 5 ELSE 6 END, row, kind, plant, item, period, quantity, '', '', '' FROM wanted, calendar WHERE period < periods
+    SELECT CASE kind WHEN 'demand' THEN 5 ELSE 6 END, row, kind, plant, item, coalesce(period, ''), quantity, '', '', ''
+    FROM wanted, calendar
+    WHERE coalesce(period, 0) < periods
     UNION ALL
-    SELECT 7, row, 'ship', supplier, customer, item, period, quantity, '', '' FROM under_way, calendar WHERE period < periods
+    SELECT 6, min(rowid), 'receipt', plant, item, 0, sum(quantity), '', '', ''
+    FROM stock
+    WHERE NOT EXISTS (SELECT * FROM items WHERE items.plant = stock.plant AND items.item = stock.item)
+    GROUP BY plant, item
+    HAVING sum(quantity) <> 0
+    UNION ALL
+    SELECT 7, row, 'ship', supplier, customer, item, coalesce(period, ''), quantity, '', ''
+    FROM under_way, calendar
+    WHERE coalesce(period, 0) < periods
     UNION ALL
     SELECT 8, min(rowid), 'cum', supplier, customer, item, sum(quantity), '', '', '' FROM shipments WHERE received IS NOT NULL GROUP BY supplier, customer, item
 )
