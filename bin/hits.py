@@ -12,6 +12,8 @@ import reports
 
 # How the rows of a table begin that are read of it; one may begin with a quote.
 READ = ("run,", "pair,", "bill,", "receipt,", "ship,", '"')
+# Of so many late pairs that stand in no hit it is found what waits for them too: a word has a bit for each.
+MOST_OTHERS = 60
 
 
 def report(words, table):
@@ -145,8 +147,8 @@ class Firm:
         return found
 
     def others(self, hits):
-        """Returns of each pair with late orders that stands in no hit the hits whose demands wait for it too."""
-        late = sorted(self.orders.late - {(it.by_plant, it.by_item) for it in hits}, key=self.places.get)
+        """Returns of each pair with late orders that stands in no hit the hits whose demands wait for it too; of the first pairs, where many are late."""
+        late = sorted(self.orders.late - {(it.by_plant, it.by_item) for it in hits}, key=self.places.get)[:MOST_OTHERS]
         behind, found = self.behind({pair: 1 << place for place, pair in enumerate(late)}), {}
         for it in hits if late else ():
             found.setdefault(behind[it.plant, it.item][it.period], []).append(it)

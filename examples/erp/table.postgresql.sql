@@ -1,17 +1,17 @@
 -- Writes the table of mrp from PostgreSQL: psql -qd firm -f table.postgresql.sql
 -- What was due before the first day counts in period 0, and what is due after the last period is left out. A date is 2026-12-16:
--- where it is NULL the period is empty, and where stock is of no item the row is a receipt of now. mrp refuses both.
+-- where it is none the period is empty, and where stock is of no item the row is a receipt of now. mrp refuses both.
 \set ON_ERROR_STOP on
 SET datestyle = ISO, YMD;
 CREATE TEMP VIEW wanted AS
-SELECT 'demand' AS kind, plant, item, CASE WHEN due IS NOT NULL THEN greatest(0, (due::date - first_day::date) / days) END AS period, quantity
+SELECT 'demand' AS kind, plant, item, CASE WHEN due::text ~ '^\d{4}-\d\d-\d\d' THEN greatest(0, (due::date - first_day::date) / days) END AS period, quantity
 FROM forecasts, calendar
 UNION ALL
-SELECT 'receipt', plant, item, CASE WHEN due IS NOT NULL THEN greatest(0, (due::date - first_day::date) / days) END, quantity
+SELECT 'receipt', plant, item, CASE WHEN due::text ~ '^\d{4}-\d\d-\d\d' THEN greatest(0, (due::date - first_day::date) / days) END, quantity
 FROM open_orders, calendar;
 
 CREATE TEMP VIEW under_way AS
-SELECT supplier, customer, item, CASE WHEN arrives IS NOT NULL THEN greatest(0, (arrives::date - first_day::date) / days) END AS period, quantity
+SELECT supplier, customer, item, CASE WHEN arrives::text ~ '^\d{4}-\d\d-\d\d' THEN greatest(0, (arrives::date - first_day::date) / days) END AS period, quantity
 FROM shipments, calendar
 WHERE received IS NULL;
 

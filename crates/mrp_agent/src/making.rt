@@ -94,7 +94,7 @@ pub(crate) fn blank_plans(
     Ok(plans)
 }
 
-/// Before each sixteenth plan takes room for as many and gives it back. The C library lets the memory of a thread grow
+/// Before every sixteen plans takes room for them and gives it back. The C library lets the memory of a thread grow
 /// by what it is asked for at once: so it grows for sixteen plans, and not page by page. A refusal is no fault, since
 /// what follows asks for less.
 fn grow(alloc: Global, place: usize) {

@@ -76,9 +76,10 @@ impl Crew {
     ///
     /// A wave takes the ready pairs, at most the first as many as there are workers. The last of them is
     /// drafted by the calling thread, and each of the others by a thread of its own; so a wave of one pair,
-    /// as all of one worker are, starts none, and is planned where the agent keeps its plans. Each worker, the calling thread too, first asks `gate.worker` with the plant and its number
-    /// in the wave, from 1 on. The wave is over once all its threads have returned, and then the agent
-    /// keeps all plans that were drafted.
+    /// as all of one worker are, starts none, and is planned where the agent keeps its plans. Each worker, the
+    /// calling thread too, first asks `gate.worker` with the plant and its number in the wave, from 1 on (by
+    /// construction; no clause says so, nor which pairs a wave takes). The wave is over once all its threads
+    /// have returned, and then the agent keeps all plans that were drafted.
     ///
     /// The agent is one of a plant of a sized network, to which legal beginnings have come, and the crew
     /// plans for as many periods. The calling thread may wait for its workers.

@@ -2,9 +2,10 @@
 //!
 //! Each plant's thread owns its agent and the ends of its lanes, and nothing else of the network. It books
 //! what lies in its incoming lanes, plans what is ready and offers what it has, turn by turn, until it is
-//! done. (That there is a thread for each plant is by construction; no clause says so.) A run that ends well, in whichever order the threads' steps fell, gives the one plan of the network,
-//! and each lane carried its whole text: the list that its sending end showed at the join is a whole text of
-//! the lane, and that of its taking end the same list.
+//! done. (That there is a thread for each plant is by construction; no clause says so.) A run that ends well,
+//! in whichever order the threads' steps fell, gives the one plan of the network, and each lane carried its
+//! whole text: the list that its sending end showed at the join is a whole text of the lane, and that of its
+//! taking end the same list.
 #![tactic(auto)]
 
 mod bells;
