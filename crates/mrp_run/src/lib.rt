@@ -2,10 +2,11 @@
 //!
 //! Each plant's thread owns its agent and the ends of its lanes, and nothing else of the network. It books
 //! what lies in its incoming lanes, plans what is ready and offers what it has, turn by turn, until it is
-//! done. (That there is a thread for each plant is by construction; no clause says so.) A run that ends well,
-//! in whichever order the threads' steps fell, gives the one plan of the network, and each lane carried its
-//! whole text: the list that its sending end showed at the join is a whole text of the lane, and that of its
-//! taking end the same list.
+//! done. (That there is a thread for each plant, that it has these ends and no others, and what it does in a
+//! turn, is by construction; no clause says so. That it ends isn't claimed.) A run that ends well, in whichever
+//! order the threads' steps fell, gives the one plan of the network, and for each lane what two joined ends of
+//! it showed: the list sent is a whole text of the lane, and the list taken is the same. (That these are the
+//! ends that the threads used stands in no clause.)
 #![tactic(auto)]
 
 mod bells;

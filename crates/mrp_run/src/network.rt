@@ -38,19 +38,19 @@ pub struct Outcome {
 ///
 /// The outcome is the one plan of the network, and what went over its lanes: when the two ends of a lane were
 /// joined, the list of all records that had been sent was a whole text of the lane, the list of those that had
-/// been taken was the same, nothing was left, and the figures are those of these lists. For every capacity some
-/// events lead from the opening state to a finished state with these lists. So it is for every number of workers and
-/// every capacity. That these ends are those which the threads of the plants used, and that a run
+/// been taken was the same, nothing was left, and the figures are those of these lists. For every capacity of at
+/// least one record some events lead from the opening state to a finished state with these lists. So it is for every
+/// number of workers and every capacity. That these ends are those which the threads of the plants used, and that a run
 /// has a thread for each plant, as many workers and as much room as `settings` says, stands in no clause. The gate
 /// was open to the first turns of each plant, one or more. It isn't claimed that a run ends.
 ///
 /// # Errors
 ///
-/// A fault that a plant met: [`RunFault::Memory`] where a growth is refused, [`RunFault::ThreadRefused`] where no
-/// thread could be made, [`RunFault::GateShut`] with the plant of the network for which, or for a worker of
-/// which, the gate was shut, [`RunFault::Stopped`] where a plant isn't done after [`MOST_TURNS`]. Where several
-/// are met it is built to answer the first of these, and of shut gates that of the lowest plant; no clause of
-/// this call says which.
+/// It is built to answer [`RunFault::Memory`] where a growth is refused and [`RunFault::ThreadRefused`] where no
+/// thread could be made; no clause says either. [`RunFault::GateShut`] with the plant of the network for which, or
+/// for a worker of which, the gate was shut. [`RunFault::Stopped`] is built for a plant that isn't done after
+/// [`MOST_TURNS`]; by the clause the gate was open to all these turns of some plant. Where several are met it is
+/// built to answer the first of these, and of shut gates that of the lowest plant; no clause of this call says which.
 pub fn run_network<R: Threads + Wait + Sync, G: Gate>(
     rt: &R,
     alloc: Global,
