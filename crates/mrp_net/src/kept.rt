@@ -122,7 +122,14 @@ impl Kept {
         self.rows.item_name(item)
     }
 
-    /// The plant of that name, if there is one.
+    /// How many items there are.
+    pub fn items(&self) -> usize
+        ensures value { result ≡ length self.now.items }
+    {
+        self.rows.items()
+    }
+
+    /// The plant of that name, if there is one. The names are looked through one by one.
     pub fn find_plant(&self, name: &str) -> Option<PlantNo>
         ensures place { option_map (λ p. p.0) result ≡ position (bytes_eq name.now) self.now.plants }
         ensures within { IfSome result (λ p. p.0 < length self.now.plants) }
@@ -130,7 +137,7 @@ impl Kept {
         self.rows.find_plant(name)
     }
 
-    /// The item of that name, if there is one.
+    /// The item of that name, if there is one. The names are looked through one by one.
     pub fn find_item(&self, name: &str) -> Option<ItemNo>
         ensures place { option_map (λ i. i.0) result ≡ position (bytes_eq name.now) self.now.items }
         ensures within { IfSome result (λ i. i.0 < length self.now.items) }

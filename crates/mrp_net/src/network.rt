@@ -141,7 +141,8 @@ impl Network {
         self.tables.calendar()
     }
 
-    /// The pair of the plant and the item with these names, or `None` where the table has none.
+    /// The pair of the plant and the item with these names, or `None` where the table has none. The names are
+    /// looked through one by one.
     pub fn find(&self, plant: &str, item: &str) -> Option<PairNo>
         ensures found { IfSome result (λ x. IsNamed self.now x.0 plant.now item.now) }
         ensures missing { IfNone result ((x : ℕ) → ¬ (IsNamed self.now x plant.now item.now)) }
@@ -179,7 +180,14 @@ impl Network {
         self.tables.item_name(item)
     }
 
-    /// The plant of that name, or `None` where the table has none.
+    /// The number of items.
+    pub fn items(&self) -> usize
+        ensures { result ≡ length self.now.items }
+    {
+        self.tables.items()
+    }
+
+    /// The plant of that name, or `None` where the table has none. The names are looked through one by one.
     pub fn find_plant(&self, name: &str) -> Option<PlantNo>
         ensures found { IfSome result (λ p. slice_get self.now.plants p.0 ≡ Some name.now) }
         ensures missing { IfNone result (¬ Contains self.now.plants name.now) }
@@ -187,7 +195,7 @@ impl Network {
         self.tables.find_plant(name)
     }
 
-    /// The item of that name, or `None` where the table has none.
+    /// The item of that name, or `None` where the table has none. The names are looked through one by one.
     pub fn find_item(&self, name: &str) -> Option<ItemNo>
         ensures found { IfSome result (λ i. slice_get self.now.items i.0 ≡ Some name.now) }
         ensures missing { IfNone result (¬ Contains self.now.items name.now) }

@@ -8,6 +8,7 @@ use Rattle.mrp_cal.specs.Calendar.{CalendarTerms, IsCalendar}
 use Rattle.mrp_qty.specs.declared.limits.TheConstants.{MOST_BILLS, MOST_OF_A_KIND, MOST_PAIRS, MOST_PLANTS, MOST_SOURCES}
 use Rattle.mrp_rows.specs.Table.{Table, IsName, IsRead, horizon, IsPairRow, IsSourceRow, IsBillRow, IsDemandRow, IsReceiptRow, IsShipRow, IsCumRow, IsResetRow}
 use Rattle.mrp_rows.specs.Growing.{add_item, with_plant, with_item, with_pair, with_source, with_bill, with_demand, with_receipt, with_ship, with_cum, with_reset}
+use Rattle.mrp_rows.proofs.Naming.{item_added}
 use Rattle.mrp_rows.specs.declared.rows.PairRow.{PairRow}
 use Rattle.mrp_rows.specs.declared.rows.SourceRow.{SourceRow}
 use Rattle.mrp_rows.specs.declared.rows.BillRow.{BillRow}
@@ -185,3 +186,10 @@ pub read-with_item : (N : Table) (name : List ℕ) → IsRead N → IsName name 
 read-with_item N name read named room =
     let g : Grows N (with_item N name) = record { calendar = refl; plants = omega arith; items = (length-add_item-le N.items name).0; pairs = omega arith } in
     read_grows N (with_item N name) read g same_rows (name_added N.items name named room) same_rows same_rows same_rows same_rows same_rows same_rows same_rows same_rows
+
+-- the items after one more was pushed, whether it found room or not
+pub read-pushed_item : {E : Type 0} (N : Table) (x : List ℕ) (items : List (List ℕ)) (pushed : Result (Unit {0}) E) → IsRead N → IsName x → length N.items < MOST_PAIRS
+    → list_any (bytes_eq x) N.items ≡ false → OnOk pushed (items ≡ N.items ++ x ∷ []) → OnErr pushed (items ≡ N.items) → (let M : Table = record N { items = items } in IsRead M)
+read-pushed_item N x items (Ok _) read named room fresh more same = subst IsRead (sym (item_added N x items fresh more)) (read-with_item N x read named room)
+read-pushed_item N x items (Err _) read named room fresh more same =
+    subst (λ (is : List (List ℕ)). let M : Table = record N { items = is } in IsRead M) (sym same) read

@@ -4,4 +4,3 @@ pub mod Grow
 pub mod Keys
 pub mod Lists
 pub mod Naming
-pub mod Words

@@ -25,18 +25,6 @@ pub place_within : (name : List ℕ) (names : List (List ℕ)) (found : Option �
 place_within name names None is = tt
 place_within name names (Some place) is = (position-Some (bytes_eq name) names place [] (sym is)).0
 
--- a name that stands at a place is found there
-pub place_near : (names : List (List ℕ)) (name known : List ℕ) (near : ℕ) → IsDistinct bytes_eq names → near < length names → known ≡ get_or names near known → bytes_eq known name ≡ true
-    → position (bytes_eq name) names ≡ Some near
-place_near names name known near distinct within at same =
-    let is : known ≡ name = (bytes_eq-Decides known name).0 same in
-    let here : get_or names near known ≡ known = sym at in
-    subst (λ (n : List ℕ). position (bytes_eq n) names ≡ Some near) is
-    (position_is (bytes_eq known) names near known within
-    (λ k lt.
-    nat_list_eq_equiv.symm known (get_or names k known) ∙ ap (bytes_eq (get_or names k known)) at ∙ apart_from_distinct bytes_eq names k near known distinct lt within)
-    (ap (bytes_eq known) here ∙ nat_list_eq_equiv.refl known))
-
 -- the names after one more
 pub names_more : (names roomy more : List (String Global)) (last : String Global) (name : List ℕ) → roomy ≡ names → more ≡ roomy ++ last ∷ [] → string_bytes last ≡ name
     → map string_bytes more ≡ map string_bytes names ++ name ∷ []
@@ -45,22 +33,9 @@ names_more names roomy more last name same grown is =
     ∙ map-append string_bytes names (last ∷ [])
     ∙ ap (λ (n : List ℕ). map string_bytes names ++ n ∷ []) is
 
--- an item that is known stays one, and one that isn't comes last
-pub item_known : (N : Table) (name : List ℕ) (found : Option ℕ) (place : ℕ) → found ≡ position (bytes_eq name) N.items → found ≡ Some place → N ≡ with_item N name
-item_known N name found place is at =
-    ap (λ b. let M : Table = record N { items = if b then N.items else N.items ++ name ∷ [] } in M) (sym (any-from_position (bytes_eq name) N.items place (sym is ∙ at)))
-
-pub item_unknown : (N : Table) (name : List ℕ) (found : Option ℕ) → found ≡ position (bytes_eq name) N.items → found ≡ None → list_any (bytes_eq name) N.items ≡ false
-item_unknown N name found is none = any-from_no_position (bytes_eq name) N.items (sym is ∙ none)
-
+-- the table with an item that isn't there
 pub item_added : (N : Table) (name : List ℕ) (items : List (List ℕ)) → list_any (bytes_eq name) N.items ≡ false → items ≡ N.items ++ name ∷ []
     → (let M : Table = record N { items = items } in M) ≡ with_item N name
 item_added N name items fresh grown =
     ap (λ (ns : List (List ℕ)). let M : Table = record N { items = ns } in M) grown
     ∙ ap (λ b. let M : Table = record N { items = if b then N.items else N.items ++ name ∷ [] } in M) (sym fresh)
-
--- the place of an item that came last
-pub item_place : (name : List ℕ) (old new : List (List ℕ)) (place : ℕ) → list_any (bytes_eq name) old ≡ false → new ≡ old ++ name ∷ [] → place ≡ length old
-    → place ≡ unwrap_or (position (bytes_eq name) new) 0
-item_place name old new place fresh grown last =
-    last ∙ sym (ap (λ (o : Option ℕ). unwrap_or o 0) (ap (position (bytes_eq name)) grown ∙ last_passes (bytes_eq name) old name fresh (nat_list_eq_equiv.refl name)))

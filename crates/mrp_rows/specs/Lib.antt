@@ -1,7 +1,7 @@
 pub mod Dropping
 pub mod Growing
-pub mod Keys
 pub mod Names
+pub mod Places
 pub mod Rows
 pub mod Table
 pub mod Turns

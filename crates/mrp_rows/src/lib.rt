@@ -4,7 +4,6 @@
 #![tactic(auto)]
 
 mod dropping;
-mod name_key;
 mod names;
 mod numbers;
 mod row_lists;

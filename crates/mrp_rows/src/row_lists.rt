@@ -1,47 +1,30 @@
 //! The lists of a table as they grow, row by row.
 
-use crate::name_key::{NameKey, mixed_with};
-use crate::names::Names;
+use crate::names::{name_at, place_of, push_name};
 use crate::{
     BillRow, CumRow, DemandRow, ItemNo, PairNo, PairRow, PlantNo, ReceiptRow, ResetRow, ShipRow,
     SourceRow,
 };
 use mrp_cal::Calendar;
-use mrp_group::Places;
 use std::alloc::{AllocError, Global};
-use std::hash::{Hash, Hasher};
+use std::collections::HashMap;
 use std::marker::Model;
 
-/// A pair by its plant and the name of its item.
-#[derive(Clone, Copy, PartialEq, Eq)]
-pub(crate) struct PairKey {
+/// A pair by its plant and its item.
+#[derive(Clone, Copy, PartialEq, Eq, Hash)]
+pub(crate) struct PlantItem {
     plant: PlantNo,
-    item: NameKey,
+    item: ItemNo,
 }
 
-impl Hash for PairKey {
-    ghost use Rattle.std.specs.Hash as fed;
-    ghost use Rattle.mrp_rows.specs.Keys.{mixed, mixed_with};
-    ghost use Rattle.std.specs.Cmp.Rules.{hashing};
-    ghost use Rattle.std.proofs.Common.{rules};
-
-    ghost hash_input = { λ k. fed.u64 (mixed_with (mixed k.item) k.plant.0) };
-
-    ghost respects_eq = { Prim.search (hashing, rules) };
-
-    fn hash<H: Hasher>(&self, state: &mut H) {
-        state.write_u64(mixed_with(self.item.mixed(), self.plant.0 as u64));
-    }
-}
-
-/// The rows read so far by their kinds, each in table order, with what finds a name or a pair. Where a growth
-/// is refused no call says what the lists hold then: drop them.
+/// The rows read so far by their kinds, each in table order, with what finds a pair. Where a growth is refused
+/// no call says what the lists hold then: drop them.
 #[derive(Drop)]
 pub struct RowLists {
     calendar: Calendar,
-    plants: Names,
-    items: Names,
-    pair_places: Places<PairKey>,
+    plants: Vec<String>,
+    items: Vec<String>,
+    pair_places: HashMap<PlantItem, PairNo>,
     pairs: Vec<PairRow>,
     sources: Vec<SourceRow>,
     pub(crate) bills: Vec<BillRow>,
@@ -53,28 +36,31 @@ pub struct RowLists {
 }
 
 impl Model for RowLists {
+    ghost use Rattle.std.specs.HashMap.{get};
+    ghost use Rattle.std.specs.Prelude.{map};
+    ghost use Rattle.std.specs.String.{string_bytes};
     ghost use Rattle.mrp_rows.specs.Growing.{table_of};
-    ghost use Rattle.mrp_rows.specs.Keys.{FindsPairs};
+    ghost use Rattle.mrp_rows.specs.Places.{is_same_place, FindsPairs};
     ghost use Rattle.mrp_rows.specs.Table.{IsRead, Table};
 
     ghost Value = { Table };
 
-    ghost view = { λ r. table_of r.calendar r.plants r.items r.pairs.items r.sources.items r.bills.items r.demands.items
-        r.receipts.items r.ships.items r.cums.items r.resets.items };
+    ghost view = { λ r. table_of r.calendar (map string_bytes r.plants.items) (map string_bytes r.items.items) r.pairs.items r.sources.items
+        r.bills.items r.demands.items r.receipts.items r.ships.items r.cums.items r.resets.items };
 
-    // the rows are in range, and the keys are those of the pairs in their order
-    ghost invariant = { λ r. IsRead (table_of r.calendar r.plants r.items r.pairs.items r.sources.items r.bills.items r.demands.items
-        r.receipts.items r.ships.items r.cums.items r.resets.items)
-        × FindsPairs r.items r.pairs.items r.pair_places };
+    // the rows are in range, and each pair is found
+    ghost invariant = { λ r. IsRead (table_of r.calendar (map string_bytes r.plants.items) (map string_bytes r.items.items) r.pairs.items r.sources.items
+        r.bills.items r.demands.items r.receipts.items r.ships.items r.cums.items r.resets.items)
+        × FindsPairs (get is_same_place r.pair_places) r.pairs.items };
 }
 
 impl RowLists {
     ghost use Rattle.std.specs.Prelude.{◌≡◌, ◌≤◌, ◌<◌, ◌==◌, ◌&&◌, length, option_map, position, IfOk, IfSome, OnOk};
     ghost use Rattle.mrp_qty.specs.declared.limits.TheConstants.{MOST_BILLS, MOST_OF_A_KIND, MOST_PAIRS, MOST_PLANTS, MOST_SOURCES};
-    ghost use Rattle.std.specs.Prelude.{false, is_some, slice_get, unwrap_or, Some};
+    ghost use Rattle.std.specs.Prelude.{false, slice_get, Some};
     ghost use Rattle.std.specs.List.{list_any};
     ghost use Rattle.std.specs.Str.{bytes_eq};
-    ghost use Rattle.mrp_rows.specs.Names.{has_plant, pair_named, plant_no};
+    ghost use Rattle.mrp_rows.specs.Names.{plant_no};
     ghost use Rattle.mrp_rows.specs.Growing.{lacks_pair, with_plant, with_item, with_pair, with_source, with_bill};
     ghost use Rattle.mrp_rows.specs.Growing.{with_demand, with_receipt, with_ship, with_cum, with_reset};
     ghost use Rattle.mrp_rows.specs.Table.{item_at, IsName, IsRead, IsPairRow, IsSourceRow, IsBillRow};
@@ -88,9 +74,9 @@ impl RowLists {
     {
         RowLists {
             calendar,
-            plants: Names::new(alloc),
-            items: Names::new(alloc),
-            pair_places: Places::new(alloc),
+            plants: Vec::new(alloc),
+            items: Vec::new(alloc),
+            pair_places: HashMap::new(alloc),
             pairs: Vec::new(alloc),
             sources: Vec::new(alloc),
             bills: Vec::new(alloc),
@@ -102,34 +88,25 @@ impl RowLists {
         }
     }
 
-    /// Adds a plant.
+    /// Adds a plant behind the others.
     pub fn add_plant(&mut self, alloc: Global, name: &str) -> Result<(), AllocError>
         requires named { IsName name.now }
-        requires fresh { has_plant self.old name.now ≡ false }
         requires room { length self.old.plants < MOST_PLANTS }
         ensures rows { OnOk result (IsRead self.new) }
         ensures table { OnOk result (self.new ≡ with_plant self.old name.now) }
     {
-        self.plants.push(alloc, name)
+        push_name(&mut self.plants, alloc, name)
     }
 
-    /// The item of that name, which is new where no pair row has named it.
-    pub fn item_no(&mut self, alloc: Global, name: &str) -> Result<ItemNo, AllocError>
+    /// Adds an item behind the others, of which there is no pair yet.
+    pub fn add_item(&mut self, alloc: Global, name: &str) -> Result<(), AllocError>
         requires named { IsName name.now }
+        requires fresh { list_any (bytes_eq name.now) self.old.items ≡ false }
         requires room { length self.old.items < MOST_PAIRS }
         ensures rows { OnOk result (IsRead self.new) }
         ensures table { OnOk result (self.new ≡ with_item self.old name.now) }
-        ensures place { IfOk result (λ item. item.0 ≡ unwrap_or (position (bytes_eq name.now) self.new.items) 0) }
-        ensures within { IfOk result (λ item. item.0 < length self.new.items) }
     {
-        match self.items.find(name) {
-            Some(known) => Ok(ItemNo(known)),
-            None => {
-                let place = self.items.len();
-                self.items.push(alloc, name)?;
-                Ok(ItemNo(place))
-            }
-        }
+        push_name(&mut self.items, alloc, name)
     }
 
     /// Adds a pair, of which there is no row yet.
@@ -140,12 +117,13 @@ impl RowLists {
         ensures rows { OnOk result (IsRead self.new) }
         ensures table { OnOk result (self.new ≡ with_pair self.old row) }
     {
-        let Some(item) = NameKey::of(self.items.at(row.item.0)) else {
-            unreachable!();
+        let place = PairNo(self.pairs.len());
+        let key = PlantItem {
+            plant: row.plant,
+            item: row.item,
         };
         self.pairs.reserve(1)?;
-        let plant = row.plant;
-        self.pair_places.push(PairKey { plant, item })?;
+        self.pair_places.insert(key, place)?;
         let Ok(()) = self.pairs.push(row) else {
             unreachable!();
         };
@@ -229,44 +207,12 @@ impl RowLists {
         Ok(())
     }
 
-    /// Whether there is a plant of that name.
-    pub fn has_plant(&self, name: &str) -> bool
-        ensures exact { result ≡ has_plant self.now name.now }
-    {
-        self.plants.find(name).is_some()
-    }
-
-    /// The pair of a plant and of the item of that name.
-    pub fn find_named_pair(&self, plant: Option<PlantNo>, item: &str) -> Option<PairNo>
-        ensures exact { option_map (λ x. x.0) result ≡ pair_named self.now (option_map (λ p. p.0) plant) item.now }
-        ensures within { IfSome result (λ pair. pair.0 < length self.now.pairs) }
-    {
-        let places = &self.pair_places;
-        let plant = plant?;
-        let item = NameKey::of(item)?;
-        match places.find(PairKey { plant, item }) {
-            Some(place) => Some(PairNo(place)),
-            None => None,
-        }
-    }
-
-    /// Whether there is a row of the pair of these names.
-    pub fn has_pair(&self, plant: &str, item: &str) -> bool
-        ensures exact { result ≡ is_some (pair_named self.now (plant_no self.now plant.now) item.now) }
-    {
-        let plant = self.find_plant(plant);
-        self.find_named_pair(plant, item).is_some()
-    }
-
     /// The pair of a plant and an item.
     pub fn find_pair(&self, plant: PlantNo, item: ItemNo) -> Option<PairNo>
         ensures place { option_map (λ x. x.0) result ≡ position (λ p. (p.plant.0 == plant.0) && (p.item.0 == item.0)) self.now.pairs }
         ensures within { IfSome result (λ pair. pair.0 < length self.now.pairs) }
     {
-        if item.0 >= self.items.len() {
-            return None;
-        }
-        self.find_named_pair(Some(plant), self.items.at(item.0))
+        self.pair_places.get(&PlantItem { plant, item }).copied()
     }
 
     /// Whether the pair behind a source has no row.
@@ -376,7 +322,7 @@ impl RowLists {
         requires known { plant.0 < length self.now.plants }
         ensures value { slice_get self.now.plants plant.0 ≡ Some result.now }
     {
-        self.plants.at(plant.0)
+        name_at(self.plants.as_slice(), plant.0)
     }
 
     /// The name of an item.
@@ -384,30 +330,22 @@ impl RowLists {
         requires known { item.0 < length self.now.items }
         ensures value { slice_get self.now.items item.0 ≡ Some result.now }
     {
-        self.items.at(item.0)
+        name_at(self.items.as_slice(), item.0)
     }
 
-    /// The plant of that name, if there is one.
+    /// The plant of that name, if there is one. The names are looked through one by one.
     pub fn find_plant(&self, name: &str) -> Option<PlantNo>
         ensures place { option_map (λ p. p.0) result ≡ plant_no self.now name.now }
         ensures within { IfSome result (λ p. p.0 < length self.now.plants) }
     {
-        self.plants.find(name).map(PlantNo)
+        place_of(self.plants.as_slice(), name).map(PlantNo)
     }
 
-    /// The plant of that name, which is looked for at the place `near` first.
-    pub fn find_plant_near(&self, name: &str, near: usize) -> Option<PlantNo>
-        ensures place { option_map (λ p. p.0) result ≡ plant_no self.now name.now }
-        ensures within { IfSome result (λ p. p.0 < length self.now.plants) }
-    {
-        self.plants.find_near(name, near).map(PlantNo)
-    }
-
-    /// The item of that name, if there is one.
+    /// The item of that name, if there is one. The names are looked through one by one.
     pub fn find_item(&self, name: &str) -> Option<ItemNo>
         ensures place { option_map (λ i. i.0) result ≡ position (bytes_eq name.now) self.now.items }
         ensures within { IfSome result (λ i. i.0 < length self.now.items) }
     {
-        self.items.find(name).map(ItemNo)
+        place_of(self.items.as_slice(), name).map(ItemNo)
     }
 }

@@ -148,7 +148,7 @@ impl Tables {
         self.lists.item_name(item)
     }
 
-    /// The plant of that name, if there is one.
+    /// The plant of that name, if there is one. The names are looked through one by one.
     pub fn find_plant(&self, name: &str) -> Option<PlantNo>
         ensures place { option_map (λ p. p.0) result ≡ position (bytes_eq name.now) self.now.plants }
         ensures within { IfSome result (λ p. p.0 < length self.now.plants) }
@@ -156,7 +156,7 @@ impl Tables {
         self.lists.find_plant(name)
     }
 
-    /// The item of that name, if there is one.
+    /// The item of that name, if there is one. The names are looked through one by one.
     pub fn find_item(&self, name: &str) -> Option<ItemNo>
         ensures place { option_map (λ i. i.0) result ≡ position (bytes_eq name.now) self.now.items }
         ensures within { IfSome result (λ i. i.0 < length self.now.items) }

@@ -1,6 +1,9 @@
 -- The places of names.
-use Rattle.std.proofs.Common.{◌≡◌, ◌<◌, ℕ, get_or, List, length, position, slice_get, option_map, [], Option, Some, None, IfSome, IfNone, refl, sym, ap, ◌∙◌}
-use Rattle.std.specs.List.{Contains, IsDistinct}
+use Rattle.std.proofs.Common.{◌≡◌, ◌<◌, ◌+◌, ◌==◌, ℕ, nat_lt, Bool, cond, true, false, if◌then◌else◌, get_or, List, length, position, slice_get, option_map, [], Option, Some, None, refl, sym, ap, subst, ◌∙◌, arith}
+use Rattle.std.proofs.lemmas.Bool.{eqb-true, false≢true}
+use Rattle.std.proofs.lemmas.Bool.Decides.{nat_tests}
+use Rattle.std.proofs.lemmas.List.Quantifiers.{position-Some}
+use Rattle.std.specs.List.{IsDistinct}
 use Rattle.std.specs.Str.{bytes_eq}
 use Rattle.std.proofs.lemmas.Map.Keys.{apart_from_distinct}
 use Rattle.std.proofs.lemmas.Option.{get_or_from_slice_get, slice_get_within, slice_get-get_or}
@@ -22,17 +25,71 @@ place_of_name names name i once here =
     (λ k lt. bytes_symm name (get_or names k []) ∙ ap (bytes_eq (get_or names k [])) (sym is) ∙ apart_from_distinct bytes_eq names k i [] once lt within)
     ((bytes_eq-Decides name (get_or names i [])).1 (sym is))
 
-no_place : (names : List (List ℕ)) (name : List ℕ) (at : Option ℕ) → position (bytes_eq name) names ≡ at → ¬ Contains names name → at ≡ None
-no_place names name None is none = refl
-no_place names name (Some i) is none =
-    let here : slice_get names i ≡ Some name = name_at_place names name i (sym is) in
-    absurd (none (i, slice_get_within names i name here, get_or_from_slice_get names i name name here))
+-- the place of a name among the first i
+abbrev pub below : ℕ → Option ℕ → Option ℕ
+below i None = None
+below i (Some place) = if nat_lt place i then Some place else None
 
--- what a look-up of a name found
-pub found_item : (N : Table) (name : List ℕ) (found : Option ItemNo) → IsTable N → IfSome found (λ i. slice_get N.items i.0 ≡ Some name) → IfNone found (¬ Contains N.items name)
-    → found ≡ item_named N name
-found_item N name None is some none = ap (option_map (λ i. record { 0 = i })) (sym (no_place N.items name (position (bytes_eq name) N.items) refl none))
-found_item N name (Some i) is some none = ap (option_map (λ i. record { 0 = i })) (sym (place_of_name N.items name i.0 is.once.items some))
+pub below_none : (o : Option ℕ) → below 0 o ≡ None
+below_none None = refl
+below_none (Some place) = rw (none place) refl
+  where
+    none : (a : ℕ) → nat_lt a 0 ≡ false
+    none a = grind (arith, nat_tests)
+
+-- among all of them it is the place
+pub below_all : (names : List (List ℕ)) (name : List ℕ) (n : ℕ) → n ≡ length names → below n (position (bytes_eq name) names) ≡ position (bytes_eq name) names
+below_all names name n all = by (position (bytes_eq name) names) refl
+  where
+    lower : (a b : ℕ) → a < b → nat_lt a b ≡ true
+    lower a b lt = grind (arith, nat_tests)
+
+    by : (o : Option ℕ) → position (bytes_eq name) names ≡ o → below n o ≡ o
+    by None at = refl
+    by (Some place) at =
+        let within : place < n = omega (arith, all, (position-Some (bytes_eq name) names place [] at).0) in
+        rw (lower place n within) refl
+
+-- and with one more
+pub below_more : (names : List (List ℕ)) (x name : List ℕ) (i : ℕ) → IsDistinct bytes_eq names → slice_get names i ≡ Some x
+    → below (i + 1) (position (bytes_eq name) names) ≡ cond (bytes_eq x name) (Some i) (below i (position (bytes_eq name) names))
+below_more names x name i once here = by (bytes_eq x name) refl (position (bytes_eq name) names) refl
+  where
+    next : (a : ℕ) → nat_lt a (a + 1) ≡ true
+    next a = grind (arith, nat_tests)
+
+    other : (a b : ℕ) → (a == b) ≡ false → nat_lt a (b + 1) ≡ nat_lt a b
+    other a b apart = grind (arith, nat_tests)
+
+    by : (b : Bool) → bytes_eq x name ≡ b → (o : Option ℕ) → position (bytes_eq name) names ≡ o → below (i + 1) o ≡ cond b (Some i) (below i o)
+    by true same o at =
+        let is : x ≡ name = (bytes_eq-Decides x name).0 same in
+        let found : o ≡ Some i = sym at ∙ place_of_name names name i once (here ∙ ap (λ (n : List ℕ). Some n) is) in
+        ap (below (i + 1)) found ∙ rw (next i) refl
+    by false apart None at = refl
+    by false apart (Some place) at = elsewhere (place == i) refl
+      where
+        elsewhere : (b : Bool) → (place == i) ≡ b → below (i + 1) (Some place) ≡ below i (Some place)
+        elsewhere true e =
+            let p = position-Some (bytes_eq name) names place [] at in
+            let is : place ≡ i = eqb-true place i e in
+            let x_is : get_or names i [] ≡ x = get_or_from_slice_get names i x [] here in
+            let same : bytes_eq name x ≡ true = subst (λ (n : List ℕ). bytes_eq name n ≡ true) (ap (λ (k : ℕ). get_or names k []) is ∙ x_is) p.1 in
+            absurd (false≢true (sym apart ∙ bytes_symm x name ∙ same))
+        elsewhere false e = rw (other place i e) refl
+
+-- what a map of items finds with one more
+pub found_more : (names : List (List ℕ)) (x name : List ℕ) (i : ℕ) (old new : Option ItemNo) → IsDistinct bytes_eq names → slice_get names i ≡ Some x
+    → old ≡ option_map (λ i. record { 0 = i }) (below i (position (bytes_eq name) names)) → new ≡ cond (bytes_eq x name) (Some (record { 0 = i })) old
+    → new ≡ option_map (λ i. record { 0 = i }) (below (i + 1) (position (bytes_eq name) names))
+found_more names x name i old new once here so_far is =
+    is ∙ ap (λ (o : Option ItemNo). cond (bytes_eq x name) (Some (record { 0 = i })) o) so_far
+    ∙ turned (bytes_eq x name) (below i (position (bytes_eq name) names))
+    ∙ sym (ap (option_map (λ i. record { 0 = i })) (below_more names x name i once here))
+  where
+    turned : (b : Bool) (o : Option ℕ) → cond b (Some (let n : ItemNo = record { 0 = i } in n)) (option_map (λ i. record { 0 = i }) o) ≡ option_map (λ i. record { 0 = i }) (cond b (Some i) o)
+    turned true o = refl
+    turned false o = refl
 
 -- the item of its own name
 pub item_of_name : (N : Table) (item : ItemNo) → IsTable N → item.0 < length N.items → item_named N (record_item_name N item) ≡ Some item

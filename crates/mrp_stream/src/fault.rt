@@ -30,7 +30,7 @@ pub enum RecordFaultKind {
     /// No pair of the network is of this item; the field may be no name at all.
     #[error("an unknown item")]
     UnknownItem,
-    /// A growth was refused while this row was read or kept.
+    /// A growth was refused while this row was read or kept, or before the first.
     #[error("out of memory")]
     Memory,
 }

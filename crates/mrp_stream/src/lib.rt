@@ -4,6 +4,7 @@
 #![tactic(auto)]
 
 mod fault;
+mod items;
 mod kind;
 pub mod laws;
 mod reading;

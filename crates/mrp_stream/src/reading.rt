@@ -9,6 +9,7 @@ ghost use Rattle.mrp_stream.specs.Left.{record_fault_of, is_of_row, StopsReading
 ghost use Rattle.mrp_rows.specs.Table.{Table};
 ghost use Rattle.mrp_stream.specs.Reading.{AreRowsOf, HasFault};
 
+use crate::items::NamedItems;
 use crate::spelled::spelled_record;
 use crate::{RecordFault, RecordFaultKind};
 use csv::{ErrorKind, Reader, ReaderBuilder, StringRecord};
@@ -25,7 +26,8 @@ use std::io::Read;
 ///
 /// # Errors
 ///
-/// The first fault of the first row that has one, as [`RecordFaultKind`] says.
+/// The first fault of the first row that has one, as [`RecordFaultKind`] says. Where the room for the names
+/// of the items is refused before a row is read, it is that of row 1.
 pub fn read_records<R: Read + Drop>(
     alloc: Global,
     network: &Network,
@@ -35,12 +37,16 @@ pub fn read_records<R: Read + Drop>(
     ensures fault { IfErr result (λ fault. OfRecords (option_map strip_bom (R.remaining reader)) (λ rows. HasFault network.now rows fault)) }
     ensures few { IfOk result (λ records. length records.items ≤ MOST_RECORDS) }
 {
+    let items = match NamedItems::of(alloc, network) {
+        Ok(items) => items,
+        Err(kind) => return Err(RecordFault { row: 1, kind }),
+    };
     let mut rows = ReaderBuilder::new()
         .has_headers(false)
         .flexible(true)
         .from_reader(alloc, reader);
     let mut records = Vec::new(alloc);
-    read_rows(alloc, network, &mut rows, &mut records)?;
+    read_rows(alloc, &items, &mut rows, &mut records)?;
     Ok(records)
 }
 
@@ -48,21 +54,21 @@ pub fn read_records<R: Read + Drop>(
 /// those of the records that it then has.
 fn read_rows<R: Read>(
     alloc: Global,
-    network: &Network,
+    items: &NamedItems<'_>,
     rows: &mut Reader<R>,
     records: &mut Vec<Record>,
 ) -> Result<(), RecordFault>
     requires gives { GivesAll rows.old }
     requires none { records.old.items ≡ [] }
-    ensures records { OnOk result (OfLeft (rows_left R.remaining rows.old) (λ rows. AreRowsOf network.now rows records.new.items)) }
-    ensures fault { IfErr result (λ fault. OfLeft (rows_left R.remaining rows.old) (λ rows. HasFault network.now rows fault)) }
+    ensures records { OnOk result (OfLeft (rows_left R.remaining rows.old) (λ rows. AreRowsOf items.now rows records.new.items)) }
+    ensures fault { IfErr result (λ fault. OfLeft (rows_left R.remaining rows.old) (λ rows. HasFault items.now rows fault)) }
     ensures row { IfErr result (λ fault. fault.row ≡ length records.new.items + 1) }
     ensures failed { IfErr result (λ e. StopsReading e.kind (has_failed rows.new) (e.row ≡ MOST_RECORDS + 1) MOST_RECORDS (rows_left R.remaining rows.old)) }
     ensures few { OnOk result (length records.new.items ≤ MOST_RECORDS) }
 {
     let mut row = StringRecord::new(alloc);
     for number in 1..MOST_RECORDS + 2 {
-        match read_next(network, rows, &mut row, records) {
+        match read_next(items, rows, &mut row, records) {
             Ok(true) => {}
             Ok(false) => return Ok(()),
             Err(kind) => return Err(RecordFault { row: number, kind }),
@@ -73,14 +79,14 @@ fn read_rows<R: Read>(
 
 /// Reads the record of the next row, if there is one, and puts it behind the others.
 fn read_next<R: Read>(
-    network: &Network,
+    items: &NamedItems<'_>,
     rows: &mut Reader<R>,
     row: &mut StringRecord,
     records: &mut Vec<Record>,
 ) -> Result<bool, RecordFaultKind>
     requires gives { GivesAll rows.old }
     ensures gives { OnOk result (GivesAll rows.new) }
-    ensures exact { TellsNextRecord network.now (rows_left R.remaining rows.old) (rows_left R.remaining rows.new) records.old.items records.new.items result }
+    ensures exact { TellsNextRecord items.now (rows_left R.remaining rows.old) (rows_left R.remaining rows.new) records.old.items records.new.items result }
     ensures kept { OnErr result (records.new.items ≡ records.old.items) }
     ensures failed { IfErr result (λ kind. StopsReading kind (has_failed rows.new) (MOST_RECORDS ≤ length records.old.items) 0
         (rows_left R.remaining rows.old)) }
@@ -89,7 +95,7 @@ fn read_next<R: Read>(
     if !next_row(rows, row, full)? {
         return Ok(false);
     }
-    records.push(spelled_record(network, row)?)?;
+    records.push(spelled_record(items, row)?)?;
     Ok(true)
 }
 

@@ -3,13 +3,14 @@
 ghost use Rattle.std.specs.Prelude.{◌≡◌, IfOk};
 ghost use Rattle.csv.specs.Records.{fields_of};
 ghost use Rattle.mrp_grammar.specs.Grammar.{field, is_free};
-ghost use Rattle.mrp_stream.specs.Grammar.{spelled_close, spelled_end, record_is_empty_from, item_field, item_named};
+ghost use Rattle.mrp_stream.specs.Grammar.{spelled_close, spelled_end, record_is_empty_from, item_field};
 ghost use Rattle.mrp_stream.specs.Grammar.{spelled_line, number_field, spelled_reset, record_row_kind, spelled_record};
 
 use crate::RecordFaultKind;
+use crate::items::NamedItems;
 use crate::kind::Kind;
 use csv::StringRecord;
-use mrp_net::{ItemNo, Network};
+use mrp_net::ItemNo;
 use mrp_record::Record;
 use mrp_spell::number;
 
@@ -60,31 +61,25 @@ fn number_at(row: &StringRecord, i: usize) -> Result<u64, RecordFaultKind>
     number(field(row, i)).ok_or(RecordFaultKind::BadNumber)
 }
 
-/// The item of a name.
-fn item_named(network: &Network, name: &str) -> Option<ItemNo>
-    ensures { result ≡ item_named network.now name.now }
-{
-    let _pairs = network.pairs();
-    network.find_item(name)
-}
-
 /// The item of a row.
-fn item_at(network: &Network, row: &StringRecord) -> Result<ItemNo, RecordFaultKind>
-    ensures { result ≡ item_field network.now (fields_of row.now) }
+fn item_at(items: &NamedItems<'_>, row: &StringRecord) -> Result<ItemNo, RecordFaultKind>
+    ensures { result ≡ item_field items.now (fields_of row.now) }
 {
-    item_named(network, field(row, 2)).ok_or(RecordFaultKind::UnknownItem)
+    items
+        .find(field(row, 2))
+        .ok_or(RecordFaultKind::UnknownItem)
 }
 
 /// The line of a row.
 #[tactic(auto, unfolding(crate::specs::Grammar::spelled_line))]
-fn line_of(network: &Network, row: &StringRecord) -> Result<Record, RecordFaultKind>
-    ensures { result ≡ spelled_line network.now (fields_of row.now) }
+fn line_of(items: &NamedItems<'_>, row: &StringRecord) -> Result<Record, RecordFaultKind>
+    ensures { result ≡ spelled_line items.now (fields_of row.now) }
 {
     let number = number_at(row, 1)?;
     let period = number_at(row, 3)?;
     let quantity = number_at(row, 4)?;
     let cumulative = number_at(row, 5)?;
-    let item = item_at(network, row)?;
+    let item = item_at(items, row)?;
     Ok(Record::Line {
         number,
         item,
@@ -96,13 +91,13 @@ fn line_of(network: &Network, row: &StringRecord) -> Result<Record, RecordFaultK
 
 /// The item end of a row.
 #[tactic(auto, unfolding(crate::specs::Grammar::spelled_end))]
-fn end_of(network: &Network, row: &StringRecord) -> Result<Record, RecordFaultKind>
-    ensures { result ≡ spelled_end network.now (fields_of row.now) }
+fn end_of(items: &NamedItems<'_>, row: &StringRecord) -> Result<Record, RecordFaultKind>
+    ensures { result ≡ spelled_end items.now (fields_of row.now) }
 {
     let number = number_at(row, 1)?;
     let lines = number_at(row, 3)?;
     let cumulative = number_at(row, 4)?;
-    let item = item_at(network, row)?;
+    let item = item_at(items, row)?;
     Ok(Record::ItemEnd {
         number,
         item,
@@ -113,12 +108,12 @@ fn end_of(network: &Network, row: &StringRecord) -> Result<Record, RecordFaultKi
 
 /// The reset of a row.
 #[tactic(auto, unfolding(crate::specs::Grammar::spelled_reset))]
-fn reset_of(network: &Network, row: &StringRecord) -> Result<Record, RecordFaultKind>
-    ensures { result ≡ spelled_reset network.now (fields_of row.now) }
+fn reset_of(items: &NamedItems<'_>, row: &StringRecord) -> Result<Record, RecordFaultKind>
+    ensures { result ≡ spelled_reset items.now (fields_of row.now) }
 {
     let number = number_at(row, 1)?;
     let closed = number_at(row, 3)?;
-    let item = item_at(network, row)?;
+    let item = item_at(items, row)?;
     Ok(Record::Reset {
         number,
         item,
@@ -138,15 +133,15 @@ fn close_of(row: &StringRecord) -> Result<Record, RecordFaultKind>
 /// The record of a row whose fields are text, or the first fault of the row.
 #[tactic(auto, unfolding(crate::specs::Grammar::spelled_record))]
 pub(crate) fn spelled_record(
-    network: &Network,
+    items: &NamedItems<'_>,
     row: &StringRecord,
 ) -> Result<Record, RecordFaultKind>
-    ensures { result ≡ spelled_record network.now (fields_of row.now) }
+    ensures { result ≡ spelled_record items.now (fields_of row.now) }
 {
     match row_kind(row)? {
-        Kind::Line => line_of(network, row),
-        Kind::ItemEnd => end_of(network, row),
-        Kind::Reset => reset_of(network, row),
+        Kind::Line => line_of(items, row),
+        Kind::ItemEnd => end_of(items, row),
+        Kind::Reset => reset_of(items, row),
         Kind::Close => close_of(row),
     }
 }

@@ -1,9 +1,12 @@
 pub mod Adding
 pub mod Arrivals
 pub mod Finding
+pub mod Found
 pub mod Keys
+pub mod Known
 pub mod NewPair
 pub mod Starting
 pub mod StepCount
 pub mod TurnCount
 pub mod Waiting
+pub mod Words

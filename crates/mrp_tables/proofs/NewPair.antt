@@ -112,7 +112,7 @@ abbrev at_key : ℕ → ℕ → PairRow → Bool
 at_key plant item p = (p.plant.0 == plant) && (p.item.0 == item)
 
 -- where a name stands among the items with it
-new_place : (items : List (List ℕ)) (name : List ℕ) → list_any (bytes_eq name) items ≡ false → position (bytes_eq name) (items ++ name ∷ []) ≡ Some (length items)
+pub new_place : (items : List (List ℕ)) (name : List ℕ) → list_any (bytes_eq name) items ≡ false → position (bytes_eq name) (items ++ name ∷ []) ≡ Some (length items)
 new_place items name fresh =
     position_is (bytes_eq name) (items ++ name ∷ []) (length items) [] (omega (arith, length_push items name))
     (λ k lt. subst (λ (n : List ℕ). bytes_eq name n ≡ false) (sym (left items (name ∷ []) k lt)) (fails k lt))

@@ -1,4 +1,5 @@
 pub mod Drafts
+pub mod Keys
 pub mod Lists
 pub mod Spelled
 pub mod Steps

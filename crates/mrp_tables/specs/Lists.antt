@@ -13,6 +13,7 @@ use Rattle.mrp_rows.specs.declared.rows.CumRow.{CumRow}
 use Rattle.mrp_rows.specs.declared.rows.ResetRow.{ResetRow}
 use Rattle.mrp_grammar.specs.declared.fault.TableFaultKind.{TableFaultKind}
 use Rattle.mrp_grammar.specs.declared.fault.TableFaultKind.TheVariants as fault
+use Rattle.mrp_tables.specs.Keys.{Knows}
 use Rattle.mrp_tables.specs.declared.draft.LaneKey.{LaneKey}
 use Rattle.mrp_tables.specs.declared.draft.BillKey.{BillKey}
 use Rattle.mrp_tables.specs.declared.draft.Draft.{Draft}
@@ -75,6 +76,7 @@ AreLanes keys some = list_all (has_lane keys) some ≡ true
 -- what is kept beside the rows read so far fits them
 pub record HoldsRows (d : Draft) : Type 0 where
   pub rows : IsRead d.lists
+  pub knows : Knows d.lists d.known
   pub bill_keys : d.bill_keys.keys ≡ map bill_key_of d.lists.bills
   pub cum_keys : d.cum_keys.keys ≡ map cum_key_of d.lists.cums
   pub reset_keys : d.reset_keys.keys ≡ map reset_key_of d.lists.resets
@@ -95,6 +97,7 @@ pub record AddsRow (old new : Draft) : Type 0 where
 -- so many sources more of the pair that was added last
 pub record AddsSources (old new : Draft) (count : ℕ) : Type 0 where
   pub rows : IsRead new.lists
+  pub knows : Knows new.lists new.known
   pub fits : FitsRows new.lists new.lane_keys.keys new.lanes.items
   pub same : (row_count new.lists ≡ row_count old.lists) × (new.rows ≡ old.rows)
   pub bills : (new.bill_keys.keys ≡ old.bill_keys.keys) × (new.lists.bills ≡ old.lists.bills)

@@ -18,15 +18,17 @@ impl Draft {
     ghost use Rattle.mrp_rows.specs.Names.{plant_no};
     ghost use Rattle.mrp_tables.specs.Spelled.{bill_view};
     ghost use Rattle.mrp_rows.specs.Table.{IsBillRow, IsDemandRow, IsReceiptRow};
+    ghost use Rattle.mrp_tables.specs.Keys.{Knows};
     ghost use Rattle.mrp_tables.specs.Lists.{IsDraft, AddsRow};
     ghost use Rattle.mrp_rows.specs.Table.{IsRead};
 
     /// The plant of that name, which is often that of the last row.
     fn plant_named(&self, name: &str) -> Option<PlantNo>
+        requires knows { Knows self.now.lists self.now.known }
         ensures exact { option_map (λ p. p.0) result ≡ plant_no self.now.lists name.now }
         ensures within { IfSome result (λ plant. plant.0 < length self.now.lists.plants) }
     {
-        self.lists.find_plant_near(name, self.near)
+        self.find_plant_near(name, self.near)
     }
 
     /// Adds a bill row.
@@ -71,8 +73,8 @@ impl Draft {
         ensures room { OnOk result (length self.now.lists.bills < MOST_BILLS) }
     {
         let plant = self.plant_named(spelled.plant);
-        let parent = self.lists.find_named_pair(plant, spelled.parent);
-        let component = self.lists.find_named_pair(plant, spelled.component);
+        let parent = self.find_named_pair(plant, spelled.parent);
+        let component = self.find_named_pair(plant, spelled.component);
         if self.has_bill(parent, component) {
             return Err(TableFaultKind::Repeated);
         }
@@ -119,11 +121,12 @@ impl Draft {
     #[tactic(auto, unfolding(mrp_grammar::specs::Grammar::known_pair))]
     fn known_pair(&self, plant: &str, item: &str) -> Result<(PlantNo, PairNo), TableFaultKind>
         requires rows { IsRead self.now.lists }
+        requires knows { Knows self.now.lists self.now.known }
         ensures exact { result ≡ known_pair self.now.lists plant.now item.now }
         ensures pair { IfOk result (λ found. found.1.0 < length self.now.lists.pairs) }
     {
         let plant = self.plant_named(plant).ok_or(TableFaultKind::UnknownPlant)?;
-        let pair = self.lists.find_named_pair(Some(plant), item);
+        let pair = self.find_named_pair(Some(plant), item);
         let pair = pair.ok_or(TableFaultKind::UnknownPair)?;
         Ok((plant, pair))
     }

@@ -3,6 +3,7 @@
 ghost use Rattle.std.specs.Prelude.{◌≡◌, ◌+◌, OnOk, IfOk};
 
 use crate::kind::may_follow;
+use crate::names::KnownNames;
 use crate::spelled::{row_kind, spelled_run};
 use csv::StringRecord;
 use indexmap::IndexSet;
@@ -49,6 +50,8 @@ impl Lane {
 #[derive(Drop)]
 pub(crate) struct Draft {
     pub(crate) lists: RowLists,
+    /// The plants, the items and the pairs by their names.
+    pub(crate) known: KnownNames,
     /// The sources in the order of their rows, and what is known of each.
     pub(crate) lane_keys: IndexSet<LaneKey>,
     pub(crate) lanes: Vec<Lane>,
@@ -86,6 +89,7 @@ impl Draft {
         let calendar = spelled_run(row)?;
         Ok(Draft {
             lists: RowLists::new(alloc, calendar),
+            known: KnownNames::new(alloc),
             lane_keys: IndexSet::new(alloc),
             lanes: Vec::new(alloc),
             bill_keys: IndexSet::new(alloc),

@@ -70,9 +70,9 @@ impl Draft {
         ensures named { IsNamedLane self.now result }
         ensures place { result.place ≡ source_named self.now.lists (option_map (λ p. p.0) result.from) (option_map (λ x. x.0) result.pair) }
     {
-        let from = self.lists.find_plant_near(names.from, self.near_from);
-        let to = self.lists.find_plant_near(names.to, self.near);
-        let pair = self.lists.find_named_pair(to, names.item);
+        let from = self.find_plant_near(names.from, self.near_from);
+        let to = self.find_plant_near(names.to, self.near);
+        let pair = self.find_named_pair(to, names.item);
         NamedLane {
             from,
             to,

@@ -9,6 +9,8 @@ mod amounts;
 mod draft;
 mod kind;
 mod lanes;
+mod name_key;
+mod names;
 mod pairs;
 mod reading;
 mod spelled;

@@ -24,6 +24,7 @@ impl Draft {
     ghost use Rattle.mrp_tables.specs.Drafts.{FitsPair, IsNewPair, with_sources};
     ghost use Rattle.mrp_rows.specs.Names.{has_plant};
     ghost use Rattle.mrp_grammar.specs.Grammar.{knows_sources, pair_fits, pair_row, plant_in_row, plant_row, seen, source_row, TellsMade, with_pair_terms};
+    ghost use Rattle.mrp_tables.specs.Keys.{Knows};
     ghost use Rattle.mrp_tables.specs.Lists.{IsDraft, AddsRow, FitsRows, AddsSources};
     ghost use Rattle.mrp_rows.specs.Table.{IsRead};
     ghost use Rattle.mrp_rows.specs.Growing.{with_source};
@@ -42,20 +43,20 @@ impl Draft {
         ensures adds { OnOk result (AddsRow self.old self.new) }
     {
         let name = self.plant_of(row)?;
-        self.lists.add_plant(alloc, name)?;
-        Ok(())
+        self.known.add_plant(&mut self.lists, alloc, name)
     }
 
     /// The name of the plant that a plant row adds.
     #[tactic(auto, unfolding(mrp_grammar::specs::Grammar::plant_in_row))]
     fn plant_of<'r>(&self, row: &'r StringRecord) -> Result<&'r str, TableFaultKind>
+        requires knows { Knows self.now.lists self.now.known }
         ensures exact { seen (λ name. name.now) result ≡ plant_in_row self.now.lists (fields_of row.now) }
         ensures named { IfOk result (λ name. IsName name.now) }
         ensures fresh { IfOk result (λ name. has_plant self.now.lists name.now ≡ false) }
         ensures room { OnOk result (length self.now.lists.plants < MOST_PLANTS) }
     {
         let name = spelled_plant(row)?;
-        if self.lists.has_plant(name) {
+        if self.has_plant(name) {
             return Err(TableFaultKind::Repeated);
         }
         if self.lists.plants() >= MOST_PLANTS {
@@ -83,13 +84,14 @@ impl Draft {
     #[tactic(auto, unfolding(mrp_grammar::specs::Grammar::pair_fits))]
     fn pair_fits(&self, spelled: &SpelledPair<'_>) -> Result<PlantNo, TableFaultKind>
         requires rows { IsRead self.now.lists }
+        requires knows { Knows self.now.lists self.now.known }
         ensures exact { result ≡ pair_fits self.now.lists (pair_view spelled.now) }
         ensures fits { IfOk result (λ plant. FitsPair self.now.lists plant (pair_view spelled.now)) }
     {
-        if self.lists.has_pair(spelled.plant, spelled.item) {
+        if self.has_pair(spelled.plant, spelled.item) {
             return Err(TableFaultKind::Repeated);
         }
-        let plant = self.lists.find_plant(spelled.plant);
+        let plant = self.find_plant(spelled.plant);
         let plant = plant.ok_or(TableFaultKind::UnknownPlant)?;
         let sources = named_sources(&spelled.supply);
         if !self.knows_all(sources) {
@@ -106,6 +108,7 @@ impl Draft {
 
     /// Whether each source is a plant with a row.
     fn knows_all(&self, sources: &[SpelledSource<'_>]) -> bool
+        requires knows { Knows self.now.lists self.now.known }
         ensures exact { result ≡ knows_sources self.now.lists (map source_view sources.now) }
     {
         self.has_plants(sources)
@@ -113,11 +116,10 @@ impl Draft {
 
     /// Whether each source is a plant with a row.
     fn has_plants(&self, sources: &[SpelledSource<'_>]) -> bool
+        requires knows { Knows self.now.lists self.now.known }
         ensures { result ≡ list_all (λ s. has_plant self.now.lists s.plant.now) sources.now }
     {
-        sources
-            .iter()
-            .all(|source| self.lists.has_plant(source.plant))
+        sources.iter().all(|source| self.has_plant(source.plant))
     }
 
     /// Adds a pair that fits, its item where that is new, and its sources.
@@ -134,9 +136,9 @@ impl Draft {
         ensures table { OnOk result (self.new.lists ≡ with_pair_terms self.old.lists plant (pair_view spelled.now)) }
         ensures adds { OnOk result (AddsRow self.old self.new) }
     {
-        let item = self.lists.item_no(alloc, spelled.item)?;
+        let item = self.known.item_no(&mut self.lists, alloc, spelled.item)?;
         let pair = PairNo(self.lists.pairs().len());
-        self.lists.add_pair(PairRow {
+        let row = PairRow {
             plant,
             item,
             supply: supply_of(&spelled.supply),
@@ -144,7 +146,8 @@ impl Draft {
             lead: spelled.lead,
             on_hand: Qty::of(spelled.on_hand),
             safety: Qty::of(spelled.safety),
-        })?;
+        };
+        self.known.add_pair(&mut self.lists, row)?;
         self.add_sources(pair, named_sources(&spelled.supply))
     }
 
@@ -155,6 +158,7 @@ impl Draft {
         sources: &[SpelledSource<'_>],
     ) -> Result<(), TableFaultKind>
         requires rows { IsRead self.old.lists }
+        requires knows { Knows self.old.lists self.old.known }
         requires pair { pair.0 < length self.old.lists.pairs }
         requires sources { AreSources sources.now }
         requires known { knows_sources self.old.lists (map source_view sources.now) ≡ true }
@@ -174,6 +178,7 @@ impl Draft {
     /// Adds one source of a pair.
     fn add_source(&mut self, pair: PairNo, source: &SpelledSource<'_>) -> Result<(), TableFaultKind>
         requires rows { IsRead self.old.lists }
+        requires knows { Knows self.old.lists self.old.known }
         requires pair { pair.0 < length self.old.lists.pairs }
         requires source { IsSource source.now }
         requires known { has_plant self.old.lists source.now.plant.now ≡ true }
@@ -185,7 +190,7 @@ impl Draft {
         ensures table { OnOk result (self.new.lists ≡ with_source self.old.lists (source_row self.old.lists pair.0 (source_view source.now))) }
         ensures adds { OnOk result (AddsSources self.old self.new 1) }
     {
-        let Some(from) = self.lists.find_plant(source.plant) else {
+        let Some(from) = self.find_plant(source.plant) else {
             unreachable!();
         };
         if !self.lane_keys.insert(LaneKey { from, pair })? {

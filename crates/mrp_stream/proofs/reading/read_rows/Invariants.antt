@@ -8,7 +8,7 @@ use Rattle.mrp_stream.proofs.reading.read_rows.Given as goal
 abbrev pub invariant-loop-number : goal.invariant-loop-number
 invariant-loop-number g l = record {
   gives : GivesAll l.rows;
-  so_far : IsReadSoFar l.network (rows_left g.R.Read.remaining l.fn.rows) (rows_left g.R.Read.remaining l.rows) l.records.items;
+  so_far : IsReadSoFar l.items (rows_left g.R.Read.remaining l.fn.rows) (rows_left g.R.Read.remaining l.rows) l.records.items;
   few : length l.records.items ≤ MOST_RECORDS;
   count : length l.records.items + 1 ≡ l.number;
 }

@@ -1,10 +1,15 @@
-use Rattle.std.proofs.Common.{◌∙◌, ap, sym, ◌==◌, ◌&&◌, position, arith}
+use Rattle.std.proofs.Common.{◌∙◌, ap, ◌==◌, ◌&&◌, length, option_map, position}
+use Rattle.mrp_rows.specs.Places.{is_at}
 use Rattle.mrp_rows.specs.Table.{Table}
-use Rattle.mrp_rows.specs.contracts.row_lists.RowLists.{the_view}
-use Rattle.mrp_rows.proofs.Found.{no_item}
+use Rattle.mrp_rows.specs.declared.numbers.PairNo.{PairNo}
+use Rattle.mrp_rows.proofs.Found.{pair_within}
 use Rattle.mrp_rows.proofs.row_lists.RowLists.find_pair.Goals as goal
 
-pub returns-then-item-len-clause-place : goal.returns-then-item-len-clause-place
-returns-then-item-len-clause-place c =
-    sym (no_item (the_view c.self.inside) c.args.plant.0 c.args.item.0 (omega (arith, c.len.ensures, c.if-item-len.true)) c.self.invariant.0)
-    ∙ ap (λ (N : Table). position (λ p. (p.plant.0 == c.args.plant.0) && (p.item.0 == c.args.item.0)) N.pairs) c.self.view_is
+pub returns-clause-place : goal.returns-clause-place
+returns-clause-place c =
+    ap (option_map (λ (x : PairNo). x.0)) (c.copied.ensures ∙ c.get.ensures.value)
+    ∙ c.self.invariant.1 (record { plant = c.args.plant; item = c.args.item })
+    ∙ ap (λ (N : Table). position (is_at c.args.plant.0 c.args.item.0) N.pairs) c.self.view_is
+
+pub returns-clause-within : goal.returns-clause-within
+returns-clause-within c = pair_within (is_at c.args.plant.0 c.args.item.0) c.args.self.now.pairs c.copied.result (returns-clause-place c)

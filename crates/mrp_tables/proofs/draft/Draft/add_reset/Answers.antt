@@ -1,6 +1,7 @@
 use Rattle.std.proofs.Common.{◌≡◌, ◌+◌, ◌<◌, ◌∷◌, ◌++◌, [], List, if◌then◌else◌, length, map, ◌∙◌, ap, subst, sym, not, true≢false, refl, arith, rules}
 use Rattle.std.specs.List.{IsDistinct}
 use Rattle.std.proofs.lemmas.List.{length-map, length_push, map-append}
+use Rattle.mrp_tables.specs.Keys.{Knows}
 use Rattle.mrp_tables.specs.declared.draft.LaneKey.{LaneKey}
 use Rattle.mrp_rows.specs.declared.rows.SourceRow.{SourceRow}
 use Rattle.mrp_tables.specs.Lists.{AreLanes, FitsRows, is_same_lane, reset_key_of}
@@ -50,6 +51,7 @@ returns-clause-adds c =
     record {
       holds = record {
         rows = search rules;
+        knows = subst (λ (M : Table). Knows M self.known) made old.knows;
         bill_keys = search rules;
         cum_keys = search rules;
         reset_keys = keys ∙ named ∙ ap (λ (M : Table). map reset_key_of M.resets) made;

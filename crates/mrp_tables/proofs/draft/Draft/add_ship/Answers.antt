@@ -1,5 +1,6 @@
 use Rattle.std.proofs.Common.{◌≡◌, ◌+◌, set, sym, ◌∙◌, subst, refl, arith, rules}
 use Rattle.std.proofs.lemmas.List.{length-set, length_push}
+use Rattle.mrp_tables.specs.Keys.{Knows}
 use Rattle.mrp_tables.specs.declared.draft.Lane.{Lane}
 use Rattle.mrp_rows.specs.declared.rows.SourceRow.{SourceRow}
 use Rattle.mrp_tables.specs.Lists.{after_ship, FitsRows}
@@ -35,6 +36,7 @@ returns-clause-adds c =
     record {
       holds = record {
         rows = search rules;
+        knows = subst (λ (M : Table). Knows M self.known) made old.knows;
         bill_keys = search rules;
         cum_keys = search rules;
         reset_keys = search rules;

@@ -1,5 +1,6 @@
 use Rattle.std.proofs.Common.{◌≡◌, ◌∷◌, ◌++◌, [], List, ℕ, Option, if◌then◌else◌, unwrap_or, length, ◌∙◌, ap, subst, sym, not, false, true≢false, refl}
 use Rattle.std.proofs.lemmas.List.{length_push}
+use Rattle.mrp_tables.specs.Keys.{Knows}
 use Rattle.mrp_tables.specs.declared.draft.LaneKey.{LaneKey}
 use Rattle.mrp_rows.specs.declared.numbers.PlantNo.{PlantNo}
 use Rattle.mrp_rows.specs.declared.rows.SourceRow.{SourceRow}
@@ -37,6 +38,7 @@ returns-clause-adds c =
     let fits = source_fit N c.add_source.new.self s self.lane_keys.keys c.insert.new.self.keys self.lanes.items c.push.new.self.items table keys c.insert.ensures.unique c.in_ok-push.ensures.items c.requires.fits c.requires.ships c.requires.room in
     record {
       rows = c.in_ok-add_source.ensures.rows;
+      knows = subst (λ (M : Table). Knows M self.known) (sym table) c.requires.knows;
       fits = fits;
       same = (ap row_count table, refl);
       bills = (refl, ap (λ (T : Table). T.bills) table);

@@ -59,6 +59,7 @@ loop-source-preserved c =
     let p = c.loop-source.invariant.0 in (
       record {
         rows = a.rows;
+        knows = a.knows;
         fits = a.fits;
         same = (a.same.0 ∙ p.same.0, a.same.1 ∙ p.same.1);
         bills = (a.bills.0 ∙ p.bills.0, a.bills.1 ∙ p.bills.1);

@@ -76,4 +76,4 @@ add_sources-requires-clause-known c = rw (c.named_sources.ensures.exact, c.in_ok
 pub add_sources-requires-clause-fresh : goal.add_sources-requires-clause-fresh
 add_sources-requires-clause-fresh c =
     let at = ap length c.pairs.ensures.value ∙ ap (λ (T : Table). length T.pairs) c.in_ok-item.ensures.table in
-    pair_new c.args.self.now.lists c.item_no.new.self c.add_pair.new.self _ _ _ c.in_ok-item.ensures.table c.in_ok-add_pair.ensures.table at c.requires.draft.holds.rows
+    pair_new c.args.self.now.lists c.item_no.new.lists c.add_pair.new.lists _ _ _ c.in_ok-item.ensures.table c.in_ok-add_pair.ensures.table at c.requires.draft.holds.rows

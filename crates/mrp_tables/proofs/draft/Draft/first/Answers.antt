@@ -2,6 +2,7 @@ use Rattle.std.proofs.Common.{Ok, refl, sym, ◌∙◌, subst, rules}
 use Rattle.csv.specs.Records.{fields_of}
 use Rattle.mrp_rows.specs.Table.{Table}
 use Rattle.mrp_grammar.specs.Reading.{Starts}
+use Rattle.mrp_tables.specs.Keys.{Knows}
 use Rattle.mrp_tables.proofs.Arrivals.{no_lanes}
 use Rattle.mrp_tables.proofs.Starting.{first-bad_kind, first-bad_order, first-calendar, other_kind, run_kind, unless_memory}
 use Rattle.mrp_grammar.proofs.KeepingSteps.{handed_on}
@@ -36,13 +37,14 @@ pub returns-clause-draft : goal.returns-clause-draft
 returns-clause-draft c = record {
   holds = record {
     rows = c.new.ensures.rows;
+    knows = subst (λ (N : Table). Knows N c.new-2.result) (sym c.new.ensures.table) c.new-2.ensures.knows;
     bill_keys = search rules;
     cum_keys = search rules;
     reset_keys = search rules;
-    resets = no_lanes c.new-2.result.keys c.new-6.result.keys c.new-6.ensures.len;
+    resets = no_lanes c.new-3.result.keys c.new-7.result.keys c.new-7.ensures.len;
     fits = record {
       lane_keys = search rules;
-      apart = c.new-2.ensures.unique;
+      apart = c.new-3.ensures.unique;
       each = search rules;
       lanes = search rules;
       sources = search rules;

@@ -1,0 +1,207 @@
+//! The plants, the items and the pairs of the rows so far, found by their names.
+
+ghost use Rattle.std.specs.Prelude.{◌≡◌, ℕ, List, position};
+ghost use Rattle.std.specs.Str.{bytes_eq};
+ghost use Rattle.mrp_tables.specs.Keys.{FindsNames};
+
+use crate::draft::Draft;
+use crate::name_key::{NameKey, PairKey};
+use indexmap::IndexSet;
+use mrp_grammar::TableFaultKind;
+use mrp_rows::{ItemNo, PairNo, PairRow, PlantNo, RowLists, is_same_text};
+use std::alloc::Global;
+
+/// The plants, the items and the pairs of the rows so far by their keys, in their order.
+#[derive(Drop)]
+pub(crate) struct KnownNames {
+    plants: IndexSet<NameKey>,
+    items: IndexSet<NameKey>,
+    pairs: IndexSet<PairKey>,
+}
+
+impl KnownNames {
+    ghost use Rattle.std.specs.Prelude.{◌≡◌, ◌<◌, ◌==◌, ◌&&◌, [], false, length, position, unwrap_or, IfErr, IfOk, OnOk};
+    ghost use Rattle.std.specs.List.{list_any};
+    ghost use Rattle.std.specs.Str.{bytes_eq};
+    ghost use Rattle.mrp_grammar.specs.declared.fault.TableFaultKind.TheVariants.{Memory};
+    ghost use Rattle.mrp_qty.specs.declared.limits.TheConstants.{MOST_PAIRS, MOST_PLANTS};
+    ghost use Rattle.mrp_rows.specs.Growing.{with_item, with_pair, with_plant};
+    ghost use Rattle.mrp_rows.specs.Names.{has_plant};
+    ghost use Rattle.mrp_rows.specs.Table.{IsName, IsPairRow, IsRead};
+    ghost use Rattle.mrp_tables.specs.Keys.{FindsAll, Knows};
+
+    /// No names.
+    pub(crate) fn new(alloc: Global) -> KnownNames
+        ensures knows { FindsAll [] [] [] result }
+    {
+        KnownNames {
+            plants: IndexSet::new(alloc),
+            items: IndexSet::new(alloc),
+            pairs: IndexSet::new(alloc),
+        }
+    }
+
+    /// Adds a plant, of which there is no row yet.
+    pub(crate) fn add_plant(
+        &mut self,
+        lists: &mut RowLists,
+        alloc: Global,
+        name: &str,
+    ) -> Result<(), TableFaultKind>
+        requires knows { Knows lists.old self.old }
+        requires named { IsName name.now }
+        requires fresh { has_plant lists.old name.now ≡ false }
+        requires room { length lists.old.plants < MOST_PLANTS }
+        ensures memory { IfErr result (λ fault. fault ≡ Memory) }
+        ensures rows { OnOk result (IsRead lists.new) }
+        ensures table { OnOk result (lists.new ≡ with_plant lists.old name.now) }
+        ensures knows { OnOk result (Knows lists.new self.new) }
+    {
+        let Some(key) = NameKey::of(name) else {
+            unreachable!();
+        };
+        if !self.plants.insert(key)? {
+            unreachable!();
+        }
+        lists.add_plant(alloc, name)?;
+        Ok(())
+    }
+
+    /// The item of that name, which is new where no pair row has named it.
+    pub(crate) fn item_no(
+        &mut self,
+        lists: &mut RowLists,
+        alloc: Global,
+        name: &str,
+    ) -> Result<ItemNo, TableFaultKind>
+        requires rows { IsRead lists.old }
+        requires knows { Knows lists.old self.old }
+        requires named { IsName name.now }
+        requires room { length lists.old.items < MOST_PAIRS }
+        ensures memory { IfErr result (λ fault. fault ≡ Memory) }
+        ensures rows { OnOk result (IsRead lists.new) }
+        ensures table { OnOk result (lists.new ≡ with_item lists.old name.now) }
+        ensures knows { OnOk result (Knows lists.new self.new) }
+        ensures place { IfOk result (λ item. item.0 ≡ unwrap_or (position (bytes_eq name.now) lists.new.items) 0) }
+        ensures within { IfOk result (λ item. item.0 < length lists.new.items) }
+    {
+        let Some(key) = NameKey::of(name) else {
+            unreachable!();
+        };
+        let (place, is_new) = self.items.insert_full(key)?;
+        if !is_new {
+            return Ok(ItemNo(place));
+        }
+        lists.add_item(alloc, name)?;
+        Ok(ItemNo(place))
+    }
+
+    /// Adds a pair, of which there is no row yet.
+    pub(crate) fn add_pair(
+        &mut self,
+        lists: &mut RowLists,
+        row: PairRow,
+    ) -> Result<(), TableFaultKind>
+        requires rows { IsRead lists.old }
+        requires knows { Knows lists.old self.old }
+        requires row { IsPairRow lists.old row }
+        requires fresh { list_any (λ p. (p.plant.0 == row.plant.0) && (p.item.0 == row.item.0)) lists.old.pairs ≡ false }
+        requires room { length lists.old.pairs < MOST_PAIRS }
+        ensures memory { IfErr result (λ fault. fault ≡ Memory) }
+        ensures rows { OnOk result (IsRead lists.new) }
+        ensures table { OnOk result (lists.new ≡ with_pair lists.old row) }
+        ensures knows { OnOk result (Knows lists.new self.new) }
+    {
+        let Some(item) = NameKey::of(lists.item_name(row.item)) else {
+            unreachable!();
+        };
+        let plant = row.plant;
+        if !self.pairs.insert(PairKey { plant, item })? {
+            unreachable!();
+        }
+        lists.add_pair(row)?;
+        Ok(())
+    }
+}
+
+impl Draft {
+    ghost use Rattle.std.specs.Prelude.{◌≡◌, ◌<◌, is_some, length, option_map, IfSome, IsTrue, Some};
+    ghost use Rattle.mrp_rows.specs.Names.{has_plant, pair_named, plant_no};
+    ghost use Rattle.mrp_rows.specs.Table.{IsRead};
+    ghost use Rattle.mrp_tables.specs.Keys.{Knows};
+
+    /// Whether there is a plant of that name.
+    pub(crate) fn has_plant(&self, name: &str) -> bool
+        requires knows { Knows self.now.lists self.now.known }
+        ensures exact { result ≡ has_plant self.now.lists name.now }
+    {
+        self.find_plant(name).is_some()
+    }
+
+    /// The plant of that name, if there is one.
+    pub(crate) fn find_plant(&self, name: &str) -> Option<PlantNo>
+        requires knows { Knows self.now.lists self.now.known }
+        ensures place { option_map (λ p. p.0) result ≡ plant_no self.now.lists name.now }
+        ensures within { IfSome result (λ p. p.0 < length self.now.lists.plants) }
+    {
+        place_of(&self.known.plants, name).map(PlantNo)
+    }
+
+    /// The plant of that name, which is looked for at the place `near` first.
+    pub(crate) fn find_plant_near(&self, name: &str, near: usize) -> Option<PlantNo>
+        requires knows { Knows self.now.lists self.now.known }
+        ensures place { option_map (λ p. p.0) result ≡ plant_no self.now.lists name.now }
+        ensures within { IfSome result (λ p. p.0 < length self.now.lists.plants) }
+    {
+        if self.is_plant_at(name, near) {
+            Some(PlantNo(near))
+        } else {
+            self.find_plant(name)
+        }
+    }
+
+    /// Whether the plant at a place has that name.
+    fn is_plant_at(&self, name: &str, place: usize) -> bool
+        requires knows { Knows self.now.lists self.now.known }
+        ensures place { IsTrue result → plant_no self.now.lists name.now ≡ Some place }
+        ensures within { IsTrue result → place < length self.now.lists.plants }
+    {
+        if place >= self.lists.plants() {
+            return false;
+        }
+        is_same_text(self.lists.plant_name(PlantNo(place)), name)
+    }
+
+    /// The pair of a plant and of the item of that name.
+    pub(crate) fn find_named_pair(&self, plant: Option<PlantNo>, item: &str) -> Option<PairNo>
+        requires rows { IsRead self.now.lists }
+        requires knows { Knows self.now.lists self.now.known }
+        ensures exact { option_map (λ x. x.0) result ≡ pair_named self.now.lists (option_map (λ p. p.0) plant) item.now }
+        ensures within { IfSome result (λ pair. pair.0 < length self.now.lists.pairs) }
+    {
+        let plant = plant?;
+        let item = NameKey::of(item)?;
+        match self.known.pairs.get_index_of(&PairKey { plant, item }) {
+            Some(place) => Some(PairNo(place)),
+            None => None,
+        }
+    }
+
+    /// Whether there is a row of the pair of these names.
+    pub(crate) fn has_pair(&self, plant: &str, item: &str) -> bool
+        requires rows { IsRead self.now.lists }
+        requires knows { Knows self.now.lists self.now.known }
+        ensures exact { result ≡ is_some (pair_named self.now.lists (plant_no self.now.lists plant.now) item.now) }
+    {
+        let plant = self.find_plant(plant);
+        self.find_named_pair(plant, item).is_some()
+    }
+}
+
+/// The place of a name by its key, from 0, or `None` where it isn't there.
+fn place_of(keys: &IndexSet<NameKey>, name: &str) -> Option<usize>
+    ensures exact { (names : List (List ℕ)) → FindsNames names keys.now.keys → result ≡ position (bytes_eq name.now) names }
+{
+    let key = NameKey::of(name)?;
+    keys.get_index_of(&key)
+}
