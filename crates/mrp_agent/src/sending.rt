@@ -3,7 +3,6 @@
 ghost use Rattle.std.specs.Prelude.{◌≡◌, ◌==◌, ◌<◌, ◌≤◌, count_by, length, position};
 ghost use Rattle.std.specs.List.{position_or_len};
 ghost use Rattle.mrp_view.specs.Loads.{load_at};
-ghost use Rattle.mrp_local.specs.Goods.{share};
 ghost use Rattle.mrp_agent.specs.Sending.{next_shipment, next_called, left_to_ship, left_to_call, figure_in, IsCallShare};
 ghost use Rattle.mrp_agent.specs.After.{gone_on};
 ghost use Rattle.mrp_agent.specs.Kept.{IsShowing};
@@ -13,9 +12,9 @@ use crate::Agent;
 use crate::booking::incoming_near;
 use mrp_book::Book;
 use mrp_cursor::{NextLine, OutCursor, Remainder};
-use mrp_net::{LaneKind, LaneNo, Shipment};
+use mrp_net::{LaneKind, LaneNo, Shipment, share_of};
 use mrp_netting::PairPlan;
-use mrp_qty::{Qty, Row};
+use mrp_qty::Row;
 use mrp_record::Record;
 use mrp_rows::ItemNo;
 use mrp_view::{Call, OutgoingItem, OutgoingItems, OutgoingLane};
@@ -240,7 +239,7 @@ fn next_call(release: &Row, call: &Call, mark: usize) -> Option<NextLine>
     ensures { result ≡ next_called release.now call.now mark }
 {
     for period in mark..release.len() {
-        let quantity = share(call, release.get(period));
+        let quantity = share_of(call.low, call.high, release.get(period).get());
         if quantity > 0 {
             return Some(NextLine {
                 period: period as u64,
@@ -250,13 +249,4 @@ fn next_call(release: &Row, call: &Call, mark: usize) -> Option<NextLine>
         }
     }
     None
-}
-
-/// The share of a release that a lane's supplier is called for.
-fn share(call: &Call, release: Qty) -> u64
-    requires { IsCallShare call.now }
-    ensures { result ≡ share call.now release }
-{
-    let pieces = release.get();
-    pieces * call.high / 1000 - pieces * call.low / 1000
 }

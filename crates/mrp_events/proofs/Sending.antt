@@ -31,7 +31,8 @@ use Rattle.mrp_record.proofs.Figures.{cum_is_opening_and_moved}
 use Rattle.mrp_events.specs.Loads.{delivery_of, by_period, despatched, lines_by, load_of, loads}
 use Rattle.mrp_events.specs.Steps.{is_rising}
 use Rattle.mrp_events.specs.Local.{brought_by}
-use Rattle.mrp_events.specs.Seen.{DespatchesAreSeen, SchedulesAreSeen, SchedulesOpenAfterShipments, share_of, form_item_of, FormsAreSeen, BroughtIsSeen}
+use Rattle.mrp_net.specs.Shares.{share_of}
+use Rattle.mrp_events.specs.Seen.{DespatchesAreSeen, SchedulesAreSeen, SchedulesOpenAfterShipments, form_item_of, FormsAreSeen, BroughtIsSeen}
 use Rattle.mrp_events.proofs.Calling.{supplier_by_kind}
 use Rattle.mrp_events.proofs.Small.{loads_stand_once, load_is_there, shipped_total}
 

@@ -1,5 +1,5 @@
 -- What a plant sees of its lanes says what they carry.
-use Rattle.std.specs.Prelude.{◌≡◌, ℕ, ◌-◌, ◌*◌, ◌/◌, ◌<◌, if◌then◌else◌, Bool, true, List, length, map, sum_by, Contains}
+use Rattle.std.specs.Prelude.{◌≡◌, ℕ, ◌-◌, ◌<◌, if◌then◌else◌, Bool, true, List, length, map, sum_by, Contains}
 use Rattle.mrp_lot.specs.One.{PlanRows}
 use Rattle.mrp_rows.specs.declared.numbers.ItemNo.{ItemNo}
 use Rattle.mrp_rows.specs.Table.{Table, IsTable, horizon}
@@ -13,6 +13,7 @@ use Rattle.mrp_net.specs.LaneLaws.{AreBothLanes}
 use Rattle.mrp_net.specs.Plan.{release_at}
 use Rattle.mrp_view.specs.Loads as seen
 use Rattle.mrp_net.specs.Plan.{plan_of}
+use Rattle.mrp_net.specs.Shares.{share_of}
 use Rattle.mrp_net.specs.Sources.{source_on}
 use Rattle.mrp_net.specs.Sums.{pair_at}
 use Rattle.mrp_view.specs.View.{incoming_lane, outgoing_item, plant_rows}
@@ -35,9 +36,6 @@ abbrev pub despatch_load : seen.OutgoingLoad → Load
 despatch_load i = record { item = i.item.0; opening = i.figure; reset = i.reset; lines = map delivery_of i.shipments }
 
 -- a schedule lane's load, from an opening figure on: the share that is called for of what is released for the pair
-abbrev pub share_of : ℕ → ℕ → ℕ → ℕ
-share_of low high release = (release * high) / 1000 - (release * low) / 1000
-
 abbrev pub schedule_load : ℕ → ℕ → (ℕ → ℕ) → seen.OutgoingLoad → Load
 schedule_load periods opening release i = record {
   item = i.item.0;

@@ -13,7 +13,7 @@ use Rattle.mrp_view.specs.View.{PlantRows}
 use Rattle.mrp_record.specs.declared.record.Record.{Record}
 use Rattle.mrp_record.specs.Entries.{Delivery, contents, cum}
 use Rattle.mrp_events.specs.Loads.{delivery_of, delivery_in, has_pieces}
-use Rattle.mrp_events.specs.Seen.{share_of}
+use Rattle.mrp_net.specs.Shares.{share_of}
 use Rattle.mrp_cursor.specs.Cursor.{Goods}
 
 -- ---- despatch lanes

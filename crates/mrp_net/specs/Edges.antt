@@ -1,10 +1,11 @@
 -- Who takes from whom: the edges of a network, read off its rows.
-use Rattle.std.specs.Prelude.{ℕ, ◌-◌, ◌*◌, ◌/◌, List, ◌++◌, length, map}
+use Rattle.std.specs.Prelude.{ℕ, ◌*◌, List, ◌++◌, length, map}
 use Rattle.mrp_group.specs.Groups.{group, sorted_by}
 use Rattle.mrp_rows.specs.declared.rows.BillRow.{BillRow}
 use Rattle.mrp_rows.specs.declared.rows.SourceRow.{SourceRow}
 use Rattle.mrp_rows.specs.Table.{Table, source_pair}
 use Rattle.mrp_net.specs.declared.edge.Edge.{Edge}
+use Rattle.mrp_net.specs.Shares.{share_of}
 
 -- a made parent takes each component, so many in one, for its whole release
 abbrev pub bill_edge : BillRow → Edge
@@ -23,10 +24,9 @@ edges N = map bill_edge N.bills ++ map (source_edge N) N.sources
 abbrev pub demanders : Table → ℕ → List Edge
 demanders N x = sorted_by (λ e. e.demander.0) (length N.pairs) (group (λ e. e.pair.0) x (edges N))
 
--- the edge's part of a release: what its shares up to `high` make, less what those up to `low` make, each rounded down.
--- So the parts of all sources of a pair are the whole release. A component's part is the whole.
+-- the edge's part of a release: its share, and of a component the whole
 abbrev pub part : Edge → ℕ → ℕ
-part e release = (release * e.high) / 1000 - (release * e.low) / 1000
+part e release = share_of e.low e.high release
 
 -- what a release asks of the edge's pair
 abbrev pub edge_need : Edge → ℕ → ℕ

@@ -9,6 +9,7 @@ pub mod Plan
 pub mod PlanLaws
 pub mod RouteLaws
 pub mod Routes
+pub mod Shares
 pub mod SourceRows
 pub mod Sources
 pub mod Sums

@@ -12,9 +12,11 @@ mod lane;
 mod lanes;
 pub mod laws;
 mod network;
+mod shares;
 mod sums;
 
 pub use edge::Edge;
 pub use lane::{Lane, LaneKind, LaneNo, Shipment};
 pub use mrp_rows::{ItemNo, PairNo, PairRow, PlantNo, ReceiptRow, ShipRow, SourceRow, Supply};
 pub use network::Network;
+pub use shares::share_of;

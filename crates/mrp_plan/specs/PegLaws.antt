@@ -1,5 +1,5 @@
 -- Laws of pegging: the terms of a period are its gross requirement, and each of them is what a row of the table asks.
-use Rattle.std.specs.Prelude.{◌≡◌, ℕ, ◌-◌, ◌*◌, ◌/◌, ◌<◌, List, sum_by, slice_index, All, Contains}
+use Rattle.std.specs.Prelude.{◌≡◌, ℕ, ◌*◌, ◌<◌, List, sum_by, slice_index, All, Contains}
 use Rattle.mrp_lot.specs.One.{PlanRows}
 use Rattle.mrp_rows.specs.declared.rows.BillRow.{BillRow}
 use Rattle.mrp_rows.specs.declared.rows.SourceRow.{SourceRow}
@@ -7,6 +7,7 @@ use Rattle.mrp_rows.specs.Table.{Table, IsTable, IsPair, horizon, source_pair}
 use Rattle.mrp_net.specs.Sums.{demand}
 use Rattle.mrp_net.specs.Plan.{rows_at}
 use Rattle.mrp_net.specs.PlanLaws.{Fits}
+use Rattle.mrp_net.specs.Shares.{share_of}
 use Rattle.mrp_plan.specs.Peg.{peg_terms}
 use Rattle.mrp_plan.specs.declared.terms.PegTerm.{PegTerm}
 use Rattle.mrp_plan.specs.declared.terms.PegSource.{PegSource}
@@ -41,15 +42,14 @@ pub record IsBillTerm (N : Table) (table : List PlanRows) (x t : ℕ) (p : PegTe
   pub per : row.per ≡ p.per
   pub release : p.release ≡ released_in table p.pair.0 t
 
--- a source, by which a pair takes its share of its release from this one, one for one: what the release makes up to
--- the share's end in whole pieces, less what it makes up to its beginning
+-- a source, by which a pair takes its share of its release from this one, one for one
 pub record IsPlantTerm (N : Table) (table : List PlanRows) (x t : ℕ) (p : PegTerm) : Type 0 where
   pub row : SourceRow
   pub listed : Contains N.sources row
   pub taker : row.pair ≡ p.pair
   pub supplier : source_pair N row ≡ x
   pub per : p.per ≡ 1
-  pub release : p.release ≡ (released_in table p.pair.0 t * row.high) / 1000 - (released_in table p.pair.0 t * row.low) / 1000
+  pub release : p.release ≡ share_of row.low row.high (released_in table p.pair.0 t)
 
 -- what a term of each source is
 abbrev pub IsTermOf : Table → List PlanRows → ℕ → ℕ → PegTerm → PegSource → Type 0

@@ -2,11 +2,11 @@
 
 ghost use Rattle.std.specs.Prelude.{◌≡◌, ◌+◌, ◌*◌, ◌<◌, ◌≤◌, ◌↔◌, ℕ, IsTrue, length, sum, sum_by, slice_index, All};
 ghost use Rattle.mrp_qty.specs.declared.quantity.TheConstants.{MOST};
-ghost use Rattle.mrp_net.specs.Edges.{part, edge_need};
+ghost use Rattle.mrp_net.specs.Edges.{edge_need};
 ghost use Rattle.mrp_net.specs.Plan.{rows_at, asked};
 ghost use Rattle.mrp_plan.specs.Explosion.{CanExplode, asked_total};
 
-use mrp_net::Edge;
+use mrp_net::{Edge, share_of};
 use mrp_netting::PairPlan;
 use mrp_qty::{Qty, Row};
 
@@ -15,20 +15,6 @@ fn is_whole(edge: &Edge) -> bool
     ensures { IsTrue result ↔ ((edge.now.low ≡ 0) × (edge.now.high ≡ 1000)) }
 {
     edge.low == 0 && edge.high == 1000
-}
-
-/// The edge's part of a release of so many pieces.
-pub(crate) fn part_of(edge: &Edge, release: u64) -> u64
-    requires shares { edge.now.low ≤ edge.now.high }
-    requires whole { edge.now.high ≤ 1000 }
-    requires within { release ≤ MOST }
-    ensures value { result ≡ part edge.now release }
-    ensures part { result ≤ release }
-{
-    if is_whole(edge) {
-        return release;
-    }
-    release * edge.high / 1000 - release * edge.low / 1000
 }
 
 /// Adds to `gross` what the edge asks for the releases of its demander.
@@ -63,7 +49,8 @@ fn explode_part(edge: &Edge, release: &Row, gross: &mut Row)
         let released = release.get(t);
         let quantity = released.get();
         if quantity != 0 {
-            gross.add(t, Qty::of(edge.per * part_of(edge, quantity)));
+            let part = share_of(edge.low, edge.high, quantity);
+            gross.add(t, Qty::of(edge.per * part));
         }
     }
 }

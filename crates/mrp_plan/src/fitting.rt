@@ -13,9 +13,8 @@ ghost use Rattle.mrp_plan.specs.Explosion.{CanAsk};
 ghost use Rattle.mrp_plan.specs.Progress.{CanBeDrafted, HavePeriods, IsPlannedTo};
 
 use crate::Plan;
-use crate::explosion::part_of;
 use mrp_loops::SizedNet;
-use mrp_net::{Edge, Network, PairNo};
+use mrp_net::{Edge, Network, PairNo, share_of};
 use mrp_netting::is_plan;
 use mrp_qty::Row;
 
@@ -127,7 +126,7 @@ fn asked_in(edges: &[Edge], plan: &Plan, t: usize) -> u64
     let mut total = 0;
     for edge in edges {
         let released = plan.pair(edge.demander).release().get(t);
-        total += edge.per * part_of(edge, released.get());
+        total += edge.per * share_of(edge.low, edge.high, released.get());
     }
     total
 }

@@ -6,10 +6,9 @@ ghost use Rattle.mrp_net.specs.Edges.{demanders};
 ghost use Rattle.mrp_net.specs.PlanLaws.{Fits};
 ghost use Rattle.mrp_plan.specs.Peg.{peg_terms, is_asked, IsPeggable, demand_term as demand_term_of, edge_term as edge_term_of};
 
-use crate::explosion::part_of;
 use crate::{PegSource, PegTerm, Plan};
 use mrp_loops::SizedNet;
-use mrp_net::{Edge, Network, PairNo};
+use mrp_net::{Edge, Network, PairNo, share_of};
 use mrp_qty::Memory;
 use std::alloc::Global;
 
@@ -106,7 +105,7 @@ pub fn edge_term(network: &Network, plan: &Plan, edge: &Edge, t: usize) -> PegTe
     ensures { result ≡ edge_term_of network.now plan.now t edge.now }
 {
     let released = plan.pair(edge.demander).release().get(t);
-    let release = part_of(edge, released.get());
+    let release = share_of(edge.low, edge.high, released.get());
     let demander = network.pair(edge.demander);
     let source = if demander.plant.0 == network.pair(edge.pair).plant.0 {
         PegSource::Bill

@@ -4,7 +4,7 @@ use Rattle.std.specs.Prelude.{Option, Some, None, filter_map}
 use Rattle.mrp_rows.specs.declared.rows.SourceRow.{SourceRow}
 use Rattle.mrp_record.specs.Entries.{Delivery}
 use Rattle.mrp_record.specs.Text.{body, early, late, total}
-use Rattle.mrp_events.specs.Seen.{share_of}
+use Rattle.mrp_net.specs.Shares.{share_of}
 use Rattle.mrp_schedule.specs.declared.line.ScheduleLine.{ScheduleLine}
 use Rattle.mrp_schedule.specs.declared.line.ScheduleLine.TheVariants.{Call, Reset}
 use Rattle.mrp_schedule.specs.Calls.{amounts, call_lines, calls_by}

@@ -4,7 +4,7 @@ use Rattle.std.specs.List.{range_with_len}
 use Rattle.mrp_rows.specs.declared.rows.SourceRow.{SourceRow}
 use Rattle.mrp_record.specs.Entries.{Delivery}
 use Rattle.mrp_events.specs.Loads.{delivery_in, has_pieces}
-use Rattle.mrp_events.specs.Seen.{share_of}
+use Rattle.mrp_net.specs.Shares.{share_of}
 use Rattle.mrp_schedule.specs.declared.line.ScheduleLine.{ScheduleLine}
 use Rattle.mrp_schedule.specs.declared.line.ScheduleLine.TheVariants.{Call}
 

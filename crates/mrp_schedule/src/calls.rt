@@ -3,11 +3,12 @@
 ghost use Rattle.std.specs.Prelude.{◌≡◌, ℕ, ◌+◌, ◌-◌, ◌≤◌, ◌++◌, IfSome, filter_map, length, slice_index, vec_capacity};
 ghost use Rattle.mrp_qty.specs.declared.quantity.TheConstants.{MOST};
 ghost use Rattle.mrp_record.specs.Text.{body, total};
-ghost use Rattle.mrp_events.specs.Seen.{share_of};
+ghost use Rattle.mrp_net.specs.Shares.{share_of};
 ghost use Rattle.mrp_schedule.specs.Schedule.{line_of};
 ghost use Rattle.mrp_schedule.specs.Calls.{call_lines, calls_by};
 
 use crate::ScheduleLine;
+use mrp_net::share_of;
 use mrp_qty::{Qty, Row};
 use mrp_rows::SourceRow;
 
@@ -65,7 +66,7 @@ fn add_calls_in(
 {
     let mut reached = figure;
     for period in from..to {
-        let pieces = share(source, release.get(period).get());
+        let pieces = share_of(source.low, source.high, release.get(period).get());
         if pieces > 0 {
             reached += pieces;
             lines.push_reserved(ScheduleLine::Call {
@@ -76,14 +77,4 @@ fn add_calls_in(
         }
     }
     reached
-}
-
-/// The share of a release of so many pieces that a source is called for.
-fn share(source: SourceRow, pieces: u64) -> u64
-    requires rises { source.low ≤ source.high }
-    requires ends { source.high ≤ 1000 }
-    requires within { pieces ≤ MOST }
-    ensures { result ≡ share_of source.low source.high pieces }
-{
-    pieces * source.high / 1000 - pieces * source.low / 1000
 }

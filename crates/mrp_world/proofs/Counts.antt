@@ -16,7 +16,7 @@ use Rattle.mrp_net.specs.Plan.{rows_at, gross, plan_of}
 use Rattle.mrp_net.specs.PlanLaws.{Fits}
 use Rattle.mrp_netting.specs.Plan.{AreRows}
 use Rattle.mrp_rows.specs.declared.rows.SourceRow.{SourceRow}
-use Rattle.mrp_events.specs.Seen.{share_of}
+use Rattle.mrp_net.specs.Shares.{share_of}
 use Rattle.mrp_net.specs.Sources.{source_on}
 use Rattle.mrp_net.proofs.Behind.{items_have_sources}
 use Rattle.mrp_net.proofs.Members.{In, In-from_contains, All-in}

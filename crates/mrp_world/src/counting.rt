@@ -1,6 +1,5 @@
 //! How many events a whole run of a network has.
 ghost use Rattle.std.specs.Prelude.{◌≡◌, ◌<◌, ◌≤◌, Contains, IfOk, length, slice_index};
-ghost use Rattle.mrp_qty.specs.declared.quantity.TheConstants.{MOST};
 ghost use Rattle.mrp_rows.specs.Table.{IsPair, horizon};
 ghost use Rattle.mrp_net.specs.Lanes.{lanes, lane_at, lane_items};
 ghost use Rattle.mrp_net.specs.Plan.{plan_of};
@@ -9,10 +8,10 @@ ghost use Rattle.mrp_loops.specs.Sized.{IsSized};
 ghost use Rattle.mrp_record.specs.Lengths.{block_length, length_of_text};
 ghost use Rattle.mrp_events.specs.Loads.{by_period, called_in, load_of, loads};
 ghost use Rattle.mrp_events.specs.Steps.{steps};
-ghost use Rattle.mrp_events.specs.Seen.{share_of};
+ghost use Rattle.mrp_net.specs.Shares.{share_of};
 
 use mrp_loops::SizedNet;
-use mrp_net::{ItemNo, LaneKind, LaneNo, Network, SourceRow};
+use mrp_net::{ItemNo, LaneKind, LaneNo, Network, SourceRow, share_of};
 use mrp_plan::{Plan, plan_all};
 use mrp_qty::{Memory, Row};
 use std::alloc::Global;
@@ -113,19 +112,9 @@ fn calls_in(source: SourceRow, release: &Row) -> u64
 {
     let mut calls = 0;
     for period in 0..release.len() {
-        if share(source, release.get(period).get()) > 0 {
+        if share_of(source.low, source.high, release.get(period).get()) > 0 {
             calls += 1;
         }
     }
     calls
-}
-
-/// The share of a release of so many pieces that a source is called for.
-fn share(source: SourceRow, pieces: u64) -> u64
-    requires rises { source.low ≤ source.high }
-    requires ends { source.high ≤ 1000 }
-    requires within { pieces ≤ MOST }
-    ensures { result ≡ share_of source.low source.high pieces }
-{
-    pieces * source.high / 1000 - pieces * source.low / 1000
 }

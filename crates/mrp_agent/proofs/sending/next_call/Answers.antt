@@ -6,9 +6,9 @@ use Rattle.mrp_agent.proofs.sending.next_call.Goals as goal
 
 pub loop-period-preserved : goal.loop-period-preserved
 loop-period-preserved c =
-    let zero : c.share-quantity.result ≡ 0 = omega (arith, c.if-quantity-gt0.false) in
+    let zero : c.share_of-quantity.result ≡ 0 = omega (arith, c.if-quantity-gt0.false) in
     let none : called_by c.args.release.now c.args.call.now c.loop-period.period ≡ 0 =
-    ap (λ (q : ℕ). share c.args.call.now q) (sym c.get.ensures) ∙ sym c.share-quantity.ensures ∙ zero in
+    ap (share c.args.call.now) (sym (c.get-in-loop-period.ensures.value ∙ c.get.ensures)) ∙ sym c.share_of-quantity.ensures.value ∙ zero in
     c.loop-period.invariant
     ∙ call_later c.args.release.now c.args.call.now c.loop-period.period (omega (arith, c.loop-period-test.true, c.len-period-end.ensures.value)) none
 

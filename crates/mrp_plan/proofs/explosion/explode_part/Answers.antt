@@ -4,15 +4,15 @@ use Rattle.mrp_net.specs.Edges.{edge_need, part}
 use Rattle.mrp_net.proofs.Totals.{edge_need-le}
 use Rattle.mrp_plan.proofs.Asked.{within_each}
 use Rattle.mrp_plan.proofs.explosion.explode_part.Goals as goal
-use Rattle.mrp_plan.proofs.explosion.explode_part.Goals.{After-part_of}
+use Rattle.mrp_plan.proofs.explosion.explode_part.Goals.{After-share_of-part}
 
 -- what the edge asks in the period is within the bound
-fits : (c : After-part_of) → slice_index c.loop-t.gross c.loop-t.t + c.args.edge.now.per * c.part_of.result ≤ MOST
+fits : (c : After-share_of-part) → slice_index c.loop-t.gross c.loop-t.t + c.args.edge.now.per * c.share_of-part.result ≤ MOST
 fits c =
     let e = c.args.edge.now in
     let t = c.loop-t.t in
-    let asked : e.per * c.part_of.result ≡ edge_need e (slice_index c.args.release.now t) =
-    ap (λ (n : ℕ). e.per * n) (c.part_of.ensures.value ∙ ap (part e) (c.get-quantity.ensures.value ∙ c.get-released.ensures)) in
+    let asked : e.per * c.share_of-part.result ≡ edge_need e (slice_index c.args.release.now t) =
+    ap (λ (n : ℕ). e.per * n) (c.share_of-part.ensures.value ∙ ap (part e) (c.get-quantity.ensures.value ∙ c.get-released.ensures)) in
     omega (
       arith,
       asked,
@@ -24,26 +24,26 @@ fits c =
 pub get-released-requires : goal.get-released-requires
 get-released-requires c = omega (arith, c.loop-t-test.true, c.len-t-end.ensures.value)
 
-pub part_of-requires-clause-shares : goal.part_of-requires-clause-shares
-part_of-requires-clause-shares c = c.requires.shares
+pub share_of-part-requires-clause-shares : goal.share_of-part-requires-clause-shares
+share_of-part-requires-clause-shares c = c.requires.shares
 
-pub part_of-requires-clause-whole : goal.part_of-requires-clause-whole
-part_of-requires-clause-whole c = c.requires.whole
+pub share_of-part-requires-clause-whole : goal.share_of-part-requires-clause-whole
+share_of-part-requires-clause-whole c = c.requires.whole
 
-pub part_of-requires-clause-within : goal.part_of-requires-clause-within
-part_of-requires-clause-within c = c.get-quantity.ensures.within
+pub share_of-part-requires-clause-within : goal.share_of-part-requires-clause-within
+share_of-part-requires-clause-within c = c.get-quantity.ensures.within
 
 pub overflow_mul-edge : goal.overflow_mul-edge
-overflow_mul-edge c = omega (arith, fits c)
+overflow_mul-edge c = omega (arith, fits (goal.at.overflow_mul-edge c).After-share_of-part)
 
 pub of-requires : goal.of-requires
-of-requires c = omega (arith, fits c)
+of-requires c = omega (arith, fits (goal.at.of-requires c).After-share_of-part)
 
 pub add-requires-clause-period : goal.add-requires-clause-period
 add-requires-clause-period c = omega (arith, c.loop-t-test.true, c.len-t-end.ensures.value, c.requires.periods, c.loop-t.invariant.size)
 
 pub add-requires-clause-within : goal.add-requires-clause-within
-add-requires-clause-within c = omega (arith, c.of.ensures, fits (goal.at.add-requires-clause-within c).After-part_of)
+add-requires-clause-within c = omega (arith, c.of.ensures, fits (goal.at.add-requires-clause-within c).After-share_of-part)
 
 pub returns-clause-each : goal.returns-clause-each
 returns-clause-each c = λ t h. c.loop-t.invariant.done t (omega (arith, h, c.loop-t-test.false, c.len-t-end.ensures.value, c.requires.periods))

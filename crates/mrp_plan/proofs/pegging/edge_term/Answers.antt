@@ -7,14 +7,14 @@ pair-requires c = rw c.requires.size c.requires.edge.edge.demander
 pub get-released-requires : goal.get-released-requires
 get-released-requires c = rw (c.release.ensures, c.pair.ensures) c.requires.edge.period
 
-pub part_of-release-requires-clause-shares : goal.part_of-release-requires-clause-shares
-part_of-release-requires-clause-shares c = omega (arith, c.requires.edge.edge.rises)
+pub share_of-release-requires-clause-shares : goal.share_of-release-requires-clause-shares
+share_of-release-requires-clause-shares c = omega (arith, c.requires.edge.edge.rises)
 
-pub part_of-release-requires-clause-whole : goal.part_of-release-requires-clause-whole
-part_of-release-requires-clause-whole c = c.requires.edge.edge.ends
+pub share_of-release-requires-clause-whole : goal.share_of-release-requires-clause-whole
+share_of-release-requires-clause-whole c = c.requires.edge.edge.ends
 
-pub part_of-release-requires-clause-within : goal.part_of-release-requires-clause-within
-part_of-release-requires-clause-within c = c.get.ensures.within
+pub share_of-release-requires-clause-within : goal.share_of-release-requires-clause-within
+share_of-release-requires-clause-within c = c.get.ensures.within
 
 pub pair-demander-requires : goal.pair-demander-requires
 pair-demander-requires c = c.requires.edge.edge.demander

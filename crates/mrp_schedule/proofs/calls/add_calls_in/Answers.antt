@@ -2,7 +2,7 @@ use Rattle.std.proofs.Common.{◌≡◌, ◌+◌, ℕ, List, ◌++◌, [], ◌�
 use Rattle.std.specs.Prelude.{vec_capacity}
 use Rattle.mrp_record.specs.Entries.{Delivery}
 use Rattle.mrp_record.specs.Text.{total}
-use Rattle.mrp_events.specs.Seen.{share_of}
+use Rattle.mrp_net.specs.Shares.{share_of}
 use Rattle.mrp_schedule.specs.declared.line.ScheduleLine.{ScheduleLine}
 use Rattle.mrp_schedule.specs.declared.line.ScheduleLine.TheVariants.{Call}
 use Rattle.mrp_schedule.specs.Calls.{call_lines, calls_by}
@@ -15,8 +15,8 @@ pub of-requires-then-pieces-gt0 : goal.of-requires-then-pieces-gt0
 of-requires-then-pieces-gt0 c =
     let s = c.args.source in
     let row = c.args.release.now in
-    let share : c.share-pieces.result ≡ share_in s row c.loop-period.period = c.share-pieces.ensures ∙ ap (share_of s.low s.high) (c.get-in-loop-period.ensures.value ∙ c.get.ensures) in
-    omega (arith, c.requires.small, c.loop-period.invariant.figure, period.next_total s row c.loop-period.period c.args.to c.loop-period-test.true c.share-pieces.result share)
+    let share : c.share_of-pieces.result ≡ share_in s row c.loop-period.period = c.share_of-pieces.ensures.value ∙ ap (share_of s.low s.high) (c.get-in-loop-period.ensures.value ∙ c.get.ensures) in
+    omega (arith, c.requires.small, c.loop-period.invariant.figure, period.next_total s row c.loop-period.period c.args.to c.loop-period-test.true c.share_of-pieces.result share)
 
 pub loop-period-preserved : goal.loop-period-preserved
 loop-period-preserved c =
@@ -26,8 +26,8 @@ loop-period-preserved c =
     let to : ℕ = c.args.to in
     let before = c.loop-period.invariant in
     let within = c.loop-period-test.true in
-    let share : c.share-pieces.result ≡ share_in s row t = c.share-pieces.ensures ∙ ap (share_of s.low s.high) (c.get-in-loop-period.ensures.value ∙ c.get.ensures) in
-    let more = period.next_total s row t to within c.share-pieces.result share in
+    let share : c.share_of-pieces.result ≡ share_in s row t = c.share_of-pieces.ensures.value ∙ ap (share_of s.low s.high) (c.get-in-loop-period.ensures.value ∙ c.get.ensures) in
+    let more = period.next_total s row t to within c.share_of-pieces.result share in
     elim c.if-pieces-gt0.branch [
       | then-pieces-gt0 w ↦
           let sofar = c.loop-period.lines.items in
@@ -46,7 +46,7 @@ loop-period-preserved c =
             capacity = ap vec_capacity w.lines-is ∙ w.push_reserved.ensures.capacity ∙ before.capacity;
           }
       | else-pieces-gt0 w ↦
-          let none = period.no_call s row t to within c.share-pieces.result share (omega (arith, w.if-pieces-gt0.false)) in
+          let none = period.no_call s row t to within c.share_of-pieces.result share (omega (arith, w.if-pieces-gt0.false)) in
           let rest = calls_by s row (t + 1) to in
           let same : c.if-pieces-gt0.lines.items ≡ c.loop-period.lines.items = (cc) in
           record {

@@ -1,6 +1,6 @@
 use Rattle.std.proofs.Common.{◌≡◌, length, slice_index}
 use Rattle.mrp_events.specs.Loads.{by_period}
-use Rattle.mrp_events.specs.Seen.{share_of}
+use Rattle.mrp_net.specs.Shares.{share_of}
 use Rattle.mrp_world.proofs.counting.calls_in.Given as goal
 
 -- the periods so far with pieces are counted
