@@ -4,7 +4,6 @@ ghost use Rattle.std.specs.Prelude.{◌≡◌, ℕ, ◌++◌, ◌<◌, ◌≤◌
 ghost use Rattle.std.specs.List.{flat_map};
 ghost use Rattle.mrp_qty.specs.declared.quantity.TheConstants.{MOST};
 ghost use Rattle.mrp_book.specs.Figures.{BookShows};
-ghost use Rattle.mrp_netting.specs.Plan.{nothing_planned};
 ghost use Rattle.mrp_ready.specs.Counts.{AreCounts};
 ghost use Rattle.mrp_ready.specs.Progress.{times};
 ghost use Rattle.mrp_view.specs.Seen.{IsIncomingItem, IsIncomingLane};
@@ -15,17 +14,10 @@ ghost use Rattle.mrp_agent.specs.Shows.{book_item, form_of};
 use mrp_book::{Book, BookItem};
 use mrp_cursor::OutCursor;
 use mrp_net::LaneKind;
-use mrp_netting::PairPlan;
-use mrp_qty::{Horizon, Memory, Qty};
+use mrp_qty::{Memory, Qty};
 use mrp_ready::{Join, PairNo, Readiness, first_waits};
 use mrp_view::{IncomingItem, IncomingLane, OutgoingLane, PlantFrame};
 use std::alloc::{AllocError, Global};
-
-/// For so many plans the memory grows at once.
-const AT_ONCE: usize = 16;
-
-/// A plan of 104 periods takes fewer bytes.
-const ROOM: usize = 4_500;
 
 /// The book of each lane that comes in.
 pub(crate) fn new_books(
@@ -76,31 +68,6 @@ pub(crate) fn are_fit(amounts: &[u64])
     ensures { AreFit amounts.now }
 {
     let _count = amounts.len();
-}
-
-/// Room for the plan of each pair.
-pub(crate) fn blank_plans(
-    alloc: Global,
-    horizon: Horizon,
-    pairs: usize,
-) -> Result<Vec<PairPlan>, Memory>
-    ensures { IfOk result (λ v. v.items ≡ replicate pairs (nothing_planned horizon)) }
-{
-    let mut plans = Vec::with_capacity(alloc, pairs)?;
-    for place in 0..pairs {
-        grow(alloc, place);
-        plans.push(PairPlan::new(alloc, horizon)?)?;
-    }
-    Ok(plans)
-}
-
-/// Before every sixteen plans takes room for them and gives it back. The C library lets the memory of a thread grow
-/// by what it is asked for at once: so it grows for sixteen plans, and not page by page. A refusal is no fault, since
-/// what follows asks for less.
-fn grow(alloc: Global, place: usize) {
-    if place % AT_ONCE == 0 {
-        let _ = Vec::<u8>::with_capacity(alloc, AT_ONCE * ROOM);
-    }
 }
 
 /// Nothing is planned, and each pair waits for its parents and for the blocks that are to come.

@@ -10,13 +10,13 @@ ghost use Rattle.mrp_agent.specs.Shows.{joins_of};
 
 use crate::desk::Desk;
 use crate::edges::{ByComponent, ParentEdge, joins, parent_edges};
-use crate::making::{are_fit, blank_plans, first_progress, idle_outs, new_books};
+use crate::making::{are_fit, first_progress, idle_outs, new_books};
 use crate::places::ItemPlaces;
 use crate::queues::{QueuePlace, queues};
 use mrp_book::Book;
 use mrp_cursor::OutCursor;
 use mrp_group::{Groups, group};
-use mrp_netting::PairPlan;
+use mrp_netting::{PairPlan, blank_plans};
 use mrp_qty::Memory;
 use mrp_ready::{Components, Join, Readiness};
 use mrp_view::PlantFrame;

@@ -7,11 +7,13 @@
 //! pair. Contracts see a [`PairPlan`] as its five rows and the list of its late orders.
 #![tactic(auto)]
 
+mod blank;
 mod following;
 mod late;
 mod netting;
 mod plan;
 mod release;
 
+pub use blank::blank_plans;
 pub use mrp_lot::{Late, PairParams};
 pub use plan::{PairPlan, is_plan, plan_pair};

@@ -1,6 +1,6 @@
 //! The plan of the network, pair after pair in planning order.
 
-ghost use Rattle.std.specs.Prelude.{◌≡◌, ◌+◌, ◌<◌, ◌≤◌, length, map, slice_set, IfOk, All};
+ghost use Rattle.std.specs.Prelude.{◌≡◌, ◌+◌, ◌<◌, ◌≤◌, length, map, slice_set, IfOk};
 ghost use Rattle.mrp_qty.specs.declared.quantity.TheConstants.{MOST};
 ghost use Rattle.mrp_lot.specs.One.{one};
 ghost use Rattle.mrp_rows.specs.Table.{IsPair, horizon};
@@ -15,8 +15,8 @@ ghost use Rattle.mrp_plan.specs.Progress.{CanBeDrafted, IsPlannedTo};
 use crate::explosion::explode_all;
 use mrp_loops::SizedNet;
 use mrp_net::{Network, PairNo};
-use mrp_netting::{PairPlan, plan_pair};
-use mrp_qty::{Horizon, Memory, Row};
+use mrp_netting::{PairPlan, blank_plans, plan_pair};
+use mrp_qty::{Memory, Row};
 use std::alloc::Global;
 use std::marker::Model;
 
@@ -75,7 +75,7 @@ pub fn plan_all(alloc: Global, net: &SizedNet) -> Result<Plan, Memory>
 {
     let network = net.network();
     let horizon = network.horizon();
-    let mut pairs = blank_plans(alloc, network.pairs(), horizon)?;
+    let mut pairs = blank_plans(alloc, horizon, network.pairs())?;
     let mut incoming = Row::zero(alloc, horizon)?;
     let mut gross = Row::zero(alloc, horizon)?;
     let order = net.in_code_order();
@@ -90,18 +90,6 @@ pub fn plan_all(alloc: Global, net: &SizedNet) -> Result<Plan, Memory>
         );
     }
     Ok(Plan { pairs })
-}
-
-/// Room for that many plans.
-fn blank_plans(alloc: Global, count: usize, horizon: Horizon) -> Result<Vec<PairPlan>, Memory>
-    ensures size { IfOk result (λ plans. length plans.items ≡ count) }
-    ensures rooms { IfOk result (λ plans. All (λ plan. length plan.gross ≡ horizon) plans.items) }
-{
-    let mut plans = Vec::with_capacity(alloc, count)?;
-    for _ in 0..count {
-        plans.push(PairPlan::new(alloc, horizon)?)?;
-    }
-    Ok(plans)
 }
 
 /// Plans the pair at place `k` of the order, where those before it are planned. `incoming` and

@@ -2,7 +2,7 @@ use Rattle.std.proofs.Common.{◌≡◌, ◌∙◌, ◌++◌, ◌∷◌, ℕ, Li
 use Rattle.std.proofs.lemmas.List.{replicate_more}
 use Rattle.mrp_lot.specs.One.{PlanRows}
 use Rattle.mrp_netting.specs.Plan.{nothing_planned}
-use Rattle.mrp_agent.proofs.making.blank_plans.Goals as goal
+use Rattle.mrp_netting.proofs.blank.blank_plans.Goals as goal
 
 pub loop-place-init : goal.loop-place-init
 loop-place-init c = c.in_ok-plans.ensures.items
@@ -16,5 +16,5 @@ loop-place-preserved c =
 
 pub returns : goal.returns
 returns c =
-    let all : c.loop-place.place ≡ c.args.pairs = omega (arith, c.loop-place-test.false, c.loop-place.auto.place-end) in
+    let all : c.loop-place.place ≡ c.args.count = omega (arith, c.loop-place-test.false, c.loop-place.auto.place-end) in
     c.loop-place.invariant ∙ ap (λ (n : ℕ). replicate n (nothing_planned c.args.horizon)) all
