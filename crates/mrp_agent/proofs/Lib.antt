@@ -7,7 +7,6 @@ pub mod Bringing
 pub mod Calling
 pub mod Calls
 pub mod Crossing
-pub mod Desks
 pub mod DraftLaws
 pub mod DraftReads
 pub mod Drafts
@@ -32,6 +31,7 @@ pub mod Queueing
 pub mod Reading
 pub mod Ready
 pub mod Replanned
+pub mod Rooms
 pub mod Sent
 pub mod Shown
 pub mod Staying

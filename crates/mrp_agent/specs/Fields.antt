@@ -23,5 +23,5 @@ indexes_of a = record {
   components = a.structure.components;
   queues = a.lanes.queues.rows.items;
   queue_starts = a.lanes.queues.starts.items;
-  desk = length a.amounts.desk.gross;
+  room = length a.amounts.room.gross;
 }

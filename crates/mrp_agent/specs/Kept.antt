@@ -29,7 +29,7 @@ parent_edge V e = record { component = pair_place V e.component.0; parent = pair
 
 -- The indexes: the items of the pairs by place, the edges in groups by their components, the places of
 -- the components that go into each pair, and where each pair is queued once it is planned, in groups by
--- pair. With them stands how many periods the desk has on which plans are drafted.
+-- pair. With them stands how many periods the room has in which plans are drafted.
 pub record Indexes : Type 0 where
   pub items : List ItemNo
   pub edges : List ParentEdge
@@ -37,14 +37,14 @@ pub record Indexes : Type 0 where
   pub components : List (List ℕ)
   pub queues : List QueuePlace
   pub queue_starts : List ℕ
-  pub desk : ℕ
+  pub room : ℕ
 
 pub record AreIndexes (V : PlantRows) (I : Indexes) : Type 0 where
   pub items : I.items ≡ map (λ p. p.item) V.pairs
   pub edges : IsGrouped (λ e. e.component) (length V.pairs) (map (parent_edge V) V.edges) I.edges I.starts
   pub components : I.components ≡ map (components_of (joins_of V)) (range_with_len 0 (length V.pairs))
   pub queues : IsGrouped (λ q. q.pair) (length V.pairs) (queue_places (items_of V) V.outgoing) I.queues I.queue_starts
-  pub desk : I.desk ≡ V.horizon
+  pub room : I.room ≡ V.horizon
 
 -- a plan has a row's amount for each period
 pub record HasPlanRows (V : PlantRows) (plan : PlanRows) : Type 0 where

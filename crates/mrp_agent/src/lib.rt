@@ -8,7 +8,6 @@
 
 mod agent;
 mod booking;
-mod desk;
 mod drafting;
 mod edges;
 mod gate;
@@ -18,6 +17,7 @@ mod parts;
 mod places;
 mod planning;
 mod queues;
+mod room;
 mod sending;
 mod settling;
 
@@ -26,3 +26,4 @@ pub use gate::{Gate, NoGate};
 pub use mrp_book::BookFault;
 pub use mrp_net::{LaneNo, PairNo};
 pub use mrp_record::Record;
+pub use room::Room;

@@ -8,11 +8,11 @@ ghost use Rattle.mrp_agent.specs.Kept.{parent_edge};
 ghost use Rattle.mrp_agent.specs.Making.{IsFirstProgress};
 ghost use Rattle.mrp_agent.specs.Shows.{joins_of};
 
-use crate::desk::Desk;
 use crate::edges::{ByComponent, ParentEdge, joins, parent_edges};
 use crate::making::{are_fit, first_progress, idle_outs, new_books};
 use crate::places::ItemPlaces;
 use crate::queues::{QueuePlace, queues};
+use crate::room::Room;
 use mrp_book::Book;
 use mrp_cursor::OutCursor;
 use mrp_group::{Groups, group};
@@ -146,13 +146,13 @@ impl Lanes {
     }
 }
 
-/// The amounts of a plant by pair and period, and the desk on which plans are drafted.
+/// The amounts of a plant by pair and period, and the room in which plans are drafted.
 #[derive(Drop)]
 pub(crate) struct Amounts {
     pub(crate) came: Vec<u64>,
     pub(crate) called: Vec<u64>,
     pub(crate) plans: Vec<PairPlan>,
-    pub(crate) desk: Desk,
+    pub(crate) room: Room,
 }
 
 impl Amounts {
@@ -171,19 +171,19 @@ impl Amounts {
         ensures came { IfOk result (λ a. a.came.items ≡ view.now.receipts) }
         ensures called { IfOk result (λ a. a.called.items ≡ view.now.demands) }
         ensures plans { IfOk result (λ a. a.plans.items ≡ replicate (length view.now.pairs) (nothing_planned view.now.horizon)) }
-        ensures desk { IfOk result (λ a. length a.desk.gross ≡ view.now.horizon) }
+        ensures room { IfOk result (λ a. length a.room.gross ≡ view.now.horizon) }
         ensures receipts { IfOk result (λ _. AreFit view.now.receipts) }
         ensures demands { IfOk result (λ _. AreFit view.now.demands) }
     {
         are_fit(&came);
         are_fit(&called);
         let plans = blank_plans(alloc, view.horizon(), view.pairs().len())?;
-        let desk = Desk::new(alloc, view.horizon())?;
+        let room = Room::new(alloc, view.horizon())?;
         Ok(Amounts {
             came,
             called,
             plans,
-            desk,
+            room,
         })
     }
 
@@ -191,8 +191,8 @@ impl Amounts {
     pub(crate) fn into_plans(self) -> Vec<PairPlan>
         ensures { result.items ≡ self.plans.items }
     {
-        let Amounts { plans, desk, .. } = self;
-        drop(desk);
+        let Amounts { plans, room, .. } = self;
+        drop(room);
         plans
     }
 }

@@ -63,8 +63,8 @@ impl Agent {
             &self.amounts.called,
             place,
         );
-        self.amounts.desk.draft(&rows, &self.amounts.plans);
-        self.amounts.desk.exchange(&mut self.amounts.plans[place]);
+        self.amounts.room.draft_rows(&rows, &self.amounts.plans);
+        self.amounts.room.exchange(&mut self.amounts.plans[place]);
     }
 
     /// Counts the pair at a place as planned, and lets the schedule lanes that have its item send it.

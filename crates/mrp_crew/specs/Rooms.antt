@@ -1,25 +1,23 @@
 -- What workers draft in, and what they bring back.
 use Rattle.std.specs.Prelude.{◌≡◌, ℕ, ◌<◌, ◌≤◌, ◌++◌, true, List, [], Vec, length, map, reverse, All, vec_capacity}
 use Rattle.std.specs.Global.{Global}
+use Rattle.mrp_lot.specs.One.{PlanRows}
 use Rattle.mrp_rows.specs.declared.numbers.PairNo.{PairNo}
 use Rattle.mrp_agent.specs.Drafts.{CanDraft, drafted}
 use Rattle.mrp_agent.specs.State.{AgentState}
 use Rattle.mrp_qty.specs.declared.limits.TheConstants.{MOST_WORKERS}
-use Rattle.mrp_crew.specs.declared.room.Room.{Room}
 use Rattle.mrp_crew.specs.declared.work.Order.{Order}
 use Rattle.mrp_crew.specs.declared.work.Work.{Work}
 use Rattle.mrp_crew.specs.declared.work.Drafts.{Drafts}
 use Rattle.mrp_crew.specs.Shut.{IsLetIn}
 
 -- room for a plan of so many periods
-pub record IsRoom (horizon : ℕ) (room : Room) : Type 0 where
-  pub incoming : length room.incoming ≡ horizon
-  pub gross : length room.gross ≡ horizon
-  pub plan : length room.plan.gross ≡ horizon
+abbrev pub IsRoom : ℕ → PlanRows → Type 0
+IsRoom horizon room = length room.gross ≡ horizon
 
 -- What a wave begins with: pairs that can be drafted, fewer than a crew may have workers beside the one that the calling
 -- thread drafts, a room for each, and no thread and no result yet, but room for all.
-pub record IsWave {Thread : Type 0} (A : AgentState) (beside : List PairNo) (here : PairNo) (free : List Room)
+pub record IsWave {Thread : Type 0} (A : AgentState) (beside : List PairNo) (here : PairNo) (free : List PlanRows)
     (threads : Vec Thread Global) (results : Vec Work Global) : Type 0 where
   pub others : All (CanDraft A) beside
   pub own : CanDraft A here
@@ -32,7 +30,7 @@ pub record IsWave {Thread : Type 0} (A : AgentState) (beside : List PairNo) (her
 -- a worker's result: where the gate was open, its room has the plan that the agent drafts for its pair
 pub record WorkedFor (A : AgentState) (work : Work) : Type 0 where
   pub room : IsRoom A.view.horizon work.room
-  pub plan : work.open ≡ true → work.room.plan ≡ drafted A work.pair
+  pub plan : work.open ≡ true → work.room ≡ drafted A work.pair
 
 -- what the thread of an order brings back is of the order's pair, for the order's agent; where the gate
 -- was shut to it, this holds of the order's plant and worker

@@ -11,11 +11,11 @@ ghost use Rattle.mrp_qty.specs.declared.limits.TheConstants.{MOST_WORKERS};
 ghost use Rattle.mrp_crew.specs.declared.fault.CrewFault.{CrewFault};
 
 use crate::fault::CrewFault;
-use crate::room::{Room, refill};
+use crate::rooms::refill;
 use crate::settling::settle_all;
 use crate::threads::draft_wave;
 use crate::work::Drafts;
-use mrp_agent::{Agent, Gate};
+use mrp_agent::{Agent, Gate, Room};
 use mrp_qty::{Horizon, Memory};
 use std::alloc::Global;
 use std::marker::Model;

@@ -9,7 +9,7 @@
 mod crew;
 mod fault;
 pub mod laws;
-mod room;
+mod rooms;
 mod settling;
 mod threads;
 mod work;

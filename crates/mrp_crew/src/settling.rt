@@ -7,9 +7,9 @@ ghost use Rattle.mrp_crew.specs.Planning.{IsPlannable, PlansAll};
 ghost use Rattle.mrp_crew.specs.Rooms.{IsRoom, WorkedFor};
 ghost use Rattle.mrp_crew.specs.Settled.{AreToSettle, StaysReady};
 
-use crate::room::{Room, put_back};
+use crate::rooms::put_back;
 use crate::work::Work;
-use mrp_agent::Agent;
+use mrp_agent::{Agent, Room};
 
 /// Has the agent keep each plan that was drafted, and puts the rooms back. The answer is whether the gate
 /// was open to all.
@@ -43,6 +43,6 @@ fn settle(agent: &mut Agent, work: &Work, before: bool) -> bool
     if !work.open {
         return false;
     }
-    agent.settle(work.pair, &work.room.plan);
+    agent.settle(work.pair, work.room.plan());
     before
 }

@@ -9,9 +9,9 @@ ghost use Rattle.mrp_crew.specs.Shut.{AreLetIn, IsLetIn, WasShutToWorker};
 ghost use Rattle.mrp_qty.specs.declared.limits.TheConstants.{MOST_WORKERS};
 ghost use Rattle.mrp_crew.specs.Started.{IsWorkerOf, IsFor, IsStarted, ordered};
 
-use crate::room::{Room, put_back};
+use crate::rooms::put_back;
 use crate::work::{Drafts, Order, Work, draft_pair};
-use mrp_agent::{Agent, Gate};
+use mrp_agent::{Agent, Gate, Room};
 use mrp_net::PairNo;
 use std::marker::PhantomData;
 use std::snapshot::Snapshot;

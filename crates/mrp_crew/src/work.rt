@@ -5,8 +5,7 @@ ghost use Rattle.mrp_crew.specs.Rooms.{IsRoom, WorkedFor};
 ghost use Rattle.mrp_crew.specs.Shut.{IsLetIn};
 ghost use Rattle.mrp_qty.specs.declared.limits.TheConstants.{MOST_WORKERS};
 
-use crate::room::Room;
-use mrp_agent::{Agent, Gate};
+use mrp_agent::{Agent, Gate, Room};
 use mrp_net::PairNo;
 use std::marker::PhantomData;
 use std::snapshot::Snapshot;
@@ -81,7 +80,7 @@ pub(crate) fn draft_pair<G: Gate>(
             room,
         };
     }
-    agent.draft(pair, &mut room.incoming, &mut room.gross, &mut room.plan);
+    room.draft(agent, pair);
     Work {
         pair,
         open: true,

@@ -5,12 +5,8 @@ use Rattle.mrp_crew.proofs.work.draft_pair.Goals as goal
 
 pub returns-clause-worked : goal.returns-clause-worked
 returns-clause-worked g c = record {
-  room = record {
-    incoming = c.draft.ensures.incoming ∙ c.requires.room.incoming;
-    gross = c.draft.ensures.gross ∙ c.requires.room.gross;
-    plan = ap (λ (p : PlanRows). length p.gross) c.draft.ensures.plan ∙ drafted_periods c.args.agent.now c.args.pair;
-  };
-  plan = λ open_. c.draft.ensures.plan;
+  room = ap (λ (p : PlanRows). length p.gross) c.draft.ensures ∙ drafted_periods c.args.agent.now c.args.pair;
+  plan = λ open_. c.draft.ensures;
 }
 
 pub returns-then-not-worker-clause-shut : goal.returns-then-not-worker-clause-shut

@@ -31,14 +31,14 @@ invariant_of-result c =
       components = structure.components;
       queues = c.in_ok-lanes.lanes.queues.rows.items;
       queue_starts = c.in_ok-lanes.lanes.queues.starts.items;
-      desk = length c.in_ok-amounts.amounts.desk.gross;
+      room = length c.in_ok-amounts.amounts.room.gross;
     } in
     let indexes : AreIndexes c.args.view I = record {
       items = c.in_ok-structure.ensures.items;
       edges = c.in_ok-structure.ensures.edges;
       components = c.in_ok-structure.ensures.components;
       queues = c.in_ok-lanes.ensures.queues;
-      desk = c.in_ok-amounts.ensures.desk;
+      room = c.in_ok-amounts.ensures.room;
     } in
     subst (λ (a : AgentState). IsKept a I) (sym (opens here))
     (opening_kept c.args.view structure.progress c.in_ok-lanes.lanes.outs.items c.requires.seen c.requires.openings c.in_ok-structure.ensures.first c.in_ok-lanes.ensures.outs I indexes)

@@ -3,7 +3,7 @@ use Rattle.mrp_agent.specs.Fields.{indexes_of}
 use Rattle.mrp_agent.specs.State.{AgentState}
 use Rattle.mrp_agent.specs.Drafts.{drafted}
 use Rattle.mrp_agent.specs.contracts.agent.Agent.{the_view}
-use Rattle.mrp_agent.proofs.Desks.{kept_written, plans_written, same_periods}
+use Rattle.mrp_agent.proofs.Rooms.{kept_written, plans_written, same_periods}
 use Rattle.mrp_agent.proofs.Placing.{IsAtPlace, own_is_found, place_is_found, place_within, ready_at}
 use Rattle.mrp_agent.proofs.Planned.{HasPlanned, has_planned}
 use Rattle.mrp_agent.proofs.agent.Agent.settle.Goals as goal
@@ -30,7 +30,7 @@ copy_from-requires c =
 pub invariant_of-self : goal.invariant_of-self
 invariant_of-self c =
     let here = (goal.at.invariant_of-self c).In-Some in
-    kept_written (placed here) (c.copy_from.ensures ∙ is_draft here) c.self.invariant.indexes.desk
+    kept_written (placed here) (c.copy_from.ensures ∙ is_draft here) c.self.invariant.indexes.room
 
 pub mark_planned-requires-clause-ready : goal.mark_planned-requires-clause-ready
 mark_planned-requires-clause-ready c =

@@ -2,7 +2,7 @@ use Rattle.std.proofs.Common.{length, sym, ap, ◌∙◌, arith}
 use Rattle.mrp_lot.specs.One.{PlanRows}
 use Rattle.mrp_agent.specs.Fields.{indexes_of}
 use Rattle.mrp_agent.specs.contracts.agent.Agent.{the_view}
-use Rattle.mrp_agent.proofs.Desks.{kept_written, old_periods, plans_written, same_periods}
+use Rattle.mrp_agent.proofs.Rooms.{kept_written, old_periods, plans_written, same_periods}
 use Rattle.mrp_agent.proofs.DraftReads.{HasRead, called_periods, draft_asked, draft_made, placed_at, rows_read}
 use Rattle.mrp_agent.proofs.Placing.{can_before, place_within}
 use Rattle.mrp_agent.proofs.agent.Agent.write_plan.Goals as goal
@@ -18,11 +18,11 @@ read c =
     c.deref.ensures.value c.deref-2.ensures.value c.deref-3.ensures.value
     c.pair_rows-rows.ensures.params c.pair_rows-rows.ensures.came c.pair_rows-rows.ensures.called c.pair_rows-rows.ensures.edges
 
-pub draft-requires-clause-draft : goal.draft-requires-clause-draft
-draft-requires-clause-draft c = draft_asked (read (goal.at.draft-requires-clause-draft c).After-deref-3)
+pub draft_rows-requires-clause-draft : goal.draft_rows-requires-clause-draft
+draft_rows-requires-clause-draft c = draft_asked (read (goal.at.draft_rows-requires-clause-draft c).After-deref-3)
 
-pub draft-requires-clause-periods : goal.draft-requires-clause-periods
-draft-requires-clause-periods c = c.self.invariant.indexes.desk ∙ sym (called_periods (read (goal.at.draft-requires-clause-periods c).After-deref-3))
+pub draft_rows-requires-clause-periods : goal.draft_rows-requires-clause-periods
+draft_rows-requires-clause-periods c = c.self.invariant.indexes.room ∙ sym (called_periods (read (goal.at.draft_rows-requires-clause-periods c).After-deref-3))
 
 pub index_mut-requires : goal.index_mut-requires
 index_mut-requires c =
@@ -30,13 +30,13 @@ index_mut-requires c =
 
 pub exchange-requires : goal.exchange-requires
 exchange-requires c =
-    let rows = read (goal.at.exchange-requires c).After-deref-3 in same_periods rows.placed c.index_mut.ensures.value (c.draft.ensures ∙ draft_made rows)
+    let rows = read (goal.at.exchange-requires c).After-deref-3 in same_periods rows.placed c.index_mut.ensures.value (c.draft_rows.ensures ∙ draft_made rows)
 
 pub invariant_of-self : goal.invariant_of-self
 invariant_of-self c =
     let rows = read (goal.at.invariant_of-self c).After-deref-3 in
-    kept_written rows.placed (c.exchange.ensures.given ∙ c.draft.ensures ∙ draft_made rows)
+    kept_written rows.placed (c.exchange.ensures.given ∙ c.draft_rows.ensures ∙ draft_made rows)
     (ap (λ (z : PlanRows). length z.gross) c.exchange.ensures.taken ∙ old_periods rows.placed c.index_mut.ensures.value)
 
 pub returns : goal.returns
-returns c = plans_written c.args.x c.args.place c.self.view_is (c.exchange.ensures.given ∙ c.draft.ensures ∙ draft_made (read (goal.at.returns c).After-deref-3))
+returns c = plans_written c.args.x c.args.place c.self.view_is (c.exchange.ensures.given ∙ c.draft_rows.ensures ∙ draft_made (read (goal.at.returns c).After-deref-3))

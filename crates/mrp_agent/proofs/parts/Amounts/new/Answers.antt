@@ -1,4 +1,6 @@
 use Rattle.std.proofs.Common.{◌∙◌, ℕ, List, length, replicate, ap, subst}
+use Rattle.std.proofs.lemmas.List.{length-replicate}
+use Rattle.mrp_lot.specs.One.{PlanRows}
 use Rattle.mrp_view.specs.declared.view.PlantPair.{PlantPair}
 use Rattle.mrp_netting.specs.Plan.{nothing_planned}
 use Rattle.mrp_agent.specs.Making.{AreFit}
@@ -16,8 +18,8 @@ returns-clause-plans c =
     ∙ ap (λ (z : List PlantPair). replicate (length z) (nothing_planned c.horizon.result)) c.pairs.ensures
     ∙ ap (λ (h : ℕ). replicate (length c.args.view.now.pairs) (nothing_planned h)) c.horizon.ensures
 
-pub returns-clause-desk : goal.returns-clause-desk
-returns-clause-desk c = c.in_ok-desk.ensures ∙ c.horizon-2.ensures
+pub returns-clause-room : goal.returns-clause-room
+returns-clause-room c = ap (λ (plan : PlanRows). length plan.gross) c.in_ok-room.ensures ∙ length-replicate c.horizon-2.result 0 ∙ c.horizon-2.ensures
 
 pub returns-clause-receipts : goal.returns-clause-receipts
 returns-clause-receipts c = subst AreFit (c.deref.ensures.value ∙ c.requires.came) c.are_fit.ensures

@@ -1,12 +1,15 @@
-use Rattle.std.proofs.Common.{◌∷◌, [], length, ap, sym, subst, arith, All, length-append}
+use Rattle.std.proofs.Common.{◌∷◌, [], length, ap, sym, ◌∙◌, subst, arith, All, length-append}
+use Rattle.std.proofs.lemmas.List.{length-replicate}
 use Rattle.std.proofs.lemmas.Result.{err_from_is_err_and}
+use Rattle.mrp_lot.specs.One.{PlanRows}
 use Rattle.mrp_crew.specs.Rooms.{IsRoom}
 use Rattle.mrp_crew.proofs.Fronts.{All-pushed}
-use Rattle.mrp_crew.proofs.room.refill.Goals as goal
+use Rattle.mrp_crew.proofs.rooms.refill.Goals as goal
 
 pub loop-preserved : goal.loop-preserved
 loop-preserved c = record {
-  rooms = All-pushed (IsRoom c.args.horizon) c.loop.rooms.items c.push.new.self.items c.in_ok-room.room c.in_ok-push.ensures.items c.loop.invariant.rooms c.in_ok-room.ensures;
+  rooms = All-pushed (IsRoom c.args.horizon) c.loop.rooms.items c.push.new.self.items c.in_ok-room.room c.in_ok-push.ensures.items c.loop.invariant.rooms
+      (ap (λ (p : PlanRows). length p.gross) c.in_ok-room.ensures ∙ length-replicate c.args.horizon 0);
   size = omega (arith, ap length c.in_ok-push.ensures.items, length-append c.loop.rooms.items (c.in_ok-room.room ∷ []), c.loop.invariant.size);
 }
 

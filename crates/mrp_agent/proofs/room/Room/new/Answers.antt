@@ -1,10 +1,9 @@
 use Rattle.std.proofs.Common.{◌≡◌, ◌∙◌, ℕ, List, length, replicate, ap, sym}
-use Rattle.std.proofs.lemmas.List.{length-replicate}
 use Rattle.mrp_lot.specs.One.{PlanRows}
-use Rattle.mrp_agent.proofs.desk.Desk.new.Goals as goal
+use Rattle.mrp_agent.proofs.room.Room.new.Goals as goal
 
 pub returns : goal.returns
-returns c = ap (λ (p : PlanRows). length p.gross) c.in_ok-plan.ensures ∙ length-replicate c.args.horizon 0
+returns c = c.in_ok-plan.ensures
 
 pub invariant_of-result : goal.invariant_of-result
 invariant_of-result c =

@@ -35,13 +35,13 @@ pub same_periods : {A : AgentState} {I : Indexes} {x : PairNo} {place : ℕ} {ol
     → length old.gross ≡ length new.gross
 same_periods {A} {I} {x} {place} {old} {new} h at is = old_periods h at ∙ sym (ap (λ (z : PlanRows). length z.gross) is ∙ (drafted_periods A x).gross)
 
-pub kept_written : {A : AgentState} {I : Indexes} {x : PairNo} {place desk : ℕ} {plan : PlanRows} → IsAtPlace A I x place → plan ≡ drafted A x → desk ≡ A.view.horizon
-    → IsKept (record A { plans = set A.plans place plan }) (record I { desk = desk })
-kept_written {A} {I} {x} {place} {desk} {plan} h is same =
+pub kept_written : {A : AgentState} {I : Indexes} {x : PairNo} {place room : ℕ} {plan : PlanRows} → IsAtPlace A I x place → plan ≡ drafted A x → room ≡ A.view.horizon
+    → IsKept (record A { plans = set A.plans place plan }) (record I { room = room })
+kept_written {A} {I} {x} {place} {room} {plan} h is same =
     let kept : IsKept A I = h.kept in
     record {
       view = kept.view;
-      indexes = record { items = kept.indexes.items; edges = kept.indexes.edges; components = kept.indexes.components; queues = kept.indexes.queues; desk = same };
+      indexes = record { items = kept.indexes.items; edges = kept.indexes.edges; components = kept.indexes.components; queues = kept.indexes.queues; room = same };
       rooms = record {
         books = kept.rooms.books;
         came = kept.rooms.came;

@@ -1,7 +1,7 @@
 use Rattle.std.proofs.Common.{◌≡◌, length, ap, sym, ◌∙◌}
 use Rattle.mrp_lot.specs.One.{PlanRows}
 use Rattle.mrp_agent.proofs.Asked.{came_length, drafted_length}
-use Rattle.mrp_agent.proofs.desk.Desk.draft.Goals as goal
+use Rattle.mrp_agent.proofs.room.Room.draft_rows.Goals as goal
 
 pub draft_from-requires-clause-incoming : goal.draft_from-requires-clause-incoming
 draft_from-requires-clause-incoming c =

@@ -1,34 +1,10 @@
-//! What a worker drafts a plan in.
-ghost use Rattle.std.specs.Prelude.{◌≤◌, ℕ, All, IfOk, OnOk, length};
+//! The rooms that workers draft in.
+ghost use Rattle.std.specs.Prelude.{◌≤◌, ℕ, All, OnOk, length};
 ghost use Rattle.mrp_crew.specs.Rooms.{IsRoom};
 
-use mrp_netting::PairPlan;
-use mrp_qty::{Horizon, Memory, Row};
+use mrp_agent::Room;
+use mrp_qty::{Horizon, Memory};
 use std::alloc::Global;
-
-/// Room for the plan of one pair: two rows to work in, and the plan.
-#[derive(Drop)]
-pub(crate) struct Room {
-    pub(crate) incoming: Row,
-    pub(crate) gross: Row,
-    pub(crate) plan: PairPlan,
-}
-
-impl Room {
-    /// Room for a plan of so many periods.
-    pub(crate) fn new(alloc: Global, horizon: Horizon) -> Result<Room, Memory>
-        ensures { IfOk result (IsRoom horizon) }
-    {
-        let incoming = Row::zero(alloc, horizon)?;
-        let gross = Row::zero(alloc, horizon)?;
-        let plan = PairPlan::new(alloc, horizon)?;
-        Ok(Room {
-            incoming,
-            gross,
-            plan,
-        })
-    }
-}
 
 /// Makes the rooms that are missing for so many workers.
 pub(crate) fn refill(

@@ -1,6 +1,6 @@
 use Rattle.std.proofs.Common.{◌≡◌, length, All}
 use Rattle.mrp_crew.specs.Rooms.{IsRoom}
-use Rattle.mrp_crew.proofs.room.refill.Given as goal
+use Rattle.mrp_crew.proofs.rooms.refill.Given as goal
 
 -- there are as many rooms as were counted
 abbrev pub invariant-loop : goal.invariant-loop

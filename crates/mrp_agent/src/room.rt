@@ -1,56 +1,77 @@
-//! The desk at which an agent drafts the plan of a pair.
+//! What the plan of a pair is drafted in.
 
 ghost use Rattle.std.specs.Prelude.{◌≡◌, IfOk, length};
 ghost use Rattle.mrp_lot.specs.One.{one};
+ghost use Rattle.mrp_netting.specs.Plan.{nothing_planned};
 ghost use Rattle.mrp_agent.specs.Asking.{HasDraft, grossed};
+ghost use Rattle.mrp_agent.specs.Drafts.{CanDraft, drafted};
 
+use crate::Agent;
 use crate::drafting::{PairRows, draft_from};
+use mrp_net::PairNo;
 use mrp_netting::PairPlan;
 use mrp_qty::{Horizon, Memory, Row};
 use std::alloc::Global;
 use std::marker::Model;
 use std::mem;
 
-/// Rows to draft plans with, and the plan that was drafted last. Contracts see that plan.
+/// Room for the plan of one pair: two rows to work in, and the plan that was drafted last. Contracts see that plan.
 #[derive(Drop)]
-pub(crate) struct Desk {
+pub struct Room {
     incoming: Row,
     gross: Row,
     plan: PairPlan,
 }
 
-impl Model for Desk {
+impl Model for Room {
     ghost use Rattle.std.specs.Prelude.{◌≡◌, length};
     ghost use Rattle.mrp_lot.specs.One.{PlanRows};
 
     ghost Value = { PlanRows };
 
-    ghost view = { λ d. d.plan };
+    ghost view = { λ r. r.plan };
 
-    ghost invariant = { λ d. (length d.incoming ≡ length d.plan.gross) × (length d.gross ≡ length d.plan.gross) };
+    ghost invariant = { λ r. (length r.incoming ≡ length r.plan.gross) × (length r.gross ≡ length r.plan.gross) };
 }
 
-impl Desk {
-    /// A desk for plans of so many periods.
+impl Room {
+    /// Room for plans of so many periods, 1 to 104, in which nothing is planned.
     ///
     /// # Errors
     ///
     /// [`Memory`] where a growth is refused.
-    pub(crate) fn new(alloc: Global, horizon: Horizon) -> Result<Desk, Memory>
-        ensures { IfOk result (λ desk. length desk.gross ≡ horizon) }
+    pub fn new(alloc: Global, horizon: Horizon) -> Result<Room, Memory>
+        ensures { IfOk result (λ room. room ≡ nothing_planned horizon) }
     {
         let incoming = Row::zero(alloc, horizon)?;
         let gross = Row::zero(alloc, horizon)?;
         let plan = PairPlan::new(alloc, horizon)?;
-        Ok(Desk {
+        Ok(Room {
             incoming,
             gross,
             plan,
         })
     }
 
+    /// Drafts the plan of a pair of an agent that can be planned, as [`Agent::draft`] does. The room has the
+    /// agent's horizon; what was drafted in it before doesn't matter.
+    pub fn draft(&mut self, agent: &Agent, x: PairNo)
+        requires can { CanDraft agent.now x }
+        requires periods { length self.old.gross ≡ agent.now.view.horizon }
+        ensures { self.new ≡ drafted agent.now x }
+    {
+        agent.draft(x, &mut self.incoming, &mut self.gross, &mut self.plan);
+    }
+
+    /// The plan that was drafted last.
+    pub fn plan(&self) -> &PairPlan
+        ensures { result.now ≡ self.now }
+    {
+        &self.plan
+    }
+
     /// Drafts the plan of a pair from what has come, what is called for, and the plans of its parents.
-    pub(crate) fn draft(&mut self, rows: &PairRows<'_>, plans: &[PairPlan])
+    pub(crate) fn draft_rows(&mut self, rows: &PairRows<'_>, plans: &[PairPlan])
         requires draft { HasDraft rows.now.params rows.now.came.now rows.now.called.now rows.now.edges.now plans.now }
         requires periods { length self.old.gross ≡ length rows.now.called.now }
         ensures { self.new ≡ one rows.now.params rows.now.came.now (grossed rows.now.called.now rows.now.edges.now plans.now) }
