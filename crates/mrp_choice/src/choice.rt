@@ -1,13 +1,13 @@
 //! What a program over the planner may be asked to do, and the limits of what it may be asked.
 
 /// The most workers of a plant.
-pub const MOST_WORKERS: u64 = 64;
+pub const MOST_WORKERS: u64 = mrp_qty::MOST_WORKERS;
 
 /// The most records that a mailbox between two plants may hold.
-pub const MOST_CAPACITY: u64 = 65_536;
+pub const MOST_CAPACITY: u64 = mrp_qty::MOST_ROOM;
 
 /// The last period that may be asked about: that of the longest horizon, counted from 0.
-pub const LAST_PERIOD: u64 = 103;
+pub const LAST_PERIOD: u64 = mrp_qty::LONGEST - 1;
 
 /// Whether a report begins with a row that names its columns.
 #[derive(Clone, Copy, Debug, PartialEq, Eq)]

@@ -2,6 +2,7 @@
 
 use crate::moving::Lanes;
 use crate::plant::Plant;
+use crate::signs::Signs;
 use mrp_net::{LaneNo, PlantNo};
 use mrp_qty::Memory;
 use std::alloc::Global;
@@ -19,11 +20,13 @@ struct LaneEnds {
     receiver: PlantNo,
 }
 
-/// A bell for each plant of a run, by which others wake it. Nothing is claimed of when a plant wakes.
+/// A bell for each plant of a run, by which others wake it, and signs that tell it at which lanes to look. Nothing is
+/// claimed of when a plant wakes.
 #[derive(Drop)]
 pub(crate) struct Bells {
     bells: Vec<Parker>,
     lanes: Vec<LaneEnds>,
+    signs: Signs,
     capacity: u64,
 }
 
@@ -38,6 +41,7 @@ impl Bells {
         Ok(Bells {
             bells: new_bells(alloc, plants.len())?,
             lanes: ends_of(alloc, plants)?,
+            signs: Signs::new(alloc, lane_total(plants))?,
             capacity,
         })
     }
@@ -49,13 +53,22 @@ impl Bells {
             return;
         };
         match lanes {
-            Lanes::Outgoing => self.ring_at(ends.receiver),
+            Lanes::Outgoing => {
+                self.signs.put_up(lane, lanes);
+                self.ring_at(ends.receiver);
+            }
             Lanes::Incoming => {
                 if count >= self.capacity {
+                    self.signs.put_up(lane, lanes);
                     self.ring_at(ends.sender);
                 }
             }
         }
+    }
+
+    /// Whether a lane was moved over at its other end since the plant at this one last asked.
+    pub(crate) fn has_moved(&self, lane: LaneNo, lanes: Lanes) -> bool {
+        self.signs.take_down(lane, lanes)
     }
 
     /// Wakes a plant.

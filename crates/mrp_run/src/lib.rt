@@ -23,6 +23,7 @@ mod plant;
 mod results;
 mod running;
 mod settings;
+mod signs;
 mod stop;
 mod threads;
 

@@ -9,6 +9,9 @@ use crate::stop::{Stop, StopRule};
 use mrp_net::LaneNo;
 use std::sync::Wait;
 
+/// After how many turns a plant looks at all of its lanes again.
+const TURNS_BETWEEN: u64 = 16;
+
 /// Which lanes of a plant: over those that come in it books, and over those that go out it offers.
 #[derive(Clone, Copy)]
 pub(crate) enum Lanes {
@@ -16,11 +19,39 @@ pub(crate) enum Lanes {
     Outgoing,
 }
 
-/// Moves over each of the lanes what can be moved, wakes who may wait for it, and answers whether any record was.
+/// At which of its lanes a plant looks.
+#[derive(Clone, Copy)]
+pub(crate) enum Looks {
+    /// At each.
+    All,
+    /// At those that were moved over at their other ends since it last looked.
+    Moved,
+}
+
+impl Looks {
+    /// At which of its lanes a plant looks in a turn, from 0: at all in the first one, and now and then in a later
+    /// one, so that a sign that isn't seen costs a moment.
+    pub(crate) fn in_turn(turn: u64) -> Looks {
+        if turn % TURNS_BETWEEN == 0 {
+            Looks::All
+        } else {
+            Looks::Moved
+        }
+    }
+
+    /// The same where something may have changed at the plant's own ends.
+    pub(crate) fn after(self, changed: bool) -> Looks {
+        if changed { Looks::All } else { self }
+    }
+}
+
+/// Moves over each of the lanes at which the plant looks what can be moved, wakes who may wait for it, and answers
+/// whether any record was.
 pub(crate) fn move_all<R: Wait, S: StopRule>(
     rt: &R,
     plant: &mut Plant,
     lanes: Lanes,
+    looks: Looks,
     stop: &Stop<S>,
 ) -> bool
     requires work { PlantIsAtWork plant.old }
@@ -28,13 +59,44 @@ pub(crate) fn move_all<R: Wait, S: StopRule>(
 {
     let mut any = false;
     for k in 0..lane_count(plant, lanes) {
-        let count = move_lane(rt, plant, lanes, k);
-        if count > 0 {
+        if look_at(rt, plant, lanes, k, looks, stop) {
             any = true;
-            stop.ring(lane_of(plant, lanes, k), lanes, count);
         }
     }
     any
+}
+
+/// Moves over a lane what can be moved, where the plant looks at it, and answers whether any record was.
+fn look_at<R: Wait, S: StopRule>(
+    rt: &R,
+    plant: &mut Plant,
+    lanes: Lanes,
+    k: usize,
+    looks: Looks,
+    stop: &Stop<S>,
+) -> bool
+    requires work { PlantIsAtWork plant.old }
+    requires lane { k < lane_count lanes plant.old }
+    ensures kept { KeepsPlant plant.old plant.new }
+{
+    let lane = lane_of(plant, lanes, k);
+    if !is_due(lane, lanes, looks, stop) {
+        return false;
+    }
+    let count = move_lane(rt, plant, lanes, k);
+    if count > 0 {
+        stop.ring(lane, lanes, count);
+    }
+    count > 0
+}
+
+/// Whether a plant looks at a lane; that it was moved over is known then.
+fn is_due<S: StopRule>(lane: LaneNo, lanes: Lanes, looks: Looks, stop: &Stop<S>) -> bool {
+    let moved = stop.has_moved(lane, lanes);
+    match looks {
+        Looks::All => true,
+        Looks::Moved => moved,
+    }
 }
 
 /// How many of the lanes there are.

@@ -9,7 +9,7 @@ ghost use Rattle.mrp_run.specs.Steps.{PlantIsAtWork, IsUnfinished, KeepsPlant, F
 ghost use Rattle.mrp_run.specs.declared.fault.RunFault.{RunFault};
 
 use crate::fault::RunFault;
-use crate::moving::{Lanes, move_all};
+use crate::moving::{Lanes, Looks, move_all};
 use crate::plant::Plant;
 use crate::stop::{Stop, StopRule};
 use mrp_agent::{Agent, Gate};
@@ -59,21 +59,16 @@ pub fn run_plant<R: Threads + Wait + Sync, G: Gate, S: StopRule>(
     ensures turned { OnOk result (HasTurned G.turn_open turns plant.0) }
     ensures fault { IfErr result S.holds }
 {
-    let mut owned = Plant {
+    let whole = Plant {
         agent,
         sends,
         takes,
     };
-    if let Err(fault) = work(rt, alloc, plant, &mut owned, crew, gate, stop, turns) {
-        stop.tell(fault);
-        drop(owned);
-        return Err(fault);
-    }
     let Plant {
         agent,
         sends,
         takes,
-    } = owned;
+    } = run_owned(rt, alloc, plant, whole, crew, gate, stop, turns)?;
     Ok((agent, sends, takes))
 }
 
@@ -96,19 +91,13 @@ pub(crate) fn run_owned<R: Threads + Wait + Sync, G: Gate, S: StopRule>(
     ensures turned { OnOk result (HasTurned G.turn_open turns number.0) }
     ensures fault { IfErr result S.holds }
 {
-    let Plant {
-        agent,
-        sends,
-        takes,
-    } = plant;
-    let (agent, sends, takes) = run_plant(
-        rt, alloc, number, agent, sends, takes, crew, gate, stop, turns,
-    )?;
-    Ok(Plant {
-        agent,
-        sends,
-        takes,
-    })
+    let mut owned = plant;
+    if let Err(fault) = work(rt, alloc, number, &mut owned, crew, gate, stop, turns) {
+        stop.tell(fault);
+        drop(owned);
+        return Err(fault);
+    }
+    Ok(owned)
 }
 
 /// Turn by turn, until the plant is done.
@@ -133,7 +122,16 @@ fn work<R: Threads + Wait + Sync, G: Gate, S: StopRule>(
 {
     for turn in 0..turns {
         begin(number, turn + 1, gate, stop)?;
-        let moved = take_turn(rt, alloc, number, plant, crew, gate, stop)?;
+        let moved = take_turn(
+            rt,
+            alloc,
+            number,
+            plant,
+            crew,
+            gate,
+            stop,
+            Looks::in_turn(turn),
+        )?;
         if plant.agent.done() {
             return Ok(());
         }
@@ -164,7 +162,8 @@ fn begin<G: Gate, S: StopRule>(
     }
 }
 
-/// One turn: books, then plans, then offers. Answers whether anything was booked, planned or sent.
+/// One turn: books, then plans, then offers. Answers whether anything was booked, planned or sent. Where anything was
+/// booked or planned, each lane that goes out may have a record to send.
 fn take_turn<R: Threads + Wait + Sync, G: Gate, S: StopRule>(
     rt: &R,
     alloc: Global,
@@ -173,6 +172,7 @@ fn take_turn<R: Threads + Wait + Sync, G: Gate, S: StopRule>(
     crew: &mut Crew,
     gate: &G,
     stop: &Stop<S>,
+    looks: Looks,
 ) -> Result<bool, RunFault>
     requires work { PlantIsAtWork plant.old }
     requires horizon { crew.old.horizon ≡ plant.old.agent.view.horizon }
@@ -180,9 +180,10 @@ fn take_turn<R: Threads + Wait + Sync, G: Gate, S: StopRule>(
     ensures kept { KeepsPlant plant.old plant.new }
     ensures fault { IfErr result (IsOf (WasWorkerShut G.worker_shut crew.old.workers) never_spent number) }
 {
-    let came = move_all(rt, plant, Lanes::Incoming, stop);
+    let came = move_all(rt, plant, Lanes::Incoming, looks, stop);
     let planned = plan_all(rt, alloc, number, plant, crew, gate)?;
-    let sent = move_all(rt, plant, Lanes::Outgoing, stop);
+    let after = looks.after(came | planned);
+    let sent = move_all(rt, plant, Lanes::Outgoing, after, stop);
     Ok(came | planned | sent)
 }
 

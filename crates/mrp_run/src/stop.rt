@@ -70,6 +70,15 @@ impl<S: StopRule> Stop<S> {
         }
     }
 
+    /// Whether a lane was moved over at its other end since the plant at this one last asked; where there are no bells,
+    /// nobody can tell, and it may have been.
+    pub(crate) fn has_moved(&self, lane: LaneNo, lanes: Lanes) -> bool {
+        match &self.bells {
+            Some(bells) => bells.has_moved(lane, lanes),
+            None => true,
+        }
+    }
+
     /// Waits for a moment, or until the plant's bell is rung.
     pub(crate) fn rest<R: Wait>(&self, rt: &R, plant: PlantNo) {
         match &self.bells {
