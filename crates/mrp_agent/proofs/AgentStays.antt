@@ -20,13 +20,13 @@ use Rattle.mrp_record.specs.declared.record.Record.{Record}
 use Rattle.mrp_record.specs.Entries.{contents, is_ended}
 use Rattle.mrp_book.specs.Figures as book
 use Rattle.mrp_events.specs.State.{State}
-use Rattle.mrp_cursor.specs.Cursor.{Goods}
-use Rattle.mrp_cursor.specs.Shows.{ShowsSent}
+use Rattle.mrp_record.specs.Cursor.{Goods}
+use Rattle.mrp_record.specs.Shows.{ShowsSent}
 use Rattle.mrp_ready.specs.Counts.{Awaited, AreCounts, open_blocks}
-use Rattle.mrp_local.proofs.Seeing.{pairs_are_at}
-use Rattle.mrp_local.specs.Goods.{goods_by, goods_of, schedule_goods, IsSendable}
-use Rattle.mrp_local.specs.Local.{amount_at, asked_within, booked_on, is_of_kind, lanes_in, local_gross, local_incoming}
-use Rattle.mrp_local.specs.Local.{local_plan, local_row, pieces_in, AwaitsNothing, IsLocal, IsPlannedLocally}
+use Rattle.mrp_events.proofs.Seeing.{pairs_are_at}
+use Rattle.mrp_events.specs.Goods.{goods_by, goods_of, schedule_goods, IsSendable}
+use Rattle.mrp_events.specs.LocalPlans.{amount_at, asked_within, booked_on, is_of_kind, lanes_in, local_gross, local_incoming}
+use Rattle.mrp_events.specs.LocalPlans.{local_plan, local_row, pieces_in, AwaitsNothing, IsLocal, IsPlannedLocally}
 use Rattle.mrp_agent.specs.Shows.{ShowsHistory, OutShows, awaited, awaited_on, form_of, joins_of, up_to_last}
 use Rattle.mrp_agent.specs.State.{AgentState, book_at, incoming_at, out_at, outgoing_at, pair_place, plans_of, no_incoming, no_outgoing}
 use Rattle.mrp_agent.proofs.Owning.{own_of_item}

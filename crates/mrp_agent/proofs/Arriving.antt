@@ -16,7 +16,7 @@ use Rattle.mrp_record.specs.Entries.{Entry, LineOf, EndOf, ResetOf, Delivery, co
 use Rattle.mrp_record.specs.Blocks.{deliveries, entry_delivery}
 use Rattle.mrp_record.specs.Laws.{quantity_in}
 use Rattle.mrp_events.specs.State.{changed}
-use Rattle.mrp_local.specs.Local.{pieces_in, is_of_kind, booked_on}
+use Rattle.mrp_events.specs.LocalPlans.{pieces_in, is_of_kind, booked_on}
 use Rattle.mrp_agent.specs.State.{incoming_at, no_incoming}
 use Rattle.mrp_agent.proofs.Sent.{changed_there, changed_elsewhere}
 

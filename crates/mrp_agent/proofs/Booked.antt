@@ -23,12 +23,12 @@ use Rattle.mrp_record.specs.Form.{EntryFits}
 use Rattle.mrp_record.specs.Laws.{quantity_in}
 use Rattle.mrp_book.specs.Figures as book
 use Rattle.mrp_book.specs.Figures.{Figures}
-use Rattle.mrp_cursor.specs.Cursor.{Goods}
-use Rattle.mrp_cursor.proofs.Queues.{looks_at_queued}
+use Rattle.mrp_record.specs.Cursor.{Goods}
+use Rattle.mrp_record.proofs.Queues.{looks_at_queued}
 use Rattle.mrp_ready.specs.Counts.{open_blocks}
 use Rattle.mrp_ready.specs.Progress.{Progress, is_planned}
-use Rattle.mrp_local.specs.Goods.{goods_by, goods_of, called_for, by_period_from, IsSendable}
-use Rattle.mrp_local.specs.Local.{amount_at, asked_within, booked_on, is_of_kind, lanes_in, local_gross, local_incoming, local_plan, local_row, AwaitsNothing, Carries, IsLocal, IsPlannedLocally}
+use Rattle.mrp_events.specs.Goods.{goods_by, goods_of, called_for, by_period_from, IsSendable}
+use Rattle.mrp_events.specs.LocalPlans.{amount_at, asked_within, booked_on, is_of_kind, lanes_in, local_gross, local_incoming, local_plan, local_row, AwaitsNothing, Carries, IsLocal, IsPlannedLocally}
 use Rattle.mrp_agent.specs.State.{AgentState, book_at, incoming_at, outgoing_at, out_at, pair_place, plans_of, no_book, no_incoming}
 use Rattle.mrp_agent.specs.After.{after_booked, added_for, came_by, called_after, ended_place, items_of, place_of, with_line, BlockEnded, IsAwaited}
 use Rattle.mrp_agent.specs.Kept.{HasRooms, HasTaken, Indexes, IsKept}

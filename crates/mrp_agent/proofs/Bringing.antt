@@ -17,7 +17,7 @@ use Rattle.mrp_record.specs.declared.record.Record.TheVariants.{Line, ItemEnd, R
 use Rattle.mrp_record.specs.Entries.{Entry, LineOf, EndOf, ResetOf, Closing, content, is_of, is_ended}
 use Rattle.mrp_record.specs.Form.{FormItem, EntryFits, GoesOn, item_on}
 use Rattle.mrp_book.specs.Figures as book
-use Rattle.mrp_local.specs.Local.{amount_at}
+use Rattle.mrp_events.specs.LocalPlans.{amount_at}
 use Rattle.mrp_agent.specs.State.{pair_place, no_plant_pair}
 use Rattle.mrp_agent.specs.After.{added_for, items_of, place_of, with_line}
 use Rattle.mrp_agent.specs.Shows.{form_of, up_to_last, book_item}

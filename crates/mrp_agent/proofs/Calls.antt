@@ -13,9 +13,9 @@ use Rattle.mrp_view.specs.Loads.{bare, call_of, load_at, no_load}
 use Rattle.mrp_view.specs.Seen.{IsOwnPair, HasCall, IsScheduleLane}
 use Rattle.mrp_record.specs.declared.record.Record.{Record}
 use Rattle.mrp_book.specs.Figures.{Figures}
-use Rattle.mrp_cursor.specs.declared.remainder.Remainder.{Remainder}
-use Rattle.mrp_cursor.specs.Cursor.{OutFigures}
-use Rattle.mrp_cursor.specs.Next.{next_record, stepped}
+use Rattle.mrp_record.specs.declared.remainder.Remainder.{Remainder}
+use Rattle.mrp_record.specs.Cursor.{OutFigures}
+use Rattle.mrp_record.specs.Next.{next_record, stepped}
 use Rattle.mrp_agent.specs.State.{AgentState, book_at, incoming_at, incoming_place, out_at, pair_place, plans_of, no_out}
 use Rattle.mrp_agent.specs.After.{after_sent, gone_on}
 use Rattle.mrp_agent.specs.Kept.{HasTaken, Indexes, IsKept, IsShowing}

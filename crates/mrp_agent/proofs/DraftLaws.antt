@@ -16,10 +16,10 @@ use Rattle.mrp_view.specs.Seen.{IsOwnPair}
 use Rattle.mrp_view.specs.View.{PlantRows, is_of_plant, plant_pair, plant_pairs, plant_rows}
 use Rattle.mrp_loops.specs.Sized.{IsSized}
 use Rattle.mrp_record.specs.declared.record.Record.{Record}
-use Rattle.mrp_local.specs.Laws.{IsPairAt, IsReadyAt, PlansLocally}
-use Rattle.mrp_local.specs.Local.{amount_at, asked_within, booked_on, local_incoming, local_gross, local_row, IsLocal}
-use Rattle.mrp_local.proofs.Planned as network
-use Rattle.mrp_local.proofs.Seeing.{sees_pair}
+use Rattle.mrp_events.specs.LocalLaws.{IsPairAt, IsReadyAt, PlansLocally}
+use Rattle.mrp_events.specs.LocalPlans.{amount_at, asked_within, booked_on, local_incoming, local_gross, local_row, IsLocal}
+use Rattle.mrp_events.proofs.LocalPlanned as network
+use Rattle.mrp_events.proofs.Seeing.{sees_pair}
 use Rattle.mrp_agent.specs.State.{AgentState, pair_owned, pair_place, plans_of, no_plant_pair}
 use Rattle.mrp_agent.specs.Shows.{up_to_last}
 use Rattle.mrp_agent.specs.Laws.{WorksIn, AgentDraftsAreThePlan, AgentDraftsAreWithin, numbered}

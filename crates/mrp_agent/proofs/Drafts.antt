@@ -13,7 +13,7 @@ use Rattle.mrp_view.specs.declared.view.PlantEdge.{PlantEdge}
 use Rattle.mrp_view.specs.declared.view.PlantPair.{PlantPair}
 use Rattle.mrp_view.specs.Seen.{IsView, IsOwnPair, IsPlantEdge}
 use Rattle.mrp_view.specs.View.{PlantRows}
-use Rattle.mrp_local.specs.Local.{amount_at, asked_within}
+use Rattle.mrp_events.specs.LocalPlans.{amount_at, asked_within}
 use Rattle.mrp_agent.specs.declared.edges.ParentEdge.{ParentEdge}
 use Rattle.mrp_agent.specs.State.{AgentState, pair_place, pair_owned, plans_of, no_plan, no_plant_pair}
 use Rattle.mrp_agent.specs.Asking.{asked_by, asked_on, ParentCanAsk, HasDraft, grossed}

@@ -23,9 +23,9 @@ use Rattle.mrp_book.specs.Faults.{find_item}
 use Rattle.mrp_book.specs.Figures as book
 use Rattle.mrp_book.specs.Figures.{Figures}
 use Rattle.mrp_book.proofs.Showing.{shown}
-use Rattle.mrp_cursor.specs.Next.{IsWhatIsLeft, IsNextLine, IsRemainder}
-use Rattle.mrp_cursor.proofs.Lists.{drop_there, none_there}
-use Rattle.mrp_local.specs.Goods.{called_for, by_period_from, goods_of, goods_by}
+use Rattle.mrp_record.specs.Next.{IsWhatIsLeft, IsNextLine, IsRemainder}
+use Rattle.mrp_record.proofs.Lists.{drop_there, none_there}
+use Rattle.mrp_events.specs.Goods.{called_for, by_period_from, goods_of, goods_by}
 use Rattle.mrp_agent.specs.State.{AgentState, incoming_at, incoming_place, outgoing_at, book_at, out_at, plans_of, no_incoming}
 use Rattle.mrp_agent.specs.Sending.{booked_figure, figure_in, next_shipment, shipment_line, call_line, remainder, remainder_by, left_at}
 use Rattle.mrp_agent.specs.Shows.{BooksShow, form_of, book_item}

@@ -27,11 +27,11 @@ use Rattle.mrp_record.proofs.Standing.{IsWithin, stands}
 use Rattle.mrp_events.specs.Loads.{loads, load_of}
 use Rattle.mrp_events.specs.State.{IsDecided}
 use Rattle.mrp_events.proofs.Going.{AllOf_at, item_of_load, from_order}
-use Rattle.mrp_cursor.specs.Cursor as cursor
-use Rattle.mrp_cursor.specs.Cursor.{OutFigures, Goods}
-use Rattle.mrp_cursor.specs.Laws.{IsQueued, MaySend}
-use Rattle.mrp_local.specs.Goods.{IsSendable}
-use Rattle.mrp_local.specs.Laws.{HasGoods}
+use Rattle.mrp_record.specs.Cursor as cursor
+use Rattle.mrp_record.specs.Cursor.{OutFigures, Goods}
+use Rattle.mrp_record.specs.CursorLaws.{IsQueued, MaySend}
+use Rattle.mrp_events.specs.Goods.{IsSendable}
+use Rattle.mrp_events.specs.LocalLaws.{HasGoods}
 
 -- ---- what a record is of
 

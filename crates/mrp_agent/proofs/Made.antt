@@ -17,7 +17,7 @@ use Rattle.mrp_view.specs.declared.view.OutgoingLane.{OutgoingLane}
 use Rattle.mrp_view.specs.Seen.{IsIncomingLane}
 use Rattle.mrp_view.specs.View.{PlantRows}
 use Rattle.mrp_view.proofs.Seeing.{All-flat_map}
-use Rattle.mrp_cursor.specs.Cursor.{OutFigures}
+use Rattle.mrp_record.specs.Cursor.{OutFigures}
 use Rattle.mrp_agent.specs.Shows.{book_item}
 use Rattle.mrp_agent.specs.State.{no_out, no_outgoing}
 use Rattle.mrp_agent.specs.Making.{AreIdleOuts, IsIdleLane, place_awaited}

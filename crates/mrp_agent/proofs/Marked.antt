@@ -11,7 +11,7 @@ use Rattle.mrp_net.specs.declared.lane.LaneKind.TheVariants.{Despatch, Schedule}
 use Rattle.mrp_view.specs.declared.view.OutgoingLane.{OutgoingLane}
 use Rattle.mrp_view.specs.declared.view.PlantEdge.{PlantEdge}
 use Rattle.mrp_view.specs.Seen.{IsPlantEdge}
-use Rattle.mrp_cursor.specs.Cursor.{OutFigures}
+use Rattle.mrp_record.specs.Cursor.{OutFigures}
 use Rattle.mrp_group.proofs.Sorting.{IsGrouped-within}
 use Rattle.mrp_ready.specs.declared.join.Join.{Join}
 use Rattle.mrp_ready.specs.Counts.{components_of, open_blocks}

@@ -9,12 +9,12 @@ use Rattle.mrp_loops.specs.Sized.{IsSized}
 use Rattle.mrp_record.specs.declared.record.Record.{Record}
 use Rattle.mrp_events.specs.Loads.{loads}
 use Rattle.mrp_events.proofs.Small.{loads_stand_once}
-use Rattle.mrp_cursor.specs.Laws.{Agrees}
-use Rattle.mrp_local.specs.Goods.{goods_of, IsSendable}
-use Rattle.mrp_local.specs.Laws.{HasGoods, HasSmallGoods, PlansLocally, QueuesSendable}
-use Rattle.mrp_local.specs.Local.{IsLocal}
-use Rattle.mrp_local.proofs.Planned.{local_plans_are_the_plan}
-use Rattle.mrp_local.proofs.Sending.{local_goods_are_the_loads, local_goods_agree, local_goods_are_small}
+use Rattle.mrp_record.specs.CursorLaws.{Agrees}
+use Rattle.mrp_events.specs.Goods.{goods_of, IsSendable}
+use Rattle.mrp_events.specs.LocalLaws.{HasGoods, HasSmallGoods, PlansLocally, QueuesSendable}
+use Rattle.mrp_events.specs.LocalPlans.{IsLocal}
+use Rattle.mrp_events.proofs.LocalPlanned.{local_plans_are_the_plan}
+use Rattle.mrp_events.proofs.LocalSending.{local_goods_are_the_loads, local_goods_agree, local_goods_are_small}
 use Rattle.mrp_agent.specs.State.{AgentState, outgoing_at, out_at, plans_of, no_outgoing}
 use Rattle.mrp_agent.specs.Laws.{WorksIn, NothingLegalIsLeft, PlannedPairsHaveThePlan, SentIsLegal, SentIsWithin64}
 use Rattle.mrp_agent.specs.Sending.{goods_at}

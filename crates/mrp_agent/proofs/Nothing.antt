@@ -25,7 +25,7 @@ use Rattle.mrp_ready.specs.Laws.{NothingIsOpen}
 use Rattle.mrp_ready.specs.Progress.{IsListed, is_planned}
 use Rattle.mrp_ready.proofs.Counting.{ready_where_nothing_is_open}
 use Rattle.mrp_events.specs.State.{changed}
-use Rattle.mrp_local.specs.Local.{amount_at, asked_within, booked_on, local_incoming, local_gross, local_plan, local_row, AwaitsNothing, Carries, HasCome}
+use Rattle.mrp_events.specs.LocalPlans.{amount_at, asked_within, booked_on, local_incoming, local_gross, local_plan, local_row, AwaitsNothing, Carries, HasCome}
 use Rattle.mrp_agent.specs.Drafts.{CanDraft, drafted}
 use Rattle.mrp_agent.specs.Kept.{Indexes, IsKept}
 use Rattle.mrp_agent.specs.Shows.{ShowsHistory, awaited, awaited_on, block_awaited, join_of, joins_of, up_to_last}

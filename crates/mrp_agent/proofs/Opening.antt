@@ -24,13 +24,13 @@ use Rattle.mrp_book.specs.declared.item.BookItem.{BookItem}
 use Rattle.mrp_book.specs.Figures as book
 use Rattle.mrp_book.specs.Figures.{Figures}
 use Rattle.mrp_book.proofs.Opening.{empty_in_form, items_once}
-use Rattle.mrp_cursor.specs.Cursor.{OutFigures}
-use Rattle.mrp_cursor.proofs.Lists.{range_below, range_has}
+use Rattle.mrp_record.specs.Cursor.{OutFigures}
+use Rattle.mrp_record.proofs.Lists.{range_below, range_has}
 use Rattle.mrp_ready.specs.declared.join.Join.{Join}
 use Rattle.mrp_ready.specs.Counts.{Awaited, AreCounts, open_blocks}
 use Rattle.mrp_ready.specs.Progress.{Progress, is_planned, times}
-use Rattle.mrp_local.specs.Goods.{goods_of, IsSendable}
-use Rattle.mrp_local.specs.Local.{amount_at, booked_on, lanes_in}
+use Rattle.mrp_events.specs.Goods.{goods_of, IsSendable}
+use Rattle.mrp_events.specs.LocalPlans.{amount_at, booked_on, lanes_in}
 use Rattle.mrp_agent.specs.State.{AgentState, incoming_at, outgoing_at, book_at, out_at, no_book, no_incoming, pair_place, plans_of}
 use Rattle.mrp_agent.specs.Shows.{ShowsHistory, OutShows, BooksShow, awaited, awaited_on, block_awaited, book_item, form_of, join_of, joins_of, up_to_last}
 use Rattle.mrp_agent.specs.Kept.{parent_edge, HasPlanRows, HasRooms, HasSmallItems, HasSmallOpenings, Indexes, AreIndexes, IsKept}

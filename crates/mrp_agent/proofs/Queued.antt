@@ -16,11 +16,11 @@ use Rattle.mrp_view.specs.Loads.{OutgoingLoad, call_of, load_at, no_load}
 use Rattle.mrp_view.specs.Seen.{IsView, IsOwnPair, IsOwnOf, IsOutgoingLane, IsScheduleLane}
 use Rattle.mrp_view.specs.View.{PlantRows}
 use Rattle.mrp_record.specs.declared.record.Record.{Record}
-use Rattle.mrp_cursor.specs.Cursor.{OutFigures, Goods}
-use Rattle.mrp_cursor.specs.Shows.{ShowsSent}
-use Rattle.mrp_cursor.proofs.Queues.{queues_show, looks_at_queued}
+use Rattle.mrp_record.specs.Cursor.{OutFigures, Goods}
+use Rattle.mrp_record.specs.Shows.{ShowsSent}
+use Rattle.mrp_record.proofs.Queues.{queues_show, looks_at_queued}
 use Rattle.mrp_events.specs.State.{changed}
-use Rattle.mrp_local.specs.Goods.{by_period_from, goods_by, goods_of, schedule_goods, share, IsSendable}
+use Rattle.mrp_events.specs.Goods.{by_period_from, goods_by, goods_of, schedule_goods, share, IsSendable}
 use Rattle.mrp_agent.specs.After.{place_of, queued_at, queued_by, settled_out}
 use Rattle.mrp_agent.proofs.Looking.{only_place, place_found, place_known}
 use Rattle.mrp_agent.proofs.Marked.{queued_size}

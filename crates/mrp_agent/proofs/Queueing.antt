@@ -16,8 +16,8 @@ use Rattle.mrp_view.specs.Loads.{OutgoingLoad, load_at, no_load}
 use Rattle.mrp_view.proofs.Once.{count-map}
 use Rattle.mrp_view.specs.Seen.{IsView}
 use Rattle.mrp_view.specs.View.{PlantRows}
-use Rattle.mrp_cursor.specs.Cursor.{OutFigures}
-use Rattle.mrp_cursor.specs.Next.{queued}
+use Rattle.mrp_record.specs.Cursor.{OutFigures}
+use Rattle.mrp_record.specs.Next.{queued}
 use Rattle.mrp_agent.specs.declared.queues.QueuePlace.{QueuePlace}
 use Rattle.mrp_agent.specs.After.{AreOutsSettled, items_of, place_of, queued_at, queued_by, settled_out}
 use Rattle.mrp_agent.specs.Queues.{item_queues, lane_queues, lane_queues_at, queue_place, queue_places, with_queued}

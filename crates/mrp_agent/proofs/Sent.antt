@@ -11,16 +11,16 @@ use Rattle.mrp_view.specs.declared.view.PlantPair.{PlantPair}
 use Rattle.mrp_view.specs.Loads.{call_of, load_at}
 use Rattle.mrp_view.specs.Seen.{IsView, IsOwnPair, IsOwnOf, IsScheduleLane}
 use Rattle.mrp_record.specs.declared.record.Record.{Record}
-use Rattle.mrp_cursor.specs.declared.remainder.Remainder.{Remainder}
-use Rattle.mrp_cursor.specs.Cursor.{OutFigures}
-use Rattle.mrp_cursor.specs.Next.{IsWhatIsLeft, stepped}
-use Rattle.mrp_cursor.specs.Shows.{ShowsSent}
-use Rattle.mrp_cursor.proofs.Lists.{contains_there}
-use Rattle.mrp_cursor.proofs.Nothing.{none_is_left}
-use Rattle.mrp_cursor.proofs.Steps.{steps_show, given_continues, steps_keep_places}
-use Rattle.mrp_cursor.proofs.Texts.{queued_are_places}
+use Rattle.mrp_record.specs.declared.remainder.Remainder.{Remainder}
+use Rattle.mrp_record.specs.Cursor.{OutFigures}
+use Rattle.mrp_record.specs.Next.{IsWhatIsLeft, stepped}
+use Rattle.mrp_record.specs.Shows.{ShowsSent}
+use Rattle.mrp_record.proofs.Lists.{contains_there}
+use Rattle.mrp_record.proofs.Nothing.{none_is_left}
+use Rattle.mrp_record.proofs.Steps.{steps_show, given_continues, steps_keep_places}
+use Rattle.mrp_record.proofs.Texts.{queued_are_places}
 use Rattle.mrp_events.specs.State.{changed}
-use Rattle.mrp_local.specs.Goods.{IsSendable}
+use Rattle.mrp_events.specs.Goods.{IsSendable}
 use Rattle.mrp_agent.specs.State.{AgentState, outgoing_at, out_at, pair_place, plans_of, no_out, no_outgoing, no_plan}
 use Rattle.mrp_agent.specs.After.{after_sent}
 use Rattle.mrp_agent.specs.Kept.{AreCursors, HasPlanRows, HasRooms, HasTaken, Indexes, IsKept}

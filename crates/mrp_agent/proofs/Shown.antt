@@ -8,13 +8,13 @@ use Rattle.mrp_view.specs.declared.view.OutgoingLane.{OutgoingLane}
 use Rattle.mrp_view.specs.declared.view.PlantPair.{PlantPair}
 use Rattle.mrp_view.specs.Seen.{IsOwnPair}
 use Rattle.mrp_record.specs.declared.record.Record.{Record}
-use Rattle.mrp_cursor.specs.Cursor.{OutFigures}
-use Rattle.mrp_cursor.specs.Shows.{ShowsSent}
+use Rattle.mrp_record.specs.Cursor.{OutFigures}
+use Rattle.mrp_record.specs.Shows.{ShowsSent}
 use Rattle.mrp_ready.specs.Progress.{IsListed, Progress}
 use Rattle.mrp_ready.specs.Counts.{open_blocks}
 use Rattle.mrp_events.specs.State.{changed}
-use Rattle.mrp_local.specs.Goods.{goods_of, IsSendable}
-use Rattle.mrp_local.specs.Local.{AwaitsNothing, IsPlannedLocally, IsLocal}
+use Rattle.mrp_events.specs.Goods.{goods_of, IsSendable}
+use Rattle.mrp_events.specs.LocalPlans.{AwaitsNothing, IsPlannedLocally, IsLocal}
 use Rattle.mrp_agent.specs.After.{after_settled, AreOutsSettled, PairSettled, settled_out}
 use Rattle.mrp_agent.specs.Drafts.{CanDraft, drafted, ready_numbers}
 use Rattle.mrp_agent.specs.Kept.{Indexes, IsKept}

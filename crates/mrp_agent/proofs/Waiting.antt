@@ -22,7 +22,7 @@ use Rattle.mrp_ready.specs.Counts.{Awaited}
 use Rattle.mrp_ready.specs.Laws.{NothingIsOpen}
 use Rattle.mrp_ready.specs.Progress.{is_planned, IsListed}
 use Rattle.mrp_ready.proofs.Counting.{ready_where_nothing_is_open}
-use Rattle.mrp_local.specs.Local.{CanBePlanned, Carries, HasCome}
+use Rattle.mrp_events.specs.LocalPlans.{CanBePlanned, Carries, HasCome}
 use Rattle.mrp_agent.specs.State.{AgentState, pair_owned, pair_place, item_place, no_plant_pair}
 use Rattle.mrp_agent.specs.Drafts.{ready_numbers}
 use Rattle.mrp_agent.specs.Kept.{HasRooms}

@@ -10,9 +10,9 @@ use Rattle.mrp_view.specs.View.{PlantRows}
 use Rattle.mrp_record.specs.declared.record.Record.{Record}
 use Rattle.mrp_record.specs.declared.record.Record.TheVariants.{Line, ItemEnd, Reset, Close}
 use Rattle.mrp_book.specs.Figures.{Figures}
-use Rattle.mrp_cursor.specs.declared.remainder.Remainder.{Remainder}
-use Rattle.mrp_cursor.specs.Cursor.{OutFigures}
-use Rattle.mrp_cursor.specs.Next.{stepped, queued}
+use Rattle.mrp_record.specs.declared.remainder.Remainder.{Remainder}
+use Rattle.mrp_record.specs.Cursor.{OutFigures}
+use Rattle.mrp_record.specs.Next.{stepped, queued}
 use Rattle.mrp_ready.specs.declared.join.Join.{Join}
 use Rattle.mrp_ready.specs.Counts.{AreCounts, IsOneEnded}
 use Rattle.mrp_ready.specs.Progress.{Progress, left_of}

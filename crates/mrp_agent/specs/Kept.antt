@@ -13,7 +13,7 @@ use Rattle.mrp_record.specs.declared.record.Record.{Record}
 use Rattle.mrp_record.specs.Form.{LaneForm}
 use Rattle.mrp_book.specs.Figures as book
 use Rattle.mrp_book.specs.Figures.{Figures}
-use Rattle.mrp_cursor.specs.Cursor.{OutFigures}
+use Rattle.mrp_record.specs.Cursor.{OutFigures}
 use Rattle.mrp_ready.specs.Counts.{components_of}
 use Rattle.mrp_ready.specs.Progress.{Progress}
 use Rattle.mrp_agent.specs.declared.edges.ParentEdge.{ParentEdge}

@@ -15,7 +15,7 @@ use Rattle.mrp_record.specs.Text.{IsBeginning}
 use Rattle.mrp_events.specs.Loads.{loads}
 use Rattle.mrp_events.specs.Local.{AreLegal}
 use Rattle.mrp_events.specs.State.{IsDecided}
-use Rattle.mrp_local.specs.Laws.{IsPairAt, IsReadyAt}
+use Rattle.mrp_events.specs.LocalLaws.{IsPairAt, IsReadyAt}
 use Rattle.mrp_agent.specs.State.{AgentState, outgoing_at, plans_of, pair_owned}
 use Rattle.mrp_agent.specs.Sending.{ContinuesSent, NothingContinues, IsWithin64}
 use Rattle.mrp_agent.specs.Kept.{HasSmallOpenings}

@@ -2,7 +2,7 @@
 use Rattle.std.specs.Prelude.{◌≡◌, ℕ, ◌<◌, length}
 use Rattle.mrp_rows.specs.Table.{Table}
 use Rattle.mrp_net.specs.Lanes.{lanes, lane_at}
-use Rattle.mrp_local.specs.Laws.{IsPairAt}
+use Rattle.mrp_events.specs.LocalLaws.{IsPairAt}
 use Rattle.mrp_events.specs.State.{State}
 
 -- the plant sends the lane

@@ -11,7 +11,7 @@ use Rattle.mrp_view.specs.Seen.{IsOwnPair, IsView}
 use Rattle.mrp_view.specs.View.{PlantRows}
 use Rattle.mrp_record.specs.declared.record.Record.{Record}
 use Rattle.mrp_record.specs.Entries.{contents, cum, is_closed}
-use Rattle.mrp_local.specs.Local.{CanBePlanned}
+use Rattle.mrp_events.specs.LocalPlans.{CanBePlanned}
 
 -- ---- pairs
 

@@ -17,12 +17,12 @@ use Rattle.mrp_events.specs.Loads.{delivery_in, has_pieces}
 use Rattle.mrp_book.specs.declared.item.ItemFigure.{ItemFigure}
 use Rattle.mrp_book.specs.Faults.{find_item}
 use Rattle.mrp_book.specs.Figures.{Figures}
-use Rattle.mrp_cursor.specs.declared.remainder.NextLine.{NextLine}
-use Rattle.mrp_cursor.specs.declared.remainder.Remainder.{Remainder}
-use Rattle.mrp_cursor.specs.Cursor.{Goods}
-use Rattle.mrp_cursor.specs.Laws.{Agrees, IsBounded, MaySend}
-use Rattle.mrp_cursor.specs.Next.{next_record}
-use Rattle.mrp_local.specs.Goods.{goods_of, share}
+use Rattle.mrp_record.specs.declared.remainder.NextLine.{NextLine}
+use Rattle.mrp_record.specs.declared.remainder.Remainder.{Remainder}
+use Rattle.mrp_record.specs.Cursor.{Goods}
+use Rattle.mrp_record.specs.CursorLaws.{Agrees, IsBounded, MaySend}
+use Rattle.mrp_record.specs.Next.{next_record}
+use Rattle.mrp_events.specs.Goods.{goods_of, share}
 use Rattle.mrp_agent.specs.State.{AgentState, book_at, out_at, incoming_place, outgoing_at, plans_of}
 
 -- the cumulative figure of an item in a book

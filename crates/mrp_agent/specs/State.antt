@@ -12,7 +12,7 @@ use Rattle.mrp_view.specs.declared.view.OutgoingLane.{OutgoingLane}
 use Rattle.mrp_view.specs.declared.view.PlantPair.{PlantPair}
 use Rattle.mrp_view.specs.View.{PlantRows}
 use Rattle.mrp_book.specs.Figures.{Figures}
-use Rattle.mrp_cursor.specs.Cursor.{OutFigures}
+use Rattle.mrp_record.specs.Cursor.{OutFigures}
 use Rattle.mrp_ready.specs.Progress.{Progress}
 
 -- What it sees; the book of each lane that comes in; by pair and period what comes in and what is asked for

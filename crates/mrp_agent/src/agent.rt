@@ -8,7 +8,7 @@ use crate::booking::incoming_place;
 use crate::parts::{Amounts, Lanes, Structure};
 use crate::places::LastPlaces;
 use mrp_book::Book;
-use mrp_cursor::OutCursor;
+use mrp_record::OutCursor;
 use mrp_net::{ItemNo, LaneNo, PairNo};
 use mrp_netting::PairPlan;
 use mrp_qty::{Memory, Qty};
@@ -49,7 +49,7 @@ impl Agent {
     ghost use Rattle.mrp_record.specs.declared.record.Record.{Record};
     ghost use Rattle.mrp_view.specs.declared.view.PlantPair.{PlantPair};
     ghost use Rattle.mrp_view.specs.Seen.{IsOwnPair, IsView};
-    ghost use Rattle.mrp_local.specs.Local.{CanBePlanned};
+    ghost use Rattle.mrp_events.specs.LocalPlans.{CanBePlanned};
     ghost use Rattle.mrp_agent.specs.Drafts.{ready_numbers};
     ghost use Rattle.mrp_agent.specs.Kept.{HasSmallOpenings};
     ghost use Rattle.mrp_agent.specs.Reading.{HasDone, NoneCanBePlanned, OwnCanBePlanned, OwnIsPlanned, received_over, unplanned_pairs};

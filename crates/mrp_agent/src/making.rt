@@ -12,7 +12,7 @@ ghost use Rattle.mrp_agent.specs.Making.{AreFit, AreIdleOuts, new_figures, IsIdl
 ghost use Rattle.mrp_agent.specs.Shows.{book_item, form_of};
 
 use mrp_book::{Book, BookItem};
-use mrp_cursor::OutCursor;
+use mrp_record::OutCursor;
 use mrp_net::LaneKind;
 use mrp_qty::{Memory, Qty};
 use mrp_ready::{Join, PairNo, Readiness, first_waits};

@@ -14,7 +14,7 @@ use crate::places::ItemPlaces;
 use crate::queues::{QueuePlace, queues};
 use crate::room::Room;
 use mrp_book::Book;
-use mrp_cursor::OutCursor;
+use mrp_record::OutCursor;
 use mrp_group::{Groups, group};
 use mrp_netting::{PairPlan, blank_plans};
 use mrp_qty::Memory;

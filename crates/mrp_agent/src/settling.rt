@@ -5,7 +5,7 @@ ghost use Rattle.mrp_agent.specs.Queues.{with_queued};
 
 use crate::Agent;
 use crate::queues::QueuePlace;
-use mrp_cursor::OutCursor;
+use mrp_record::OutCursor;
 use mrp_net::PairNo;
 use mrp_netting::PairPlan;
 

@@ -6,9 +6,9 @@ use Rattle.mrp_view.specs.declared.view.PlantPair.{PlantPair}
 use Rattle.mrp_view.specs.Seen.{IsOwnPair}
 use Rattle.mrp_view.specs.View.{PlantRows, plant_pair, plant_rows}
 use Rattle.mrp_record.specs.declared.record.Record.{Record}
-use Rattle.mrp_local.specs.Laws.{IsPairAt}
-use Rattle.mrp_local.specs.Local.{CanBePlanned}
-use Rattle.mrp_local.proofs.Seeing.{own_at, seen_there}
+use Rattle.mrp_events.specs.LocalLaws.{IsPairAt}
+use Rattle.mrp_events.specs.LocalPlans.{CanBePlanned}
+use Rattle.mrp_events.proofs.Seeing.{own_at, seen_there}
 use Rattle.mrp_agent.specs.Drafts.{CanDraft, ready_numbers}
 use Rattle.mrp_agent.specs.Shows.{ShowsHistory}
 use Rattle.mrp_agent.specs.State.{AgentState}

@@ -8,3 +8,9 @@ pub mod Progress
 pub mod Seen
 pub mod State
 pub mod Steps
+pub mod LocalPlans
+pub mod Goods
+pub mod LocalLaws
+pub mod History
+pub mod Stamps
+pub mod HistoryLaws

@@ -19,9 +19,9 @@ use Rattle.mrp_events.proofs.Small.{beginnings_are_no_longer}
 use Rattle.mrp_agent.specs.State.{AgentState}
 use Rattle.mrp_agent.proofs.AgentStays.{agent_stays}
 use Rattle.mrp_agent.specs.InNetwork.{ShowsAgent}
-use Rattle.mrp_plant.specs.Moments.{Moment, IsAt, IsNext}
+use Rattle.mrp_world.specs.Moments.{Moment, IsAt, IsNext}
 use Rattle.mrp_agent.specs.OwnPart.{IsOut, IsIn, IsOwn}
-use Rattle.mrp_mailbox.specs.Mailbox.{Held}
+use Rattle.mrp_world.specs.Mailbox.{Held}
 use Rattle.mrp_world.specs.World.{nothing_held, box_at}
 use Rattle.mrp_world.specs.Moves.{AreSomewhere, Lead}
 use Rattle.mrp_world.proofs.Makes.{boxes_hold}

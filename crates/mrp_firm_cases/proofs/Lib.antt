@@ -1,2 +1,3 @@
 mod Handing
 pub mod Opening
+mod Feeding

@@ -1,16 +1,12 @@
-//! Firms event by event, agents alone, and crews, over tables that were worked by hand.
+//! Firms event by event, agents alone, crews, lanes between threads and runs by threads: what they come to, and
+//! what gates see of them.
 
 mod agents;
 mod crews;
+mod endings;
 mod firms;
-
-use mrp_net::Network;
-use mrp_tables::read_tables_uncounted;
-use std::alloc::Global;
-use std::test::Fail;
-
-/// The network of a table's text.
-fn network_of(alloc: Global, text: &str) -> Result<Network, Fail> {
-    let tables = read_tables_uncounted(alloc, text.as_bytes())?;
-    Ok(Network::of(alloc, tables)?)
-}
+mod gates;
+mod lanes;
+mod places;
+mod stops;
+mod trials;

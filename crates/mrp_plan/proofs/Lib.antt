@@ -4,3 +4,4 @@ pub mod Pegs
 pub mod Next
 pub mod Ordering
 pub mod Planning
+pub mod Gathers

@@ -4,3 +4,4 @@ pub mod Orders
 pub mod Peg
 pub mod PegLaws
 pub mod Progress
+pub mod Given

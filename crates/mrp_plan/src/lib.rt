@@ -1,9 +1,10 @@
 //! The plan of a whole network: each pair planned after all of its demanders, pegging, and planned
-//! orders.
+//! orders; and the plans of the plants' pairs, put together to that plan.
 #![tactic(auto)]
 
 mod explosion;
 mod fitting;
+mod gathering;
 mod laws;
 mod orders;
 mod pegging;
@@ -11,7 +12,11 @@ mod plan;
 mod terms;
 
 pub use fitting::fits;
+pub use gathering::gather;
 pub use laws::{orders_make_releases, terms_add_up, terms_have_rows};
+pub use mrp_net::Network;
+pub use mrp_netting::PairPlan;
+pub use mrp_qty::Memory;
 pub use orders::{PlannedOrder, planned_order};
 pub use pegging::{asking_edges, demand_term, edge_term, peg};
 pub use plan::{Plan, plan_all};

@@ -15,3 +15,10 @@ pub mod Running
 pub mod Standing
 pub mod Tallies
 pub mod Told
+pub mod Lists
+pub mod Parts
+pub mod Dues
+pub mod Texts
+pub mod Steps
+pub mod Queues
+pub mod Nothing

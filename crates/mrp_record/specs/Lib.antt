@@ -4,3 +4,7 @@ pub mod Form
 pub mod Laws
 pub mod Lengths
 pub mod Text
+pub mod Cursor
+pub mod CursorLaws
+pub mod Next
+pub mod Shows

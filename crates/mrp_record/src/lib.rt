@@ -1,9 +1,17 @@
-//! Records, the lines, ends, resets and closings that go over a lane between two plants, and the
-//! texts that they make.
+//! Records, the lines, ends, resets and closings that go over a lane between two plants, the texts that they
+//! make, and the cursor of a sender: what it keeps of what it has sent, so that each record that it sends
+//! continues that to a legal beginning of the lane's text.
+//!
+//! Contracts speak of every list of records that a cursor shows; none is stored.
 #![tactic(auto)]
 
+mod cursor;
+pub mod cursor_laws;
 pub mod laws;
 mod record;
+mod remainder;
 
+pub use cursor::OutCursor;
 pub use mrp_rows::ItemNo;
 pub use record::Record;
+pub use remainder::{NextLine, Remainder};

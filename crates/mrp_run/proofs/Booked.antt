@@ -11,8 +11,8 @@ use Rattle.mrp_record.specs.Text.{IsBeginning}
 use Rattle.mrp_events.specs.Loads.{loads}
 use Rattle.mrp_events.specs.State.{changed}
 use Rattle.mrp_events.proofs.Keeping.{changed_by}
-use Rattle.mrp_history.specs.Stamps.{IsExplained, Passage}
-use Rattle.mrp_history.proofs.Passing.{taken_is_explained}
+use Rattle.mrp_events.specs.Stamps.{IsExplained, Passage}
+use Rattle.mrp_events.proofs.Passing.{taken_is_explained}
 use Rattle.mrp_lane.specs.Ends.{End, Name, HasLegalList, IsStampedOnce}
 use Rattle.mrp_agent.specs.Shows.{ShowsHistory, BooksShow, form_of}
 use Rattle.mrp_agent.specs.State.{AgentState, incoming_at, incoming_place}

@@ -12,7 +12,7 @@ use Rattle.mrp_loops.specs.Sized.{IsSized}
 use Rattle.mrp_record.proofs.Beginnings.{empty_is_a_beginning}
 use Rattle.mrp_events.specs.Loads.{loads}
 use Rattle.mrp_events.specs.State.{opening_state}
-use Rattle.mrp_history.proofs.Passing.{IsUnused, opening_is_explained}
+use Rattle.mrp_events.proofs.Passing.{IsUnused, opening_is_explained}
 use Rattle.mrp_lane.specs.Ends.{End, Name}
 use Rattle.mrp_run.specs.declared.plant.Plant.{Plant}
 use Rattle.mrp_run.specs.Ends.{AreNames, is_from, is_to, IsEmpty, IsDealt, IsIdle, HasMailboxRoom, HaveMailboxRoom, HaveFirst, IsReadyPlant, AreReady}

@@ -6,7 +6,7 @@ use Rattle.mrp_net.proofs.Members.{Contains-from_in}
 use Rattle.mrp_view.specs.View.{PlantRows, incoming_lane, outgoing_lane, plant_pair, plant_pairs}
 use Rattle.mrp_record.specs.declared.record.Record.{Record}
 use Rattle.mrp_record.specs.Entries.{contents, is_closed}
-use Rattle.mrp_local.proofs.Seeing.{sees_pair}
+use Rattle.mrp_events.proofs.Seeing.{sees_pair}
 use Rattle.mrp_lane.specs.Ends.{End}
 use Rattle.mrp_agent.specs.Reading.{HasDone}
 use Rattle.mrp_agent.specs.Shows.{ShowsHistory, is_done}

@@ -10,13 +10,13 @@ use Rattle.mrp_view.specs.View.{PlantRows, is_of_plant, plant_pair}
 use Rattle.mrp_view.specs.declared.view.PlantPair.{PlantPair}
 use Rattle.mrp_view.proofs.Seeing.{numbers_stand_once}
 use Rattle.mrp_loops.specs.Within.{plan_at}
-use Rattle.mrp_local.specs.Laws.{IsPairAt}
-use Rattle.mrp_local.proofs.Seeing.{pairs_are_at}
+use Rattle.mrp_events.specs.LocalLaws.{IsPairAt}
+use Rattle.mrp_events.proofs.Seeing.{pairs_are_at}
 use Rattle.mrp_agent.specs.State.{AgentState, no_plant_pair, no_plan, pair_place}
 use Rattle.mrp_agent.proofs.Looking.{place_is_only}
 use Rattle.mrp_run.specs.declared.plant.Plant.{Plant}
 use Rattle.mrp_run.specs.Ends.{EachAt, HasPlans, HavePlans}
-use Rattle.mrp_gather.specs.Given.{plans_below}
+use Rattle.mrp_plan.specs.Given.{plans_below}
 
 -- ---- what an agent gives
 

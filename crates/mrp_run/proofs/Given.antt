@@ -22,14 +22,14 @@ use Rattle.mrp_record.specs.Entries.{Entry, LineOf, EndOf, ResetOf, Closing, con
 use Rattle.mrp_record.specs.Text.{Load}
 use Rattle.mrp_events.specs.Loads.{load_of, loads}
 use Rattle.mrp_events.specs.State.{IsDecided}
-use Rattle.mrp_history.specs.History.{PlannedAreReady}
-use Rattle.mrp_cursor.specs.Cursor as cursor
-use Rattle.mrp_cursor.specs.Cursor.{Goods, OutFigures}
-use Rattle.mrp_cursor.specs.Laws.{IsQueued, MaySend}
-use Rattle.mrp_local.specs.Goods.{IsSendable}
-use Rattle.mrp_local.specs.Laws.{HasGoods, IsPairAt}
-use Rattle.mrp_local.proofs.Planned.{own}
-use Rattle.mrp_local.proofs.Seeing.{ready_over_network}
+use Rattle.mrp_events.specs.History.{PlannedAreReady}
+use Rattle.mrp_record.specs.Cursor as cursor
+use Rattle.mrp_record.specs.Cursor.{Goods, OutFigures}
+use Rattle.mrp_record.specs.CursorLaws.{IsQueued, MaySend}
+use Rattle.mrp_events.specs.Goods.{IsSendable}
+use Rattle.mrp_events.specs.LocalLaws.{HasGoods, IsPairAt}
+use Rattle.mrp_events.proofs.LocalPlanned.{own}
+use Rattle.mrp_events.proofs.Seeing.{ready_over_network}
 use Rattle.mrp_agent.specs.Laws.{WorksIn}
 use Rattle.mrp_agent.specs.Sending.{ContinuesSent, goods_at}
 use Rattle.mrp_agent.specs.State.{AgentState, outgoing_at, out_at, plans_of, no_outgoing}

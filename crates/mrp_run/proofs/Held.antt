@@ -11,8 +11,8 @@ use Rattle.mrp_net.specs.Lanes.{lanes}
 use Rattle.mrp_view.specs.View.{lane_numbers}
 use Rattle.mrp_record.specs.declared.record.Record.{Record}
 use Rattle.mrp_events.specs.State.{changed}
-use Rattle.mrp_history.specs.Stamps.{Passage}
-use Rattle.mrp_history.proofs.Passing.{IsLonger}
+use Rattle.mrp_events.specs.Stamps.{Passage}
+use Rattle.mrp_events.proofs.Passing.{IsLonger}
 use Rattle.mrp_lane.specs.Ends.{End, Name}
 use Rattle.mrp_view.proofs.OwnEdges.{range_rises}
 use Rattle.mrp_agent.proofs.Sent.{changed_there, changed_elsewhere}

@@ -3,7 +3,7 @@ use Rattle.std.proofs.Common.{◌≡◌, ℕ, Bool, true, List, [], ◌∷◌, r
 use Rattle.mrp_rows.specs.declared.numbers.PairNo.{PairNo}
 use Rattle.mrp_events.specs.State.{changed}
 use Rattle.mrp_events.proofs.Keeping.{changed_by}
-use Rattle.mrp_history.proofs.Passing.{planned_is_explained}
+use Rattle.mrp_events.proofs.Passing.{planned_is_explained}
 use Rattle.mrp_lane.specs.Ends.{End}
 use Rattle.mrp_agent.specs.Laws.{WorksIn}
 use Rattle.mrp_agent.specs.State.{AgentState}

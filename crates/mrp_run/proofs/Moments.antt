@@ -11,12 +11,12 @@ use Rattle.mrp_loops.specs.Sized.{IsSized}
 use Rattle.mrp_record.specs.declared.record.Record.{Record}
 use Rattle.mrp_record.specs.Entries.{contents, is_closed}
 use Rattle.mrp_events.specs.State.{State, opening_state, IsFinished, IsReached}
-use Rattle.mrp_history.specs.History.{HasRoom, HaveFinished, IsMerged, sent_by, taken_in}
-use Rattle.mrp_history.specs.Stamps.{AreExplained, IsExplained, IsJoined}
-use Rattle.mrp_history.proofs.Explained.{explained_states_merge, finished_states_merge}
-use Rattle.mrp_history.proofs.Owners.{sender_is_there, receiver_is_there, owner_is_there}
-use Rattle.mrp_local.specs.Laws.{IsPairAt}
-use Rattle.mrp_local.proofs.Seeing.{sees_pair}
+use Rattle.mrp_events.specs.History.{HasRoom, HaveFinished, IsMerged, sent_by, taken_in}
+use Rattle.mrp_events.specs.Stamps.{AreExplained, IsExplained, IsJoined}
+use Rattle.mrp_events.proofs.Explained.{explained_states_merge, finished_states_merge}
+use Rattle.mrp_events.proofs.Owners.{sender_is_there, receiver_is_there, owner_is_there}
+use Rattle.mrp_events.specs.LocalLaws.{IsPairAt}
+use Rattle.mrp_events.proofs.Seeing.{sees_pair}
 use Rattle.mrp_lane.specs.Ends.{End}
 use Rattle.mrp_agent.specs.Laws.{WorksIn}
 use Rattle.mrp_agent.specs.State.{AgentState}

@@ -10,8 +10,8 @@ use Rattle.mrp_record.specs.Entries.{content}
 use Rattle.mrp_record.specs.Text.{IsBeginning}
 use Rattle.mrp_events.specs.Loads.{loads}
 use Rattle.mrp_events.specs.State.{IsDecided, changed}
-use Rattle.mrp_history.specs.Stamps.{IsExplained, Passage}
-use Rattle.mrp_history.proofs.Passing.{sent_is_explained}
+use Rattle.mrp_events.specs.Stamps.{IsExplained, Passage}
+use Rattle.mrp_events.proofs.Passing.{sent_is_explained}
 use Rattle.mrp_lane.specs.Ends.{End, Name, IsNextRecord}
 use Rattle.mrp_agent.specs.Sending.{ContinuesSent, IsWithin64}
 use Rattle.mrp_agent.specs.Sent.{GivenIsLegal, IsAppended}

@@ -10,9 +10,9 @@ use Rattle.mrp_net.specs.Lanes.{lanes, lane_at}
 use Rattle.mrp_loops.specs.Sized.{IsSized}
 use Rattle.mrp_events.specs.State.{State, opening_state}
 use Rattle.mrp_events.proofs.Keeping.{opening_is_reached}
-use Rattle.mrp_history.specs.Stamps.{IsJoined}
-use Rattle.mrp_history.proofs.Owners.{sender_is_there, receiver_is_there, owner_is_there}
-use Rattle.mrp_history.proofs.Prefixes.{prefix_refl, prefix_trans}
+use Rattle.mrp_events.specs.Stamps.{IsJoined}
+use Rattle.mrp_events.proofs.Owners.{sender_is_there, receiver_is_there, owner_is_there}
+use Rattle.mrp_events.proofs.Prefixes.{prefix_refl, prefix_trans}
 use Rattle.mrp_lane.specs.Ends.{End, Name, HasLegalList}
 use Rattle.mrp_lane.specs.Reconciled.{Carried}
 use Rattle.mrp_lane.specs.Views.{IsLegal}

@@ -6,9 +6,9 @@ use Rattle.mrp_net.specs.Lanes.{lanes, lane_at}
 use Rattle.mrp_net.specs.Texts.{longest_text}
 use Rattle.mrp_view.specs.View.{comes_to, goes_from, plant_rows}
 use Rattle.mrp_loops.specs.Within.{plan_at}
-use Rattle.mrp_local.specs.Laws.{IsPairAt}
+use Rattle.mrp_events.specs.LocalLaws.{IsPairAt}
 use Rattle.mrp_events.specs.State.{opening_state}
-use Rattle.mrp_history.specs.History.{IsPrefix}
+use Rattle.mrp_events.specs.History.{IsPrefix}
 use Rattle.mrp_lane.specs.Ends.{End, Name}
 use Rattle.mrp_lane.specs.Reconciled.{Carried}
 use Rattle.mrp_lane.specs.Views.{IsLegal}

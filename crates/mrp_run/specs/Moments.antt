@@ -6,7 +6,7 @@ use Rattle.mrp_loops.specs.Sized.{IsSized}
 use Rattle.mrp_record.specs.declared.record.Record.{Record}
 use Rattle.mrp_ready.specs.Progress.{is_planned}
 use Rattle.mrp_events.specs.State.{State, IsReached}
-use Rattle.mrp_local.specs.Laws.{IsPairAt}
+use Rattle.mrp_events.specs.LocalLaws.{IsPairAt}
 use Rattle.mrp_lane.specs.Ends.{End}
 use Rattle.mrp_lane.specs.Views.{AreStamped, IsLegal}
 use Rattle.mrp_agent.specs.State.{AgentState, pair_place}

@@ -7,8 +7,8 @@ use Rattle.mrp_loops.specs.Within.{plan_at}
 use Rattle.mrp_record.specs.declared.record.Record.{Record}
 use Rattle.mrp_record.specs.Entries.{contents, is_closed}
 use Rattle.mrp_events.specs.State.{State}
-use Rattle.mrp_history.specs.Stamps.{Passage, IsExplained, clock_of}
-use Rattle.mrp_local.specs.Laws.{IsPairAt}
+use Rattle.mrp_events.specs.Stamps.{Passage, IsExplained, clock_of}
+use Rattle.mrp_events.specs.LocalLaws.{IsPairAt}
 use Rattle.mrp_lane.specs.Ends.{End, Name}
 use Rattle.mrp_agent.specs.Laws.{WorksIn}
 use Rattle.mrp_agent.specs.Shows.{is_done}

@@ -4,7 +4,7 @@ ghost use Rattle.mrp_rows.specs.Table.{Table};
 ghost use Rattle.mrp_net.specs.Plan.{plan_of};
 ghost use Rattle.mrp_loops.specs.Sized.{IsSized};
 ghost use Rattle.mrp_run.specs.Ends.{HavePlans};
-ghost use Rattle.mrp_gather.specs.Given.{HaveGiven};
+ghost use Rattle.mrp_plan.specs.Given.{HaveGiven};
 
 use crate::plant::Plant;
 use mrp_net::Network;
@@ -27,7 +27,7 @@ pub(crate) fn gather(
     ensures { IfOk result (λ plans. plans.items ≡ plan_of network.now) }
 {
     let given = given_plans(alloc, plants)?;
-    mrp_gather::gather(alloc, network, given)
+    mrp_plan::gather(alloc, network, given)
 }
 
 /// The plans of each plant's pairs, in table order.

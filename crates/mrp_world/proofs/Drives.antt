@@ -10,8 +10,8 @@ use Rattle.mrp_events.proofs.Counting.{runs_begin_with_steps, events_are_steps, 
 use Rattle.mrp_events.proofs.Finishing.{no_schedule_sticks}
 use Rattle.mrp_events.proofs.Keeping.{opening_is_reached, reached_goes_on, runs_go_on}
 use Rattle.mrp_world.specs.Driving.{LeadOn, LeadOneAndOn}
-use Rattle.mrp_plant.specs.Showing.{Showing}
-use Rattle.mrp_mailbox.specs.Mailbox.{Held}
+use Rattle.mrp_world.specs.Showing.{Showing}
+use Rattle.mrp_world.specs.Mailbox.{Held}
 use Rattle.mrp_world.specs.World.{PlantsShow, WorldState}
 use Rattle.mrp_world.specs.Moves.{BoxesHold, AreAt, AreSomewhere, Lead, Acts, MayLead, AllRests, WorldShows, IsWorld, Runs}
 use Rattle.mrp_world.proofs.Counts.{texts_are_few}

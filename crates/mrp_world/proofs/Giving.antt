@@ -5,10 +5,10 @@ use Rattle.mrp_lot.specs.One.{PlanRows}
 use Rattle.mrp_netting.specs.declared.plan.PairPlan.{PairPlan}
 use Rattle.mrp_rows.specs.Table.{Table}
 use Rattle.mrp_events.specs.State.{State, IsFinished}
-use Rattle.mrp_plant.specs.Gathering.{own_plans, HasPlannedAll}
-use Rattle.mrp_plant.specs.Moments.{Moment, IsAt}
-use Rattle.mrp_plant.specs.Showing.{Showing}
-use Rattle.mrp_mailbox.specs.Mailbox.{Held}
+use Rattle.mrp_world.specs.Gathering.{own_plans, HasPlannedAll}
+use Rattle.mrp_world.specs.Moments.{Moment, IsAt}
+use Rattle.mrp_world.specs.Showing.{Showing}
+use Rattle.mrp_world.specs.Mailbox.{Held}
 use Rattle.mrp_world.specs.Moves.{AreAt}
 use Rattle.mrp_world.proofs.Makes.{each_more}
 use Rattle.mrp_world.proofs.Steps.{moment, plant_is_at}

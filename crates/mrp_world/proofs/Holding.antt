@@ -8,9 +8,9 @@ use Rattle.mrp_net.specs.Sums.{pair_at}
 use Rattle.mrp_view.specs.View.{plant_rows}
 use Rattle.mrp_events.specs.State.{State, IsFinished}
 use Rattle.mrp_events.proofs.Ordering.{lanes_keep_order, closed_lanes_are_whole}
-use Rattle.mrp_local.specs.Local.{IsLocal}
-use Rattle.mrp_local.proofs.Planned.{local_plans_are_the_plan}
-use Rattle.mrp_plant.specs.Showing.{Showing}
+use Rattle.mrp_events.specs.LocalPlans.{IsLocal}
+use Rattle.mrp_events.proofs.LocalPlanned.{local_plans_are_the_plan}
+use Rattle.mrp_world.specs.Showing.{Showing}
 use Rattle.mrp_world.specs.Headline.{Keeping, OrderIsKept, NothingIsLost, ClosedLanesAreWhole, PlansAreThePlan, IsComplete}
 use Rattle.mrp_world.specs.PlansLocal.{PlansAreLocal}
 use Rattle.mrp_world.specs.World.{PlantsShow, Shows, WorldState, box_at}

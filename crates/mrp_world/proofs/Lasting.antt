@@ -21,7 +21,7 @@ use Rattle.mrp_events.specs.Loads.{load_of, loads}
 use Rattle.mrp_events.specs.State.{State, IsFinished, IsReached}
 use Rattle.mrp_events.proofs.Ordering.{lanes_keep_order, closed_lanes_are_whole, nothing_is_lost}
 use Rattle.mrp_events.proofs.Small.{loads_stand_once, load_is_there}
-use Rattle.mrp_plant.specs.Showing.{Showing}
+use Rattle.mrp_world.specs.Showing.{Showing}
 use Rattle.mrp_world.specs.World.{WorldState}
 use Rattle.mrp_world.specs.Moves.{WorldShows, IsWorld}
 use Rattle.mrp_world.proofs.Worlds.{none_left_is_finished, shows_some}

@@ -9,3 +9,11 @@ pub mod Makes
 pub mod Pieces
 pub mod Steps
 pub mod Worlds
+pub mod MailboxPieces
+pub mod AgentBooks
+pub mod AgentGives
+pub mod AgentPlaces
+pub mod AgentPlans
+pub mod AgentReads
+pub mod AgentSends
+pub mod AgentWorks

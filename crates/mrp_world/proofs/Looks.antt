@@ -8,10 +8,10 @@ use Rattle.mrp_record.specs.declared.record.Record.{Record}
 use Rattle.mrp_events.specs.declared.event.Event.{Event}
 use Rattle.mrp_events.specs.declared.event.Event.TheVariants.{Send, Receive, Plan}
 use Rattle.mrp_events.specs.State.{State, CanPlan, after_send, after_take, after_plan}
-use Rattle.mrp_plant.specs.Moments.{Moment, IsAt, IsNext, SendsLane}
+use Rattle.mrp_world.specs.Moments.{Moment, IsAt, IsNext, SendsLane}
 use Rattle.mrp_agent.specs.OwnPart.{IsOut, IsOwn}
-use Rattle.mrp_plant.specs.Showing.{Showing}
-use Rattle.mrp_mailbox.specs.Mailbox.{Held}
+use Rattle.mrp_world.specs.Showing.{Showing}
+use Rattle.mrp_world.specs.Mailbox.{Held}
 use Rattle.mrp_world.specs.World.{box_at}
 use Rattle.mrp_world.specs.Moves.{AreAt, AreSomewhere, Lead, LeadNowhere, MayLead, Acts, StandsStill, LaneRests, PlantRests, AllRests}
 use Rattle.mrp_world.proofs.Steps.{SendsNext, moment, plant_is_at, may_send, first_can, first_of, can_send, owner_within, full_leads_nowhere, none_leads_nowhere, empty_leads_nowhere}

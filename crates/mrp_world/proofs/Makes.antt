@@ -9,8 +9,8 @@ use Rattle.mrp_events.specs.State.{opening_state}
 use Rattle.mrp_events.proofs.Counting.{runs_begin_with_steps}
 use Rattle.mrp_events.proofs.Keeping.{opening_is_reached}
 use Rattle.mrp_events.specs.Steps.{steps}
-use Rattle.mrp_plant.specs.Showing.{Showing}
-use Rattle.mrp_mailbox.specs.Mailbox.{Held}
+use Rattle.mrp_world.specs.Showing.{Showing}
+use Rattle.mrp_world.specs.Mailbox.{Held}
 use Rattle.mrp_world.specs.World.{nothing_held, PlantsShow}
 use Rattle.mrp_world.specs.Moves.{BoxesHold, WorldShows, IsWorld}
 

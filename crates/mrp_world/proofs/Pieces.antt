@@ -15,10 +15,10 @@ use Rattle.mrp_events.specs.State.{State}
 use Rattle.mrp_events.proofs.Ordering.{lanes_keep_order, nothing_is_lost}
 use Rattle.mrp_events.proofs.Small.{legal_cums_are_small}
 use Rattle.mrp_world.specs.Figures.{lane_figure_at}
-use Rattle.mrp_plant.specs.Moments.{Moment, IsAt, Receives}
+use Rattle.mrp_world.specs.Moments.{Moment, IsAt, Receives}
 use Rattle.mrp_agent.specs.OwnPart.{IsIn}
-use Rattle.mrp_plant.specs.Showing.{Showing}
-use Rattle.mrp_mailbox.specs.Mailbox.{Held}
+use Rattle.mrp_world.specs.Showing.{Showing}
+use Rattle.mrp_world.specs.Mailbox.{Held}
 use Rattle.mrp_world.specs.World.{box_at}
 use Rattle.mrp_world.specs.Moves.{AreAt, AreSomewhere}
 use Rattle.mrp_world.proofs.Steps.{moment, plant_is_at, box_is, may_receive, receiver_within}

@@ -16,10 +16,10 @@ use Rattle.mrp_events.specs.declared.event.Event.TheVariants.{Send, Receive, Pla
 use Rattle.mrp_events.specs.State.{State, CanSend, CanTake, CanPlan, changed, after_send, after_take, after_plan}
 use Rattle.mrp_events.proofs.Keeping.{reached_goes_on}
 use Rattle.mrp_events.proofs.Small.{beginnings_are_no_longer}
-use Rattle.mrp_plant.specs.Moments.{Moment, IsAt, IsNext, SendsLane, Receives, Has}
+use Rattle.mrp_world.specs.Moments.{Moment, IsAt, IsNext, SendsLane, Receives, Has}
 use Rattle.mrp_agent.specs.OwnPart.{IsOut, IsIn, IsOwn, AgreeAt}
-use Rattle.mrp_plant.specs.Showing.{Showing}
-use Rattle.mrp_mailbox.specs.Mailbox.{Held}
+use Rattle.mrp_world.specs.Showing.{Showing}
+use Rattle.mrp_world.specs.Mailbox.{Held}
 use Rattle.mrp_world.specs.World.{nothing_held, box_at, PlantsShow}
 use Rattle.mrp_world.specs.Moves.{BoxesHold, AreAt, AreSomewhere, Lead, LeadNowhere}
 

@@ -11,11 +11,11 @@ use Rattle.mrp_events.specs.State.{State, Step, Run, IsEnabled, IsFinished}
 use Rattle.mrp_events.specs.Progress.{steps_left}
 use Rattle.mrp_events.proofs.Counting.{events_are_steps, none_is_left_at_the_end}
 use Rattle.mrp_events.proofs.Finishing.{no_schedule_sticks}
-use Rattle.mrp_plant.specs.Moments.{Moment, IsAt, Has}
+use Rattle.mrp_world.specs.Moments.{Moment, IsAt, Has}
 use Rattle.mrp_agent.specs.OwnPart.{IsOwn}
-use Rattle.mrp_plant.specs.Showing.{Showing}
+use Rattle.mrp_world.specs.Showing.{Showing}
 use Rattle.mrp_world.proofs.Steps.{moment, plant_is_at, owner_among, owner_known}
-use Rattle.mrp_mailbox.specs.Mailbox.{Held}
+use Rattle.mrp_world.specs.Mailbox.{Held}
 use Rattle.mrp_world.specs.World.{WorldState}
 use Rattle.mrp_world.specs.Moves.{AreAt, AreSomewhere, Lead, LeadNowhere, AllRests, MayLead, WorldShows, IsWorld, Runs}
 

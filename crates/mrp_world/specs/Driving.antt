@@ -3,8 +3,8 @@ use Rattle.std.specs.Prelude.{ℕ, List}
 use Rattle.mrp_rows.specs.Table.{Table}
 use Rattle.mrp_events.specs.declared.event.Event.{Event}
 use Rattle.mrp_events.specs.State.{State, Run}
-use Rattle.mrp_plant.specs.Showing.{Showing}
-use Rattle.mrp_mailbox.specs.Mailbox.{Held}
+use Rattle.mrp_world.specs.Showing.{Showing}
+use Rattle.mrp_world.specs.Mailbox.{Held}
 use Rattle.mrp_world.specs.Moves.{AreAt, Lead}
 
 -- from each state that they show the events lead to one that they show then

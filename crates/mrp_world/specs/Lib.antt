@@ -5,3 +5,7 @@ pub mod Headline
 pub mod World
 pub mod Moves
 pub mod PlansLocal
+pub mod Mailbox
+pub mod Gathering
+pub mod Moments
+pub mod Showing

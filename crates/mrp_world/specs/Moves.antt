@@ -4,13 +4,13 @@ use Rattle.mrp_rows.specs.Table.{Table}
 use Rattle.mrp_net.specs.Lanes.{lanes, lane_at}
 use Rattle.mrp_net.specs.Texts.{longest_text}
 use Rattle.mrp_loops.specs.Sized.{IsSized}
-use Rattle.mrp_mailbox.specs.Mailbox.{Held}
+use Rattle.mrp_world.specs.Mailbox.{Held}
 use Rattle.mrp_events.specs.declared.event.Event.{Event}
 use Rattle.mrp_events.specs.declared.event.Event.TheVariants.{Send, Receive, Plan}
 use Rattle.mrp_events.specs.Progress.{steps_left}
 use Rattle.mrp_events.specs.State.{State, Step, Run, IsEnabled, IsReached}
 use Rattle.mrp_agent.specs.OwnPart.{IsOwn}
-use Rattle.mrp_plant.specs.Showing.{Showing}
+use Rattle.mrp_world.specs.Showing.{Showing}
 use Rattle.mrp_world.specs.World.{WorldState, PlantsShow, box_at}
 
 -- each mailbox holds what has been sent and not yet taken, and has room for what it may ever hold

@@ -2,7 +2,7 @@
 use Rattle.std.specs.Prelude.{ℕ, ◌<◌, length, slice_get, IsSomeAnd}
 use Rattle.mrp_view.specs.View.{plant_rows}
 use Rattle.mrp_events.specs.State.{State}
-use Rattle.mrp_local.specs.Local.{IsLocal}
+use Rattle.mrp_events.specs.LocalPlans.{IsLocal}
 use Rattle.mrp_world.specs.Headline.{Keeping}
 use Rattle.mrp_world.specs.World.{WorldState}
 

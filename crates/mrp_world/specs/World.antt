@@ -3,9 +3,9 @@ use Rattle.std.specs.Prelude.{◌≡◌, ℕ, ◌<◌, List, [], ◌++◌, lengt
 use Rattle.mrp_rows.specs.Table.{Table}
 use Rattle.mrp_net.specs.Lanes.{lanes}
 use Rattle.mrp_loops.specs.Sized.{IsSized}
-use Rattle.mrp_mailbox.specs.Mailbox.{Held}
+use Rattle.mrp_world.specs.Mailbox.{Held}
 use Rattle.mrp_events.specs.State.{State, IsReached}
-use Rattle.mrp_plant.specs.Showing.{Showing}
+use Rattle.mrp_world.specs.Showing.{Showing}
 
 abbrev pub nothing_held : Held
 nothing_held = record { records = []; room = 0 }

@@ -3,13 +3,13 @@ ghost use Rattle.std.specs.Prelude.{◌≡◌, ◌<◌, List, true, false, lengt
 ghost use Rattle.mrp_rows.specs.Table.{IsPair};
 ghost use Rattle.mrp_net.specs.Lanes.{lanes};
 ghost use Rattle.mrp_events.specs.declared.event.Event.TheVariants.{Send, Receive, Plan};
-ghost use Rattle.mrp_mailbox.specs.Mailbox.{Held};
+ghost use Rattle.mrp_world.specs.Mailbox.{Held};
 ghost use Rattle.mrp_world.specs.Moves.{Acts, AreSomewhere, Lead, LeadNowhere};
 
 use mrp_events::Event;
-use mrp_mailbox::Mailbox;
+use crate::Mailbox;
 use mrp_net::{LaneNo, Network, PairNo};
-use mrp_plant::Plant;
+use crate::Plant;
 
 /// Sends the next record of a lane, if there is one and the mailbox has room.
 pub(crate) fn send<P: Plant>(

@@ -8,9 +8,9 @@ ghost use Rattle.mrp_world.specs.Driving.{LeadOn, LeadOneAndOn};
 use crate::acting::{act_on, receive, send};
 use crate::looking::{look, ready_at};
 use mrp_events::Event;
-use mrp_mailbox::Mailbox;
+use crate::Mailbox;
 use mrp_net::{LaneNo, Network};
-use mrp_plant::Plant;
+use crate::Plant;
 
 /// Where the last event happened: the next one is looked for from there on.
 #[derive(Clone, Copy)]

@@ -6,9 +6,9 @@ ghost use Rattle.mrp_world.specs.Figures.{lane_figure_at, figures_in_lane, figur
 ghost use Rattle.mrp_world.specs.Moves.{AreAt, AreSomewhere};
 
 use mrp_book::LaneFigure;
-use mrp_mailbox::Mailbox;
+use crate::Mailbox;
 use mrp_net::{ItemNo, LaneNo, Network};
-use mrp_plant::Plant;
+use crate::Plant;
 use mrp_qty::{Memory, Qty};
 use std::alloc::Global;
 

@@ -1,13 +1,13 @@
 //! What the plants give to the plan of the network.
 ghost use Rattle.std.specs.Prelude.{◌<◌, ℕ, IfOk, List, length};
 ghost use Rattle.mrp_events.specs.State.{State, IsFinished};
-ghost use Rattle.mrp_gather.specs.Given.{HaveGiven};
-ghost use Rattle.mrp_mailbox.specs.Mailbox.{Held};
+ghost use Rattle.mrp_plan.specs.Given.{HaveGiven};
+ghost use Rattle.mrp_world.specs.Mailbox.{Held};
 ghost use Rattle.mrp_world.specs.Moves.{AreAt};
 
 use mrp_net::Network;
 use mrp_netting::PairPlan;
-use mrp_plant::Plant;
+use crate::Plant;
 use mrp_qty::Memory;
 use std::alloc::Global;
 

@@ -8,7 +8,7 @@ ghost use Rattle.mrp_world.specs.PlansLocal.{PlansAreLocal};
 ghost use Rattle.mrp_world.specs.World.{Shows};
 
 use crate::world::World;
-use mrp_plant::Plant;
+use crate::Plant;
 
 /// The headline. Every world, of a network without loops and within the bound, with any capacity and after any list
 /// of events, shows some state of the network's runs. In each state that it shows

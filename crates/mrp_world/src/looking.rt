@@ -2,13 +2,13 @@
 ghost use Rattle.std.specs.Prelude.{◌≡◌, ℕ, ◌<◌, ◌≤◌, List, length, IfSome, IfNone};
 ghost use Rattle.mrp_net.specs.Lanes.{lanes};
 ghost use Rattle.mrp_events.specs.declared.event.Event.TheVariants.{Plan};
-ghost use Rattle.mrp_mailbox.specs.Mailbox.{Held};
+ghost use Rattle.mrp_world.specs.Mailbox.{Held};
 ghost use Rattle.mrp_world.specs.Moves.{AreSomewhere, MayLead, LaneRests, PlantRests, AllRests};
 
 use mrp_events::Event;
-use mrp_mailbox::Mailbox;
+use crate::Mailbox;
 use mrp_net::{LaneNo, Network};
-use mrp_plant::Plant;
+use crate::Plant;
 
 /// An event over a lane that is enabled: its receiver takes what waits before its sender sends more.
 fn moving<P: Plant>(

@@ -5,9 +5,9 @@ ghost use Rattle.mrp_world.specs.World.{PlantsShow};
 ghost use Rattle.mrp_world.specs.Moves.{BoxesHold};
 
 use mrp_loops::SizedNet;
-use mrp_mailbox::Mailbox;
+use crate::Mailbox;
 use mrp_net::{LaneNo, PlantNo};
-use mrp_plant::Plant;
+use crate::Plant;
 use mrp_qty::Memory;
 use mrp_view::PlantView;
 use std::alloc::Global;

@@ -14,11 +14,11 @@ use crate::making::{new_boxes, new_plants};
 use mrp_book::LaneFigure;
 use mrp_events::Event;
 use mrp_loops::SizedNet;
-use mrp_mailbox::Mailbox;
+use crate::Mailbox;
 use mrp_net::{Network, PairNo};
 use mrp_netting::PairPlan;
 use mrp_plan::Plan;
-use mrp_plant::{Agent, Plant};
+use crate::{Agent, Plant};
 use mrp_qty::Memory;
 use std::alloc::Global;
 use std::marker::Model;
@@ -235,7 +235,7 @@ impl<'a, P: Plant> World<'a, P> {
             ..
         } = self;
         let lists = plans_by_plant(alloc, network, plants)?;
-        let pairs = mrp_gather::gather(alloc, network, lists)?;
+        let pairs = mrp_plan::gather(alloc, network, lists)?;
         Ok(Plan::gather(net, pairs))
     }
 

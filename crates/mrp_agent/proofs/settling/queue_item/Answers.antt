@@ -2,8 +2,8 @@ use Rattle.std.proofs.Common.{◌≡◌, ℕ, ◌<◌, List, length, get_or, set
 use Rattle.std.specs.List.{fold}
 use Rattle.std.proofs.lemmas.List.{take_all}
 use Rattle.std.proofs.lemmas.List.Sums.{fold_more}
-use Rattle.mrp_cursor.specs.Cursor.{OutFigures}
-use Rattle.mrp_cursor.specs.Next.{queued}
+use Rattle.mrp_record.specs.Cursor.{OutFigures}
+use Rattle.mrp_record.specs.Next.{queued}
 use Rattle.mrp_agent.specs.declared.queues.QueuePlace.{QueuePlace}
 use Rattle.mrp_agent.specs.Queues.{with_queued}
 use Rattle.mrp_agent.specs.State.{no_out}

@@ -1,7 +1,7 @@
 use Rattle.std.proofs.Common.{◌≡◌, ℕ, ◌<◌, ◌++◌, length, get_or, Vec, Global}
 use Rattle.std.specs.Vec.Iter.{into_iter_items}
 use Rattle.mrp_netting.specs.declared.plan.PairPlan.{PairPlan}
-use Rattle.mrp_plant.specs.Gathering.{own_plans}
+use Rattle.mrp_world.specs.Gathering.{own_plans}
 use Rattle.mrp_world.proofs.gathering.plans_by_plant.Given as goal
 
 -- the plants so far have given the plans of their pairs

@@ -1,5 +1,5 @@
 use Rattle.std.proofs.Common.{◌≡◌, ℕ, ◌<◌, length, get_or}
-use Rattle.mrp_mailbox.specs.Mailbox.{Held}
+use Rattle.mrp_world.specs.Mailbox.{Held}
 use Rattle.mrp_world.proofs.Makes.{IsEmptyBox}
 use Rattle.mrp_world.proofs.making.new_boxes.Given as goal
 

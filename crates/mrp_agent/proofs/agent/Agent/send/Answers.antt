@@ -5,7 +5,7 @@ use Rattle.mrp_agent.specs.Sending.{left_at, next_out}
 use Rattle.mrp_agent.specs.Sent.{GivenIsLegal, IsAppended, NoneCanBeSent}
 use Rattle.mrp_agent.specs.State.{AgentState, out_at, outgoing_place}
 use Rattle.mrp_agent.specs.contracts.agent.Agent.{the_view}
-use Rattle.mrp_cursor.specs.Cursor.{OutFigures}
+use Rattle.mrp_record.specs.Cursor.{OutFigures}
 use Rattle.mrp_agent.proofs.Calls.{given_legal, gone_outs, kept_gone, next_is, none_gone, none_legal, record_appended, record_gone}
 use Rattle.mrp_agent.specs.After.{after_sent, gone_on}
 use Rattle.mrp_agent.proofs.agent.Agent.send.Goals as goal

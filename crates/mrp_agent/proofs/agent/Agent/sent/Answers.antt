@@ -6,8 +6,8 @@ use Rattle.mrp_agent.specs.Sending.{left_at, next_out}
 use Rattle.mrp_agent.specs.Sent.{IsAppended}
 use Rattle.mrp_agent.specs.State.{AgentState, out_at, outgoing_place}
 use Rattle.mrp_agent.specs.contracts.agent.Agent.{the_view}
-use Rattle.mrp_cursor.specs.Cursor.{OutFigures}
-use Rattle.mrp_cursor.specs.Next.{stepped}
+use Rattle.mrp_record.specs.Cursor.{OutFigures}
+use Rattle.mrp_record.specs.Next.{stepped}
 use Rattle.mrp_agent.proofs.Calls.{stepped_outs, kept_outs, appended}
 use Rattle.mrp_agent.specs.After.{after_sent}
 use Rattle.mrp_agent.proofs.agent.Agent.sent.Goals as goal

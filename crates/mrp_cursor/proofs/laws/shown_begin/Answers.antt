@@ -1,5 +1,0 @@
-use Rattle.mrp_cursor.proofs.Texts as proved
-use Rattle.mrp_cursor.proofs.laws.shown_begin.Goals as goal
-
-pub returns : goal.returns
-returns c = proved.shown_begin

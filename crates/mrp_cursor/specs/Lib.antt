@@ -1,4 +1,0 @@
-pub mod Cursor
-pub mod Laws
-pub mod Next
-pub mod Shows

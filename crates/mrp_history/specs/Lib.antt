@@ -1,3 +1,0 @@
-pub mod History
-pub mod Stamps
-pub mod Laws

@@ -1,4 +1,0 @@
-pub mod Seeing
-pub mod Drafting
-pub mod Planned
-pub mod Sending

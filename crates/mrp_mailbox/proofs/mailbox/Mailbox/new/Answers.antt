@@ -1,5 +1,0 @@
-use Rattle.std.proofs.Common.{rules}
-use Rattle.mrp_mailbox.proofs.mailbox.Mailbox.new.Goals as goal
-
-pub returns : goal.returns
-returns c = search rules

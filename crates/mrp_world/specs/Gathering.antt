@@ -1,0 +1,15 @@
+-- The plans that plants give.
+use Rattle.std.specs.Prelude.{◌≡◌, ℕ, ◌-◌, true, List, length}
+use Rattle.mrp_lot.specs.One.{PlanRows}
+use Rattle.mrp_rows.specs.Table.{Table}
+use Rattle.mrp_plan.specs.Given.{plans_below}
+use Rattle.mrp_world.specs.Moments.{Moment}
+use Rattle.mrp_agent.specs.OwnPart.{IsOwn}
+
+-- by the plan of the network the plans of all pairs of a plant, in table order
+abbrev pub own_plans : Table → ℕ → List PlanRows
+own_plans N p = plans_below N p (length N.pairs)
+
+-- the plant has planned all its pairs
+abbrev pub HasPlannedAll : Moment → ℕ → Type 0
+HasPlannedAll m p = (x : ℕ) → IsOwn m.network p x → m.state.planned x ≡ true
